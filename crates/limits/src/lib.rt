@@ -1,0 +1,101 @@
+//! Every number of the server that is a choice: limits, sizes and places of the format. No code and no proof
+//! repeats one of them.
+#![tactic(auto)]
+
+/// The bytes of a block.
+pub const BLOCK_BYTES: usize = 4096;
+
+// The places of blocks in an image.
+
+/// The super block.
+pub const SUPER_BLOCK: u32 = 0;
+/// The header of the log: `end` and the home addresses of the slots.
+pub const LOG_HEADER_BLOCK: u32 = 1;
+/// The block of the log's slot 0.
+pub const FIRST_SLOT_BLOCK: u32 = 2;
+/// The slots of the log, one a block.
+pub const LOG_SLOTS: u64 = 511;
+/// The block of `start`, the first that isn't on the device's log side.
+pub const START_BLOCK: u32 = 513;
+/// The first block that a change may write.
+pub const FIRST_HOME_BLOCK: u32 = 514;
+
+// The sizes of an image.
+
+/// The fewest blocks of an image.
+pub const LEAST_BLOCKS: u32 = 1024;
+/// The most blocks of an image.
+pub const MOST_BLOCKS: u32 = 1_048_576;
+/// The fewest inodes of an image.
+pub const LEAST_INODES: u32 = 32;
+/// The most inodes of an image.
+pub const MOST_INODES: u32 = 65_536;
+/// The inodes of a block of the inode table, of which the inodes of an image are a multiple.
+pub const INODES_PER_BLOCK: u32 = 32;
+/// The fewest data blocks of an image.
+pub const LEAST_DATA_BLOCKS: u32 = 64;
+/// The bytes of an inode.
+pub const INODE_BYTES: usize = 128;
+/// The bits of a block of a bitmap.
+pub const BITS_PER_BLOCK: u32 = 32_768;
+/// The bytes of the part of a bitmap that a transaction takes at once.
+pub const BITMAP_PART_BYTES: usize = 512;
+/// The version of the format.
+pub const FORMAT_VERSION: u32 = 1;
+
+// The sizes of files.
+
+/// The number of the root.
+pub const ROOT: u32 = 1;
+/// The indexes of a file that its inode names directly.
+pub const DIRECT_INDEXES: usize = 8;
+/// The indexes that an indirect block names.
+pub const INDIRECT_INDEXES: usize = 1024;
+/// The indexes of the largest file, and the greatest span of a directory.
+pub const FILE_INDEXES: usize = 1032;
+/// The bytes of the largest file.
+pub const LARGEST_FILE: u64 = 4_227_072;
+/// The slots of a block of a directory.
+pub const SLOTS_PER_BLOCK: u32 = 32;
+/// The most bytes of a name.
+pub const NAME_BYTES: usize = 112;
+/// The most bytes of a link's target.
+pub const TARGET_BYTES: usize = 1024;
+/// The most names of a file, and the greatest link count of a directory.
+pub const MOST_LINKS: u32 = 32_000;
+/// The bits of a mode that a file keeps.
+pub const MODE_BITS: u32 = 4095;
+/// Nanoseconds of a second: those of a time lie below.
+pub const NANOSECONDS: u32 = 1_000_000_000;
+
+// The sizes of calls.
+
+/// The most bytes of one READ or WRITE.
+pub const TRANSFER_BYTES: u32 = 32_768;
+/// The most bytes of a record.
+pub const RECORD_BYTES: usize = 40_960;
+/// The bytes of a handle of this server.
+pub const HANDLE_BYTES: usize = 20;
+/// The most bytes of a handle on the wire.
+pub const MOST_HANDLE_BYTES: usize = 64;
+/// The most bytes of the body of a credential or a verifier.
+pub const MOST_AUTH_BYTES: usize = 400;
+/// The most bytes of a machine's name in a credential.
+pub const MACHINE_NAME_BYTES: usize = 255;
+/// The most further groups of a credential.
+pub const MOST_GIDS: usize = 16;
+/// The most bytes of a path to mount.
+pub const MOUNT_PATH_BYTES: usize = 1024;
+/// The user and the group of a call without credential.
+pub const NOBODY: u32 = 65_534;
+
+// The sizes of transactions and runs.
+
+/// The most blocks that a transaction changes.
+pub const CHANGED_BLOCKS: usize = 64;
+/// The most workers of a run.
+pub const MOST_WORKERS: usize = 64;
+
+const _: () = prove!(FILE_INDEXES == DIRECT_INDEXES + INDIRECT_INDEXES);
+const _: () = prove!(LARGEST_FILE == FILE_INDEXES as u64 * BLOCK_BYTES as u64);
+const _: () = prove!(FIRST_SLOT_BLOCK as u64 + LOG_SLOTS == START_BLOCK as u64);

@@ -1,0 +1,132 @@
+//! The calls of NFS version 3 with their arguments (RFC 1813, section 3.3).
+
+use crate::{DeviceNumber, Handle, Moment, NewAttributes, Octets};
+
+/// A name in a directory (`diropargs3`).
+#[derive(Drop)]
+pub struct Place {
+    pub directory: Handle,
+    pub name: Octets,
+}
+
+/// How a WRITE is to be kept (`stable_how`).
+#[derive(Clone, Copy, Debug, PartialEq, Eq)]
+pub enum Stability {
+    Unstable,
+    DataSync,
+    FileSync,
+}
+
+/// How a file is to be made (`createhow3`). EXCLUSIVE bears a verifier of 8 bytes, here as a number.
+#[derive(Clone, Copy, Debug, PartialEq, Eq)]
+pub enum CreateHow {
+    Unchecked(NewAttributes),
+    Guarded(NewAttributes),
+    Exclusive(u64),
+}
+
+/// What MKNOD is to make (`mknoddata3`). The other three kinds carry nothing, and no file is made of them.
+#[derive(Clone, Copy, Debug, PartialEq, Eq)]
+pub enum SpecialFile {
+    CharacterDevice(NewAttributes, DeviceNumber),
+    BlockDevice(NewAttributes, DeviceNumber),
+    Socket(NewAttributes),
+    Fifo(NewAttributes),
+    Regular,
+    Directory,
+    Link,
+}
+
+/// A call of program 100003, version 3. Offsets and counts are in bytes, verifiers of 8 bytes are numbers.
+#[derive(Drop)]
+pub enum Call {
+    Null,
+    GetAttr {
+        object: Handle,
+    },
+    SetAttr {
+        object: Handle,
+        attributes: NewAttributes,
+        guard: Option<Moment>,
+    },
+    Lookup {
+        place: Place,
+    },
+    Access {
+        object: Handle,
+        bits: u32,
+    },
+    ReadLink {
+        link: Handle,
+    },
+    Read {
+        file: Handle,
+        offset: u64,
+        count: u32,
+    },
+    Write {
+        file: Handle,
+        offset: u64,
+        count: u32,
+        stability: Stability,
+        bytes: Octets,
+    },
+    Create {
+        place: Place,
+        how: CreateHow,
+    },
+    MkDir {
+        place: Place,
+        attributes: NewAttributes,
+    },
+    SymLink {
+        place: Place,
+        attributes: NewAttributes,
+        target: Octets,
+    },
+    MkNod {
+        place: Place,
+        special: SpecialFile,
+    },
+    Remove {
+        place: Place,
+    },
+    RmDir {
+        place: Place,
+    },
+    Rename {
+        source: Place,
+        target: Place,
+    },
+    Link {
+        file: Handle,
+        place: Place,
+    },
+    ReadDir {
+        directory: Handle,
+        cookie: u64,
+        verifier: u64,
+        count: u32,
+    },
+    ReadDirPlus {
+        directory: Handle,
+        cookie: u64,
+        verifier: u64,
+        directory_count: u32,
+        greatest_count: u32,
+    },
+    FsStat {
+        object: Handle,
+    },
+    FsInfo {
+        object: Handle,
+    },
+    PathConf {
+        object: Handle,
+    },
+    Commit {
+        file: Handle,
+        offset: u64,
+        count: u32,
+    },
+}

@@ -1,0 +1,28 @@
+//! The plain data of the calls and replies of NFS version 3 and of MOUNT: RFC 1813, sections 2.3 to 2.6,
+//! 3.3 and 5. Nothing here reads bytes, keeps a file or knows of a disk.
+#![tactic(auto)]
+
+mod attributes;
+mod call;
+mod ctx;
+mod entries;
+mod handle;
+mod mount;
+mod octets;
+mod reply;
+mod status;
+
+pub use attributes::{
+    Attributes, DeviceNumber, FileKind, NewAttributes, SetTime, WeakCacheAttributes, WeakCacheData,
+};
+pub use call::{Call, CreateHow, Place, SpecialFile, Stability};
+pub use ctx::{Credential, Ctx, Moment};
+pub use entries::{Entries, EntriesPlus, Entry, EntryPlus};
+pub use handle::{Handle, Stamp};
+pub use mount::{MountCall, MountReply};
+pub use octets::{Numbers, Octets};
+pub use reply::{
+    Created, FileSystemInfo, FileSystemSpace, Listed, ListedPlus, Looked, PathLimits, ReadBytes,
+    Reply, Written,
+};
+pub use status::Status;

@@ -1,0 +1,92 @@
+//! Byte strings and lists of numbers that a contract sees as lists.
+ghost use Rattle.std.specs.Prelude.{◌≡◌, IfOk};
+
+use std::alloc::{AllocError, Global};
+use std::marker::Model;
+
+/// A string of bytes: a name, a link's target, a file's data, a handle.
+#[derive(Drop)]
+pub struct Octets {
+    bytes: Vec<u8>,
+}
+
+impl Model for Octets {
+    ghost use Rattle.std.specs.Prelude.{List, ℕ};
+
+    ghost Value = { List ℕ };
+
+    ghost view = { λ o. o.bytes.items };
+}
+
+impl Octets {
+    pub fn new(bytes: Vec<u8>) -> Octets
+        ensures { result ≡ bytes.items }
+    {
+        Octets { bytes }
+    }
+
+    /// A copy of the bytes.
+    pub fn copied(alloc: Global, bytes: &[u8]) -> Result<Octets, AllocError>
+        ensures { IfOk result (λ o. o ≡ bytes.now) }
+    {
+        Ok(Octets {
+            bytes: bytes.to_vec(alloc)?,
+        })
+    }
+
+    pub fn as_slice(&self) -> &[u8]
+        ensures { result.now ≡ self.now }
+    {
+        &self.bytes
+    }
+
+    pub fn into_vec(self) -> Vec<u8>
+        ensures { result.items ≡ self }
+    {
+        self.bytes
+    }
+
+    /// The same bytes again.
+    pub fn again(&self, alloc: Global) -> Result<Octets, AllocError>
+        ensures { IfOk result (λ o. o ≡ self.now) }
+    {
+        Octets::copied(alloc, &self.bytes)
+    }
+}
+
+/// A list of numbers of 32 bits: further groups of a caller, or flavors of authentication.
+#[derive(Drop)]
+pub struct Numbers {
+    numbers: Vec<u32>,
+}
+
+impl Model for Numbers {
+    ghost use Rattle.std.specs.Prelude.{List, ℕ};
+
+    ghost Value = { List ℕ };
+
+    ghost view = { λ n. n.numbers.items };
+}
+
+impl Numbers {
+    pub fn new(numbers: Vec<u32>) -> Numbers
+        ensures { result ≡ numbers.items }
+    {
+        Numbers { numbers }
+    }
+
+    pub fn as_slice(&self) -> &[u32]
+        ensures { result.now ≡ self.now }
+    {
+        &self.numbers
+    }
+
+    /// The same numbers again.
+    pub fn again(&self, alloc: Global) -> Result<Numbers, AllocError>
+        ensures { IfOk result (λ n. n ≡ self.now) }
+    {
+        Ok(Numbers {
+            numbers: self.numbers.to_vec(alloc)?,
+        })
+    }
+}

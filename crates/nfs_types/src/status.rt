@@ -1,0 +1,26 @@
+//! Why a procedure refused (RFC 1813, section 2.6, `nfsstat3`).
+
+/// The statuses of this server but OK, which a reply tells by the variant of its outcome.
+#[derive(Clone, Copy, Debug, PartialEq, Eq)]
+pub enum Status {
+    Perm,
+    NoEnt,
+    Io,
+    Acces,
+    Exist,
+    NotDir,
+    IsDir,
+    Inval,
+    FBig,
+    NoSpc,
+    MLink,
+    NameTooLong,
+    NotEmpty,
+    Stale,
+    BadHandle,
+    NotSync,
+    BadCookie,
+    NotSupp,
+    TooSmall,
+    ServerFault,
+}
