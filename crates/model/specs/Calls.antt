@@ -1,0 +1,78 @@
+-- What is known of a call before it is served (RFC 1813, section 3.3).
+use Rattle.std.specs.Prelude.{ℕ, Bool, true, false, not, ◌&&◌, is_none, None, Err}
+use Rattle.nfs_types.specs.declared.attributes.NewAttributes.{NewAttributes}
+use Rattle.nfs_types.specs.declared.attributes.SetTime.{SetTime}
+use Rattle.nfs_types.specs.declared.attributes.SetTime.TheVariants.{Keep, Server, Client}
+use Rattle.nfs_types.specs.declared.call.Call.{Call}
+use Rattle.nfs_types.specs.declared.call.Call.TheVariants as call
+use Rattle.nfs_types.specs.declared.call.Stability.{Stability}
+use Rattle.nfs_types.specs.declared.call.Stability.TheVariants.{Unstable, DataSync, FileSync}
+use Rattle.nfs_types.specs.declared.reply.Reply.{Reply}
+use Rattle.nfs_types.specs.declared.reply.Reply.TheVariants as reply
+use Rattle.nfs_types.specs.declared.status.Status.TheVariants as status
+use Rattle.model.specs.Attributes.{untold}
+
+abbrev pub is_kept : SetTime → Bool
+is_kept Keep = true
+is_kept Server = false
+is_kept (Client time) = false
+
+-- no attribute but the mode is given
+abbrev pub sets_only_mode : NewAttributes → Bool
+sets_only_mode wanted =
+    is_none wanted.uid && is_none wanted.gid && is_none wanted.size && is_kept wanted.atime && is_kept wanted.mtime
+
+-- the calls that this server serves so far
+abbrev pub has_rules : Call → Bool
+has_rules (call.GetAttr object) = true
+has_rules (call.SetAttr object attributes guard) = sets_only_mode attributes
+has_rules _ = false
+
+-- each call that is served takes a transaction of its own; NULL does nothing and takes none
+abbrev pub begins_transaction : Call → Bool
+begins_transaction c = has_rules c
+
+-- The reply to a call that isn't served: NOTSUPP, with nothing told of any file. NULL is never refused.
+abbrev pub unsupported : Call → Reply
+unsupported call.Null = reply.Null
+unsupported (call.GetAttr _) = reply.GetAttr (Err status.NotSupp)
+unsupported (call.SetAttr _ _ _) = reply.SetAttr (Err status.NotSupp) untold
+unsupported (call.Lookup _) = reply.Lookup (Err status.NotSupp) None
+unsupported (call.Access _ _) = reply.Access (Err status.NotSupp) None
+unsupported (call.ReadLink _) = reply.ReadLink (Err status.NotSupp) None
+unsupported (call.Read _ _ _) = reply.Read (Err status.NotSupp) None
+unsupported (call.Write _ _ _ _ _) = reply.Write (Err status.NotSupp) untold
+unsupported (call.Create _ _) = reply.Create (Err status.NotSupp) untold
+unsupported (call.MkDir _ _) = reply.MkDir (Err status.NotSupp) untold
+unsupported (call.SymLink _ _ _) = reply.SymLink (Err status.NotSupp) untold
+unsupported (call.MkNod _ _) = reply.MkNod (Err status.NotSupp) untold
+unsupported (call.Remove _) = reply.Remove (Err status.NotSupp) untold
+unsupported (call.RmDir _) = reply.RmDir (Err status.NotSupp) untold
+unsupported (call.Rename _ _) = reply.Rename (Err status.NotSupp) untold untold
+unsupported (call.Link _ _) = reply.Link (Err status.NotSupp) None untold
+unsupported (call.ReadDir _ _ _ _) = reply.ReadDir (Err status.NotSupp) None
+unsupported (call.ReadDirPlus _ _ _ _ _) = reply.ReadDirPlus (Err status.NotSupp) None
+unsupported (call.FsStat _) = reply.FsStat (Err status.NotSupp) None
+unsupported (call.FsInfo _) = reply.FsInfo (Err status.NotSupp) None
+unsupported (call.PathConf _) = reply.PathConf (Err status.NotSupp) None
+unsupported (call.Commit _ _ _) = reply.Commit (Err status.NotSupp) untold
+
+abbrev pub is_unstable : Stability → Bool
+is_unstable Unstable = true
+is_unstable DataSync = false
+is_unstable FileSync = false
+
+-- the calls that are answered, with refusals too, only once what they changed is stable (RFC 1813, section 4.8)
+abbrev pub is_answered_stable : Call → Bool
+is_answered_stable (call.SetAttr _ _ _) = true
+is_answered_stable (call.Write _ _ _ stability _) = not (is_unstable stability)
+is_answered_stable (call.Create _ _) = true
+is_answered_stable (call.MkDir _ _) = true
+is_answered_stable (call.SymLink _ _ _) = true
+is_answered_stable (call.MkNod _ _) = true
+is_answered_stable (call.Remove _) = true
+is_answered_stable (call.RmDir _) = true
+is_answered_stable (call.Rename _ _) = true
+is_answered_stable (call.Link _ _) = true
+is_answered_stable (call.Commit _ _ _) = true
+is_answered_stable _ = false

@@ -1,0 +1,30 @@
+-- The tree that a fresh image has.
+use Rattle.std.specs.Prelude.{ℕ, None}
+use Rattle.std.specs.FinMap.{empty, insert}
+use Rattle.limits.specs.declared.TheConstants.{ROOT}
+use Rattle.nfs_types.specs.declared.ctx.Moment.{Moment}
+use Rattle.model.specs.Node.{Node, Directory}
+use Rattle.model.specs.Tree.{Geometry, Tree}
+
+-- read, write and search for the owner, and the first and the last for everybody
+abbrev pub ROOT_MODE : ℕ
+ROOT_MODE = 493
+
+-- an empty directory that is its own parent, made at the moment by no transaction
+abbrev pub format_root : Moment → Node
+format_root moment = record {
+  mode = ROOT_MODE;
+  uid = 0;
+  gid = 0;
+  nlink = 2;
+  atime = moment;
+  mtime = moment;
+  ctime = moment;
+  stamp = record { boot = 0; transaction = 0 };
+  verifier = None;
+  body = Directory empty 0 ROOT;
+}
+
+-- the root alone
+abbrev pub format_tree : Geometry → Moment → Tree
+format_tree geometry moment = record { geometry = geometry; nodes = insert empty ROOT (format_root moment) }

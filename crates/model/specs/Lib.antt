@@ -1,0 +1,14 @@
+pub mod After
+pub mod Attributes
+pub mod Calls
+pub mod Cost
+pub mod Find
+pub mod Format
+pub mod GetAttr
+pub mod Names
+pub mod Node
+pub mod Permissions
+pub mod SetAttr
+pub mod Sound
+pub mod Step
+pub mod Tree

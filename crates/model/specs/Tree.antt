@@ -1,0 +1,41 @@
+-- All files of the server.
+use Rattle.std.specs.Prelude.{◌≡◌, ℕ, ◌+◌, ◌-◌, List, Option, Some, None, sum_by}
+use Rattle.std.specs.Ordering.{nat_cmp}
+use Rattle.std.specs.FinMap.{FinMap, get, insert, entries}
+use Rattle.model.specs.Node.{Node, Body}
+use Rattle.model.specs.Cost.{cost}
+
+-- how many blocks there are for what files hold, and above which number no file's number lies
+pub record Geometry : Type 0 where
+  pub data_blocks : ℕ
+  pub inodes : ℕ
+
+-- the files under their numbers
+pub record Tree : Type 0 where
+  pub geometry : Geometry
+  pub nodes : FinMap nat_cmp Node
+
+-- the file of a number
+abbrev pub node_at : Tree → ℕ → Option Node
+node_at tree number = get tree.nodes number
+
+-- the tree with this file under this number
+abbrev pub with_node : Tree → ℕ → Node → Tree
+with_node tree number node = record { geometry = tree.geometry; nodes = insert tree.nodes number node }
+
+-- the blocks that the files hold together
+abbrev pub held : Tree → ℕ
+held tree = sum_by (λ entry. cost entry.1.body) (entries tree.nodes)
+
+-- the data blocks that no file holds
+abbrev pub free : Tree → ℕ
+free tree = tree.geometry.data_blocks - held tree
+
+-- the blocks that the file of a number holds
+abbrev pub cost_at : Option Node → ℕ
+cost_at None = 0
+cost_at (Some node) = cost node.body
+
+-- the blocks that a change from one tree to the other adds, file by file, whatever it frees of others
+abbrev pub need : Tree → Tree → ℕ
+need old new = sum_by (λ entry. cost entry.1.body - cost_at (node_at old entry.0)) (entries new.nodes)

@@ -1,0 +1,14 @@
+//! What the server is, apart from any code and any disk: files, trees, what a call does to a tree and what is
+//! answered (RFC 1813). The definitions stand in `specs/`; the functions here have laws about them as their
+//! contracts.
+#![tactic(auto)]
+
+mod handles;
+mod histories;
+mod steps;
+mod trees;
+
+pub use handles::a_files_handle_names_it;
+pub use histories::an_empty_history_leads_nowhere;
+pub use steps::{getattr_is_determined, getattr_leaves_the_tree, setattr_is_determined};
+pub use trees::the_format_tree_is_sound;

@@ -1,0 +1,35 @@
+//! Laws on the steps of the sequential server.
+ghost use Rattle.std.specs.Prelude.{◌≡◌, Option};
+ghost use Rattle.nfs_types.specs.declared.attributes.NewAttributes.{NewAttributes};
+ghost use Rattle.nfs_types.specs.declared.ctx.Ctx.{Ctx};
+ghost use Rattle.nfs_types.specs.declared.ctx.Moment.{Moment};
+ghost use Rattle.nfs_types.specs.declared.handle.Handle.{Handle};
+ghost use Rattle.nfs_types.specs.declared.call.Call.TheVariants as call;
+ghost use Rattle.nfs_types.specs.declared.reply.Reply.{Reply};
+ghost use Rattle.model.specs.Tree.{Tree};
+ghost use Rattle.model.specs.Step.{step};
+
+/// GETATTR changes nothing.
+pub fn getattr_leaves_the_tree()
+    ensures { (tree next : Tree) (ctx : Ctx) (object : Handle) (reply : Reply)
+        → step tree ctx (call.GetAttr object) reply next → next ≡ tree }
+{
+}
+
+/// A GETATTR has one reply and one next tree.
+pub fn getattr_is_determined()
+    ensures { (tree next other : Tree) (ctx : Ctx) (object : Handle) (reply another : Reply)
+        → step tree ctx (call.GetAttr object) reply next → step tree ctx (call.GetAttr object) another other
+        → (reply ≡ another) × (next ≡ other) }
+{
+}
+
+/// A SETATTR has one reply and one next tree.
+pub fn setattr_is_determined()
+    ensures { (tree next other : Tree) (ctx : Ctx) (object : Handle) (wanted : NewAttributes) (guard : Option Moment)
+        (reply another : Reply)
+        → step tree ctx (call.SetAttr object wanted guard) reply next
+        → step tree ctx (call.SetAttr object wanted guard) another other
+        → (reply ≡ another) × (next ≡ other) }
+{
+}

@@ -1,0 +1,12 @@
+//! Laws on trees.
+ghost use Rattle.nfs_types.specs.declared.ctx.Moment.{Moment};
+ghost use Rattle.model.specs.Tree.{Geometry};
+ghost use Rattle.model.specs.Sound.{Sound, SoundGeometry, SoundTime};
+ghost use Rattle.model.specs.Format.{format_tree};
+
+/// The tree of a fresh image is sound.
+pub fn the_format_tree_is_sound()
+    ensures { (geometry : Geometry) (moment : Moment) → SoundGeometry geometry → SoundTime moment
+        → Sound (format_tree geometry moment) }
+{
+}
