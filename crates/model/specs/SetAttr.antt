@@ -65,7 +65,7 @@ abbrev pub is_given_away : Credential → NewAttributes → Node → Bool
 is_given_away caller wanted node =
     not (is_superuser caller)
     && (given wanted.uid (λ uid. not (nat_eq uid node.uid))
-      || given wanted.gid (λ gid. not (nat_eq gid node.gid || nat_eq caller.uid node.uid && is_own_group caller gid)))
+    || given wanted.gid (λ gid. not (nat_eq gid node.gid || nat_eq caller.uid node.uid && is_own_group caller gid)))
 
 -- what is the owner's alone to do
 abbrev pub is_not_permitted : Credential → NewAttributes → Node → Bool

@@ -13,16 +13,14 @@ ghost use Rattle.model.specs.Step.{step};
 pub fn getattr_leaves_the_tree()
     ensures { (tree next : Tree) (ctx : Ctx) (object : Handle) (reply : Reply)
         → step tree ctx (call.GetAttr object) reply next → next ≡ tree }
-{
-}
+{}
 
 /// A GETATTR has one reply and one next tree.
 pub fn getattr_is_determined()
     ensures { (tree next other : Tree) (ctx : Ctx) (object : Handle) (reply another : Reply)
         → step tree ctx (call.GetAttr object) reply next → step tree ctx (call.GetAttr object) another other
         → (reply ≡ another) × (next ≡ other) }
-{
-}
+{}
 
 /// A SETATTR has one reply and one next tree.
 pub fn setattr_is_determined()
@@ -31,5 +29,4 @@ pub fn setattr_is_determined()
         → step tree ctx (call.SetAttr object wanted guard) reply next
         → step tree ctx (call.SetAttr object wanted guard) another other
         → (reply ≡ another) × (next ≡ other) }
-{
-}
+{}

@@ -8,5 +8,4 @@ ghost use Rattle.model.specs.Format.{format_tree};
 pub fn the_format_tree_is_sound()
     ensures { (geometry : Geometry) (moment : Moment) → SoundGeometry geometry → SoundTime moment
         → Sound (format_tree geometry moment) }
-{
-}
+{}

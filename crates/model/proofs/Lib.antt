@@ -1,0 +1,3 @@
+mod Determined
+mod Formatted
+mod Maps
