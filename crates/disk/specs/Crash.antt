@@ -1,5 +1,5 @@
 -- What a crash leaves.
-use Rattle.std.specs.Prelude.{◌≡◌, ℕ, ◌<◌, false, List, length, Contains}
+use Rattle.std.specs.Prelude.{◌≡◌, ℕ, ◌<◌, false, length, Contains}
 use Rattle.disk.specs.Device.{Content, Device, current}
 
 -- the blocks of an image, by their numbers

@@ -1,5 +1,5 @@
 -- The disk model: the contents that each block may have, at each moment, and what a call of the device does to them.
-use Rattle.std.specs.Prelude.{◌≡◌, ◌≢◌, ℕ, ◌+◌, ◌-◌, ◌≤◌, Bool, ◌||◌, ◌&&◌, if◌then◌else◌, cond, nat_lt, nat_le, nat_eq, List, [], ◌∷◌, ◌++◌, length, drop, slice_index_or, Result, Ok, Err, is_err, ◌⊎◌}
+use Rattle.std.specs.Prelude.{◌≡◌, ◌≢◌, ℕ, ◌+◌, ◌-◌, ◌≤◌, Bool, ◌||◌, ◌&&◌, if◌then◌else◌, nat_lt, nat_le, nat_eq, List, [], ◌∷◌, ◌++◌, length, drop, slice_index_or, Result, Ok, Err, is_err, ◌⊎◌}
 use Rattle.limits.specs.declared.TheConstants.{LOG_HEADER_BLOCK, START_BLOCK}
 use Rattle.disk.specs.declared.block.Side.{Side}
 use Rattle.disk.specs.declared.block.Side.TheVariants.{Log, Home}

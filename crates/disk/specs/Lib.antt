@@ -1,2 +1,5 @@
 pub mod Device
 pub mod Crash
+pub mod Choice
+pub mod Noted
+pub mod Memory

@@ -2,7 +2,12 @@
 #![tactic(auto)]
 
 mod block;
+mod contents;
 mod device;
+mod history;
+mod mem_disk;
+mod noted;
 
 pub use block::{Block, BlockNo, Side};
 pub use device::{CrashDisk, Failed};
+pub use mem_disk::MemDisk;

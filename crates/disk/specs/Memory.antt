@@ -1,0 +1,51 @@
+-- A device in memory, read off what it holds now and what it held at each call before.
+use Rattle.std.specs.Prelude.{ℕ, ◌+◌, List, [], map, length, slice_index_or, count_by, Contains}
+use Rattle.std.specs.List.{list_any}
+use Rattle.disk.specs.Device.{Content, Device, current, newest}
+use Rattle.disk.specs.Crash.{Image}
+use Rattle.disk.specs.Noted.{is_failure, spoils}
+use Rattle.disk.specs.declared.noted.Noted.{Noted}
+use Rattle.disk.specs.declared.mem_disk.MemDisk.{MemDisk}
+
+-- the contents of each block, in the order of the blocks
+abbrev pub Blocks : Type 0
+Blocks = List (List Content)
+
+-- what the blocks held before each call, with the call
+abbrev pub Past : Type 0
+Past = List (Blocks × Noted)
+
+-- at a moment of the past what was held then, and from the last call on what is held now
+abbrev pub held_at : Blocks → Past → ℕ → Blocks
+held_at now past moment = slice_index_or (map (λ e. e.0) past) moment now
+
+abbrev pub device_of : Blocks → Past → Device
+device_of now past = record {
+  size = length now;
+  clock = length past;
+  failures = count_by (λ e. is_failure e.1) past;
+  contents = λ moment block. slice_index_or (held_at now past moment) block [];
+  spoiled = λ block. list_any (λ e. spoils block e.1) past;
+}
+
+-- the contents now of each block
+abbrev pub blocks_of : MemDisk → Blocks
+blocks_of d = d.blocks.items
+
+abbrev pub past_of : MemDisk → Past
+past_of d = map (λ e. (e.0.value.items, e.1)) d.history.past.items
+
+abbrev pub memory_device : MemDisk → Device
+memory_device d = device_of (blocks_of d) (past_of d)
+
+-- the numbers of the calls that are to fail, counted from 1
+abbrev pub to_fail : MemDisk → List ℕ
+to_fail d = d.fails.items
+
+-- the next call is to fail
+abbrev pub IsDue : MemDisk → Type 0
+IsDue d = Contains (to_fail d) (length (past_of d) + 1)
+
+-- the newest content of each block
+abbrev pub image_of : MemDisk → Image
+image_of d = λ block. newest (current (memory_device d) block)

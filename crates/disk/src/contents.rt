@@ -1,0 +1,85 @@
+//! The contents that one block may have.
+ghost use Rattle.std.specs.Prelude.{◌≡◌, ◌<◌, ◌-◌, [], ◌∷◌, ◌++◌, min, is_ok, length, IfOk, if◌then◌else◌};
+ghost use Rattle.disk.specs.Device.{newest, settled};
+ghost use Rattle.disk.specs.Choice.{pick};
+
+use crate::Block;
+use std::alloc::{AllocError, Global};
+use std::marker::Model;
+
+/// The contents that a crash may leave of one block, the newest last.
+#[derive(Drop)]
+pub struct Contents {
+    blocks: Vec<Block>,
+}
+
+impl Model for Contents {
+    ghost use Rattle.std.specs.Prelude.{List, ℕ, ◌<◌, length};
+
+    ghost Value = { List (List ℕ) };
+
+    ghost view = { λ c. c.blocks.items };
+
+    ghost invariant = { λ c. 0 < length c.blocks.items };
+}
+
+impl Contents {
+    /// One content.
+    pub fn one(alloc: Global, content: Block) -> Result<Contents, AllocError>
+        ensures { IfOk result (λ contents. contents ≡ content ∷ []) }
+    {
+        let mut blocks = Vec::with_capacity(alloc, 1)?;
+        blocks.push(content)?;
+        Ok(Contents { blocks })
+    }
+
+    /// How many there are.
+    pub fn count(&self) -> usize
+        ensures { result ≡ length self.now }
+    {
+        self.blocks.len()
+    }
+
+    /// The newest.
+    pub fn newest(&self) -> &Block
+        ensures { result.now ≡ newest self.now }
+    {
+        &self.blocks[self.blocks.len() - 1]
+    }
+
+    /// Adds a newer one. Where memory was refused nothing changes.
+    pub fn append(&mut self, alloc: Global, content: &Block) -> Result<(), AllocError>
+        ensures { self.new ≡ (if is_ok result then self.old ++ content.now ∷ [] else self.old) }
+    {
+        let mut copy = Block::zeros(alloc)?;
+        copy.copy_from(content);
+        self.blocks.push(copy)?;
+        Ok(())
+    }
+
+    /// Keeps the newest alone.
+    pub fn settle(&mut self)
+        ensures { self.new ≡ settled self.old }
+    {
+        let last = self.blocks.len() - 1;
+        self.keep(last);
+    }
+
+    /// Keeps one alone: that of this place, or where there are fewer the newest.
+    pub fn keep(&mut self, place: usize)
+        ensures kept { self.new ≡ pick place self.old ∷ [] }
+        ensures some { 0 < length self.old }
+    {
+        let last = self.blocks.len() - 1;
+        self.blocks.swap(0, place.min(last));
+        self.blocks.truncate(1);
+    }
+
+    /// Makes this the only content.
+    pub fn set(&mut self, content: &Block)
+        ensures { self.new ≡ content.now ∷ [] }
+    {
+        self.blocks.truncate(1);
+        self.blocks[0].copy_from(content);
+    }
+}

@@ -1,0 +1,44 @@
+//! The calls of a device in memory, with what it held before each.
+ghost use Rattle.std.specs.Prelude.{◌≡◌, ◌-◌, ◌^◌, [], ◌∷◌, ◌++◌, min, length};
+
+use crate::contents::Contents;
+use crate::noted::Noted;
+use http_server::Log;
+use std::snapshot::Snapshot;
+
+/// The calls so far. It keeps their count, and the calls for proofs alone.
+#[derive(Drop)]
+pub struct History {
+    calls: u64,
+    past: Log<Snapshot<Vec<Contents>>, Noted>,
+    ghost counted: { calls ≡ min (length past.items) (2 ^ 64 - 1) },
+}
+
+impl History {
+    /// No call.
+    pub fn new() -> History
+        ensures { result.past.items ≡ [] }
+    {
+        History {
+            calls: 0,
+            past: Log::new(),
+        }
+    }
+
+    /// The calls and one more, before which the blocks held this.
+    pub fn and(&self, before: &Snapshot<Vec<Contents>>, noted: &Noted) -> History
+        ensures { result.past.items ≡ self.now.past.items ++ (before.now, noted.now) ∷ [] }
+    {
+        History {
+            calls: self.calls.saturating_add(1),
+            past: self.past.and(before, noted),
+        }
+    }
+
+    /// How many there are, up to the greatest number.
+    pub fn calls(&self) -> u64
+        ensures { result ≡ min (length self.now.past.items) (2 ^ 64 - 1) }
+    {
+        self.calls
+    }
+}
