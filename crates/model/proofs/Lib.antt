@@ -1,3 +1,4 @@
 mod Determined
 mod Formatted
 mod Maps
+pub mod Sets

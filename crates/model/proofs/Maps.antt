@@ -6,6 +6,7 @@ use Rattle.std.specs.declared.cmp.Ordering.TheVariants.{Less, Equal, Greater}
 use Rattle.std.specs.Ordering.{nat_cmp, is_eq, eq_by_cmp}
 use Rattle.std.specs.Cmp.{nat_cmp_total}
 use Rattle.std.specs.FinMap.{FinMap, empty, entries, insert, get, len, contains_key, len-empty, len-entries, len-insert, get-entries, get-insert, get-empty, entries-insert, find, put, nat_cmp-IsAntisymmetric}
+use Rattle.model.proofs.Sets.{eq_by_cmp-is}
 use Rattle.std.specs.FinMap.Entries.{by_order}
 
 none_long : {A : Type 0} (xs : List A) → length xs ≡ 0 → xs ≡ []
@@ -21,15 +22,6 @@ entries-one k v = entries-insert nat_cmp_total empty k v ∙ ap (put nat_cmp k v
 
 pub get-one : {X : Type 0} (k : ℕ) (v : X) (q : ℕ) → get (insert (empty {R = nat_cmp}) k v) q ≡ cond (eq_by_cmp nat_cmp q k) (Some v) None
 get-one k v q = get-insert nat_cmp_total empty k v q ∙ ap (cond (eq_by_cmp nat_cmp q k) (Some v)) (get-empty nat_cmp q)
-
-tied : (q k : ℕ) (r : Ordering) → nat_cmp q k ≡ r → is_eq r ≡ true → q ≡ k
-tied q k Less e t = cc
-tied q k Equal e t = nat_cmp-IsAntisymmetric q k e
-tied q k Greater e t = cc
-
--- numbers that the order ties are one
-pub eq_by_cmp-is : (q k : ℕ) → eq_by_cmp nat_cmp q k ≡ true → q ≡ k
-eq_by_cmp-is q k e = tied q k (nat_cmp q k) refl e
 
 chosen : {X : Type 0} (b : Bool) (v w : X) → cond b (Some v) None ≡ Some w → (b ≡ true) × (w ≡ v)
 chosen true v w e = (refl, cc)

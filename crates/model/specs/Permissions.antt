@@ -26,7 +26,7 @@ is_superuser caller = nat_eq caller.uid 0
 
 -- a group is the caller's own if it is that of the credential or among its further ones
 abbrev pub is_own_group : Credential → ℕ → Bool
-is_own_group caller gid = nat_eq caller.gid gid || list_any (nat_eq gid) caller.gids
+is_own_group caller gid = nat_eq caller.gid gid || list_any (λ own. nat_eq own gid) caller.gids
 
 -- the one class whose bits count: the owner's, else the group's, else that of others
 abbrev pub class_of : Credential → Node → ℕ

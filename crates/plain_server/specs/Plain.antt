@@ -1,0 +1,51 @@
+-- Which tree the plain structs of this crate stand for.
+use Rattle.std.specs.Prelude.{ℕ, Bool, true, false, List, map, Option, Some, None, Result, Ok, Err}
+use Rattle.std.specs.FinMap.{from_entries}
+use Rattle.nfs_types.specs.declared.call.Call.{Call}
+use Rattle.nfs_types.specs.declared.call.Call.TheVariants as call
+use Rattle.model.specs.Node.{Node, Body, Regular, Directory, Link, DirectoryEntry}
+use Rattle.model.specs.Tree.{Tree}
+use Rattle.plain_server.specs.declared.node.PlainBody.{PlainBody}
+use Rattle.plain_server.specs.declared.node.PlainBody.TheVariants as plain
+use Rattle.plain_server.specs.declared.node.PlainEntry.{PlainEntry}
+use Rattle.plain_server.specs.declared.node.PlainNode.{PlainNode}
+use Rattle.plain_server.specs.declared.tree.NumberedNode.{NumberedNode}
+use Rattle.plain_server.specs.declared.tree.PlainTree.{PlainTree}
+
+abbrev pub entry_of : PlainEntry → List ℕ × DirectoryEntry
+entry_of entry = (entry.name, record { number = entry.number; slot = entry.slot })
+
+abbrev pub body_of : PlainBody → Body
+body_of (plain.Regular bytes kept) = Regular bytes.items kept
+body_of (plain.Directory entries span parent) = Directory (from_entries (map entry_of entries.items)) span parent
+body_of (plain.Link target) = Link target
+
+abbrev pub node_of : PlainNode → Node
+node_of node = record {
+  mode = node.mode;
+  uid = node.uid;
+  gid = node.gid;
+  nlink = node.nlink;
+  atime = node.atime;
+  mtime = node.mtime;
+  ctime = node.ctime;
+  stamp = node.stamp;
+  verifier = node.verifier;
+  body = body_of node.body;
+}
+
+-- a number that stands twice has its first file
+abbrev pub numbered : NumberedNode → ℕ × Node
+numbered n = (n.number, node_of n.node)
+
+abbrev pub tree_of : PlainTree → Tree
+tree_of tree = record {
+  geometry = record { data_blocks = tree.data_blocks; inodes = tree.inodes };
+  nodes = from_entries (map numbered tree.nodes.items);
+}
+
+-- the calls that the plain server serves: GETATTR, and SETATTR with any parts
+abbrev pub is_served : Call → Bool
+is_served (call.GetAttr _) = true
+is_served (call.SetAttr _ _ _) = true
+is_served _ = false

@@ -1,0 +1,18 @@
+//! A plain, slow server over trees: what the sequential server of `model` does, computed on small inputs. It
+//! knows of no disk.
+#![tactic(auto)]
+
+mod attributes;
+mod kept;
+mod node;
+mod permissions;
+mod refusal;
+mod server;
+#[cfg(test)]
+mod tests;
+mod tree;
+
+pub use kept::Kept;
+pub use node::{PlainBody, PlainEntry, PlainNode};
+pub use server::{PlainFault, serve};
+pub use tree::{NumberedNode, PlainTree};

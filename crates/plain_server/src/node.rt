@@ -1,0 +1,122 @@
+//! Files as plain structs.
+ghost use Rattle.std.specs.Prelude.{◌≡◌, ◌*◌};
+ghost use Rattle.model.specs.Attributes.{attributes_of, before_change, kind_of, size_of};
+ghost use Rattle.model.specs.Cost.{cost};
+ghost use Rattle.plain_server.specs.Plain.{body_of, node_of};
+
+use crate::Kept;
+use limits::{BLOCK_BYTES, DIRECT_INDEXES};
+use nfs_types::{
+    Attributes, DeviceNumber, FileKind, Moment, Octets, Stamp, WeakCacheAttributes,
+};
+
+/// A name in a directory, with the file that it leads to and the slot in which it lies.
+#[derive(Drop)]
+pub struct PlainEntry {
+    pub name: Octets,
+    pub number: u32,
+    pub slot: u32,
+}
+
+/// What is in a file.
+#[derive(Drop)]
+pub enum PlainBody {
+    Regular {
+        bytes: Vec<u8>,
+        kept: Kept,
+    },
+    Directory {
+        entries: Vec<PlainEntry>,
+        span: u32,
+        parent: u32,
+    },
+    Link {
+        target: Octets,
+    },
+}
+
+/// A file with its attributes.
+#[derive(Drop)]
+pub struct PlainNode {
+    pub mode: u32,
+    pub uid: u32,
+    pub gid: u32,
+    pub nlink: u32,
+    pub atime: Moment,
+    pub mtime: Moment,
+    pub ctime: Moment,
+    pub stamp: Stamp,
+    pub verifier: Option<u64>,
+    pub body: PlainBody,
+}
+
+impl PlainBody {
+    pub fn kind(&self) -> FileKind
+        ensures { result ≡ kind_of (body_of self.now) }
+    {
+        match self {
+            PlainBody::Regular { .. } => FileKind::Regular,
+            PlainBody::Directory { .. } => FileKind::Directory,
+            PlainBody::Link { .. } => FileKind::Link,
+        }
+    }
+
+    /// The size in bytes.
+    pub fn size(&self) -> u64
+        ensures { result ≡ size_of (body_of self.now) }
+    {
+        match self {
+            PlainBody::Regular { bytes, .. } => bytes.len() as u64,
+            PlainBody::Directory { span, .. } => BLOCK_BYTES as u64 * *span as u64,
+            PlainBody::Link { target } => target.as_slice().len() as u64,
+        }
+    }
+
+    /// The bytes of the blocks that the file holds.
+    pub fn used(&self) -> u64
+        ensures { result ≡ BLOCK_BYTES * cost (body_of self.now) }
+    {
+        let blocks = match self {
+            PlainBody::Regular { kept, .. } => kept.cost(),
+            PlainBody::Directory { span, .. } => {
+                *span as u64 + if *span as usize > DIRECT_INDEXES { 1 } else { 0 }
+            }
+            PlainBody::Link { .. } => 1,
+        };
+        BLOCK_BYTES as u64 * blocks
+    }
+}
+
+impl PlainNode {
+    /// What a reply tells of the file.
+    pub fn attributes(&self, number: u32) -> Attributes
+        ensures { result ≡ attributes_of number (node_of self.now) }
+    {
+        Attributes {
+            kind: self.body.kind(),
+            mode: self.mode,
+            nlink: self.nlink,
+            uid: self.uid,
+            gid: self.gid,
+            size: self.body.size(),
+            used: self.body.used(),
+            device: DeviceNumber { major: 0, minor: 0 },
+            file_system: 1,
+            number: number as u64,
+            atime: self.atime,
+            mtime: self.mtime,
+            ctime: self.ctime,
+        }
+    }
+
+    /// What is told of the file as it is before a change.
+    pub fn before_change(&self) -> WeakCacheAttributes
+        ensures { result ≡ before_change (node_of self.now) }
+    {
+        WeakCacheAttributes {
+            size: self.body.size(),
+            mtime: self.mtime,
+            ctime: self.ctime,
+        }
+    }
+}
