@@ -1,0 +1,11 @@
+//! The arguments and results of NFS version 3 (RFC 1813, section 3.3).
+
+mod arguments;
+mod items;
+mod procedure;
+mod results;
+mod status;
+
+pub use arguments::decode_call;
+pub use procedure::Procedure;
+pub use results::encode_reply;
