@@ -1,3 +1,4 @@
 pub mod Memory
 pub mod Marks
 pub mod Loops
+pub mod Lengths

@@ -30,7 +30,7 @@ GivesWhole {Y} (Err e) read = (read ≡ Err e) ⊎ ((e ≡ NoMemory) × (y : Y) 
 abbrev pub number_at : Width → List ℕ → Result (ℕ × List ℕ) XdrFault
 number_at w bytes = if nat_lt (length bytes) (byte_len w) then Err Short else Ok (from_be_bytes w (take (byte_len w) bytes), drop (byte_len w) bytes)
 
-abbrev flag_of : ℕ → List ℕ → Result (Bool × List ℕ) XdrFault
+abbrev pub flag_of : ℕ → List ℕ → Result (Bool × List ℕ) XdrFault
 flag_of zero rest = Ok (false, rest)
 flag_of (suc zero) rest = Ok (true, rest)
 flag_of (suc (suc n)) rest = Err Value

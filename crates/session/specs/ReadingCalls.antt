@@ -20,7 +20,7 @@ moment_at bytes = do
   nanoseconds ← number_at w32 seconds.1
   Ok (record { seconds = seconds.0; nanoseconds = nanoseconds.0 }, nanoseconds.1)
 
-abbrev optional_at : {A : Type 0} → (List ℕ → Result (A × List ℕ) XdrFault) → List ℕ → Result (Option A × List ℕ) XdrFault
+abbrev pub optional_at : {A : Type 0} → (List ℕ → Result (A × List ℕ) XdrFault) → List ℕ → Result (Option A × List ℕ) XdrFault
 optional_at item bytes = do
   there ← flag_at bytes
   if there.0 then (item there.1 >>= λ x. Ok (Some x.0, x.1)) else Ok (None, there.1)
@@ -34,7 +34,7 @@ optional_double_at bytes = optional_at (number_at w64) bytes
 unfoldable pub guard_at : List ℕ → Result (Option Moment × List ℕ) XdrFault
 guard_at bytes = optional_at moment_at bytes
 
-abbrev set_time_of : ℕ → List ℕ → Result (SetTime × List ℕ) XdrFault
+abbrev pub set_time_of : ℕ → List ℕ → Result (SetTime × List ℕ) XdrFault
 set_time_of zero rest = Ok (Keep, rest)
 set_time_of (suc zero) rest = Ok (Server, rest)
 set_time_of (suc (suc zero)) rest = moment_at rest >>= λ t. Ok (Client t.0, t.1)

@@ -52,6 +52,7 @@ fn judge_header(alloc: Global, xid: u32, reader: &mut Reader) -> Result<Judged, 
 }
 
 // What a call with a lawful credential is taken for.
+#[tactic(auto, using(crate::proofs::Memory::call_never))]
 fn judge_request(
     alloc: Global,
     xid: u32,

@@ -10,6 +10,7 @@ use crate::xdr::Writer;
 use std::alloc::{AllocError, Global};
 
 /// Writes a reply at the end of `out`, as a record of one fragment.
+#[tactic(auto, using(crate::proofs::Lengths::reply_is_short), unfolding(crate::specs::Items::word))]
 pub fn reply_bytes(
     alloc: Global,
     out: &mut Vec<u8>,
