@@ -1,2 +1,3 @@
 pub mod MemoryLemmas
 pub mod CrashLemmas
+pub mod FileLemmas

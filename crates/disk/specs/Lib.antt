@@ -3,3 +3,4 @@ pub mod Crash
 pub mod Choice
 pub mod Noted
 pub mod Memory
+pub mod File

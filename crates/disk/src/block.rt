@@ -2,8 +2,10 @@
 ghost use Rattle.std.specs.Prelude.{◌≡◌, ◌+◌, ◌≤◌, ◌++◌, length, take, drop, replicate, IfOk};
 ghost use Rattle.disk.specs.Device.{side_of};
 
+use crate::BlockFile;
 use limits::{BLOCK_BYTES, LOG_HEADER_BLOCK, START_BLOCK};
 use std::alloc::{AllocError, Global};
+use std::io;
 use std::marker::Model;
 
 /// The number of a block of an image, from 0.
@@ -79,5 +81,10 @@ impl Block {
         ensures len { length self.new ≡ BLOCK_BYTES }
     {
         self.bytes[offset..offset + bytes.len()].copy_from_slice(bytes);
+    }
+
+    /// Reads the bytes of a file from an offset on. Where that fails, some of them may have come.
+    pub(crate) fn fill<F: BlockFile>(&mut self, file: &F, offset: u64) -> io::Result<()> {
+        file.read_block(offset, &mut self.bytes[..])
     }
 }

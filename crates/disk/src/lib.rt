@@ -4,10 +4,12 @@
 mod block;
 mod contents;
 mod device;
+mod file_disk;
 mod history;
 mod mem_disk;
 mod noted;
 
 pub use block::{Block, BlockNo, Side};
 pub use device::{CrashDisk, Failed};
+pub use file_disk::{BlockFile, FileCall, FileDisk};
 pub use mem_disk::MemDisk;
