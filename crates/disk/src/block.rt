@@ -9,7 +9,7 @@ use std::io;
 use std::marker::Model;
 
 /// The number of a block of an image, from 0.
-#[derive(Clone, Copy, Debug, PartialEq, Eq, PartialOrd, Ord)]
+#[derive(Clone, Copy, Debug, Default, PartialEq, Eq, PartialOrd, Ord)]
 pub struct BlockNo(pub u32);
 
 /// A side of a device. A barrier settles the writes of one side.

@@ -8,6 +8,8 @@ mod file_disk;
 mod history;
 mod mem_disk;
 mod noted;
+#[cfg(test)]
+mod tests;
 
 pub use block::{Block, BlockNo, Side};
 pub use device::{CrashDisk, Failed};

@@ -23,6 +23,7 @@ pub struct MemDisk {
 
 impl MemDisk {
     ghost use Rattle.std.specs.Prelude.{◌++◌, slice_set, IsErr, OnOk, OnErr};
+    ghost use Rattle.disk.specs.Device.{current};
     ghost use Rattle.disk.specs.Crash.{IsCrashImage, IsAtRest};
     ghost use Rattle.disk.specs.Memory.{blocks_of, past_of, to_fail, memory_device, image_of, IsDue};
 
@@ -31,6 +32,7 @@ impl MemDisk {
         ensures zeros { IfOk result (λ d. blocks_of d ≡ replicate blocks (replicate BLOCK_BYTES 0 ∷ [])) }
         ensures fresh { IfOk result (λ d. past_of d ≡ []) }
         ensures none { IfOk result (λ d. to_fail d ≡ []) }
+        ensures rest { IfOk result (λ d. IsAtRest (memory_device d)) }
     {
         Ok(MemDisk {
             alloc,
@@ -83,6 +85,14 @@ impl MemDisk {
         self.blocks[block.0 as usize].newest()
     }
 
+    /// How many contents a crash may leave of a block.
+    pub fn count(&self, block: BlockNo) -> usize
+        requires { block.0 < (memory_device self.now).size }
+        ensures { result ≡ length (current (memory_device self.now) block.0) }
+    {
+        self.blocks[block.0 as usize].count()
+    }
+
     /// Gives a block this content alone, without a call: for images that are built by hand.
     pub fn set(&mut self, block: BlockNo, content: &Block)
         requires { block.0 < (memory_device self.old).size }
@@ -131,7 +141,9 @@ impl MemDisk {
 }
 
 impl CrashDisk for MemDisk {
-    ghost use Rattle.disk.specs.Memory.{memory_device};
+    ghost use Rattle.std.specs.Prelude.{◌≢◌, ◌∷◌, ◌++◌, is_err, IsErr, IsOk, OnOk, false};
+    ghost use Rattle.disk.specs.Device.{newest, current, CountsFailure, HasRead, HasWritten, HasSettled};
+    ghost use Rattle.disk.specs.Memory.{memory_device, blocks_of, to_fail, IsDue};
 
     ghost device = { memory_device };
 
@@ -141,7 +153,15 @@ impl CrashDisk for MemDisk {
         self.blocks.len() as u32
     }
 
-    fn read(&mut self, block: BlockNo, out: &mut Block) -> Result<(), Failed> {
+    // It needs no memory: it fails exactly where it is to fail.
+    fn read(&mut self, block: BlockNo, out: &mut Block) -> Result<(), Failed>
+        requires { block.0 < (memory_device self.old).size }
+        ensures call { HasRead (memory_device self.old) (memory_device self.new) }
+        ensures failure { CountsFailure (memory_device self.old) (memory_device self.new) result }
+        ensures newest { OnOk result (out.new ≡ newest (current (memory_device self.old) block.0)) }
+        ensures due { IsErr result ↔ IsDue self.old }
+        ensures fails { to_fail self.new ≡ to_fail self.old }
+    {
         let before = Snapshot::of(&self.blocks);
         let result = self.outcome();
         if result.is_ok() {
@@ -151,7 +171,15 @@ impl CrashDisk for MemDisk {
         result
     }
 
-    fn write(&mut self, block: BlockNo, content: &Block) -> Result<(), Failed> {
+    // A write that is to fail is made all the same, where it finds room. One that finds none fails and changes nothing.
+    fn write(&mut self, block: BlockNo, content: &Block) -> Result<(), Failed>
+        requires { block.0 < (memory_device self.old).size }
+        ensures call { HasWritten (memory_device self.old) block.0 content.now result (memory_device self.new) }
+        ensures failure { CountsFailure (memory_device self.old) (memory_device self.new) result }
+        ensures due { IsDue self.old → IsErr result }
+        ensures full { IsErr result → ¬ (IsDue self.old) → blocks_of self.new ≡ blocks_of self.old }
+        ensures fails { to_fail self.new ≡ to_fail self.old }
+    {
         let before = Snapshot::of(&self.blocks);
         let due = self.outcome();
         let made = self.blocks[block.0 as usize].append(self.alloc, content);
@@ -160,7 +188,12 @@ impl CrashDisk for MemDisk {
         result
     }
 
-    fn barrier(&mut self, side: Side) -> Result<(), Failed> {
+    fn barrier(&mut self, side: Side) -> Result<(), Failed>
+        ensures call { HasSettled (memory_device self.old) side result (memory_device self.new) }
+        ensures failure { CountsFailure (memory_device self.old) (memory_device self.new) result }
+        ensures due { IsErr result ↔ IsDue self.old }
+        ensures fails { to_fail self.new ≡ to_fail self.old }
+    {
         let before = Snapshot::of(&self.blocks);
         let result = self.outcome();
         if result.is_ok() {
