@@ -1,0 +1,149 @@
+//! The memory log.
+ghost use Rattle.std.specs.Prelude.{◌≡◌, ◌≤◌, ◌<◌, ◌^◌, ◌+◌, length, IfOk, MatchOption, Some, None, All, map};
+ghost use Rattle.limits.specs.declared.TheConstants.{LOG_SLOTS, FIRST_HOME_BLOCK};
+ghost use Rattle.wal.specs.Log.{newest, settled_place, installed_place, opened, IsHomeOn, blocks_of, IsLawful};
+ghost use Rattle.wal.specs.Room.{IsRoom};
+
+mod append;
+mod header;
+mod installer;
+mod logger;
+mod search;
+
+use crate::circ::Recovered;
+use crate::{Change, Room, Seq};
+use disk::{Block, BlockNo};
+use limits::LOG_SLOTS;
+use std::alloc::{AllocError, Global};
+use std::collections::VecDeque;
+use std::marker::Model;
+
+/// The changes that aren't home yet, and how far the logger and the installer have come with them.
+#[derive(Drop)]
+pub struct Wal {
+    blocks: u32,
+    start: u64,
+    changes: VecDeque<Change>,
+    logged: usize,
+    taken: usize,
+    log_step: usize,
+    log_buffer: Option<Block>,
+    installing: usize,
+    inst_step: usize,
+    inst_buffer: Option<Block>,
+    places: u64,
+    broken: bool,
+}
+
+impl Model for Wal {
+    ghost use Rattle.wal.specs.Log.{Log};
+
+    ghost Value = { Log };
+
+    ghost use Rattle.wal.specs.View.{log_of, IsSound};
+
+    ghost view = { log_of };
+
+    ghost invariant = { IsSound };
+}
+
+impl Wal {
+    /// The log that an opening found on a disk of so many blocks. Its changes are logged and not yet home.
+    pub fn new(alloc: Global, blocks: u32, found: Recovered) -> Result<Wal, AllocError>
+        requires disk { FIRST_HOME_BLOCK ≤ blocks }
+        requires slots { length found.logged.items ≤ LOG_SLOTS }
+        requires positions { found.start + length found.logged.items < 2 ^ 64 }
+        requires homes { All (IsHomeOn blocks) (blocks_of found.logged.items) }
+        ensures { IfOk result (λ log. log ≡ opened blocks found.start found.logged.items) }
+    {
+        let log_buffer = Block::zeros(alloc)?;
+        let inst_buffer = Block::zeros(alloc)?;
+        let Recovered { start, logged } = found;
+        let count = logged.len();
+        let mut changes = VecDeque::with_capacity(alloc, count)?;
+        append::push_group(&mut changes, 0, logged);
+        Ok(Wal {
+            blocks,
+            start,
+            changes,
+            logged: count,
+            taken: 0,
+            log_step: 0,
+            log_buffer: Some(log_buffer),
+            installing: 0,
+            inst_step: 0,
+            inst_buffer: Some(inst_buffer),
+            places: 0,
+            broken: false,
+        })
+    }
+
+    /// The newest content of a block. One that the log doesn't have is home.
+    pub fn latest(&self, block: BlockNo) -> Option<&Block>
+        ensures { MatchOption result (newest self.now block.0 ≡ None) (λ content. newest self.now block.0 ≡ Some content.now) }
+    {
+        search::last_change(&self.changes, 0, self.changes.len(), block)
+    }
+
+    /// The greatest place such that each change at or before it is settled in the log.
+    pub fn settled(&self) -> Seq
+        ensures { result.0 ≡ settled_place self.now }
+    {
+        place_before(self.changes.get(self.logged), self.places)
+    }
+
+    /// The greatest place such that each change at or before it is home.
+    pub fn installed(&self) -> Seq
+        ensures { result.0 ≡ installed_place self.now }
+    {
+        place_before(self.changes.get(0), self.places)
+    }
+
+    /// The place of the last commit.
+    pub fn places(&self) -> Seq
+        ensures { result.0 ≡ self.now.places }
+    {
+        Seq(self.places)
+    }
+
+    /// The count of the disk's blocks.
+    pub fn blocks(&self) -> u32
+        ensures { result ≡ self.now.blocks }
+    {
+        self.blocks
+    }
+
+    /// Whether a device call has failed: then the log hands out no more of them.
+    pub fn broken(&self) -> bool
+        ensures { result ≡ self.now.broken }
+    {
+        self.broken
+    }
+
+    /// Whether a group that changes these blocks finds room.
+    pub fn room(&self, blocks: &[BlockNo]) -> Room
+        ensures { IsRoom self.now blocks.now result }
+    {
+        if self.places == u64::MAX {
+            return Room::Spent;
+        }
+        let tail = self.changes.len() - (self.logged + self.taken);
+        let count = blocks.len();
+        let left = u64::MAX - (self.start + self.changes.len() as u64);
+        if left < count as u64 {
+            Room::Spent
+        } else if (LOG_SLOTS as usize) - tail < count {
+            Room::Full
+        } else {
+            Room::Fits
+        }
+    }
+}
+
+// The place before that of a change, or the last where there is none.
+fn place_before(change: Option<&Change>, places: u64) -> Seq {
+    match change {
+        Some(change) => Seq(change.place.saturating_sub(1)),
+        None => Seq(places),
+    }
+}

@@ -1,0 +1,127 @@
+//! The installer: it brings logged changes home, and then raises the start of the log.
+ghost use Rattle.std.specs.Prelude.{◌≡◌, ◌<◌, ◌≤◌, length, drop, IfSome, IsNone, IsSome, is_some, if◌then◌else◌, true, false, nat_lt, ◌||◌};
+ghost use Rattle.wal.specs.Io.{IsCallWithin};
+ghost use Rattle.wal.specs.Installer.{may_install, with_inst_out, is_inst_out, with_inst_back, with_installed, next_home, IsNextInstCall};
+
+use super::Wal;
+use super::search::next_newest;
+use crate::circ::put_start;
+use crate::{Change, InstIo, IoCall};
+use disk::{Block, BlockNo, Side};
+use limits::START_BLOCK;
+use std::collections::VecDeque;
+
+impl Wal {
+    /// Takes the logged changes where none are taken, and hands out their next call: the writes of the newest content
+    /// of each block to its home, a barrier, the write of the start behind them, a barrier.
+    pub fn inst_next(&mut self) -> Option<InstIo>
+        ensures causes { is_some result ≡ may_install self.old }
+        ensures none { IsNone result → self.new ≡ self.old }
+        ensures some { IsSome result → self.new ≡ with_inst_out self.old }
+        ensures call { IfSome result (IsNextInstCall self.new) }
+        ensures within { IfSome result (λ io. IsCallWithin self.new.blocks io.call) }
+    {
+        if self.broken || !self.begin_installation() {
+            return None;
+        }
+        let buffer = self.inst_buffer.take()?;
+        Some(self.inst_io(buffer))
+    }
+
+    /// Takes a call of the installer back, with whether it was made. One that isn't the call that is out changes
+    /// nothing. One that failed breaks the log for good.
+    pub fn inst_done(&mut self, io: InstIo, ok: bool)
+        ensures { self.new ≡ (if is_inst_out self.old io then with_inst_back self.old ok else self.old) }
+    {
+        let InstIo {
+            beginning,
+            step,
+            call: _,
+            content,
+        } = io;
+        let is_out =
+            self.inst_buffer.is_none() && beginning == self.start && step == self.inst_step;
+        if !is_out {
+            return;
+        }
+        self.inst_buffer = Some(content);
+        if !ok {
+            self.broken = true;
+            return;
+        }
+        if self.inst_step < self.installing {
+            self.inst_step = next_newest(&self.changes, self.inst_step + 1, self.installing);
+        } else if self.inst_step < self.installing + 2 {
+            self.inst_step += 1;
+        } else {
+            self.end_installation();
+        }
+    }
+
+    // Takes the logged changes where none are taken. Answers whether there are any.
+    fn begin_installation(&mut self) -> bool
+        ensures causes { result ≡ (nat_lt 0 self.old.installing || nat_lt 0 self.old.logged) }
+        ensures none { result ≡ false → self.new ≡ self.old }
+        ensures same { 0 < self.old.installing → self.new ≡ self.old }
+        ensures begun { result ≡ true → self.old.installing ≡ 0
+            → self.new ≡ record self.old { installing = self.old.logged; inst_step = next_home self.old.changes self.old.logged 0 } }
+        ensures taken { result ≡ true → 0 < self.new.installing }
+    {
+        if self.installing > 0 {
+            return true;
+        }
+        if self.logged == 0 {
+            return false;
+        }
+        self.installing = self.logged;
+        self.inst_step = next_newest(&self.changes, 0, self.installing);
+        true
+    }
+
+    // Lets the installed changes go.
+    fn end_installation(&mut self)
+        requires { self.old.inst_out ≡ false }
+        ensures { self.new ≡ with_installed self.old }
+    {
+        drop_front(&mut self.changes, self.installing);
+        self.start += self.installing as u64;
+        self.logged -= self.installing;
+        self.installing = 0;
+        self.inst_step = 0;
+    }
+
+    // The installation's next call, in a buffer.
+    fn inst_io(&self, buffer: Block) -> InstIo
+        requires { 0 < self.now.installing }
+        ensures call { IsNextInstCall self.now result }
+        ensures within { IsCallWithin self.now.blocks result.call }
+    {
+        let mut content = buffer;
+        let call = if self.inst_step < self.installing {
+            let change = &self.changes[self.inst_step];
+            content.copy_from(&change.content);
+            IoCall::Write(change.block)
+        } else if self.inst_step == self.installing + 1 {
+            put_start(&mut content, self.start + self.installing as u64);
+            IoCall::Write(BlockNo(START_BLOCK))
+        } else {
+            IoCall::Barrier(Side::Home)
+        };
+        InstIo {
+            beginning: self.start,
+            step: self.inst_step,
+            call,
+            content,
+        }
+    }
+}
+
+// Lets the first of the changes go.
+fn drop_front(changes: &mut VecDeque<Change>, count: usize)
+    requires { count ≤ length changes.old.items }
+    ensures { changes.new.items ≡ drop count changes.old.items }
+{
+    for _ in 0..count {
+        let _ = changes.pop_front();
+    }
+}

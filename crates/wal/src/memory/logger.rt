@@ -1,0 +1,110 @@
+//! The logger: it takes the tail as a group, and makes it safe in the slots of the log.
+ghost use Rattle.std.specs.Prelude.{◌≡◌, ◌<◌, IfSome, IsNone, IsSome, is_some, ◌+◌, ◌%◌, if◌then◌else◌, true, false};
+ghost use Rattle.wal.specs.Io.{IsCallWithin};
+ghost use Rattle.wal.specs.Logger.{may_log, has_group, group_size, with_log_out, is_log_out, with_log_back, IsNextLogCall};
+
+use super::Wal;
+use super::header::put_header;
+use crate::{IoCall, LogIo};
+use disk::{Block, BlockNo, Side};
+use limits::{FIRST_SLOT_BLOCK, LOG_HEADER_BLOCK, LOG_SLOTS};
+
+impl Wal {
+    /// Takes the tail as a group where none is taken, and hands out the group's next call: the writes of its blocks
+    /// to their slots, a barrier, the write of the header, a barrier.
+    pub fn log_next(&mut self) -> Option<LogIo>
+        ensures causes { is_some result ≡ may_log self.old }
+        ensures none { IsNone result → self.new ≡ self.old }
+        ensures some { IsSome result → self.new ≡ with_log_out self.old }
+        ensures call { IfSome result (IsNextLogCall self.new) }
+        ensures within { IfSome result (λ io. IsCallWithin self.new.blocks io.call) }
+    {
+        if self.broken || !self.begin_group() {
+            return None;
+        }
+        let buffer = self.log_buffer.take()?;
+        Some(self.log_io(buffer))
+    }
+
+    /// Takes a call of the logger back, with whether it was made. One that isn't the call that is out changes
+    /// nothing. One that failed breaks the log for good.
+    pub fn log_done(&mut self, io: LogIo, ok: bool)
+        ensures { self.new ≡ (if is_log_out self.old io then with_log_back self.old ok else self.old) }
+    {
+        let LogIo {
+            beginning,
+            step,
+            call: _,
+            content,
+        } = io;
+        let is_out = self.log_buffer.is_none()
+            && beginning == self.start + self.logged as u64
+            && step == self.log_step;
+        if !is_out {
+            return;
+        }
+        self.log_buffer = Some(content);
+        if !ok {
+            self.broken = true;
+            return;
+        }
+        if self.log_step == self.taken + 2 {
+            self.logged += self.taken;
+            self.taken = 0;
+            self.log_step = 0;
+        } else {
+            self.log_step += 1;
+        }
+    }
+
+    // Takes the tail as a group where none is taken, it isn't empty and its positions fit behind the settled start.
+    // Answers whether a group is taken.
+    fn begin_group(&mut self) -> bool
+        ensures causes { result ≡ has_group self.old }
+        ensures none { result ≡ false → self.new ≡ self.old }
+        ensures group { result ≡ true → self.new ≡ record self.old { taken = group_size self.old } }
+        ensures taken { result ≡ true → 0 < self.new.taken }
+    {
+        if self.taken > 0 {
+            return true;
+        }
+        if self.logged == self.changes.len() || self.changes.len() as u64 > LOG_SLOTS {
+            return false;
+        }
+        self.taken = self.changes.len() - self.logged;
+        true
+    }
+
+    // The group's next call, in a buffer.
+    fn log_io(&self, buffer: Block) -> LogIo
+        requires { 0 < self.now.taken }
+        ensures call { IsNextLogCall self.now result }
+        ensures within { IsCallWithin self.now.blocks result.call }
+    {
+        let mut content = buffer;
+        let group = self.logged + self.taken;
+        let call = if self.log_step < self.taken {
+            let index = self.logged + self.log_step;
+            content.copy_from(&self.changes[index].content);
+            IoCall::Write(slot_block(self.start + index as u64))
+        } else if self.log_step == self.taken + 1 {
+            put_header(&mut content, self.start, &self.changes, group);
+            IoCall::Write(BlockNo(LOG_HEADER_BLOCK))
+        } else {
+            IoCall::Barrier(Side::Log)
+        };
+        LogIo {
+            beginning: self.start + self.logged as u64,
+            step: self.log_step,
+            call,
+            content,
+        }
+    }
+}
+
+// The block of a log position.
+fn slot_block(position: u64) -> BlockNo
+    ensures { result.0 ≡ FIRST_SLOT_BLOCK + position % LOG_SLOTS }
+{
+    BlockNo(FIRST_SLOT_BLOCK + (position % LOG_SLOTS) as u32)
+}

@@ -1,0 +1,47 @@
+//! Searches among changes.
+ghost use Rattle.std.specs.Prelude.{◌≡◌, ◌≤◌, ◌+◌, length, MatchOption, Some, None, take, drop};
+ghost use Rattle.wal.specs.Log.{newest_of};
+ghost use Rattle.wal.specs.Installer.{passed_over};
+
+use crate::Change;
+use disk::{Block, BlockNo};
+use std::collections::VecDeque;
+
+// The content of the last change of a block among those from one index up to, not with, another.
+pub(super) fn last_change(
+    changes: &VecDeque<Change>,
+    from: usize,
+    end: usize,
+    block: BlockNo,
+) -> Option<&Block>
+    requires order { from ≤ end }
+    requires end { end ≤ length changes.now.items }
+    ensures { MatchOption result
+        (newest_of (drop from (take end changes.now.items)) block.0 ≡ None)
+        (λ content. newest_of (drop from (take end changes.now.items)) block.0 ≡ Some content.now) }
+{
+    let mut i = end;
+    while i > from {
+        i -= 1;
+        let change = &changes[i];
+        if change.block == block {
+            return Some(&change.content);
+        }
+    }
+    None
+}
+
+// The first change from one index up to, not with, another that is the newest of its block among those, or the end.
+pub(super) fn next_newest(changes: &VecDeque<Change>, from: usize, end: usize) -> usize
+    requires order { from ≤ end }
+    requires end { end ≤ length changes.now.items }
+    ensures { result ≡ from + passed_over (drop from (take end changes.now.items)) }
+{
+    for i in from..end {
+        let change = &changes[i];
+        if last_change(changes, i + 1, end, change.block).is_none() {
+            return i;
+        }
+    }
+    end
+}
