@@ -1,5 +1,5 @@
 -- A SETATTR has one reply and one next tree.
-use Rattle.std.proofs.Common.{◌≡◌, sym, ◌∙◌, refl, ℕ, Option, Some, None, Result, Ok, Err}
+use Rattle.std.proofs.Common.{◌≡◌, sym, ◌∙◌, ℕ, Option, Some, None, Result, Ok, Err}
 use Rattle.nfs_types.specs.declared.attributes.NewAttributes.{NewAttributes}
 use Rattle.nfs_types.specs.declared.attributes.WeakCacheData.{WeakCacheData}
 use Rattle.nfs_types.specs.declared.call.Call.TheVariants as call

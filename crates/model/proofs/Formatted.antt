@@ -1,15 +1,15 @@
 -- The tree of a fresh image is sound.
-use Rattle.std.proofs.Common.{◌≡◌, ◌≢◌, ℕ, ◌+◌, ◌*◌, ◌<◌, ◌≤◌, sym, ap, subst, ◌∙◌, refl, Bool, true, false, cond, List, [], ◌∷◌, Option, Some, None, sum_by, count_by, All, IsSome, nat_eq, arith, lit<, lit≤, zero-add}
+use Rattle.std.proofs.Common.{◌≡◌, ℕ, ◌+◌, sym, ap, subst, ◌∙◌, refl, List, [], Some, sum_by, count_by, All, IsSome, nat_eq, arith, lit<, lit≤, zero-add}
 use Rattle.std.specs.Cmp.Lexicographic.{slice_cmp}
 use Rattle.std.specs.Ordering.{nat_cmp}
-use Rattle.std.specs.FinMap.{FinMap, empty, entries, insert, get, get-empty}
+use Rattle.std.specs.FinMap.{empty, entries, get, get-empty}
 use Rattle.limits.specs.declared.TheConstants.{ROOT}
 use Rattle.nfs_types.specs.declared.ctx.Moment.{Moment}
-use Rattle.model.specs.Node.{Node, Body, Directory, DirectoryEntry, Entries}
+use Rattle.model.specs.Node.{Node, DirectoryEntry}
 use Rattle.model.specs.Tree.{Geometry, Tree, node_at, held}
 use Rattle.model.specs.Cost.{cost}
-use Rattle.model.specs.Names.{names_of, names_in, child_directories, ancestor, entries_of, is_directory, is_directory_at}
-use Rattle.model.specs.Sound.{Sound, SoundAt, SoundNode, SoundEntries, SoundName, SoundGeometry, SoundTime, SoundStamp, SoundRoot, SoundChild, SoundFileLinks, SoundDirectoryLinks}
+use Rattle.model.specs.Names.{names_of, names_in, child_directories, is_directory_at}
+use Rattle.model.specs.Sound.{Sound, SoundAt, SoundNode, SoundEntries, SoundGeometry, SoundTime}
 use Rattle.model.specs.Format.{format_tree, format_root}
 use Rattle.model.proofs.Maps.{entries-empty, entries-one, get-one, only_one}
 

@@ -1,5 +1,5 @@
 -- On the entries of finite maps with numbers as keys.
-use Rattle.std.proofs.Common.{◌≡◌, ℕ, ◌+◌, sym, ap, ◌∙◌, refl, Bool, true, false, cond, List, [], ◌∷◌, length, Option, Some, None, is_some, sum_by, arith}
+use Rattle.std.proofs.Common.{◌≡◌, ℕ, ◌+◌, sym, ap, ◌∙◌, refl, Bool, true, false, cond, List, [], ◌∷◌, length, Some, None, is_some, sum_by, arith}
 use Rattle.std.proofs.lemmas.List.Sums.{sum_by-cons}
 use Rattle.std.specs.declared.cmp.Ordering.{Ordering}
 use Rattle.std.specs.declared.cmp.Ordering.TheVariants.{Less, Equal, Greater}

@@ -5,7 +5,7 @@ use Rattle.std.specs.declared.cmp.Ordering.{Ordering}
 use Rattle.std.specs.declared.cmp.Ordering.TheVariants.{Less, Equal, Greater}
 use Rattle.std.specs.Ordering.{nat_cmp, is_eq, eq_by_cmp}
 use Rattle.std.specs.Cmp.{nat_cmp_total, tied_itself}
-use Rattle.std.specs.FinSet.{FinSet, empty, contains, insert, retain, len, items, from_list, contains-items, contains-retain, contains-from_list, contains-insert, from_list_push, len-empty, len-insert, same_set, nat_cmp-IsAntisymmetric}
+use Rattle.std.specs.FinSet.{FinSet, contains, insert, retain, len, items, from_list, contains-items, contains-retain, contains-from_list, contains-insert, from_list_push, len-empty, len-insert, same_set, nat_cmp-IsAntisymmetric}
 
 -- whether a list has a number
 abbrev pub has : List ℕ → ℕ → Bool
@@ -106,7 +106,7 @@ or-right : (a b : Bool) → b ≡ true → (a || b) ≡ true
 or-right true b e = refl
 or-right false b e = e
 
-itself : (k : ℕ) → eq_by_cmp nat_cmp k k ≡ true
+pub itself : (k : ℕ) → eq_by_cmp nat_cmp k k ≡ true
 itself k = ap is_eq (tied_itself nat_cmp_total k)
 
 passing : (p : ℕ → Bool) (ks : List ℕ) → list_any p ks ≡ true → Passing p ks

@@ -1,5 +1,5 @@
 -- What is known of a call before it is served (RFC 1813, section 3.3).
-use Rattle.std.specs.Prelude.{ℕ, Bool, true, false, not, ◌&&◌, is_none, None, Err}
+use Rattle.std.specs.Prelude.{Bool, true, false, not, ◌&&◌, is_none, None, Err}
 use Rattle.nfs_types.specs.declared.attributes.NewAttributes.{NewAttributes}
 use Rattle.nfs_types.specs.declared.attributes.SetTime.{SetTime}
 use Rattle.nfs_types.specs.declared.attributes.SetTime.TheVariants.{Keep, Server, Client}

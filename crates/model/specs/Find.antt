@@ -1,6 +1,6 @@
 -- Which file a handle names. A handle is a number in 4 bytes and a stamp in twice 8 (RFC 1813, section 2.5, leaves
 -- its form to the server).
-use Rattle.std.specs.Prelude.{ℕ, ◌+◌, Bool, cond, not, ◌&&◌, ◌||◌, List, length, take, drop, nat_eq, nat_le, nat_lt, Option, Some, None, Result, Ok, Err}
+use Rattle.std.specs.Prelude.{ℕ, Bool, cond, ◌&&◌, List, length, take, drop, nat_eq, nat_lt, Option, Some, None, Result, Ok, Err}
 use Rattle.std.specs.Int.{w32, w64, from_be_bytes}
 use Rattle.limits.specs.declared.TheConstants.{HANDLE_BYTES}
 use Rattle.nfs_types.specs.declared.handle.Stamp.{Stamp}

@@ -1,5 +1,5 @@
 -- How the files of a tree name each other.
-use Rattle.std.specs.Prelude.{◌≡◌, ℕ, zero, suc, ◌+◌, Bool, true, false, List, [], sum_by, count_by, nat_eq, Option, Some, None}
+use Rattle.std.specs.Prelude.{ℕ, zero, suc, Bool, true, false, List, [], sum_by, count_by, nat_eq, Option, Some, None}
 use Rattle.std.specs.FinMap.{entries}
 use Rattle.model.specs.Node.{Node, Body, DirectoryEntry, Regular, Directory, Link}
 use Rattle.model.specs.Tree.{Tree, node_at}

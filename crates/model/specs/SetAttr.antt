@@ -1,5 +1,5 @@
 -- SETATTR (RFC 1813, section 3.3.2).
-use Rattle.std.specs.Prelude.{◌≡◌, ℕ, ◌+◌, ◌-◌, ◌*◌, Bool, true, false, cond, not, ◌&&◌, ◌||◌, List, [], ◌∷◌, ◌++◌, length, take, replicate, nat_eq, nat_le, nat_lt, is_some, bit_and, Option, Some, None, unwrap_or, Result, Ok, Err}
+use Rattle.std.specs.Prelude.{◌≡◌, ℕ, ◌-◌, ◌*◌, Bool, true, false, cond, not, ◌&&◌, ◌||◌, List, [], ◌∷◌, ◌++◌, length, take, replicate, nat_eq, nat_le, nat_lt, is_some, bit_and, Option, Some, None, unwrap_or, Result, Ok, Err}
 use Rattle.std.specs.Ordering.{nat_cmp}
 use Rattle.std.specs.FinSet.{FinSet, retain}
 use Rattle.limits.specs.declared.TheConstants.{BLOCK_BYTES, LARGEST_FILE, MODE_BITS, NANOSECONDS}

@@ -1,5 +1,4 @@
 -- The sequential server: which replies it may give to a call, and which tree it then has (RFC 1813, section 3.3).
-use Rattle.std.specs.Prelude.{ℕ}
 use Rattle.nfs_types.specs.declared.call.Call.{Call}
 use Rattle.nfs_types.specs.declared.call.Call.TheVariants as call
 use Rattle.nfs_types.specs.declared.ctx.Ctx.{Ctx}

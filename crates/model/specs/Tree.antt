@@ -1,8 +1,8 @@
 -- All files of the server.
-use Rattle.std.specs.Prelude.{◌≡◌, ℕ, ◌+◌, ◌-◌, List, Option, Some, None, sum_by}
+use Rattle.std.specs.Prelude.{ℕ, ◌-◌, Option, Some, None, sum_by}
 use Rattle.std.specs.Ordering.{nat_cmp}
 use Rattle.std.specs.FinMap.{FinMap, get, insert, entries}
-use Rattle.model.specs.Node.{Node, Body}
+use Rattle.model.specs.Node.{Node}
 use Rattle.model.specs.Cost.{cost}
 
 -- how many blocks there are for what files hold, and above which number no file's number lies

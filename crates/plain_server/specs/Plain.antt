@@ -1,8 +1,9 @@
 -- Which tree the plain structs of this crate stand for.
-use Rattle.std.specs.Prelude.{ℕ, Bool, true, false, List, map, Option, Some, None, Result, Ok, Err}
+use Rattle.std.specs.Prelude.{◌≡◌, ℕ, ◌<◌, Bool, true, false, nat_eq, List, map, length, get_or, Result, Ok, Err}
 use Rattle.std.specs.FinMap.{from_entries}
 use Rattle.nfs_types.specs.declared.call.Call.{Call}
 use Rattle.nfs_types.specs.declared.call.Call.TheVariants as call
+use Rattle.nfs_types.specs.declared.status.Status.{Status}
 use Rattle.model.specs.Node.{Node, Body, Regular, Directory, Link, DirectoryEntry}
 use Rattle.model.specs.Tree.{Tree}
 use Rattle.plain_server.specs.declared.node.PlainBody.{PlainBody}
@@ -49,3 +50,16 @@ abbrev pub is_served : Call → Bool
 is_served (call.GetAttr _) = true
 is_served (call.SetAttr _ _ _) = true
 is_served _ = false
+
+-- what stands at a place of the list is what was found
+pub record StandsAt (nodes : List NumberedNode) (place : ℕ) (found : Result (ℕ × Node) Status) : Type 0 where
+  pub file : NumberedNode
+  pub inside : place < length nodes
+  pub here : get_or nodes place file ≡ file
+  pub first : (before : ℕ) → before < place → nat_eq file.number (get_or nodes before file).number ≡ false
+  pub is : found ≡ Ok (numbered file)
+
+-- a place in the list, or why there is none
+abbrev pub Locates : List NumberedNode → Result ℕ Status → Result (ℕ × Node) Status → Type 0
+Locates nodes (Ok place) found = StandsAt nodes place found
+Locates nodes (Err status) found = found ≡ Err status

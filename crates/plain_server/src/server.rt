@@ -1,4 +1,18 @@
 //! One call after another.
+ghost use Rattle.std.specs.Prelude.{◌≡◌, ◌↔◌, false, IfOk, OnErr, IsErrOf};
+ghost use Rattle.model.specs.Find.{find_file};
+ghost use Rattle.model.specs.GetAttr.{attributes_found};
+ghost use Rattle.model.specs.SetAttr.{SetAttrStep};
+ghost use Rattle.model.specs.Step.{step};
+ghost use Rattle.plain_server.specs.Plain.{is_served, tree_of};
+
+use crate::PlainTree;
+use crate::attributes::set_attributes;
+use crate::refusal::refusal;
+use nfs_types::{
+    Attributes, Call, Ctx, Handle, Moment, NewAttributes, Reply, Status, WeakCacheData,
+};
+use std::alloc::AllocError;
 use thiserror::Error;
 
 /// Why a call has no reply.
@@ -10,4 +24,79 @@ pub enum PlainFault {
     NoRules,
 }
 
-pub fn serve() {}
+/// What SETATTR answers.
+#[derive(Drop)]
+struct SetReply {
+    outcome: Result<(), Status>,
+    object: WeakCacheData,
+}
+
+/// One step of the sequential server. An error leaves the tree as it was.
+pub fn serve(tree: &mut PlainTree, ctx: &Ctx, call: &Call) -> Result<Reply, PlainFault>
+    ensures step { IfOk result (λ reply. step (tree_of tree.old) ctx.now call.now reply (tree_of tree.new)) }
+    ensures err { OnErr result (tree_of tree.new ≡ tree_of tree.old) }
+    ensures unserved { IsErrOf result PlainFault.NoRules ↔ (is_served call.now ≡ false) }
+{
+    match call {
+        Call::GetAttr { object } => Ok(Reply::GetAttr {
+            outcome: get_attributes(tree, object),
+        }),
+        Call::SetAttr {
+            object,
+            attributes,
+            guard,
+        } => match set_found(tree, ctx, object, attributes, guard) {
+            Ok(reply) => Ok(Reply::SetAttr {
+                outcome: reply.outcome,
+                object: reply.object,
+            }),
+            Err(_) => Err(PlainFault::NoMemory),
+        },
+        _ => Err(PlainFault::NoRules),
+    }
+}
+
+fn get_attributes(tree: &PlainTree, object: &Handle) -> Result<Attributes, Status>
+    ensures { result ≡ attributes_found (find_file (tree_of tree.now) object.now.bytes) }
+{
+    let place = tree.find(object)?;
+    let file = &tree.nodes[place];
+    Ok(file.node.attributes(file.number))
+}
+
+fn set_found(
+    tree: &mut PlainTree,
+    ctx: &Ctx,
+    object: &Handle,
+    wanted: &NewAttributes,
+    guard: &Option<Moment>,
+) -> Result<SetReply, AllocError>
+    ensures step { IfOk result (λ reply. SetAttrStep (tree_of tree.old) ctx.now object.now.bytes wanted.now guard.now reply.outcome reply.object (tree_of tree.new)) }
+    ensures err { OnErr result (tree_of tree.new ≡ tree_of tree.old) }
+{
+    let place = match tree.find(object) {
+        Ok(place) => place,
+        Err(status) => {
+            return Ok(SetReply {
+                outcome: Err(status),
+                object: WeakCacheData {
+                    before: None,
+                    after: None,
+                },
+            });
+        }
+    };
+    let file = &mut tree.nodes[place];
+    let before = Some(file.node.before_change());
+    let outcome = match refusal(ctx, wanted, guard, &file.node) {
+        Some(status) => Err(status),
+        None => Ok(set_attributes(&mut file.node, &ctx.moment, wanted)?),
+    };
+    Ok(SetReply {
+        outcome,
+        object: WeakCacheData {
+            before,
+            after: Some(file.node.attributes(file.number)),
+        },
+    })
+}

@@ -1,8 +1,9 @@
 //! All files as a plain list.
-ghost use Rattle.std.specs.Prelude.{◌≡◌, ◌≢◌, ℕ, ◌<◌, ◌≤◌, IfOk, IfSome, IfNone, All, length, nat_eq, position, Option, Result, slice_get};
+ghost use Rattle.std.specs.Prelude.{◌≡◌, ◌<◌, IfOk, nat_eq, position};
+ghost use Rattle.nfs_types.specs.Handle.{handle_bytes};
 ghost use Rattle.model.specs.Find.{find_file};
 ghost use Rattle.model.specs.Format.{format_tree};
-ghost use Rattle.plain_server.specs.Plain.{node_of, tree_of};
+ghost use Rattle.plain_server.specs.Plain.{Locates, tree_of};
 
 use crate::{PlainBody, PlainNode};
 use limits::ROOT;
@@ -69,8 +70,44 @@ impl PlainTree {
 
     /// Where the first file of this number stands.
     fn position_of(&self, number: u32) -> Option<usize>
-        ensures { result ≡ position (λ n. nat_eq n.number number) self.now.nodes.items }
+        ensures { result ≡ position (λ n. nat_eq number n.number) self.now.nodes.items }
     {
-        self.nodes.iter().position(|n| n.number == number)
+        self.nodes.iter().position(|n| number == n.number)
+    }
+
+    /// Where the file of this number stands, if it was made with this stamp.
+    fn find_numbered(
+        &self,
+        number: u32,
+        boot: u64,
+        transaction: u64,
+    ) -> Result<usize, Status>
+        requires least { 0 < number }
+        requires most { number < self.now.inodes }
+        ensures { Locates self.now.nodes.items result
+            (find_file (tree_of self.now) (handle_bytes number (record { boot = boot; transaction = transaction }))) }
+    {
+        let Some(place) = self.position_of(number) else {
+            return Err(Status::Stale);
+        };
+        let file = &self.nodes[place];
+        if boot == file.node.stamp.boot && transaction == file.node.stamp.transaction {
+            Ok(place)
+        } else {
+            Err(Status::Stale)
+        }
+    }
+
+    /// Where the file stands that a handle names.
+    pub(crate) fn find(&self, handle: &Handle) -> Result<usize, Status>
+        ensures { Locates self.now.nodes.items result (find_file (tree_of self.now) handle.now.bytes) }
+    {
+        let Some((number, Stamp { boot, transaction })) = handle.parts() else {
+            return Err(Status::BadHandle);
+        };
+        if number == 0 || number >= self.inodes {
+            return Err(Status::BadHandle);
+        }
+        self.find_numbered(number, boot, transaction)
     }
 }

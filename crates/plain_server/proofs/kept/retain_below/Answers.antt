@@ -1,4 +1,4 @@
-use Rattle.std.proofs.Common.{rules, ◌≡◌, ℕ, ◌*◌, nat_lt}
+use Rattle.std.proofs.Common.{rules, ◌*◌, nat_lt}
 use Rattle.std.proofs.lemmas.Fn.{filter_same}
 use Rattle.limits.specs.declared.TheConstants.{BLOCK_BYTES}
 use Rattle.plain_server.proofs.kept.retain_below.Goals as goal

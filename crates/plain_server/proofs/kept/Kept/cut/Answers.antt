@@ -1,5 +1,4 @@
-use Rattle.std.proofs.Common.{◌≡◌, ℕ, ◌+◌, ◌*◌, ◌≤◌, ◌<◌, length, nat_lt, subst, ap, ◌∙◌, arith, sym}
-use Rattle.std.specs.Ordering.{nat_cmp}
+use Rattle.std.proofs.Common.{◌*◌, nat_lt, subst, ap, ◌∙◌, arith, sym}
 use Rattle.std.specs.FinSet as set
 use Rattle.limits.specs.declared.TheConstants.{BLOCK_BYTES}
 use Rattle.model.proofs.Sets.{Distinct, distinct-filter, retain_listed}

@@ -1,4 +1,4 @@
-use Rattle.std.proofs.Common.{◌≡◌, ℕ, ◌≤◌, [], length, ap, ◌∙◌, arith, sym}
+use Rattle.std.proofs.Common.{length, ap, ◌∙◌, arith, sym}
 use Rattle.std.specs.Ordering.{nat_cmp}
 use Rattle.std.specs.FinSet as set
 use Rattle.plain_server.proofs.kept.Kept.new.Goals as goal

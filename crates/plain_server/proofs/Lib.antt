@@ -1,0 +1,3 @@
+pub mod Found
+pub mod Handles
+pub mod Steps
