@@ -1,0 +1,33 @@
+-- Numbers in bytes, the least byte first, as the disk has them.
+use Rattle.std.specs.Prelude.{ℕ, zero, suc, ◌+◌, Bool, List, [], ◌∷◌, nat_eq, drop}
+use Rattle.std.specs.Int.{w32, w64, from_le_bytes, to_le_bytes}
+use Rattle.std.specs.List.{flat_map, list_all}
+
+-- the number that the 4 bytes from a place on spell
+unfoldable pub four_at : ℕ → List ℕ → ℕ
+four_at place bytes = from_le_bytes w32 (drop place bytes)
+
+-- the number that the 8 bytes from a place on spell
+unfoldable pub eight_at : ℕ → List ℕ → ℕ
+eight_at place bytes = from_le_bytes w64 (drop place bytes)
+
+-- so many numbers of 4 bytes, one behind another from a place on
+abbrev pub numbers_at : ℕ → ℕ → List ℕ → List ℕ
+numbers_at zero place bytes = []
+numbers_at (suc count) place bytes = four_at place bytes ∷ numbers_at count (place + 4) bytes
+
+-- a number in 4 bytes
+unfoldable pub four_bytes : ℕ → List ℕ
+four_bytes number = to_le_bytes w32 number
+
+-- a number in 8 bytes
+unfoldable pub eight_bytes : ℕ → List ℕ
+eight_bytes number = to_le_bytes w64 number
+
+-- numbers in 4 bytes each
+abbrev pub number_bytes : List ℕ → List ℕ
+number_bytes numbers = flat_map four_bytes numbers
+
+-- nothing but zeros
+abbrev pub is_zeros : List ℕ → Bool
+is_zeros bytes = list_all (λ byte. nat_eq byte 0) bytes
