@@ -6,6 +6,7 @@ mod contents;
 mod device;
 mod file_disk;
 mod history;
+mod laws;
 mod mem_disk;
 mod noted;
 #[cfg(test)]
@@ -14,4 +15,5 @@ mod tests;
 pub use block::{Block, BlockNo, Side};
 pub use device::{CrashDisk, Failed};
 pub use file_disk::{BlockFile, FileCall, FileDisk};
+pub use laws::{honest_file_keeps_model, one_image_at_rest};
 pub use mem_disk::MemDisk;
