@@ -1,0 +1,65 @@
+-- When the commits that aren't installed agree with the log and with what is in memory.
+use Rattle.std.specs.Prelude.{◌≡◌, ℕ, ◌+◌, ◌-◌, if◌then◌else◌, cond, nat_eq, List, [], ◌∷◌, ◌++◌, length, take, drop, Some}
+use Rattle.std.specs.List.{AllByRecursion}
+use Rattle.disk.specs.Device.{Content}
+use Rattle.disk.specs.Crash.{Image}
+use Rattle.objects.specs.declared.addr.Addr.{Addr}
+use Rattle.wal.specs.Log.{Log, newest_of, place_before}
+use Rattle.txn.specs.Object.{ObjectBytes}
+
+-- what a commit read, and what it wrote
+pub record Footprint : Type 0 where
+  pub place : ℕ
+  pub read : List ObjectBytes
+  pub written : List ObjectBytes
+
+-- the bytes at an address
+abbrev pub object_at : Image → Addr → List ℕ
+object_at blocks addr = take addr.len (drop addr.offset (blocks addr.block.0))
+
+-- a block with these bytes at an offset
+abbrev pub spliced : Content → ℕ → List ℕ → Content
+spliced content offset bytes = take offset content ++ bytes ++ drop (offset + length bytes) content
+
+-- the blocks with an object laid over them
+abbrev pub with_object : Image → ObjectBytes → Image
+with_object blocks object = λ block. if nat_eq block object.addr.block.0 then spliced (blocks block) object.addr.offset object.bytes else blocks block
+
+-- the blocks with these objects laid over them, later ones over earlier ones
+abbrev pub with_objects : Image → List ObjectBytes → Image
+with_objects blocks [] = blocks
+with_objects blocks (object ∷ objects) = with_objects (with_object blocks object) objects
+
+-- an object that was read has the bytes that are there
+abbrev pub IsAsRead : Image → ObjectBytes → Type 0
+IsAsRead blocks object = object_at blocks object.addr ≡ object.bytes
+
+-- from these blocks, each commit in turn read what was there, and its writes lead on to the next
+abbrev pub Follow : Image → List Footprint → Type 0
+Follow blocks [] = Unit {0}
+Follow blocks (commit ∷ commits) = AllByRecursion (IsAsRead blocks) commit.read × Follow (with_objects blocks commit.written) commits
+
+-- the blocks after these commits
+abbrev pub after_commits : Image → List Footprint → Image
+after_commits blocks [] = blocks
+after_commits blocks (commit ∷ commits) = after_commits (with_objects blocks commit.written) commits
+
+-- the commits up to a place
+abbrev pub up_to : ℕ → ℕ → List Footprint → List Footprint
+up_to first place commits = take ((place + 1) - first) commits
+
+-- the newest contents that the first of the log's changes have are those after the commits up to a place
+abbrev pub GroupAgrees : Image → List Footprint → Log → ℕ → Type 0
+GroupAgrees base commits log count =
+    (block : ℕ) (content : Content) → newest_of (take count log.changes) block ≡ Some content
+    → content ≡ after_commits base (up_to (place_before log.changes log.places + 1) (place_before (drop count log.changes) log.places) commits) block
+
+-- A legal window: there are blocks from which the commits follow, such that the log has, up to the end of each of its
+-- groups, what they lead to, and so has each block in memory.
+pub record IsLegalWindow (log : Log) (commits : List Footprint) (held : List (ℕ × Content)) : Type 0 where
+  pub base : Image
+  pub follow : Follow base commits
+  pub logged : GroupAgrees base commits log log.logged
+  pub taken : GroupAgrees base commits log (log.logged + log.taken)
+  pub tail : GroupAgrees base commits log (length log.changes)
+  pub memory : AllByRecursion (λ (entry : ℕ × Content). entry.1 ≡ after_commits base commits entry.0) held

@@ -1,0 +1,45 @@
+//! What the core answers.
+
+use crate::{FetchIo, Tx};
+use thiserror::Error;
+use wal::Seq;
+
+/// Why no transaction was begun.
+#[derive(Clone, Copy, Debug, PartialEq, Eq, Drop, Error)]
+pub enum BeginFault {
+    #[error("Spent")]
+    Spent = 1,
+    #[error("NoMemory")]
+    NoMemory = 2,
+    #[error("Broken")]
+    Broken = 3,
+}
+
+/// What came of a wish to read an object. The bytes are the object's current ones.
+pub enum Want {
+    Held(Tx, Vec<u8>),
+    Busy(Tx),
+    Fetch(Tx, FetchIo),
+    Loading(Tx),
+    Outside(Tx),
+    NoMemory(Tx),
+}
+
+/// What came of a wish to write a whole block whose bytes don't matter.
+pub enum Claim {
+    Held(Tx),
+    Busy(Tx),
+    Loading(Tx),
+    Outside(Tx),
+    NoMemory(Tx),
+}
+
+/// What came of a commit. All but the first hand the transaction and its change back.
+pub enum Commit<C> {
+    Committed(Seq),
+    Full(Tx, C),
+    Foreign(Tx, C),
+    NoMemory(Tx, C),
+    Broken(Tx, C),
+    Spent(Tx, C),
+}

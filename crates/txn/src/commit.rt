@@ -1,0 +1,127 @@
+//! Committing a change.
+ghost use Rattle.std.specs.Prelude.{◌≡◌, ◌≤◌, ◌<◌, ◌↔◌, length, All, IsTrue};
+ghost use Rattle.std.specs.VecDeque.{deque_len, deque_capacity};
+ghost use Rattle.wal.specs.Log.{IsHomeOn};
+ghost use Rattle.limits.specs.declared.TheConstants.{CHANGED_BLOCKS};
+ghost use Rattle.txn.specs.Answers.{IsCommit};
+ghost use Rattle.txn.specs.Group.{blocks_of};
+
+use crate::answers::Commit;
+use crate::group::{blocks_of_objects, group_of};
+use crate::holds::{is_read_by, is_written_by};
+use crate::present::{Present, content_of};
+use crate::records::Record;
+use crate::{Change, Core, Object, Tx};
+use disk::BlockNo;
+use std::alloc::Global;
+use std::collections::VecDeque;
+use wal::{Append, Room, Seq, Wal};
+
+impl<C: Change> Core<C> {
+    /// Commits a change at the next place, and ends its transaction. Broken: a write or a barrier has failed. Foreign:
+    /// the change was planned for other counts than the core's, or writes what this transaction doesn't hold, or read
+    /// what it doesn't hold for reading or what differs. Spent: no place is left, or too few positions of the log.
+    /// Full: the open group and this change pass the log. These and NoMemory change nothing.
+    pub fn commit(&mut self, alloc: Global, tx: Tx, change: C) -> Commit<C>
+        requires { length (blocks_of (C.objects_written change)) ≤ CHANGED_BLOCKS }
+        ensures { IsCommit self.old tx change result self.new }
+    {
+        if self.wal.broken() {
+            return Commit::Broken(tx, change);
+        }
+        let blocks = blocks_of_objects(change.written());
+        if self.is_foreign(tx.number, &change) || !self.are_homes(blocks.as_slice()) {
+            return Commit::Foreign(tx, change);
+        }
+        match self.wal.room(blocks.as_slice()) {
+            Room::Spent => return Commit::Spent(tx, change),
+            Room::Full => return Commit::Full(tx, change),
+            Room::Fits => {}
+        }
+        if self.records.reserve(1).is_err() {
+            return Commit::NoMemory(tx, change);
+        }
+        let Ok(group) = group_of(
+            alloc,
+            &self.present,
+            &self.wal,
+            blocks.as_slice(),
+            change.written(),
+        ) else {
+            return Commit::NoMemory(tx, change);
+        };
+        match self.wal.append(group) {
+            Append::Appended => {
+                let Tx { number } = tx;
+                let place = self.wal.places();
+                let installed = self.wal.installed();
+                refresh(&mut self.present, &self.wal);
+                keep(&mut self.records, place, change, installed);
+                self.close(number);
+                Commit::Committed(place)
+            }
+            Append::Full => Commit::Full(tx, change),
+            Append::NoMemory => Commit::NoMemory(tx, change),
+        }
+    }
+
+    // Whether the transaction or the change isn't this core's.
+    fn is_foreign(&self, transaction: u64, change: &C) -> bool {
+        self.out != Some(transaction)
+            || change.blocks() != self.wal.blocks()
+            || change.inodes() != self.inodes
+            || !self.has_read(transaction, change.read())
+            || !self.may_write(transaction, change.written())
+    }
+
+    // Whether the transaction holds these objects for reading, and they are as they were read.
+    fn has_read(&self, transaction: u64, objects: &[Object]) -> bool {
+        for object in objects {
+            let addr = object.addr();
+            let Some(content) = content_of(&self.present, addr.block) else {
+                return false;
+            };
+            if !is_read_by(&self.holds, transaction, addr)
+                || &content.as_slice()[addr.offset..addr.offset + addr.len] != object.bytes()
+            {
+                return false;
+            }
+        }
+        true
+    }
+
+    // Whether the transaction holds these objects for writing.
+    fn may_write(&self, transaction: u64, objects: &[Object]) -> bool {
+        for object in objects {
+            if !is_written_by(&self.holds, transaction, object.addr()) {
+                return false;
+            }
+        }
+        true
+    }
+
+    // Whether a change may write these blocks.
+    fn are_homes(&self, blocks: &[BlockNo]) -> bool
+        ensures { IsTrue result ↔ All (IsHomeOn self.now.log.blocks) blocks.now }
+    {
+        blocks.iter().all(|block| self.is_inside(*block))
+    }
+}
+
+// Keeps the record of a commit, for which there is room, until it is installed.
+fn keep<C: Change>(records: &mut VecDeque<Record<C>>, place: Seq, change: C, installed: Seq)
+    requires { deque_len records.old < deque_capacity records.old }
+{
+    if place > installed {
+        records.push_back_reserved(Record { place, change });
+    }
+}
+
+// Makes each block in memory that the log has what the log has.
+fn refresh(present: &mut Vec<Present>, wal: &Wal) {
+    for entry in present.iter_mut() {
+        if let (Some(content), Some(newest)) = (entry.content.as_mut(), wal.latest(entry.block)) {
+            content.copy_from(newest);
+        }
+    }
+}

@@ -1,0 +1,186 @@
+//! The core: who holds what, what is in memory, and the commits that aren't installed.
+ghost use Rattle.std.specs.Prelude.{◌≡◌, ◌≤◌, ◌+◌, ◌^◌, ◌↔◌, IsTrue, IsSome, IsNone, IfSome, IsErrOf, OnErr, IfOk, Some, None, true, is_some, if◌then◌else◌};
+ghost use Rattle.wal.specs.Log.{settled_place, IsHomeOn};
+ghost use Rattle.wal.specs.Io.{IsCallWithin};
+ghost use Rattle.wal.specs.Logger.{may_log, with_log_out, is_log_out, with_log_back};
+ghost use Rattle.wal.specs.Installer.{may_install, with_inst_out, is_inst_out, with_inst_back};
+ghost use Rattle.txn.specs.Core.{without};
+
+use crate::answers::BeginFault;
+use crate::holds::{Hold, is_taken, release};
+use crate::present::Present;
+use crate::records::{Record, forget, is_kept};
+use crate::{Change, Stable, Tx};
+use disk::BlockNo;
+use limits::FIRST_HOME_BLOCK;
+use std::alloc::Global;
+use std::collections::VecDeque;
+use std::marker::Model;
+use wal::{InstIo, LogIo, Seq, Wal};
+
+/// The transactional core of a store, for changes of one kind. It makes no device call: it hands them out.
+#[derive(Drop)]
+pub struct Core<C: Change> {
+    pub(crate) wal: Wal,
+    pub(crate) inodes: u32,
+    // How many transactions were begun.
+    pub(crate) begun: u64,
+    // The transaction that is out.
+    pub(crate) out: Option<u64>,
+    pub(crate) holds: Vec<Hold>,
+    // Each block that is held or that a kept record read, with its current content, and those that are being fetched.
+    pub(crate) present: Vec<Present>,
+    // The commits that aren't installed, oldest first.
+    pub(crate) records: VecDeque<Record<C>>,
+}
+
+impl<C: Change> Model for Core<C> {
+    ghost use Rattle.txn.specs.Core.{CoreState};
+
+    ghost Value = { CoreState };
+
+    ghost view = { λ c. record { log = c.wal; inodes = c.inodes; begun = c.begun; out = c.out } };
+}
+
+impl<C: Change> Core<C> {
+    /// A core over a log, for an image with the log's blocks and this count of inodes.
+    pub fn new(alloc: Global, wal: Wal, inodes: u32) -> Core<C>
+        ensures { result ≡ record { log = wal; inodes = inodes; begun = 0; out = None } }
+    {
+        Core {
+            wal,
+            inodes,
+            begun: 0,
+            out: None,
+            holds: Vec::new(alloc),
+            present: Vec::new(alloc),
+            records: VecDeque::new(alloc),
+        }
+    }
+
+    /// The image's counts of blocks and of inodes.
+    pub fn counts(&self) -> (u32, u32)
+        ensures { result ≡ (self.now.log.blocks, self.now.inodes) }
+    {
+        (self.wal.blocks(), self.inodes)
+    }
+
+    /// Begins a transaction. Transactions are numbered from 1. Broken is tested first.
+    pub fn begin(&mut self) -> Result<Tx, BeginFault>
+        requires { self.old.out ≡ None }
+        ensures begun { IfOk result (λ tx. (tx ≡ self.old.begun + 1)
+            × (self.new ≡ record self.old { begun = self.old.begun + 1; out = Some (self.old.begun + 1) })) }
+        ensures refused { OnErr result (self.new ≡ self.old) }
+        ensures broken { IsErrOf result BeginFault.Broken ↔ (self.old.log.broken ≡ true) }
+        ensures spent { IsErrOf result BeginFault.Spent → self.old.begun + 1 ≡ 2 ^ 64 }
+        ensures no_memory { IsErrOf result BeginFault.NoMemory → ⊥ }
+    {
+        if self.wal.broken() {
+            return Err(BeginFault::Broken);
+        }
+        if self.begun == u64::MAX {
+            return Err(BeginFault::Spent);
+        }
+        self.begun += 1;
+        self.out = Some(self.begun);
+        Ok(Tx { number: self.begun })
+    }
+
+    /// Ends a transaction without a change, and lets go of what it has taken.
+    pub fn abort(&mut self, tx: Tx)
+        ensures books { (self.new.log ≡ self.old.log) × (self.new.inodes ≡ self.old.inodes) × (self.new.begun ≡ self.old.begun) }
+        ensures out { self.new.out ≡ without tx self.old.out }
+    {
+        let Tx { number } = tx;
+        self.close(number);
+    }
+
+    // Lets go of what a transaction has taken, and of the blocks that nobody needs any more.
+    pub(crate) fn close(&mut self, transaction: u64)
+        ensures books { (self.new.log ≡ self.old.log) × (self.new.inodes ≡ self.old.inodes) × (self.new.begun ≡ self.old.begun) }
+        ensures out { self.new.out ≡ without transaction self.old.out }
+    {
+        if self.out == Some(transaction) {
+            self.out = None;
+        }
+        release(&mut self.holds, transaction);
+        self.sweep();
+    }
+
+    // Lets go of the blocks that nobody has taken, no kept record read and no fetch is pending of.
+    pub(crate) fn sweep(&mut self)
+        ensures { self.new ≡ self.old }
+    {
+        let holds = &self.holds;
+        let records = &self.records;
+        self.present.retain(|entry| {
+            entry.content.is_none() || is_taken(holds, entry.block) || is_kept(records, entry.block)
+        });
+    }
+
+    // Whether a change may write the block.
+    pub(crate) fn is_inside(&self, block: BlockNo) -> bool
+        ensures { IsTrue result ↔ IsHomeOn self.now.log.blocks block }
+    {
+        block.0 >= FIRST_HOME_BLOCK && block.0 < self.wal.blocks()
+    }
+
+    /// Shows that the place is settled, where it is.
+    pub fn stable(&self, place: Seq) -> Option<Stable>
+        ensures settled { IsSome result ↔ (place.0 ≤ settled_place self.now.log) }
+        ensures place { IfSome result (λ stable. stable ≡ place.0) }
+    {
+        if place <= self.wal.settled() {
+            Some(Stable { place })
+        } else {
+            None
+        }
+    }
+
+    /// Whether a write or a barrier has failed. Nothing is begun or committed any more.
+    pub fn broken(&self) -> bool
+        ensures { result ≡ self.now.log.broken }
+    {
+        self.wal.broken()
+    }
+
+    /// The log's next device call, if there is one and none is out.
+    pub fn log_next(&mut self) -> Option<LogIo>
+        ensures causes { is_some result ≡ may_log self.old.log }
+        ensures some { IsSome result → self.new ≡ record self.old { log = with_log_out self.old.log } }
+        ensures none { IsNone result → self.new ≡ self.old }
+        ensures within { IfSome result (λ io. IsCallWithin self.new.log.blocks io.call) }
+    {
+        self.wal.log_next()
+    }
+
+    /// Gives the log's device call back, with whether it was answered Ok.
+    pub fn log_done(&mut self, io: LogIo, ok: bool)
+        ensures log { self.new.log ≡ (if is_log_out self.old.log io then with_log_back self.old.log ok else self.old.log) }
+        ensures blocks { self.new.log.blocks ≡ self.old.log.blocks }
+        ensures others { (self.new.inodes ≡ self.old.inodes) × (self.new.begun ≡ self.old.begun) × (self.new.out ≡ self.old.out) }
+    {
+        self.wal.log_done(io, ok);
+    }
+
+    /// The installer's next device call, if there is one and none is out.
+    pub fn inst_next(&mut self) -> Option<InstIo>
+        ensures causes { is_some result ≡ may_install self.old.log }
+        ensures some { IsSome result → self.new ≡ record self.old { log = with_inst_out self.old.log } }
+        ensures none { IsNone result → self.new ≡ self.old }
+        ensures within { IfSome result (λ io. IsCallWithin self.new.log.blocks io.call) }
+    {
+        self.wal.inst_next()
+    }
+
+    /// Gives the installer's device call back, with whether it was answered Ok.
+    pub fn inst_done(&mut self, io: InstIo, ok: bool)
+        ensures log { self.new.log ≡ (if is_inst_out self.old.log io then with_inst_back self.old.log ok else self.old.log) }
+        ensures blocks { self.new.log.blocks ≡ self.old.log.blocks }
+        ensures others { (self.new.inodes ≡ self.old.inodes) × (self.new.begun ≡ self.old.begun) × (self.new.out ≡ self.old.out) }
+    {
+        self.wal.inst_done(io, ok);
+        forget(&mut self.records, self.wal.installed());
+        self.sweep();
+    }
+}

@@ -1,0 +1,83 @@
+//! The blocks that a change writes, with the bytes that they get.
+ghost use Rattle.std.specs.Prelude.{◌≡◌, ◌≤◌, length, IfOk};
+ghost use Rattle.limits.specs.declared.TheConstants.{CHANGED_BLOCKS};
+ghost use Rattle.wal.specs.Log.{blocks_of as group_blocks};
+ghost use Rattle.txn.specs.Group.{blocks_of, is_among};
+
+use crate::Object;
+use crate::present::{Present, content_of};
+use arrayvec::ArrayVec;
+use disk::{Block, BlockNo};
+use limits::CHANGED_BLOCKS;
+use std::alloc::{AllocError, Global};
+use wal::Wal;
+
+/// The numbers of a change's blocks.
+pub(crate) type Blocks = ArrayVec<BlockNo, CHANGED_BLOCKS>;
+
+/// The blocks that the objects lie in, each once.
+pub(crate) fn blocks_of_objects(objects: &[Object]) -> Blocks
+    requires { length (blocks_of objects.now) ≤ CHANGED_BLOCKS }
+    ensures { result.items ≡ blocks_of objects.now }
+{
+    let mut blocks = ArrayVec::new();
+    for object in objects {
+        let block = object.addr().block;
+        if !contains(blocks.as_slice(), block) {
+            blocks.push(block);
+        }
+    }
+    blocks
+}
+
+// Whether the block is among these.
+fn contains(blocks: &[BlockNo], block: BlockNo) -> bool
+    ensures { result ≡ is_among block blocks.now }
+{
+    blocks.contains(&block)
+}
+
+/// The block's current content again: from memory, or zeros where a change writes all of it.
+fn base_of(
+    alloc: Global,
+    present: &[Present],
+    wal: &Wal,
+    block: BlockNo,
+) -> Result<Block, AllocError> {
+    let mut base = Block::zeros(alloc)?;
+    if let Some(content) = content_of(present, block) {
+        base.copy_from(content);
+    } else if let Some(content) = wal.latest(block) {
+        base.copy_from(content);
+    }
+    Ok(base)
+}
+
+// Lays those of the objects that lie in the block over its content.
+fn lay(content: &mut Block, objects: &[Object], block: BlockNo) {
+    for object in objects {
+        let addr = object.addr();
+        if addr.block == block {
+            content.put(addr.offset, object.bytes());
+        }
+    }
+}
+
+/// The blocks with the bytes that they get.
+pub(crate) fn group_of(
+    alloc: Global,
+    present: &[Present],
+    wal: &Wal,
+    blocks: &[BlockNo],
+    objects: &[Object],
+) -> Result<Vec<(BlockNo, Block)>, AllocError>
+    ensures { IfOk result (λ group. group_blocks group.items ≡ blocks.now) }
+{
+    let mut group = Vec::with_capacity(alloc, blocks.len())?;
+    for block in blocks {
+        let mut content = base_of(alloc, present, wal, *block)?;
+        lay(&mut content, objects, *block);
+        group.push((*block, content))?;
+    }
+    Ok(group)
+}

@@ -1,0 +1,23 @@
+//! The transactional core: transactions over a log and a device, for any kind of change.
+#![tactic(auto)]
+
+mod answers;
+mod change;
+mod commit;
+mod core;
+mod group;
+mod holds;
+mod object;
+mod present;
+mod records;
+mod tx;
+mod want;
+mod window;
+
+pub use crate::core::Core;
+pub use answers::{BeginFault, Claim, Commit, Want};
+pub use change::Change;
+pub use object::Object;
+pub use tx::{FetchIo, Stable, Tx};
+pub use wal::{InstIo, LogIo, Seq};
+pub use window::a_window_reads_one_content;
