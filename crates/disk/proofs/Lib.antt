@@ -1,3 +1,4 @@
 pub mod MemoryLemmas
 pub mod CrashLemmas
 pub mod FileLemmas
+pub mod OverlapLemmas

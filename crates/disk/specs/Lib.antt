@@ -4,3 +4,4 @@ pub mod Choice
 pub mod Noted
 pub mod Memory
 pub mod File
+pub mod Overlap

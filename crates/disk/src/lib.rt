@@ -15,5 +15,5 @@ mod tests;
 pub use block::{Block, BlockNo, Side};
 pub use device::{CrashDisk, Failed};
 pub use file_disk::{BlockFile, FileCall, FileDisk};
-pub use laws::{honest_file_keeps_model, one_image_at_rest};
+pub use laws::{honest_file_keeps_model, one_image_at_rest, overlapping_calls_commute};
 pub use mem_disk::MemDisk;
