@@ -53,8 +53,12 @@ is_inst_out log io = log.inst_out && (nat_eq io.beginning log.start && nat_eq io
 abbrev pub with_installed : Log → Log
 with_installed log =
     record log {
-      start = log.start + log.installing; changes = drop log.installing log.changes;
-      logged = log.logged - log.installing; installing = 0; inst_step = 0; inst_out = false;
+      start = log.start + log.installing;
+      changes = drop log.installing log.changes;
+      logged = log.logged - log.installing;
+      installing = 0;
+      inst_step = 0;
+      inst_out = false;
     }
 
 -- the log once its installer's call was made

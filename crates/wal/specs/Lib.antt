@@ -5,3 +5,6 @@ pub mod View
 pub mod Numbers
 pub mod Logger
 pub mod Installer
+pub mod Seen
+pub mod Overlay
+pub mod Found

@@ -82,16 +82,37 @@ log_end log = log.start + log.logged
 abbrev pub opened : ℕ → ℕ → List (BlockNo × Content) → Log
 opened blocks start logged =
     record {
-      blocks = blocks; start = start;
-      changes = changes_of 0 logged; logged = length logged;
-      taken = 0; log_step = 0; log_out = false;
-      installing = 0; inst_step = 0; inst_out = false;
-      places = 0; broken = false;
+      blocks = blocks;
+      start = start;
+      changes = changes_of 0 logged;
+      logged = length logged;
+      taken = 0;
+      log_step = 0;
+      log_out = false;
+      installing = 0;
+      inst_step = 0;
+      inst_out = false;
+      places = 0;
+      broken = false;
     }
 
 -- a change that a log may hold: of a block that lies behind the log and on the disk
 abbrev pub IsHomeOn : ℕ → BlockNo → Type 0
 IsHomeOn blocks block = (FIRST_HOME_BLOCK ≤ block.0) × (block.0 < blocks)
+
+-- the place of the first of these changes, or the last of so many places
+abbrev pub first_place : List Change → ℕ → ℕ
+first_place [] places = places
+first_place (change ∷ later) places = change.place
+
+-- the places of changes don't fall, and are at most the last
+abbrev pub IsRising : List Change → ℕ → Type 0
+IsRising [] places = Unit {0}
+IsRising (change ∷ later) places = (change.place ≤ first_place later places) × IsRising later places
+
+-- a change that a commit made
+abbrev pub IsCommitted : Change → Type 0
+IsCommitted change = 0 < change.place
 
 -- what is true of every log
 pub record IsLawful (log : Log) : Type 0 where
@@ -108,3 +129,5 @@ pub record IsLawful (log : Log) : Type 0 where
   pub inst_idle : log.installing ≡ 0 → (log.inst_step ≡ 0) × (log.inst_out ≡ false)
   pub places : log.places < 2 ^ 64
   pub homes : All (λ (change : Change). IsHomeOn log.blocks change.block) log.changes
+  pub rising : IsRising log.changes log.places
+  pub committed : All IsCommitted (drop log.logged log.changes)

@@ -78,6 +78,13 @@ impl Wal {
         })
     }
 
+    /// What is true of every log.
+    pub fn lawful(&self)
+        ensures { IsLawful self.now }
+    {
+        let _ = &self.start;
+    }
+
     /// The newest content of a block. One that the log doesn't have is home.
     pub fn latest(&self, block: BlockNo) -> Option<&Block>
         ensures { MatchOption result (newest self.now block.0 ≡ None) (λ content. newest self.now block.0 ≡ Some content.now) }
@@ -89,14 +96,14 @@ impl Wal {
     pub fn settled(&self) -> Seq
         ensures { result.0 ≡ settled_place self.now }
     {
-        place_before(self.changes.get(self.logged), self.places)
+        search::seq_before(&self.changes, self.logged, self.places)
     }
 
     /// The greatest place such that each change at or before it is home.
     pub fn installed(&self) -> Seq
         ensures { result.0 ≡ installed_place self.now }
     {
-        place_before(self.changes.get(0), self.places)
+        search::seq_before(&self.changes, 0, self.places)
     }
 
     /// The place of the last commit.
@@ -137,13 +144,5 @@ impl Wal {
         } else {
             Room::Fits
         }
-    }
-}
-
-// The place before that of a change, or the last where there is none.
-fn place_before(change: Option<&Change>, places: u64) -> Seq {
-    match change {
-        Some(change) => Seq(change.place.saturating_sub(1)),
-        None => Seq(places),
     }
 }

@@ -1,7 +1,7 @@
 //! The blocks that tell where the log begins and ends, as numbers of eight bytes, the lowest byte first. The first
 //! block of the log holds the end, and then the home address of each slot. The block behind the slots holds the
 //! start.
-ghost use Rattle.std.specs.Prelude.{◌≡◌, ◌+◌, ◌*◌, ◌<◌, ◌≤◌, length, replicate};
+ghost use Rattle.std.specs.Prelude.{◌≡◌, ◌+◌, ◌*◌, ◌^◌, ◌<◌, ◌≤◌, length, replicate};
 ghost use Rattle.wal.specs.Numbers.{number_at, with_number};
 
 use disk::{Block, BlockNo};
@@ -33,30 +33,35 @@ pub fn start_of(block: &Block) -> u64
 }
 
 /// Makes a block a header of this end, with an address of 0 at each slot.
+#[tactic(auto, unfolding(crate::specs::Numbers::with_number))]
 pub fn put_end(header: &mut Block, end: u64)
     ensures { header.new ≡ with_number (replicate BLOCK_BYTES 0) 0 end }
 {
-    header.put(0, &[0; BLOCK_BYTES]);
+    clear(header);
     header.put(0, &end.to_le_bytes());
 }
 
 /// Sets the home address of a slot, and leaves the rest of the header.
+#[tactic(auto, unfolding(crate::specs::Numbers::with_number))]
 pub fn put_address(header: &mut Block, slot: u64, home: BlockNo)
     requires { slot < LOG_SLOTS }
-    ensures { header.new ≡ with_number header.old (8 + 8 * slot) home.0 }
+    ensures header { header.new ≡ with_number header.old (8 + 8 * slot) home.0 }
+    ensures fits { home.0 < 2 ^ 32 }
 {
     header.put(8 + 8 * slot as usize, &(home.0 as u64).to_le_bytes());
 }
 
 /// Makes a block tell this start.
+#[tactic(auto, unfolding(crate::specs::Numbers::with_number))]
 pub fn put_start(block: &mut Block, start: u64)
     ensures { block.new ≡ with_number (replicate BLOCK_BYTES 0) 0 start }
 {
-    block.put(0, &[0; BLOCK_BYTES]);
+    clear(block);
     block.put(0, &start.to_le_bytes());
 }
 
 // The number at an offset of a block.
+#[tactic(auto, unfolding(crate::specs::Numbers::number_at))]
 fn number(block: &Block, offset: usize) -> u64
     requires { offset + 8 ≤ BLOCK_BYTES }
     ensures { result ≡ number_at block.now offset }
@@ -72,4 +77,11 @@ fn number(block: &Block, offset: usize) -> u64
         bytes[offset + 6],
         bytes[offset + 7],
     ])
+}
+
+// Makes a block zeros.
+fn clear(block: &mut Block)
+    ensures { block.new ≡ replicate BLOCK_BYTES 0 }
+{
+    block.put(0, &[0; BLOCK_BYTES]);
 }

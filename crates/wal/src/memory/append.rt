@@ -3,6 +3,7 @@ ghost use Rattle.std.specs.Prelude.{◌≡◌, ◌≢◌, ◌≤◌, ◌<◌, �
 ghost use Rattle.std.specs.VecDeque.{deque_capacity};
 ghost use Rattle.wal.specs.Log.{changes_of, blocks_of, tail_after, IsHomeOn};
 ghost use Rattle.wal.specs.Room.{HasPlaces, with_group};
+ghost use Rattle.wal.specs.Seen.{HasAppended};
 
 use super::Wal;
 use crate::{Append, Change};
@@ -13,6 +14,19 @@ use std::collections::VecDeque;
 impl Wal {
     /// Adds the changes of a commit, which takes the next place. A refusal leaves the log as it was.
     pub fn append(&mut self, group: Vec<(BlockNo, Block)>) -> Append
+        requires places { HasPlaces self.old (blocks_of group.items) }
+        requires homes { All (IsHomeOn self.old.blocks) (blocks_of group.items) }
+        ensures appended { result ≡ Append.Appended → self.new ≡ with_group self.old group.items }
+        ensures refused { result ≢ Append.Appended → self.new ≡ self.old }
+        ensures full { result ≡ Append.Full ↔ (LOG_SLOTS < tail_after self.old (blocks_of group.items)) }
+        ensures seen { result ≡ Append.Appended → HasAppended self.old group.items self.new }
+    {
+        self.lawful();
+        self.add(group)
+    }
+
+    // Adds the changes of a commit.
+    fn add(&mut self, group: Vec<(BlockNo, Block)>) -> Append
         requires places { HasPlaces self.old (blocks_of group.items) }
         requires homes { All (IsHomeOn self.old.blocks) (blocks_of group.items) }
         ensures appended { result ≡ Append.Appended → self.new ≡ with_group self.old group.items }
@@ -33,11 +47,7 @@ impl Wal {
 }
 
 // Adds the changes of the commit of a place.
-pub(super) fn push_group(
-    changes: &mut VecDeque<Change>,
-    place: u64,
-    group: Vec<(BlockNo, Block)>,
-)
+pub(super) fn push_group(changes: &mut VecDeque<Change>, place: u64, group: Vec<(BlockNo, Block)>)
     requires { length changes.old.items + length group.items ≤ deque_capacity changes.old }
     ensures { changes.new.items ≡ changes.old.items ++ changes_of place group.items }
 {

@@ -10,12 +10,7 @@ use limits::LOG_SLOTS;
 use std::collections::VecDeque;
 
 // Makes the content the header of the positions from the start on that the first of these changes take.
-pub(super) fn put_header(
-    content: &mut Block,
-    start: u64,
-    changes: &VecDeque<Change>,
-    count: usize,
-)
+pub(super) fn put_header(content: &mut Block, start: u64, changes: &VecDeque<Change>, count: usize)
     requires count { count ≤ length changes.now.items }
     requires slots { count ≤ LOG_SLOTS }
     requires positions { start + count < 2 ^ 64 }
@@ -24,7 +19,7 @@ pub(super) fn put_header(
     put_end(content, start + count as u64);
     for i in 0..count {
         let position = start + i as u64;
-        let change = &changes[i];
-        put_address(content, position % LOG_SLOTS, change.block);
+        let home = changes[i].block;
+        put_address(content, position % LOG_SLOTS, home);
     }
 }

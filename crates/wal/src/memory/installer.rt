@@ -1,6 +1,7 @@
 //! The installer: it brings logged changes home, and then raises the start of the log.
 ghost use Rattle.std.specs.Prelude.{◌≡◌, ◌<◌, ◌≤◌, length, drop, IfSome, IsNone, IsSome, is_some, if◌then◌else◌, true, false, nat_lt, ◌||◌};
 ghost use Rattle.wal.specs.Io.{IsCallWithin};
+ghost use Rattle.wal.specs.Seen.{HasGoneOn};
 ghost use Rattle.wal.specs.Installer.{may_install, with_inst_out, is_inst_out, with_inst_back, with_installed, next_home, IsNextInstCall};
 
 use super::Wal;
@@ -20,6 +21,29 @@ impl Wal {
         ensures some { IsSome result → self.new ≡ with_inst_out self.old }
         ensures call { IfSome result (IsNextInstCall self.new) }
         ensures within { IfSome result (λ io. IsCallWithin self.new.blocks io.call) }
+        ensures seen { HasGoneOn self.old self.new }
+    {
+        self.lawful();
+        self.next_inst_io()
+    }
+
+    /// Takes a call of the installer back, with whether it was made. One that isn't the call that is out changes
+    /// nothing. One that failed breaks the log for good.
+    pub fn inst_done(&mut self, io: InstIo, ok: bool)
+        ensures log { self.new ≡ (if is_inst_out self.old io then with_inst_back self.old ok else self.old) }
+        ensures seen { HasGoneOn self.old self.new }
+    {
+        self.lawful();
+        self.take_inst_io(io, ok);
+    }
+
+    // Hands the installation's next call out.
+    fn next_inst_io(&mut self) -> Option<InstIo>
+        ensures causes { is_some result ≡ may_install self.old }
+        ensures none { IsNone result → self.new ≡ self.old }
+        ensures some { IsSome result → self.new ≡ with_inst_out self.old }
+        ensures call { IfSome result (IsNextInstCall self.new) }
+        ensures within { IfSome result (λ io. IsCallWithin self.new.blocks io.call) }
     {
         if self.broken || !self.begin_installation() {
             return None;
@@ -28,9 +52,8 @@ impl Wal {
         Some(self.inst_io(buffer))
     }
 
-    /// Takes a call of the installer back, with whether it was made. One that isn't the call that is out changes
-    /// nothing. One that failed breaks the log for good.
-    pub fn inst_done(&mut self, io: InstIo, ok: bool)
+    // Takes a call back.
+    fn take_inst_io(&mut self, io: InstIo, ok: bool)
         ensures { self.new ≡ (if is_inst_out self.old io then with_inst_back self.old ok else self.old) }
     {
         let InstIo {
@@ -39,8 +62,9 @@ impl Wal {
             call: _,
             content,
         } = io;
-        let is_out =
-            self.inst_buffer.is_none() && beginning == self.start && step == self.inst_step;
+        let is_out = self.inst_buffer.is_none()
+            && beginning == self.start
+            && step == self.inst_step;
         if !is_out {
             return;
         }

@@ -1,6 +1,7 @@
 //! The logger: it takes the tail as a group, and makes it safe in the slots of the log.
 ghost use Rattle.std.specs.Prelude.{◌≡◌, ◌<◌, IfSome, IsNone, IsSome, is_some, ◌+◌, ◌%◌, if◌then◌else◌, true, false};
 ghost use Rattle.wal.specs.Io.{IsCallWithin};
+ghost use Rattle.wal.specs.Seen.{HasGoneOn};
 ghost use Rattle.wal.specs.Logger.{may_log, has_group, group_size, with_log_out, is_log_out, with_log_back, IsNextLogCall};
 
 use super::Wal;
@@ -18,6 +19,29 @@ impl Wal {
         ensures some { IsSome result → self.new ≡ with_log_out self.old }
         ensures call { IfSome result (IsNextLogCall self.new) }
         ensures within { IfSome result (λ io. IsCallWithin self.new.blocks io.call) }
+        ensures seen { HasGoneOn self.old self.new }
+    {
+        self.lawful();
+        self.next_log_io()
+    }
+
+    /// Takes a call of the logger back, with whether it was made. One that isn't the call that is out changes
+    /// nothing. One that failed breaks the log for good.
+    pub fn log_done(&mut self, io: LogIo, ok: bool)
+        ensures log { self.new ≡ (if is_log_out self.old io then with_log_back self.old ok else self.old) }
+        ensures seen { HasGoneOn self.old self.new }
+    {
+        self.lawful();
+        self.take_log_io(io, ok);
+    }
+
+    // Hands the group's next call out.
+    fn next_log_io(&mut self) -> Option<LogIo>
+        ensures causes { is_some result ≡ may_log self.old }
+        ensures none { IsNone result → self.new ≡ self.old }
+        ensures some { IsSome result → self.new ≡ with_log_out self.old }
+        ensures call { IfSome result (IsNextLogCall self.new) }
+        ensures within { IfSome result (λ io. IsCallWithin self.new.blocks io.call) }
     {
         if self.broken || !self.begin_group() {
             return None;
@@ -26,9 +50,8 @@ impl Wal {
         Some(self.log_io(buffer))
     }
 
-    /// Takes a call of the logger back, with whether it was made. One that isn't the call that is out changes
-    /// nothing. One that failed breaks the log for good.
-    pub fn log_done(&mut self, io: LogIo, ok: bool)
+    // Takes a call back.
+    fn take_log_io(&mut self, io: LogIo, ok: bool)
         ensures { self.new ≡ (if is_log_out self.old io then with_log_back self.old ok else self.old) }
     {
         let LogIo {

@@ -1,9 +1,9 @@
 //! Searches among changes.
 ghost use Rattle.std.specs.Prelude.{◌≡◌, ◌≤◌, ◌+◌, length, MatchOption, Some, None, take, drop};
-ghost use Rattle.wal.specs.Log.{newest_of};
+ghost use Rattle.wal.specs.Log.{newest_of, place_before};
 ghost use Rattle.wal.specs.Installer.{passed_over};
 
-use crate::Change;
+use crate::{Change, Seq};
 use disk::{Block, BlockNo};
 use std::collections::VecDeque;
 
@@ -35,7 +35,8 @@ pub(super) fn last_change(
 pub(super) fn next_newest(changes: &VecDeque<Change>, from: usize, end: usize) -> usize
     requires order { from ≤ end }
     requires end { end ≤ length changes.now.items }
-    ensures { result ≡ from + passed_over (drop from (take end changes.now.items)) }
+    ensures value { result ≡ from + passed_over (drop from (take end changes.now.items)) }
+    ensures within { result ≤ end }
 {
     for i in from..end {
         let change = &changes[i];
@@ -44,4 +45,16 @@ pub(super) fn next_newest(changes: &VecDeque<Change>, from: usize, end: usize) -
         }
     }
     end
+}
+
+// The place before that of a change, or the last where there is none at the index.
+pub(super) fn seq_before(changes: &VecDeque<Change>, index: usize, places: u64) -> Seq
+    requires { index ≤ length changes.now.items }
+    ensures { result.0 ≡ place_before (drop index changes.now.items) places }
+{
+    if index == changes.len() {
+        return Seq(places);
+    }
+    let change = &changes[index];
+    Seq(change.place.saturating_sub(1))
 }

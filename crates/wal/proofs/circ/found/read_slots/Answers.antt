@@ -1,0 +1,40 @@
+use Rattle.std.proofs.Common.{◌≡◌, ℕ, ◌+◌, ◌*◌, ◌%◌, ◌<◌, ◌≤◌, List, [], ◌∷◌, ◌++◌, length, All, sym, subst, ◌∙◌, arith, ap, map, refl}
+use Rattle.std.proofs.lemmas.List.{map-append, length-map}
+use Rattle.std.proofs.lemmas.List.Elements.{All-push}
+use Rattle.limits.specs.declared.TheConstants.{LOG_SLOTS}
+use Rattle.disk.specs.Device.{Content, Device}
+use Rattle.wal.specs.Logger.{slot_block}
+use Rattle.wal.specs.Found.{image_of}
+use Rattle.wal.proofs.OnlyRead.{reads_then, image_then, unspoiled_then, positions_more}
+use Rattle.disk.specs.declared.block.BlockNo.{BlockNo}
+use Rattle.wal.specs.Log.{IsHomeOn, blocks_of}
+use Rattle.wal.proofs.circ.found.read_slots.Goals as goal
+
+home_more : (blocks : ℕ) (logged new : List (BlockNo × Content)) (home : BlockNo) (content : Content) → new ≡ logged ++ (home, content) ∷ []
+    → All (IsHomeOn blocks) (blocks_of logged) → IsHomeOn blocks home → All (IsHomeOn blocks) (blocks_of new)
+home_more blocks logged new home content e h one =
+    rw (e, map-append (λ (change : BlockNo × Content). change.0) logged ((home, content) ∷ [])) (All-push (IsHomeOn blocks) (blocks_of logged) home h one)
+
+pub loop-i-preserved : goal.loop-i-preserved
+loop-i-preserved g c =
+    let first : Device = g.D.CrashDisk.device c.args.disk.now in
+    let before : Device = g.D.CrashDisk.device c.loop-i.disk in
+    let after : Device = g.D.CrashDisk.device c.read_block.new.disk in
+    let inv = c.loop-i.invariant in
+    let home : BlockNo = record { 0 = c.address_at-home.result } in
+    record {
+      reads = reads_then first before after inv.reads c.read_block.ensures.reads;
+      failures = c.in_ok-read_block.ensures.failure ∙ inv.failures;
+      model = λ keeps. inv.model (c.read_block.ensures.model keeps);
+      count = omega (arith, c.push_reserved.ensures);
+      room = omega (arith, c.push_reserved.ensures);
+      homes = home_more c.args.blocks c.loop-i.logged.items c.push_reserved.new.self.items home c.read_block.new.out
+          c.push_reserved.ensures.items inv.homes (rw c.address_at-home.ensures (c.requires.homes c.loop-i.i c.loop-i-test.true));
+      positions = λ keeps unspoiled.
+          positions_more c.args.header.now (image_of first) c.args.start c.loop-i.i c.loop-i.logged.items c.push_reserved.new.self.items home c.read_block.new.out
+          (inv.positions (c.read_block.ensures.model keeps) unspoiled)
+          c.push_reserved.ensures.items
+          (rw c.address_at-home.ensures refl)
+          (c.in_ok-read_block.ensures.newest keeps (unspoiled_then first before inv.reads unspoiled)
+          ∙ image_then first before inv.reads (slot_block (c.args.start + c.loop-i.i)));
+    }

@@ -1,0 +1,8 @@
+use Rattle.wal.specs.Installer.{with_inst_out}
+use Rattle.wal.proofs.Seen.{seen_next, seen_inst_out}
+use Rattle.wal.proofs.memory.Wal.inst_next.Goals as goal
+
+pub returns-clause-seen : goal.returns-clause-seen
+returns-clause-seen c =
+    seen_next c.next_inst_io.result c.args.self.now c.next_inst_io.new.self (with_inst_out c.args.self.now) (seen_inst_out c.args.self.now)
+    c.next_inst_io.ensures.none c.next_inst_io.ensures.some

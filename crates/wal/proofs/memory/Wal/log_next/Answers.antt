@@ -1,0 +1,8 @@
+use Rattle.wal.specs.Logger.{with_log_out}
+use Rattle.wal.proofs.Seen.{seen_next, seen_log_out}
+use Rattle.wal.proofs.memory.Wal.log_next.Goals as goal
+
+pub returns-clause-seen : goal.returns-clause-seen
+returns-clause-seen c =
+    seen_next c.next_log_io.result c.args.self.now c.next_log_io.new.self (with_log_out c.args.self.now) (seen_log_out c.args.self.now)
+    c.next_log_io.ensures.none c.next_log_io.ensures.some
