@@ -1,1 +1,2 @@
+pub mod OneTree
 pub mod ReadInode

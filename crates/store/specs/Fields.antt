@@ -12,7 +12,7 @@ unfoldable pub eight_at : ℕ → List ℕ → ℕ
 eight_at place bytes = from_le_bytes w64 (drop place bytes)
 
 -- so many numbers of 4 bytes, one behind another from a place on
-abbrev pub numbers_at : ℕ → ℕ → List ℕ → List ℕ
+unfoldable pub numbers_at : ℕ → ℕ → List ℕ → List ℕ
 numbers_at zero place bytes = []
 numbers_at (suc count) place bytes = four_at place bytes ∷ numbers_at count (place + 4) bytes
 

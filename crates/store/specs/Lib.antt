@@ -1,8 +1,13 @@
+pub mod Decode
 pub mod Fields
+pub mod GoodImage
 pub mod Group
 pub mod InodeForm
 pub mod Object
+pub mod Owners
 pub mod Places
 pub mod Refused
 pub mod Seen
+pub mod SlotForm
+pub mod Stands
 pub mod SuperForm
