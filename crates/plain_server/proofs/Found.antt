@@ -72,7 +72,7 @@ first_of tree number place file is here =
     let at = position-Some (λ n. nat_eq number n.number) tree.nodes.items place file is in
     let number_is : number ≡ file.number = same_number number _ at.1 ∙ ap (λ n. n.number) (sym here) in
     let first : (k : ℕ) → k < place → nat_eq file.number (get_or tree.nodes.items k file).number ≡ false =
-        λ k below. ap (λ q. nat_eq q (get_or tree.nodes.items k file).number) (sym number_is) ∙ at.2 k below in
+    λ k below. ap (λ q. nat_eq q (get_or tree.nodes.items k file).number) (sym number_is) ∙ at.2 k below in
     record {
       number_is = number_is;
       inside = at.0;
@@ -103,17 +103,17 @@ find_set (x ∷ xs) zero n m q same inside here first =
 find_set (x ∷ xs) (suc place) n m q same inside here first =
     ap (cond (eq q x.number) (Some (node_of x.node))) (find_set xs place n m q same (omega arith) here (λ k below. first (suc k) (omega arith)))
     ∙ swapped (eq q n.number) (eq q x.number) (node_of m.node) (node_of x.node) (map.find nat_cmp q (map numbered xs))
-      (λ is. ap (λ k. eq k x.number) (eq_by_cmp-is q n.number is) ∙ unsigned_tied n.number x.number ∙ first 0 (omega arith))
+    (λ is. ap (λ k. eq k x.number) (eq_by_cmp-is q n.number is) ∙ unsigned_tied n.number x.number ∙ first 0 (omega arith))
 
 pub replaced : (xs : List NumberedNode) (place : ℕ) (n m : NumberedNode) → m.number ≡ n.number → place < length xs → get_or xs place n ≡ n
     → ((k : ℕ) → k < place → nat_eq n.number (get_or xs k n).number ≡ false)
     → map.from_entries {R = nat_cmp} (map numbered (set xs place m)) ≡ map.insert (map.from_entries (map numbered xs)) n.number (node_of m.node)
 replaced xs place n m same inside here first =
     map.same_map nat_cmp_total map.nat_cmp-IsAntisymmetric _ _ (λ q.
-        map.get-from_entries nat_cmp_total (map numbered (set xs place m)) q
-        ∙ find_set xs place n m q same inside here first
-        ∙ ap (cond (eq q n.number) (Some (node_of m.node))) (sym (map.get-from_entries nat_cmp_total (map numbered xs) q))
-        ∙ sym (map.get-insert nat_cmp_total (map.from_entries (map numbered xs)) n.number (node_of m.node) q))
+    map.get-from_entries nat_cmp_total (map numbered (set xs place m)) q
+    ∙ find_set xs place n m q same inside here first
+    ∙ ap (cond (eq q n.number) (Some (node_of m.node))) (sym (map.get-from_entries nat_cmp_total (map numbered xs) q))
+    ∙ sym (map.get-insert nat_cmp_total (map.from_entries (map numbered xs)) n.number (node_of m.node) q))
 
 same_there : (m : map.FinMap nat_cmp Node) (k q : ℕ) (v : Node) (b : Bool) → eq q k ≡ b → map.get m k ≡ Some v → cond b (Some v) (map.get m q) ≡ map.get m q
 same_there m k q v true is got = sym got ∙ ap (map.get m) (sym (eq_by_cmp-is q k is))

@@ -44,7 +44,7 @@ handled tree bytes number stamp is n b t least most =
     let stamp_is : stamp_in (handle_bytes number stamp) ≡ stamp = λ i. record { boot = boot_is i; transaction = transaction_is i } in
     ap (find_file tree) is
     ∙ chosen (nat_eq (length (handle_bytes number stamp)) HANDLE_BYTES) (is_number tree (number_in (handle_bytes number stamp))) _ _ (nat_eq-is _ _ (long_enough number stamp))
-      (ap (is_number tree) number_is ∙ both (nat_lt 0 number) (nat_lt number tree.geometry.inodes) (nat_lt-is 0 number least) (nat_lt-is number tree.geometry.inodes most))
+    (ap (is_number tree) number_is ∙ both (nat_lt 0 number) (nat_lt number tree.geometry.inodes) (nat_lt-is 0 number least) (nat_lt-is number tree.geometry.inodes most))
     ∙ (λ i. stamped (number_is i) (stamp_is i) (node_at tree (number_is i)))
 
 -- the stamp of the file

@@ -73,7 +73,9 @@ impl Kept {
 fn any_is_indirect(indexes: &[u32]) -> bool
     ensures { result ≡ list_any (λ index. nat_le DIRECT_INDEXES index) indexes.now }
 {
-    indexes.iter().any(|index| DIRECT_INDEXES <= *index as usize)
+    indexes
+        .iter()
+        .any(|index| DIRECT_INDEXES <= *index as usize)
 }
 
 fn retain_below(indexes: &mut Vec<u32>, size: u64)

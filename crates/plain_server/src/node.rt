@@ -6,9 +6,7 @@ ghost use Rattle.plain_server.specs.Plain.{body_of, node_of};
 
 use crate::Kept;
 use limits::{BLOCK_BYTES, DIRECT_INDEXES};
-use nfs_types::{
-    Attributes, DeviceNumber, FileKind, Moment, Octets, Stamp, WeakCacheAttributes,
-};
+use nfs_types::{Attributes, DeviceNumber, FileKind, Moment, Octets, Stamp, WeakCacheAttributes};
 
 /// A name in a directory, with the file that it leads to and the slot in which it lies.
 #[derive(Drop)]
@@ -79,7 +77,12 @@ impl PlainBody {
         let blocks = match self {
             PlainBody::Regular { kept, .. } => kept.cost(),
             PlainBody::Directory { span, .. } => {
-                *span as u64 + if *span as usize > DIRECT_INDEXES { 1 } else { 0 }
+                *span as u64
+                    + if *span as usize > DIRECT_INDEXES {
+                        1
+                    } else {
+                        0
+                    }
             }
             PlainBody::Link { .. } => 1,
         };

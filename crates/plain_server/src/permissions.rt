@@ -7,7 +7,9 @@ use crate::PlainNode;
 use nfs_types::Credential;
 
 const WRITE_RIGHT: u32 = 2;
+
 const GROUP_CLASS: u32 = 8;
+
 const OWNER_CLASS: u32 = 64;
 
 pub(crate) fn is_superuser(caller: &Credential) -> bool

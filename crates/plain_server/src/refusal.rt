@@ -73,9 +73,7 @@ fn gives_group_away(caller: &Credential, wanted: &NewAttributes, node: &PlainNod
         || nat_eq caller.now.uid node.now.uid && is_own_group caller.now gid)) }
 {
     match wanted.gid {
-        Some(gid) => {
-            !(gid == node.gid || caller.uid == node.uid && is_own_group(caller, gid))
-        }
+        Some(gid) => { !(gid == node.gid || caller.uid == node.uid && is_own_group(caller, gid)) }
         None => false,
     }
 }

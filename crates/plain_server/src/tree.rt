@@ -76,12 +76,7 @@ impl PlainTree {
     }
 
     /// Where the file of this number stands, if it was made with this stamp.
-    fn find_numbered(
-        &self,
-        number: u32,
-        boot: u64,
-        transaction: u64,
-    ) -> Result<usize, Status>
+    fn find_numbered(&self, number: u32, boot: u64, transaction: u64) -> Result<usize, Status>
         requires least { 0 < number }
         requires most { number < self.now.inodes }
         ensures { Locates self.now.nodes.items result

@@ -17,5 +17,5 @@ cost_listed ks len extra b distinct len_is b_is extra_is =
 pub returns-clause-cost : goal.returns-clause-cost
 returns-clause-cost c =
     cost_listed c.self.inside.indexes.items c.len.result c.if-any_is_indirect.indirect c.any_is_indirect.result c.self.invariant.0 (cc) (c.any_is_indirect.ensures ∙ ap (list_any (λ index. nat_le DIRECT_INDEXES index)) c.deref.ensures.value)
-      (elim c.if-any_is_indirect.branch [ then-any_is_indirect w ↦ w.indirect-is ∙ ap (λ b. cond b 1 0) (sym w.if-any_is_indirect.true) | else-any_is_indirect w ↦ w.indirect-is ∙ ap (λ b. cond b 1 0) (sym w.if-any_is_indirect.false) ])
+    (elim c.if-any_is_indirect.branch [ then-any_is_indirect w ↦ w.indirect-is ∙ ap (λ b. cond b 1 0) (sym w.if-any_is_indirect.true) | else-any_is_indirect w ↦ w.indirect-is ∙ ap (λ b. cond b 1 0) (sym w.if-any_is_indirect.false) ])
     ∙ ap file_cost c.self.view_is

@@ -9,7 +9,7 @@ use Rattle.plain_server.proofs.kept.Kept.keep.Goals as goal
 pub invariant_of-self : goal.invariant_of-self
 invariant_of-self c =
     let absent : set.contains (set.from_list {R = nat_cmp} c.self.inside.indexes.items) c.args.index ≡ false =
-        set.contains-from_list_nat c.self.inside.indexes.items c.args.index ∙ ap (list_any (λ y. nat_eq y c.args.index)) (sym c.deref.ensures.value) ∙ sym c.contains.ensures.value ∙ c.if-not-contains.true in
+    set.contains-from_list_nat c.self.inside.indexes.items c.args.index ∙ ap (list_any (λ y. nat_eq y c.args.index)) (sym c.deref.ensures.value) ∙ sym c.contains.ensures.value ∙ c.if-not-contains.true in
     let d : Distinct c.self.inside.indexes.items = record { count = c.self.invariant.0 } in
     let e : Distinct c.push.new.self.items = subst Distinct (sym c.in_ok-push.ensures.items) (distinct-push _ _ absent d) in
     let room : set.len (set.from_list {R = nat_cmp} c.self.inside.indexes.items) ≡ set.len c.args.self.now = ap set.len c.self.view_is in
@@ -23,6 +23,6 @@ returns-in_ok-push-clause-ok c =
 pub returns-else-not-contains-clause-ok : goal.returns-else-not-contains-clause-ok
 returns-else-not-contains-clause-ok c =
     sym (insert_again c.args.self.now c.args.index
-      (ap (λ s. set.contains s c.args.index) (sym c.self.view_is)
-      ∙ set.contains-from_list_nat c.self.inside.indexes.items c.args.index
-      ∙ ap (list_any (λ y. nat_eq y c.args.index)) (sym c.deref.ensures.value) ∙ sym c.contains.ensures.value ∙ c.if-not-contains.false))
+    (ap (λ s. set.contains s c.args.index) (sym c.self.view_is)
+    ∙ set.contains-from_list_nat c.self.inside.indexes.items c.args.index
+    ∙ ap (list_any (λ y. nat_eq y c.args.index)) (sym c.deref.ensures.value) ∙ sym c.contains.ensures.value ∙ c.if-not-contains.false))

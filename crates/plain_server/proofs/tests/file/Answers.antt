@@ -1,0 +1,18 @@
+use Rattle.std.proofs.Common.{◌≡◌, ℕ, ◌+◌, ◌<◌, ◌≤◌, Bool, true, false, cond, ap, ◌∙◌, arith}
+use Rattle.std.specs.Ordering.{nat_cmp}
+use Rattle.std.specs.Cmp.{nat_cmp_total}
+use Rattle.std.specs.FinSet as set
+use Rattle.plain_server.proofs.tests.file.Goals as goal
+
+one_more : (b : Bool) (n : ℕ) → cond b n (n + 1) ≤ n + 1
+one_more true n = omega arith
+one_more false n = omega arith
+
+pub keep-requires : goal.keep-requires
+keep-requires c = let none = ap set.len c.new-kept.ensures ∙ set.len-empty nat_cmp in omega arith
+
+pub keep-requires-2 : goal.keep-requires-2
+keep-requires-2 c =
+    let none = ap set.len c.new-kept.ensures ∙ set.len-empty nat_cmp in
+    let grown = ap set.len c.in_ok-keep.ensures.ok ∙ set.len-insert nat_cmp_total c.new-kept.result 0 in
+    omega (arith, none, grown, one_more (set.contains c.new-kept.result 0) (set.len c.new-kept.result))
