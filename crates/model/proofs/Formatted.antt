@@ -84,6 +84,7 @@ module _ (geometry : Geometry) (moment : Moment) where
     root = root;
     root_is = root_is;
     root_directory = refl;
+    root_stamp = refl;
     files = λ number node is.
         let only = only_one ROOT number root node is in
         let here : SoundAt tree number root = subst (λ n. SoundAt tree n root) (sym only.0) (at_root fits time) in

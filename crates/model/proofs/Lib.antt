@@ -1,4 +1,7 @@
+mod Answered
+mod Attributed
 mod Determined
 mod Formatted
 mod Maps
+mod Replaced
 pub mod Sets

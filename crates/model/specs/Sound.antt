@@ -4,6 +4,9 @@ use Rattle.std.specs.Ordering.{nat_cmp}
 use Rattle.std.specs.FinMap as map
 use Rattle.std.specs.FinSet as set
 use Rattle.limits.specs.declared.TheConstants.{ROOT, BLOCK_BYTES, FILE_INDEXES, INODES_PER_BLOCK, LARGEST_FILE, LEAST_DATA_BLOCKS, LEAST_INODES, MODE_BITS, MOST_BLOCKS, MOST_INODES, MOST_LINKS, NAME_BYTES, NANOSECONDS, SLOTS_PER_BLOCK, TARGET_BYTES}
+use Rattle.nfs_types.specs.declared.attributes.NewAttributes.{NewAttributes}
+use Rattle.nfs_types.specs.declared.attributes.SetTime.{SetTime}
+use Rattle.nfs_types.specs.declared.attributes.SetTime.TheVariants.{Keep, Server, Client}
 use Rattle.nfs_types.specs.declared.ctx.Moment.{Moment}
 use Rattle.nfs_types.specs.declared.handle.Stamp.{Stamp}
 use Rattle.model.specs.Node.{Node, Body, DirectoryEntry, Entries, Regular, Directory, Link}
@@ -120,12 +123,26 @@ pub record SoundAt (tree : Tree) (number : ℕ) (node : Node) : Type 0 where
   pub links : is_directory node.body ≡ false → SoundFileLinks tree number node
   pub directory : is_directory node.body ≡ true → SoundDirectoryLinks tree number node
 
--- A tree that the server may have: its root is a directory, each of its files is sound, and they hold no more blocks
--- than there are.
+-- A tree that the server may have: its root is a directory that no transaction made, each of its files is sound, and
+-- they hold no more blocks than there are.
 pub record Sound (tree : Tree) : Type 0 where
   pub geometry : SoundGeometry tree.geometry
   pub root : Node
   pub root_is : node_at tree ROOT ≡ Some root
   pub root_directory : is_directory root.body ≡ true
+  pub root_stamp : root.stamp ≡ record { boot = 0; transaction = 0 }
   pub files : (number : ℕ) (node : Node) → node_at tree number ≡ Some node → SoundAt tree number node
   pub room : held tree ≤ tree.geometry.data_blocks
+
+-- a time of the client's as a call can spell it, whose nanoseconds the server still has to test
+abbrev pub FitsTime : SetTime → Type 0
+FitsTime (Client time) = time.seconds < 2 ^ 32
+FitsTime Server = Unit {0}
+FitsTime Keep = Unit {0}
+
+-- the attributes of a call as it can spell them: users, groups and seconds have 32 bits
+pub record FitsAttributes (wanted : NewAttributes) : Type 0 where
+  pub uid : IfSome wanted.uid (λ uid. uid < 2 ^ 32)
+  pub gid : IfSome wanted.gid (λ gid. gid < 2 ^ 32)
+  pub atime : FitsTime wanted.atime
+  pub mtime : FitsTime wanted.mtime

@@ -10,5 +10,8 @@ mod trees;
 
 pub use handles::a_files_handle_names_it;
 pub use histories::an_empty_history_leads_nowhere;
-pub use steps::{getattr_is_determined, getattr_leaves_the_tree, setattr_is_determined};
+pub use steps::{
+    getattr_is_determined, getattr_leaves_the_tree, served_calls_have_a_step,
+    setattr_is_determined, setattr_keeps_trees_sound, setattrs_have_a_step,
+};
 pub use trees::the_format_tree_is_sound;

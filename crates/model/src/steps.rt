@@ -1,11 +1,14 @@
 //! Laws on the steps of the sequential server.
-ghost use Rattle.std.specs.Prelude.{◌≡◌, Option};
+ghost use Rattle.std.specs.Prelude.{◌≡◌, Option, true};
 ghost use Rattle.nfs_types.specs.declared.attributes.NewAttributes.{NewAttributes};
 ghost use Rattle.nfs_types.specs.declared.ctx.Ctx.{Ctx};
 ghost use Rattle.nfs_types.specs.declared.ctx.Moment.{Moment};
 ghost use Rattle.nfs_types.specs.declared.handle.Handle.{Handle};
+ghost use Rattle.nfs_types.specs.declared.call.Call.{Call};
 ghost use Rattle.nfs_types.specs.declared.call.Call.TheVariants as call;
 ghost use Rattle.nfs_types.specs.declared.reply.Reply.{Reply};
+ghost use Rattle.model.specs.Calls.{has_rules};
+ghost use Rattle.model.specs.Sound.{FitsAttributes, Sound, SoundTime};
 ghost use Rattle.model.specs.Tree.{Tree};
 ghost use Rattle.model.specs.Step.{step};
 
@@ -29,4 +32,23 @@ pub fn setattr_is_determined()
         → step tree ctx (call.SetAttr object wanted guard) reply next
         → step tree ctx (call.SetAttr object wanted guard) another other
         → (reply ≡ another) × (next ≡ other) }
+{}
+
+/// A SETATTR keeps a sound tree sound.
+pub fn setattr_keeps_trees_sound()
+    ensures { (tree next : Tree) (ctx : Ctx) (object : Handle) (wanted : NewAttributes) (guard : Option Moment) (reply : Reply)
+        → Sound tree → SoundTime ctx.moment → FitsAttributes wanted
+        → step tree ctx (call.SetAttr object wanted guard) reply next → Sound next }
+{}
+
+/// Each call that is served has a reply and a next tree, whatever the tree is.
+pub fn served_calls_have_a_step()
+    ensures { (tree : Tree) (ctx : Ctx) (served : Call) → has_rules served ≡ true
+        → (reply : Reply) × (next : Tree) × step tree ctx served reply next }
+{}
+
+/// Each SETATTR has a reply and a next tree, also those that aren't served yet.
+pub fn setattrs_have_a_step()
+    ensures { (tree : Tree) (ctx : Ctx) (object : Handle) (wanted : NewAttributes) (guard : Option Moment)
+        → (reply : Reply) × (next : Tree) × step tree ctx (call.SetAttr object wanted guard) reply next }
 {}
