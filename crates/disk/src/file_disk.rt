@@ -72,6 +72,7 @@ impl<F: BlockFile> FileDisk<F> {
         ensures size { result.blocks ≡ blocks }
         ensures held { F.held result.file ≡ F.held file }
         ensures fresh { result.calls.items ≡ [] }
+        ensures rest { IsAtRest (file_device (F.held result.file) result.blocks result.calls.items) }
     {
         FileDisk {
             file,

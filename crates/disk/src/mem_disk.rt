@@ -224,6 +224,7 @@ fn zeros(alloc: Global, count: u32) -> Result<Vec<Contents>, AllocError>
 // Keeps of each block the content that the digits choose.
 fn choose(blocks: &mut [Contents], digits: &[u32])
     ensures chosen { blocks.new ≡ map (λ c. c ∷ []) (chosen digits.now blocks.old) }
+    ensures len { length blocks.new ≡ length blocks.old }
     ensures filled { (block : ℕ) → block < length blocks.old → 0 < length (slice_index_or blocks.old block []) }
 {
     let mut next = 0;

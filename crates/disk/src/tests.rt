@@ -1,6 +1,8 @@
 //! What no contract says: that calls succeed, and that a file of the system answers as a device does.
 use super::*;
+use limits::BLOCK_BYTES;
 use std::alloc::Global;
+use std::fs::OpenOptions;
 use std::io;
 use std::test::Fail;
 
@@ -148,6 +150,9 @@ fn a_file_keeps_what_was_written(rt: HostRuntime) -> Result<(), Fail> {
     let cut = FileDisk::create(&rt, path, 2)?;
     assert_eq!(rt; cut.blocks(), 2);
     assert_eq!(rt; longer.read(BlockNo(4), &mut out), Err(Failed));
+    // A part of a block at the end isn't looked at.
+    let file = OpenOptions::new().write(true).open(&rt, path)?;
+    file.set_len(BLOCK_BYTES as u64 * 2 + 1)?;
     let opened = FileDisk::open(&rt, path)?;
     assert_eq!(rt; opened.blocks(), 2);
     std::fs::remove_file(&rt, path)?;
