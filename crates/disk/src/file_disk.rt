@@ -26,8 +26,12 @@ pub trait BlockFile: Drop {
     fn settle(&self) -> io::Result<()>;
 }
 
+// A proof at this type alone speaks of a file that held zeros, as a new one does. One that is to speak of each file
+// stays over any `F: BlockFile`.
 impl BlockFile for File {
-    ghost held = { λ _ _. [] };
+    ghost use Rattle.std.specs.Prelude.{replicate};
+
+    ghost held = { λ _ _. replicate BLOCK_BYTES 0 };
 
     fn read_block(&self, offset: u64, bytes: &mut [u8]) -> io::Result<()> {
         self.read_exact_at(bytes, offset)
