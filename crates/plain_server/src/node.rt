@@ -8,6 +8,9 @@ use crate::Kept;
 use limits::{BLOCK_BYTES, DIRECT_INDEXES};
 use nfs_types::{Attributes, DeviceNumber, FileKind, Moment, Octets, Stamp, WeakCacheAttributes};
 
+// The number of the one file system that is exported.
+const FILE_SYSTEM: u64 = 1;
+
 /// A name in a directory, with the file that it leads to and the slot in which it lies.
 #[derive(Drop)]
 pub struct PlainEntry {
@@ -104,7 +107,7 @@ impl PlainNode {
             size: self.body.size(),
             used: self.body.used(),
             device: DeviceNumber { major: 0, minor: 0 },
-            file_system: 1,
+            file_system: FILE_SYSTEM,
             number: number as u64,
             atime: self.atime,
             mtime: self.mtime,
