@@ -4,7 +4,7 @@
 mod answers;
 mod change;
 mod commit;
-mod core;
+mod state;
 mod group;
 mod holds;
 mod object;
@@ -14,7 +14,7 @@ mod tx;
 mod want;
 mod window;
 
-pub use crate::core::Core;
+pub use state::Core;
 pub use answers::{BeginFault, Claim, Commit, Want};
 pub use change::Change;
 pub use object::Object;
