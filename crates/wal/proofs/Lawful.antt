@@ -1,7 +1,7 @@
 -- Lemmas: what is true of every log stays true.
 use Rattle.std.proofs.Common.{◌≡◌, ℕ, ◌+◌, ◌-◌, ◌<◌, ◌≤◌, ◌^◌, false, List, [], ◌∷◌, ◌++◌, length, map, drop, All, refl, sym, ap, ◌∙◌, arith, length-append}
-use Rattle.std.proofs.lemmas.List.{length-map, drop-append-le, drop_all, drop-drop, length-drop}
-use Rattle.std.proofs.lemmas.List.Elements.{All-append, All-nil, All-cons, All-head, All-tail, All-drop}
+use Rattle.std.proofs.lemmas.List.{length-map, map-append, drop-append-le, drop_all, drop-drop, length-drop}
+use Rattle.std.proofs.lemmas.List.Elements.{All-append, All-nil, All-cons, All-head, All-tail, All-drop, All-push}
 use Rattle.limits.specs.declared.TheConstants.{LOG_SLOTS, FIRST_HOME_BLOCK}
 use Rattle.disk.specs.Device.{Content}
 use Rattle.disk.specs.declared.block.BlockNo.{BlockNo}
@@ -110,3 +110,9 @@ lawful_installed log h out =
       rising = rising-drop log.changes log.places log.installing h.rising;
       committed = rw (drop-drop (log.logged - log.installing) log.installing log.changes, m) h.committed;
     }
+
+-- one change more of a group
+pub home_more : (blocks : ℕ) (logged new : List (BlockNo × Content)) (home : BlockNo) (content : Content) → new ≡ logged ++ (home, content) ∷ []
+    → All (IsHomeOn blocks) (blocks_of logged) → IsHomeOn blocks home → All (IsHomeOn blocks) (blocks_of new)
+home_more blocks logged new home content e h one =
+    rw (e, map-append (λ (change : BlockNo × Content). change.0) logged ((home, content) ∷ [])) (All-push (IsHomeOn blocks) (blocks_of logged) home h one)

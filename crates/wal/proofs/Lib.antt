@@ -1,3 +1,4 @@
+pub mod Boundary
 pub mod Lawful
 pub mod Lists
 pub mod Newest

@@ -8,3 +8,4 @@ pub mod Installer
 pub mod Seen
 pub mod Overlay
 pub mod Found
+pub mod Law

@@ -7,6 +7,7 @@ mod answers;
 mod change;
 pub mod circ;
 mod io;
+pub mod law;
 mod memory;
 
 pub use answers::{Append, Room, Seq};

@@ -5,15 +5,11 @@ use Rattle.limits.specs.declared.TheConstants.{LOG_SLOTS}
 use Rattle.disk.specs.Device.{Content, Device}
 use Rattle.wal.specs.Logger.{slot_block}
 use Rattle.wal.specs.Found.{image_of}
+use Rattle.wal.proofs.Lawful.{home_more}
 use Rattle.wal.proofs.OnlyRead.{reads_then, image_then, unspoiled_then, positions_more}
 use Rattle.disk.specs.declared.block.BlockNo.{BlockNo}
 use Rattle.wal.specs.Log.{IsHomeOn, blocks_of}
 use Rattle.wal.proofs.circ.found.read_slots.Goals as goal
-
-home_more : (blocks : ℕ) (logged new : List (BlockNo × Content)) (home : BlockNo) (content : Content) → new ≡ logged ++ (home, content) ∷ []
-    → All (IsHomeOn blocks) (blocks_of logged) → IsHomeOn blocks home → All (IsHomeOn blocks) (blocks_of new)
-home_more blocks logged new home content e h one =
-    rw (e, map-append (λ (change : BlockNo × Content). change.0) logged ((home, content) ∷ [])) (All-push (IsHomeOn blocks) (blocks_of logged) home h one)
 
 pub loop-i-preserved : goal.loop-i-preserved
 loop-i-preserved g c =
