@@ -1,22 +1,21 @@
 -- Lemmas: what agrees with a log leaves a group boundary.
-use Rattle.std.proofs.Common.{◌≡◌, ℕ, zero, suc, ◌+◌, ◌-◌, ◌*◌, ◌%◌, ◌≤◌, ◌<◌, ◌⊎◌, inl, inr, List, [], ◌∷◌, ◌++◌, length, take, drop, map, get_or, slice_get, All, Option, Some, None, refl, sym, ap, subst, ◌∙◌, arith, nat_eq, if◌then◌else◌}
-use Rattle.std.specs.Prelude.{Contains}
+use Rattle.std.proofs.Common.{◌≡◌, ℕ, zero, suc, ◌+◌, ◌-◌, ◌*◌, ◌%◌, ◌≤◌, ◌<◌, ◌⊎◌, inl, inr, List, [], ◌∷◌, ◌++◌, length, take, drop, map, get_or, slice_get, Option, Some, None, refl, sym, ap, subst, ◌∙◌, arith, nat_eq, if◌then◌else◌}
 use Rattle.std.proofs.lemmas.List.{map-append, get_or-drop, get_or-take, length-drop, length-take, length-take-le}
 use Rattle.std.proofs.lemmas.Bool.{cases_lt}
 use Rattle.std.proofs.lemmas.List.Elements.{All-get_or}
 use Rattle.std.proofs.lemmas.Option.{slice_get_cases, get_or_from_slice_get, slice_get_within, slice_get_read}
 use Rattle.std.proofs.Math.Seq.{take-suc, take-add}
 use Rattle.limits.specs.declared.TheConstants.{LOG_SLOTS, LOG_HEADER_BLOCK, START_BLOCK}
-use Rattle.disk.specs.Device.{Content, Device, current}
+use Rattle.disk.specs.Device.{Content, Device}
 use Rattle.disk.specs.Crash.{Image, IsCrashImage}
 use Rattle.disk.specs.declared.block.BlockNo.{BlockNo}
 use Rattle.wal.specs.declared.change.Change.{Change}
 use Rattle.wal.specs.Log.{Log, IsLawful, IsHomeOn, or_else, newest_of}
-use Rattle.wal.specs.Logger.{IsHeader, slot_block}
+use Rattle.wal.specs.Logger.{slot_block}
 use Rattle.wal.specs.Numbers.{number_at}
 use Rattle.wal.specs.Overlay.{start_in, end_in, count_in, home_at, positions, logged_in, IsInRange, HasHomes, content_or, over}
 use Rattle.wal.specs.Seen.{newest_in, brought_home}
-use Rattle.wal.specs.Law.{LeavesOnly, IsOutside, after, HoldsSlots, IsHeaderOf, IsStartBehind, Agrees, IsAfter, IsBoundary}
+use Rattle.wal.specs.Law.{IsOutside, after, HoldsSlots, IsHeaderOf, IsStartBehind, Agrees, IsAfter, IsBoundary}
 use Rattle.wal.proofs.Newest.{newest_of-append}
 
 -- changes as an image's log tells them

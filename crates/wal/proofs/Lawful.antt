@@ -1,5 +1,5 @@
 -- Lemmas: what is true of every log stays true.
-use Rattle.std.proofs.Common.{◌≡◌, ℕ, ◌+◌, ◌-◌, ◌<◌, ◌≤◌, ◌^◌, false, List, [], ◌∷◌, ◌++◌, length, map, drop, All, refl, sym, ap, ◌∙◌, arith, length-append}
+use Rattle.std.proofs.Common.{◌≡◌, ℕ, ◌+◌, ◌-◌, ◌<◌, ◌≤◌, ◌^◌, false, List, [], ◌∷◌, ◌++◌, length, drop, All, refl, ap, ◌∙◌, arith, length-append}
 use Rattle.std.proofs.lemmas.List.{length-map, map-append, drop-append-le, drop_all, drop-drop, length-drop}
 use Rattle.std.proofs.lemmas.List.Elements.{All-append, All-nil, All-cons, All-head, All-tail, All-drop, All-push}
 use Rattle.limits.specs.declared.TheConstants.{LOG_SLOTS, FIRST_HOME_BLOCK}
@@ -7,7 +7,7 @@ use Rattle.disk.specs.Device.{Content}
 use Rattle.disk.specs.declared.block.BlockNo.{BlockNo}
 use Rattle.wal.specs.declared.change.Change.{Change}
 use Rattle.wal.proofs.Places.{rising-append, rising-group, rising-drop, committed-group}
-use Rattle.wal.specs.Log.{Log, IsCommitted, IsRising, IsLawful, IsHomeOn, blocks_of, changes_of, tail_after, opened}
+use Rattle.wal.specs.Log.{Log, IsCommitted, IsLawful, IsHomeOn, blocks_of, changes_of, tail_after, opened}
 use Rattle.wal.specs.Room.{HasPlaces, with_group}
 
 pub length-changes_of : (place : ℕ) (group : List (BlockNo × Content)) → length (changes_of place group) ≡ length group

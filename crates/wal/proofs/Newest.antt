@@ -1,6 +1,6 @@
 -- Lemmas on the newest content of a block among changes.
-use Rattle.std.proofs.Common.{◌≡◌, ℕ, ◌+◌, ◌-◌, ◌<◌, ◌≤◌, List, [], ◌∷◌, ◌++◌, length, take, drop, get_or, Option, Some, None, refl, sym, ap, ◌∙◌, arith, nat_eq, if◌then◌else◌, cond, true, false, Bool}
-use Rattle.std.proofs.lemmas.List.{drop_more, take-append-drop, drop-drop, drop_all, get_or-take, length-take-le, length-drop}
+use Rattle.std.proofs.Common.{◌≡◌, ℕ, ◌+◌, ◌-◌, ◌<◌, ◌≤◌, List, [], ◌∷◌, ◌++◌, length, take, drop, get_or, Option, Some, None, refl, sym, ap, ◌∙◌, arith, nat_eq, if◌then◌else◌, true, false}
+use Rattle.std.proofs.lemmas.List.{drop_more, take-append-drop, drop-drop, drop_all, get_or-take, length-take-le}
 use Rattle.std.specs.Option.{is_some}
 use Rattle.std.specs.Prelude.{MatchOption}
 use Rattle.disk.specs.Device.{Content}

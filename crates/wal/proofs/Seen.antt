@@ -1,16 +1,16 @@
 -- Lemmas: what the methods do, as the layers above see it.
-use Rattle.std.proofs.Common.{◌≡◌, ℕ, ◌+◌, ◌-◌, ◌<◌, ◌≤◌, List, [], ◌∷◌, ◌++◌, length, map, drop, take, All, Option, Some, None, suc, ne_eqb, refl, sym, ap, subst, ◌∙◌, arith, IsNone, IsSome, Bool, true, false, ◌&&◌, nat_eq, nat_le, nat_lt, cond, if◌then◌else◌, length-append}
-use Rattle.std.proofs.lemmas.List.{drop-append-le, drop_all, take-append-drop, drop-drop, length-drop}
+use Rattle.std.proofs.Common.{◌≡◌, ℕ, ◌+◌, ◌-◌, ◌≤◌, List, [], ◌∷◌, ◌++◌, length, drop, take, Option, Some, None, suc, ne_eqb, refl, sym, ap, subst, ◌∙◌, arith, IsNone, IsSome, Bool, true, false, ◌&&◌, nat_eq, nat_lt, if◌then◌else◌, length-append}
+use Rattle.std.proofs.lemmas.List.{drop-append-le, take-append-drop, drop-drop, length-drop}
 use Rattle.std.proofs.lemmas.Bool.Decides.{nat_tests}
 use Rattle.disk.specs.Device.{Content}
 use Rattle.disk.specs.declared.block.BlockNo.{BlockNo}
 use Rattle.wal.specs.declared.change.Change.{Change}
-use Rattle.wal.specs.Log.{Log, IsLawful, or_else, newest_of, newest, place_before, settled_place, installed_place, tail_count, tail_after, blocks_of, changes_of}
+use Rattle.wal.specs.Log.{Log, IsLawful, or_else, newest_of, place_before, settled_place, changes_of}
 use Rattle.wal.specs.Room.{with_group}
-use Rattle.wal.specs.Logger.{group_size, with_log_out, with_log_made, with_log_back}
+use Rattle.wal.specs.Logger.{with_log_out, with_log_made, with_log_back}
 use Rattle.wal.specs.Installer.{next_home, with_inst_out, with_inst_made, with_inst_back, with_installed}
-use Rattle.wal.specs.Seen.{is_all_settled, is_all_home, newest_in, HasAppended, brought_home, HasGoneOn}
-use Rattle.wal.proofs.Newest.{newest_of-append, or_else-none}
+use Rattle.wal.specs.Seen.{HasAppended, HasGoneOn}
+use Rattle.wal.proofs.Newest.{newest_of-append}
 use Rattle.wal.proofs.Places.{place_before-drop-le, rising-drop}
 use Rattle.wal.proofs.Lawful.{length-changes_of, length-blocks_of}
 

@@ -1,6 +1,6 @@
 -- What the installer does: it takes the logged changes, and makes its calls in their order: the newest content of each
 -- of their blocks to its home, a barrier, the raised start, a barrier.
-use Rattle.std.specs.Prelude.{◌≡◌, ℕ, ◌+◌, ◌-◌, ◌≤◌, ◌<◌, Bool, true, false, not, ◌&&◌, ◌||◌, if◌then◌else◌, nat_eq, nat_lt, nat_le, List, [], ◌∷◌, length, take, drop, replicate, is_some, slice_get, Some}
+use Rattle.std.specs.Prelude.{◌≡◌, ℕ, ◌+◌, ◌-◌, ◌<◌, Bool, true, false, not, ◌&&◌, ◌||◌, if◌then◌else◌, nat_eq, nat_lt, List, [], ◌∷◌, take, drop, replicate, is_some, slice_get, Some}
 use Rattle.limits.specs.declared.TheConstants.{START_BLOCK, BLOCK_BYTES}
 use Rattle.disk.specs.Device.{Content}
 use Rattle.disk.specs.declared.block.Side.TheVariants.{Home}

@@ -1,5 +1,5 @@
 -- A device call that the memory log hands out.
-use Rattle.std.specs.Prelude.{◌≡◌, ℕ, ◌<◌, Result}
+use Rattle.std.specs.Prelude.{ℕ, ◌<◌, Result}
 use Rattle.disk.specs.Device.{Content, Device, HasWritten, HasSettled}
 use Rattle.disk.specs.declared.device.Failed.{Failed}
 use Rattle.wal.specs.declared.io.IoCall.{IoCall}

@@ -1,6 +1,6 @@
 -- The law of the log: while the contents that the blocks of a disk may have agree with a log's meaning, a crash leaves the
 -- blocks after a whole group.
-use Rattle.std.specs.Prelude.{◌≡◌, ℕ, ◌+◌, ◌≤◌, ◌<◌, ◌⊎◌, List, length, take, drop, slice_get, Option, Some, Contains}
+use Rattle.std.specs.Prelude.{◌≡◌, ℕ, ◌+◌, ◌≤◌, ◌<◌, ◌⊎◌, List, take, slice_get, Some, Contains}
 use Rattle.limits.specs.declared.TheConstants.{LOG_HEADER_BLOCK, START_BLOCK}
 use Rattle.disk.specs.Device.{Content, Device, current}
 use Rattle.disk.specs.Crash.{Image}

@@ -1,5 +1,5 @@
 -- The memory log: the changes that aren't home yet, and how far the logger and the installer have come with them.
-use Rattle.std.specs.Prelude.{◌≡◌, ℕ, ◌+◌, ◌-◌, ◌≤◌, ◌<◌, ◌^◌, Bool, true, false, if◌then◌else◌, cond, nat_eq, nat_lt, nat_le, List, [], ◌∷◌, ◌++◌, length, drop, take, map, Option, Some, None, All}
+use Rattle.std.specs.Prelude.{◌≡◌, ℕ, ◌+◌, ◌-◌, ◌≤◌, ◌<◌, ◌^◌, Bool, false, if◌then◌else◌, nat_eq, List, [], ◌∷◌, length, drop, map, Option, Some, None, All}
 use Rattle.limits.specs.declared.TheConstants.{LOG_SLOTS, FIRST_HOME_BLOCK}
 use Rattle.disk.specs.Device.{Content}
 use Rattle.disk.specs.declared.block.BlockNo.{BlockNo}

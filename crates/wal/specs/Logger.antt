@@ -1,11 +1,10 @@
 -- What the logger does: it takes the whole tail as a group, where the group's positions fit behind the settled start,
 -- and makes its calls in their order: the group's blocks to their slots, a barrier, the header, a barrier.
-use Rattle.std.specs.Prelude.{◌≡◌, ℕ, ◌+◌, ◌-◌, ◌*◌, ◌%◌, ◌≤◌, ◌<◌, Bool, true, false, not, ◌&&◌, ◌||◌, if◌then◌else◌, nat_eq, nat_lt, nat_le, List, length, take, slice_get, Some}
+use Rattle.std.specs.Prelude.{◌≡◌, ℕ, ◌+◌, ◌-◌, ◌*◌, ◌%◌, ◌<◌, Bool, true, false, not, ◌&&◌, ◌||◌, if◌then◌else◌, nat_eq, nat_lt, nat_le, List, length, take, slice_get, Some}
 use Rattle.limits.specs.declared.TheConstants.{LOG_SLOTS, FIRST_SLOT_BLOCK, LOG_HEADER_BLOCK, BLOCK_BYTES}
 use Rattle.disk.specs.Device.{Content}
 use Rattle.disk.specs.declared.block.Side.TheVariants.{Log as LogSide}
 use Rattle.wal.specs.declared.change.Change.{Change}
-use Rattle.wal.specs.declared.io.IoCall.{IoCall}
 use Rattle.wal.specs.declared.io.IoCall.TheVariants.{Write, Barrier}
 use Rattle.wal.specs.Io.{Io}
 use Rattle.wal.specs.Log.{Log, log_end}

@@ -1,5 +1,5 @@
 -- Numbers of eight bytes in a block, the lowest byte first.
-use Rattle.std.specs.Prelude.{ℕ, ◌+◌, List, ◌++◌, take, drop}
+use Rattle.std.specs.Prelude.{ℕ, ◌+◌, ◌++◌, take, drop}
 use Rattle.std.specs.Int.{w64, to_le_bytes, from_le_bytes}
 use Rattle.disk.specs.Device.{Content}
 

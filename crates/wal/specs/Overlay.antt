@@ -1,5 +1,5 @@
 -- The log as an image holds it, and what it makes of the blocks at home.
-use Rattle.std.specs.Prelude.{◌≡◌, ℕ, zero, suc, ◌+◌, ◌-◌, ◌*◌, ◌%◌, ◌≤◌, ◌<◌, List, [], ◌∷◌, ◌++◌, Option, Some, None}
+use Rattle.std.specs.Prelude.{ℕ, zero, suc, ◌+◌, ◌-◌, ◌*◌, ◌%◌, ◌≤◌, ◌<◌, List, [], ◌∷◌, ◌++◌, Option, Some, None}
 use Rattle.limits.specs.declared.TheConstants.{LOG_SLOTS, LOG_HEADER_BLOCK, START_BLOCK}
 use Rattle.disk.specs.Device.{Content}
 use Rattle.disk.specs.Crash.{Image}

@@ -1,5 +1,5 @@
 -- When a group finds room in the log, and what its append does.
-use Rattle.std.specs.Prelude.{◌≡◌, ℕ, ◌+◌, ◌≤◌, ◌<◌, ◌^◌, List, ◌++◌, length, ⊤}
+use Rattle.std.specs.Prelude.{◌+◌, ◌≤◌, ◌<◌, ◌^◌, List, ◌++◌}
 use Rattle.limits.specs.declared.TheConstants.{LOG_SLOTS}
 use Rattle.disk.specs.Device.{Content}
 use Rattle.disk.specs.declared.block.BlockNo.{BlockNo}

@@ -9,6 +9,8 @@ pub mod circ;
 mod io;
 pub mod law;
 mod memory;
+#[cfg(test)]
+mod tests;
 
 pub use answers::{Append, Room, Seq};
 pub use change::Change;

@@ -1,4 +1,4 @@
-use Rattle.std.proofs.Common.{◌≡◌, ℕ, ◌-◌, ap, arith}
+use Rattle.std.proofs.Common.{◌≡◌, ap, arith}
 use Rattle.limits.specs.declared.TheConstants.{LOG_HEADER_BLOCK}
 use Rattle.wal.specs.Overlay.{start_in, count_in, positions, content_or}
 use Rattle.wal.specs.Seen.{newest_in}

@@ -1,14 +1,10 @@
-use Rattle.std.proofs.Common.{◌≡◌, ℕ, ◌+◌, ◌*◌, ◌%◌, ◌<◌, ◌≤◌, List, [], ◌∷◌, ◌++◌, length, All, sym, subst, ◌∙◌, arith, ap, map, refl}
-use Rattle.std.proofs.lemmas.List.{map-append, length-map}
-use Rattle.std.proofs.lemmas.List.Elements.{All-push}
-use Rattle.limits.specs.declared.TheConstants.{LOG_SLOTS}
-use Rattle.disk.specs.Device.{Content, Device}
+use Rattle.std.proofs.Common.{◌+◌, ◌∙◌, arith, refl}
+use Rattle.disk.specs.Device.{Device}
 use Rattle.wal.specs.Logger.{slot_block}
 use Rattle.wal.specs.Found.{image_of}
 use Rattle.wal.proofs.Lawful.{home_more}
 use Rattle.wal.proofs.OnlyRead.{reads_then, image_then, unspoiled_then, positions_more}
 use Rattle.disk.specs.declared.block.BlockNo.{BlockNo}
-use Rattle.wal.specs.Log.{IsHomeOn, blocks_of}
 use Rattle.wal.proofs.circ.found.read_slots.Goals as goal
 
 pub loop-i-preserved : goal.loop-i-preserved

@@ -1,6 +1,6 @@
-use Rattle.std.proofs.Common.{◌≡◌, ◌+◌, ◌≤◌, ◌++◌, length, arith, ap, subst, sym, ◌∙◌, All}
+use Rattle.std.proofs.Common.{◌≤◌, arith, subst, sym, All}
 use Rattle.limits.specs.declared.TheConstants.{LOG_SLOTS}
-use Rattle.wal.specs.Log.{Log, changes_of, blocks_of, tail_after, IsLawful, IsHomeOn}
+use Rattle.wal.specs.Log.{Log, blocks_of, tail_after, IsHomeOn}
 use Rattle.wal.specs.Room.{HasPlaces}
 use Rattle.wal.specs.View.{log_of}
 use Rattle.wal.proofs.Lawful.{lawful_with_group, length-blocks_of}

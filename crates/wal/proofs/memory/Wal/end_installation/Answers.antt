@@ -1,4 +1,4 @@
-use Rattle.std.proofs.Common.{◌≡◌, ap, ◌∙◌}
+use Rattle.std.proofs.Common.{ap, ◌∙◌}
 use Rattle.wal.specs.Log.{Log}
 use Rattle.wal.specs.View.{log_of}
 use Rattle.wal.proofs.Lawful.{lawful_installed}

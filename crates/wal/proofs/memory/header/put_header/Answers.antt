@@ -1,4 +1,4 @@
-use Rattle.std.proofs.Common.{◌≡◌, ℕ, ◌+◌, ◌*◌, ◌%◌, ◌<◌, ◌≤◌, List, length, take, replicate, slice_get, Some, get_or, refl, sym, ap, ◌∙◌, arith, below_more}
+use Rattle.std.proofs.Common.{◌≡◌, ℕ, ◌+◌, ◌*◌, ◌%◌, ◌<◌, ◌≤◌, List, length, replicate, slice_get, Some, sym, ap, ◌∙◌, arith, below_more}
 use Rattle.std.proofs.lemmas.List.{length-replicate, length-take-le}
 use Rattle.std.proofs.lemmas.Option.{get_or_from_slice_get}
 use Rattle.limits.specs.declared.TheConstants.{LOG_SLOTS, BLOCK_BYTES}

@@ -1,4 +1,4 @@
-use Rattle.std.proofs.Common.{◌≡◌, ◌+◌, ◌-◌, ◌<◌, ◌≤◌, arith, sym}
+use Rattle.std.proofs.Common.{◌-◌, arith, sym}
 use Rattle.wal.proofs.Newest.{newest_of-other, newest_of-same, newest_of-later}
 use Rattle.wal.proofs.memory.search.last_change.Goals as goal
 

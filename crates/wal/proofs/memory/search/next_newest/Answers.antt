@@ -1,5 +1,4 @@
-use Rattle.std.proofs.Common.{◌≡◌, ◌+◌, ◌<◌, ◌≤◌, arith, ◌∙◌, Bool, true, false}
-use Rattle.std.specs.Option.{is_some}
+use Rattle.std.proofs.Common.{arith, ◌∙◌}
 use Rattle.wal.proofs.Newest.{passed_over-within, passed_over-end, is_some-match}
 use Rattle.wal.proofs.memory.search.next_newest.Goals as goal
 

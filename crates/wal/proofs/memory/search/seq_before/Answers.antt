@@ -1,4 +1,4 @@
-use Rattle.std.proofs.Common.{◌≡◌, ◌<◌, ◌≤◌, length, arith, sym, ◌∙◌}
+use Rattle.std.proofs.Common.{arith, sym, ◌∙◌}
 use Rattle.wal.proofs.Newest.{place_before-drop, place_before-all}
 use Rattle.wal.proofs.memory.search.seq_before.Goals as goal
 
