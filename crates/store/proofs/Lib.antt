@@ -1,2 +1,3 @@
 pub mod OneTree
+pub mod OnlyMode
 pub mod ReadInode

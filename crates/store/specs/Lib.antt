@@ -11,3 +11,4 @@ pub mod Seen
 pub mod SlotForm
 pub mod Stands
 pub mod SuperForm
+pub mod Told

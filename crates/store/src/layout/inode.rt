@@ -76,4 +76,14 @@ impl Inode {
     {
         count_kept(&self.direct)
     }
+
+    /// The inode with another mode, changed at the moment.
+    pub fn with_mode(&self, mode: u32, moment: Moment) -> Inode
+        ensures { result ≡ record (self.now) { mode = mode; ctime = moment } }
+    {
+        let mut inode = *self;
+        inode.mode = mode;
+        inode.ctime = moment;
+        inode
+    }
 }

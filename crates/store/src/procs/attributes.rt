@@ -1,4 +1,10 @@
 //! What a reply tells of a file (RFC 1813, section 2.6).
+ghost use Rattle.std.specs.Prelude.{◌≡◌, ◌*◌};
+ghost use Rattle.model.specs.Attributes.{attributes_of, before_change, change_of, kind_of, size_of};
+ghost use Rattle.model.specs.Node.{Body};
+ghost use Rattle.store.specs.Decode.{node_with};
+ghost use Rattle.store.specs.Told.{file_kind, IsBodyOf};
+
 use crate::layout::{Inode, InodeKind};
 use limits::BLOCK_BYTES;
 use nfs_types::{Attributes, DeviceNumber, FileKind, WeakCacheAttributes, WeakCacheData};
@@ -14,7 +20,9 @@ pub(crate) struct Found {
 /// The number of the one file system.
 const FILE_SYSTEM: u64 = 1;
 
-fn file_kind(kind: InodeKind) -> FileKind {
+fn file_kind(kind: InodeKind) -> FileKind
+    ensures { result ≡ file_kind kind }
+{
     match kind {
         InodeKind::Regular | InodeKind::Free => FileKind::Regular,
         InodeKind::Directory => FileKind::Directory,
@@ -24,7 +32,9 @@ fn file_kind(kind: InodeKind) -> FileKind {
 
 impl Found {
     /// The attributes of the file.
-    pub(crate) fn attributes(&self) -> Attributes {
+    pub(crate) fn attributes(&self) -> Attributes
+        ensures { (body : Body) → IsBodyOf self.now body → result ≡ attributes_of self.now.number (node_with self.now.inode body) }
+    {
         Attributes {
             kind: file_kind(self.inode.kind),
             mode: self.inode.mode,
@@ -43,7 +53,9 @@ impl Found {
     }
 
     /// The file as it is before a change.
-    pub(crate) fn before_change(&self) -> WeakCacheAttributes {
+    pub(crate) fn before_change(&self) -> WeakCacheAttributes
+        ensures { (body : Body) → IsBodyOf self.now body → result ≡ before_change (node_with self.now.inode body) }
+    {
         WeakCacheAttributes {
             size: self.inode.size,
             mtime: self.inode.mtime,
@@ -52,7 +64,10 @@ impl Found {
     }
 
     /// The file before and after a change.
-    pub(crate) fn change_to(&self, new: &Found) -> WeakCacheData {
+    pub(crate) fn change_to(&self, new: &Found) -> WeakCacheData
+        requires { new.now.number ≡ self.now.number }
+        ensures { (body : Body) → IsBodyOf self.now body → IsBodyOf new.now body → result ≡ change_of self.now.number (node_with self.now.inode body) (node_with new.now.inode body) }
+    {
         WeakCacheData {
             before: Some(self.before_change()),
             after: Some(new.attributes()),

@@ -1,6 +1,6 @@
 //! Plans: what a call needs next, or what comes of it.
 ghost use Rattle.std.specs.Prelude.{◌≡◌, true, ◌<◌, IfErr, IfOk};
-ghost use Rattle.model.specs.Calls.{has_rules};
+ghost use Rattle.model.specs.Calls.{has_rules, sets_only_mode};
 ghost use Rattle.store.specs.Seen.{IsNew, IsPlanFor, IsDoneFor};
 
 use crate::Object;
@@ -49,7 +49,8 @@ fn left(
 
 // The change of an inode, with its reply.
 fn changed(alloc: Global, snap: &Snap, old: &Found, new: &Found) -> Result<Done, AllocError>
-    requires { new.now.number < snap.now.geometry.inodes }
+    requires number { new.now.number < snap.now.geometry.inodes }
+    requires same { new.now.number ≡ old.now.number }
     ensures { IfOk result (λ done. IsDoneFor snap.now done) }
 {
     let addr = snap.geometry.inode_addr(new.number);
@@ -71,6 +72,7 @@ fn set_attr(
     wanted: &NewAttributes,
     guard: &Option<Moment>,
 ) -> Result<Done, Stop>
+    requires { sets_only_mode wanted.now ≡ true }
     ensures ok { IfOk result (λ done. IsDoneFor snap.now done) }
     ensures err { IfErr result (λ stop. IsNew snap.now stop) }
 {
@@ -95,6 +97,7 @@ fn set_attr(
 
 // What comes of a call that is served, or what stands in its way.
 fn work(alloc: Global, ctx: &Ctx, call: &Call, snap: &Snap) -> Result<Done, Stop>
+    requires { has_rules call.now ≡ true }
     ensures ok { IfOk result (λ done. IsDoneFor snap.now done) }
     ensures err { IfErr result (λ stop. IsNew snap.now stop) }
 {

@@ -1,0 +1,11 @@
+//! A plain reader of images: it reads all files of a device in memory into lists, for tests to look at. It looks at the
+//! blocks at home alone, so what the log holds is to be installed first.
+#![tactic(auto)]
+
+mod fault;
+mod files;
+mod parts;
+
+pub use fault::ImageFault;
+pub use files::{PlainContent, PlainFile, PlainImage, read_image};
+pub use parts::PlainName;
