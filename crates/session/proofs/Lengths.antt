@@ -11,11 +11,12 @@ use Rattle.nfs_types.specs.declared.reply.Reply.TheVariants as replies
 use Rattle.session.specs.declared.rpc.refusal.Refusal.{Refusal}
 use Rattle.session.specs.declared.rpc.refusal.Refusal.TheVariants.{RpcMismatch, BadCredential, RejectedCredential, ProgramUnavailable, ProgramMismatch, ProcedureUnavailable, GarbageArguments, SystemError}
 use Rattle.session.specs.declared.message.Answer.{Answer}
-use Rattle.session.specs.declared.message.Answer.TheVariants.{Done, Refused}
+use Rattle.session.specs.declared.message.ReplyBody.{ReplyBody}
+use Rattle.session.specs.declared.message.ReplyBody.TheVariants as bodies
 use Rattle.session.specs.Items.{word, double, flag}
 use Rattle.session.specs.Calls.{moment}
 use Rattle.session.specs.Results.{attributes, optional_attributes, before_attributes, weak_cache, outcome_status, got, result_bytes}
-use Rattle.session.specs.Replies.{accepted, denied, refused, reply_of}
+use Rattle.session.specs.Replies.{accepted, denied, refused, reply_bytes, body_of}
 
 pub word-length : (n : ℕ) → length (word n) ≡ 4
 unfolding word
@@ -73,9 +74,9 @@ refused-length xid ProcedureUnavailable = simp (length-append, word-length) (ome
 refused-length xid GarbageArguments = simp (length-append, word-length) (omega arith)
 refused-length xid SystemError = simp (length-append, word-length) (omega arith)
 
-pub reply-length : (xid : ℕ) (a : Answer) → length (reply_of xid a) ≤ 144
-reply-length xid (Done reply) = omega (arith, length-append (accepted xid 0) (result_bytes reply.now), accepted-length xid 0, result-length reply.now)
-reply-length xid (Refused refusal) = omega (arith, refused-length xid refusal)
+pub reply-length : (xid : ℕ) (b : ReplyBody) → length (reply_bytes xid b) ≤ 144
+reply-length xid (bodies.Done reply) = omega (arith, length-append (accepted xid 0) (result_bytes reply), accepted-length xid 0, result-length reply)
+reply-length xid (bodies.Refused refusal) = omega (arith, refused-length xid refusal)
 
-pub reply_is_short : (xid : ℕ) (a : Answer) → length (reply_of xid a) < 2 ^ 31
-reply_is_short xid a = omega (arith, reply-length xid a)
+pub reply_is_short : (xid : ℕ) (a : Answer) → length (reply_bytes xid (body_of a)) < 2 ^ 31
+reply_is_short xid a = omega (arith, reply-length xid (body_of a))

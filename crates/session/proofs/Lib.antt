@@ -2,3 +2,11 @@ pub mod Memory
 pub mod Marks
 pub mod Loops
 pub mod Lengths
+pub mod Coded
+pub mod CodedCalls
+pub mod CodedHeaders
+pub mod CallLaws
+pub mod CodedAttributes
+pub mod CodedReplies
+pub mod ReplyLaws
+pub mod RecordLaws

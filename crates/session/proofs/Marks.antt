@@ -21,6 +21,7 @@ too_long bytes front e last n long fits is_mark =
       last = last;
       announced = n;
       more = drop 4 bytes;
+      parts_marked = tt;
       marked = fits;
       cut = sym (take-append-drop 4 bytes) ∙ ap (λ (t : List ℕ). t ++ drop 4 bytes) (sym e ∙ is_mark);
       long = omega (arith, long);

@@ -5,6 +5,7 @@ use Rattle.limits.specs.declared.TheConstants.{MACHINE_NAME_BYTES, MOST_GIDS, NO
 use Rattle.nfs_types.specs.declared.ctx.Credential.{Credential}
 use Rattle.session.specs.declared.xdr.fault.XdrFault.{XdrFault}
 use Rattle.session.specs.declared.xdr.fault.XdrFault.TheVariants.{Length}
+use Rattle.session.specs.declared.rpc.credential.SystemCredential.{SystemCredential}
 use Rattle.session.specs.declared.rpc.refusal.Refusal.{Refusal}
 use Rattle.session.specs.declared.rpc.refusal.Refusal.TheVariants.{BadCredential, RejectedCredential}
 use Rattle.session.specs.Reading.{◌>>=◌, number_at, opaque_at, end_at}
@@ -23,8 +24,17 @@ gids_at bytes = do
   count ← number_at w32 bytes
   if nat_lt MOST_GIDS count.0 then Err Length else numbers_at count.0 count.1
 
--- the body of a credential that names a caller: a stamp and a machine's name, then the caller, and nothing behind
-unfoldable pub caller_at : List ℕ → Result Credential XdrFault
+-- the body of a credential that names a caller
+pub record System : Type 0 where
+  pub stamp : ℕ
+  pub machine : List ℕ
+  pub caller : Credential
+
+abbrev pub system : SystemCredential → System
+system c = record { stamp = c.stamp; machine = c.machine.now; caller = c.caller }
+
+-- a stamp and a machine's name, then the caller, and nothing behind
+unfoldable pub caller_at : List ℕ → Result System XdrFault
 caller_at bytes = do
   stamp ← number_at w32 bytes
   machine ← opaque_at MACHINE_NAME_BYTES stamp.1
@@ -32,14 +42,14 @@ caller_at bytes = do
   gid ← number_at w32 uid.1
   gids ← gids_at gid.1
   end ← end_at gids.1
-  Ok (record { uid = uid.0; gid = gid.0; gids = gids.0 })
+  Ok (record { stamp = stamp.0; machine = machine.0; caller = record { uid = uid.0; gid = gid.0; gids = gids.0 } })
 
 -- a call that names nobody is made for this caller
 abbrev pub no_caller : Credential
 no_caller = record { uid = NOBODY; gid = NOBODY; gids = [] }
 
-abbrev caller_or_bad : Result Credential XdrFault → Result Credential Refusal
-caller_or_bad (Ok caller) = Ok caller
+abbrev pub caller_or_bad : Result System XdrFault → Result Credential Refusal
+caller_or_bad (Ok c) = Ok c.caller
 caller_or_bad (Err e) = Err BadCredential
 
 -- flavor 0 has no body, flavor 1 the body of a caller; no other is taken

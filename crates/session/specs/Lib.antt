@@ -6,5 +6,6 @@ pub mod Calls
 pub mod ReadingCalls
 pub mod Results
 pub mod Replies
+pub mod ReadingReplies
 pub mod Judging
 pub mod Records

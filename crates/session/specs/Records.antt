@@ -1,5 +1,6 @@
 -- How a stream of bytes is cut into records (RFC 5531, section 11).
 use Rattle.std.specs.Prelude.{◌≡◌, ℕ, ◌+◌, ◌<◌, ◌≤◌, ◌^◌, ◌⊎◌, Bool, true, false, List, [], ◌∷◌, ◌++◌, length, flat_map}
+use Rattle.std.specs.List.{AllByRecursion}
 use Rattle.limits.specs.declared.TheConstants.{RECORD_BYTES}
 use Rattle.session.specs.Items.{word}
 
@@ -37,6 +38,7 @@ pub record IsTooLong (rest : List ℕ) : Type 0 where
   pub last : Bool
   pub announced : ℕ
   pub more : List ℕ
+  pub parts_marked : AllByRecursion (λ part. length part < 2 ^ 31) parts
   pub marked : announced < 2 ^ 31
   pub cut : rest ≡ flat_map (fragment false) parts ++ mark last announced ++ more
   pub long : RECORD_BYTES < length (joined parts) + announced

@@ -1,5 +1,5 @@
 -- How results are spelled (RFC 1813, sections 2.6 and 3.3).
-use Rattle.std.specs.Prelude.{ℕ, List, [], ◌++◌, Option, Some, None, Result, Ok, Err}
+use Rattle.std.specs.Prelude.{◌<◌, ◌^◌, IfSome, IfOk, ℕ, List, [], ◌++◌, Option, Some, None, Result, Ok, Err}
 use Rattle.nfs_types.specs.declared.ctx.Moment.{Moment}
 use Rattle.nfs_types.specs.declared.attributes.Attributes.{Attributes}
 use Rattle.nfs_types.specs.declared.attributes.WeakCacheAttributes.{WeakCacheAttributes}
@@ -11,7 +11,9 @@ use Rattle.nfs_types.specs.declared.status.Status.TheVariants as statuses
 use Rattle.nfs_types.specs.declared.reply.Reply.{Reply}
 use Rattle.nfs_types.specs.declared.reply.Reply.TheVariants as replies
 use Rattle.session.specs.Items.{word, double, optional}
-use Rattle.session.specs.Calls.{moment}
+use Rattle.session.specs.declared.nfs_codec.procedure.Procedure.{Procedure}
+use Rattle.session.specs.declared.nfs_codec.procedure.Procedure.TheVariants.{Null, GetAttr, SetAttr}
+use Rattle.session.specs.Calls.{moment, MomentFits}
 
 -- the number of each status but OK, which is 0 (`nfsstat3`)
 abbrev pub status_number : Status → ℕ
@@ -57,9 +59,13 @@ attributes a =
 abbrev pub optional_attributes : Option Attributes → List ℕ
 optional_attributes a = optional attributes a
 
--- what a file was before a change, if it is told (`pre_op_attr`)
+-- what is told of a file before its change (`wcc_attr`)
+abbrev pub weak_cache_attributes : WeakCacheAttributes → List ℕ
+weak_cache_attributes w = double w.size ++ moment w.mtime ++ moment w.ctime
+
+-- the same, if it is told (`pre_op_attr`)
 abbrev pub before_attributes : Option WeakCacheAttributes → List ℕ
-before_attributes b = optional (λ w. double w.size ++ moment w.mtime ++ moment w.ctime) b
+before_attributes b = optional weak_cache_attributes b
 
 -- a file before and after a change (`wcc_data`)
 abbrev pub weak_cache : WeakCacheData → List ℕ
@@ -74,6 +80,44 @@ outcome_status (Err s) = word (status_number s)
 abbrev pub got : Result Attributes Status → List ℕ
 got (Ok a) = word 0 ++ attributes a
 got (Err s) = word (status_number s)
+
+-- ---- which values have a spelling
+
+pub record AttributesFit (a : Attributes) : Type 0 where
+  pub mode : a.mode < 2 ^ 32
+  pub nlink : a.nlink < 2 ^ 32
+  pub uid : a.uid < 2 ^ 32
+  pub gid : a.gid < 2 ^ 32
+  pub size : a.size < 2 ^ 64
+  pub used : a.used < 2 ^ 64
+  pub major : a.device.major < 2 ^ 32
+  pub minor : a.device.minor < 2 ^ 32
+  pub file_system : a.file_system < 2 ^ 64
+  pub number : a.number < 2 ^ 64
+  pub atime : MomentFits a.atime
+  pub mtime : MomentFits a.mtime
+  pub ctime : MomentFits a.ctime
+
+pub record WeakCacheAttributesFit (w : WeakCacheAttributes) : Type 0 where
+  pub size : w.size < 2 ^ 64
+  pub mtime : MomentFits w.mtime
+  pub ctime : MomentFits w.ctime
+
+pub record WeakCacheFits (w : WeakCacheData) : Type 0 where
+  pub before : IfSome w.before WeakCacheAttributesFit
+  pub after : IfSome w.after AttributesFit
+
+abbrev pub ReplyFits : Reply → Type 0
+ReplyFits replies.Null = Unit {0}
+ReplyFits (replies.GetAttr outcome) = IfOk outcome AttributesFit
+ReplyFits (replies.SetAttr outcome object) = WeakCacheFits object
+ReplyFits reply = ⊥
+
+-- the procedure that a reply answers; those of the others come when they are served
+abbrev pub answered : Reply → Procedure
+answered (replies.GetAttr outcome) = GetAttr
+answered (replies.SetAttr outcome object) = SetAttr
+answered reply = Null
 
 -- the replies that have a spelling so far
 abbrev pub IsServed : Reply → Type 0

@@ -3,6 +3,7 @@
 #![tactic(auto)]
 
 mod judging;
+mod laws;
 mod message;
 pub mod nfs_codec;
 mod reply;
@@ -10,7 +11,15 @@ pub mod rpc;
 pub mod xdr;
 
 pub use judging::judge;
-pub use message::{Answer, Judged};
+pub use laws::{
+    a_record_stands_first, calls_have_one_spelling, calls_share_no_spelling,
+    judged_calls_are_spelled, no_record_stands_there, replies_have_one_spelling,
+    replies_share_no_spelling, spelled_calls_are_judged_so, spelled_replies_are_read,
+    streams_have_one_cut,
+};
+pub use message::{
+    Answer, CallMessage, Judged, MessageCredential, ReplyBody, ReplyMessage, Verifier,
+};
 pub use reply::reply_bytes;
 
 #[cfg(test)]

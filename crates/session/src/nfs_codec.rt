@@ -7,5 +7,6 @@ mod results;
 mod status;
 
 pub use arguments::decode_call;
+pub use items::{read_guard, read_moment, read_new_attributes};
 pub use procedure::Procedure;
 pub use results::encode_reply;

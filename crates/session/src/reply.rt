@@ -1,6 +1,6 @@
 //! Replies as they go onto the stream.
 ghost use Rattle.std.specs.Prelude.{◌≡◌, ◌++◌, true, OnOk, OnErr, IfOk};
-ghost use Rattle.session.specs.Replies.{IsAnswerable, reply_of};
+ghost use Rattle.session.specs.Replies.{IsSpellable, body_of, reply_bytes as bytes_of};
 ghost use Rattle.session.specs.Records.{fragment};
 
 use crate::message::Answer;
@@ -17,8 +17,8 @@ pub fn reply_bytes(
     xid: u32,
     answer: Answer,
 ) -> Result<(), AllocError>
-    requires { IsAnswerable answer }
-    ensures ok { OnOk result (out.new.items ≡ out.old.items ++ fragment true (reply_of xid answer.entry)) }
+    requires { IsSpellable (body_of answer) }
+    ensures ok { OnOk result (out.new.items ≡ out.old.items ++ fragment true (bytes_of xid (body_of answer.entry))) }
     ensures err { OnErr result (out.new.items ≡ out.old.items) }
 {
     let reply = message(alloc, xid, answer)?;
@@ -31,8 +31,8 @@ pub fn reply_bytes(
 
 // The reply without its mark.
 fn message(alloc: Global, xid: u32, answer: Answer) -> Result<Writer, AllocError>
-    requires { IsAnswerable answer }
-    ensures { IfOk result (λ w. w ≡ reply_of xid answer.entry) }
+    requires { IsSpellable (body_of answer) }
+    ensures { IfOk result (λ w. w ≡ bytes_of xid (body_of answer.entry)) }
 {
     let mut out = Writer::new(alloc);
     match answer {

@@ -6,7 +6,7 @@ mod numbers;
 mod records;
 mod refusal;
 
-pub use credential::read_credential;
+pub use credential::{SystemCredential, read_caller, read_credential};
 pub use header::{Header, Opening, read_header, read_opening};
 pub use numbers::{
     AUTH_NONE, AUTH_SYS, CALL, LAST_FRAGMENT, MOUNT_PROGRAM, NFS_PROGRAM, NFS_VERSION, REPLY,

@@ -161,18 +161,23 @@ fn set_mode_of_the_root(rt: HostRuntime) -> Result<(), Fail> {
             0, 0, 0,
         ],
     )?;
-    match judge(alloc, &message)? {
-        Judged::Call {
-            xid,
-            credential,
-            call: Call::SetAttr {
-                object,
-                attributes,
-                guard,
-            },
+    let Judged::Call {
+        xid,
+        credential,
+        call,
+    } = judge(alloc, &message)?
+    else {
+        assert!(rt; false);
+        return Ok(());
+    };
+    assert_eq!(rt; xid, 4);
+    assert_eq!(rt; credential.uid, 0);
+    match call {
+        Call::SetAttr {
+            object,
+            attributes,
+            guard,
         } => {
-            assert_eq!(rt; xid, 4);
-            assert_eq!(rt; credential.uid, 0);
             assert_eq!(rt; object.bytes.as_slice().len(), 20);
             assert_eq!(rt; attributes.mode, Some(448));
             assert_eq!(rt; attributes.mtime, SetTime::Keep);

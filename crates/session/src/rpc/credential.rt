@@ -1,7 +1,7 @@
 //! Whom a call is made for (RFC 5531, sections 8.2 and 10, appendix A).
 ghost use Rattle.std.specs.Prelude.{◌≡◌, IfOk};
 ghost use Rattle.session.specs.Reading.{Gives};
-ghost use Rattle.session.specs.Credentials.{numbers_at, gids_at, caller_at, credential_of, no_caller};
+ghost use Rattle.session.specs.Credentials.{numbers_at, gids_at, caller_at, credential_of, no_caller, system};
 
 use crate::rpc::{AUTH_NONE, AUTH_SYS, Refusal};
 use crate::xdr::{Reader, XdrFault};
@@ -21,7 +21,7 @@ pub fn read_credential(
         AUTH_NONE if body.is_empty() => Ok(Ok(nobody(alloc))),
         AUTH_NONE => Ok(Err(Refusal::BadCredential)),
         AUTH_SYS => match read_caller(alloc, body) {
-            Ok(caller) => Ok(Ok(caller)),
+            Ok(system) => Ok(Ok(system.caller)),
             Err(XdrFault::NoMemory) => Err(AllocError),
             Err(_) => Ok(Err(Refusal::BadCredential)),
         },
@@ -40,22 +40,34 @@ fn nobody(alloc: Global) -> Credential
     }
 }
 
-// The caller that the body of a credential names.
+/// The body of a credential that names a caller.
+#[derive(Drop)]
+pub struct SystemCredential<'a> {
+    pub stamp: u32,
+    pub machine: &'a [u8],
+    pub caller: Credential,
+}
+
+/// Reads the body of a credential that names a caller.
 #[tactic(auto, unfolding(crate::specs::Credentials::caller_at))]
-fn read_caller(alloc: Global, body: &[u8]) -> Result<Credential, XdrFault>
-    ensures { Gives (λ c. c) result (caller_at body.now) }
+pub fn read_caller(alloc: Global, body: &[u8]) -> Result<SystemCredential<'_>, XdrFault>
+    ensures { Gives system result (caller_at body.now) }
 {
     let mut reader = Reader::new(body);
-    reader.unsigned()?;
-    reader.opaque(MACHINE_NAME_BYTES)?;
+    let stamp = reader.unsigned()?;
+    let machine = reader.opaque(MACHINE_NAME_BYTES)?;
     let uid = reader.unsigned()?;
     let gid = reader.unsigned()?;
     let gids = read_gids(alloc, &mut reader)?;
     reader.end()?;
-    Ok(Credential {
-        uid,
-        gid,
-        gids: Numbers::new(gids),
+    Ok(SystemCredential {
+        stamp,
+        machine,
+        caller: Credential {
+            uid,
+            gid,
+            gids: Numbers::new(gids),
+        },
     })
 }
 

@@ -14,7 +14,7 @@ pub struct Opening {
     pub rpc_version: u32,
 }
 
-/// What is called, and the credential as it stands in the message. The verifier isn't kept.
+/// What is called, and the credential and the verifier as they stand in the message.
 #[derive(Clone, Copy)]
 pub struct Header<'a> {
     pub program: u32,
@@ -22,6 +22,8 @@ pub struct Header<'a> {
     pub procedure: u32,
     pub flavor: u32,
     pub body: &'a [u8],
+    pub verifier_flavor: u32,
+    pub verifier: &'a [u8],
 }
 
 /// Reads the first three numbers of a message.
@@ -49,13 +51,15 @@ pub fn read_header<'a>(reader: &mut Reader<'a>) -> Result<Header<'a>, XdrFault>
     let procedure = reader.unsigned()?;
     let flavor = reader.unsigned()?;
     let body = reader.opaque(MOST_AUTH_BYTES)?;
-    reader.unsigned()?;
-    reader.opaque(MOST_AUTH_BYTES)?;
+    let verifier_flavor = reader.unsigned()?;
+    let verifier = reader.opaque(MOST_AUTH_BYTES)?;
     Ok(Header {
         program,
         version,
         procedure,
         flavor,
         body,
+        verifier_flavor,
+        verifier,
     })
 }
