@@ -1,0 +1,42 @@
+-- Reading a call message from left to right (RFC 5531, section 9).
+use Rattle.std.specs.Prelude.{ℕ, List, Bool, Option, Some, None, Result, Ok, Err, length, ◌==◌, if◌then◌else◌}
+use Rattle.session.specs.declared.rpc.numbers.TheConstants.{CALL, RPC_VERSION, NFS_PROGRAM, NFS_VERSION, AUTH_NONE, AUTH_SYS}
+use Rattle.session.specs.declared.message.MessageCredential.{MessageCredential}
+use Rattle.session.specs.declared.message.MessageCredential.TheVariants.{Nobody, Caller}
+use Rattle.session.specs.declared.message.CallMessage.{CallMessage}
+use Rattle.session.specs.declared.nfs_codec.procedure.Procedure.{Procedure}
+use Rattle.session.specs.declared.xdr.fault.XdrFault.{XdrFault}
+use Rattle.session.specs.declared.xdr.fault.XdrFault.TheVariants.{Value}
+use Rattle.session.specs.Reading.{◌>>=◌}
+use Rattle.session.specs.Headers.{opening_at, header_at}
+use Rattle.session.specs.Credentials.{caller_at}
+use Rattle.session.specs.Calls.{procedure_of}
+use Rattle.session.specs.ReadingCalls.{call_of}
+
+-- this very number
+abbrev pub wanted : ℕ → ℕ → Result (Unit {0}) XdrFault
+wanted n m = if n == m then Ok tt else Err Value
+
+abbrev pub numbered : Option Procedure → Result Procedure XdrFault
+numbered (Some p) = Ok p
+numbered None = Err Value
+
+-- the credential of a flavor and a body
+unfoldable pub credential_of : ℕ → List ℕ → Result MessageCredential XdrFault
+credential_of flavor body =
+    if flavor == AUTH_NONE then (if length body == 0 then Ok Nobody else Err Value) else
+    if flavor == AUTH_SYS then (caller_at body >>= λ s. Ok (Caller s.stamp s.machine s.caller)) else Err Value
+
+-- the call that all of these bytes spell
+unfoldable pub message_of : List ℕ → Result CallMessage XdrFault
+message_of bytes = do
+  opening ← opening_at bytes
+  kind ← wanted opening.0.kind CALL
+  rpc ← wanted opening.0.rpc_version RPC_VERSION
+  header ← header_at opening.1
+  program ← wanted header.0.program NFS_PROGRAM
+  version ← wanted header.0.version NFS_VERSION
+  procedure ← numbered (procedure_of header.0.procedure)
+  credential ← credential_of header.0.flavor header.0.body
+  call ← call_of procedure header.1
+  Ok (record { xid = opening.0.xid; credential = credential; verifier = record { flavor = header.0.verifier_flavor; body = header.0.verifier }; call = call })

@@ -1,0 +1,93 @@
+//! Reading call messages (RFC 5531, section 9).
+ghost use Rattle.std.specs.Prelude.{◌≡◌, IfOk, IfSome, IfNone};
+ghost use Rattle.session.specs.declared.message.CallMessage.{CallMessage};
+ghost use Rattle.session.specs.Reading.{Reads, Gives};
+ghost use Rattle.session.specs.Calls.{SpellsCall, procedure_of};
+ghost use Rattle.plain_wire.specs.Messages.{wanted as is_wanted, numbered, credential_of, message_of};
+
+use nfs_types::Octets;
+use session::nfs_codec::{Procedure, decode_call};
+use session::rpc::{
+    AUTH_NONE, AUTH_SYS, CALL, NFS_PROGRAM, NFS_VERSION, RPC_VERSION, read_caller, read_header,
+    read_opening,
+};
+use session::xdr::{Reader, XdrFault};
+use session::{CallMessage, MessageCredential, Verifier};
+use std::alloc::{AllocError, Global};
+
+/// The call that the bytes spell, or None where they spell none.
+pub fn read_call(alloc: Global, bytes: &[u8]) -> Result<Option<CallMessage>, AllocError>
+    ensures found { IfOk result (λ o. IfSome o (λ m. SpellsCall bytes.now m)) }
+    ensures none { IfOk result (λ o. IfNone o ((m : CallMessage) → SpellsCall bytes.now m → ⊥)) }
+{
+    match read_message(alloc, bytes) {
+        Ok(message) => Ok(Some(message)),
+        Err(fault) => match fault {
+            XdrFault::NoMemory => Err(AllocError),
+            _ => Ok(None),
+        },
+    }
+}
+
+#[tactic(auto, unfolding(crate::specs::Messages::message_of))]
+fn read_message(alloc: Global, bytes: &[u8]) -> Result<CallMessage, XdrFault>
+    ensures { Gives (λ m. m) result (message_of bytes.now) }
+{
+    let mut reader = Reader::new(bytes);
+    let opening = read_opening(&mut reader)?;
+    expect(opening.kind, CALL)?;
+    expect(opening.rpc_version, RPC_VERSION)?;
+    let header = read_header(&mut reader)?;
+    expect(header.program, NFS_PROGRAM)?;
+    expect(header.version, NFS_VERSION)?;
+    let procedure = procedure(header.procedure)?;
+    let credential = read_credential(alloc, header.flavor, header.body)?;
+    let call = decode_call(alloc, procedure, reader.rest())?;
+    Ok(CallMessage {
+        xid: opening.xid,
+        credential,
+        verifier: Verifier {
+            flavor: header.verifier_flavor,
+            body: Octets::copied(alloc, header.verifier)?,
+        },
+        call,
+    })
+}
+
+// Nothing, where the number is the wanted one.
+fn expect(number: u32, wanted: u32) -> Result<(), XdrFault>
+    ensures { Reads (λ x. x) result (is_wanted number wanted) }
+{
+    if number == wanted {
+        Ok(())
+    } else {
+        Err(XdrFault::Value)
+    }
+}
+
+fn procedure(number: u32) -> Result<Procedure, XdrFault>
+    ensures { Reads (λ p. p) result (numbered (procedure_of number)) }
+{
+    match Procedure::numbered(number) {
+        Some(procedure) => Ok(procedure),
+        None => Err(XdrFault::Value),
+    }
+}
+
+#[tactic(auto, unfolding(crate::specs::Messages::credential_of))]
+fn read_credential(alloc: Global, flavor: u32, body: &[u8]) -> Result<MessageCredential, XdrFault>
+    ensures { Gives (λ c. c) result (credential_of flavor body.now) }
+{
+    match flavor {
+        AUTH_NONE if body.is_empty() => Ok(MessageCredential::Nobody),
+        AUTH_SYS => {
+            let system = read_caller(alloc, body)?;
+            Ok(MessageCredential::Caller {
+                stamp: system.stamp,
+                machine: Octets::copied(alloc, system.machine)?,
+                caller: system.caller,
+            })
+        }
+        _ => Err(XdrFault::Value),
+    }
+}
