@@ -1,9 +1,7 @@
 pub mod Decode
 pub mod Fields
 pub mod GoodImage
-pub mod Group
 pub mod InodeForm
-pub mod Object
 pub mod Owners
 pub mod Places
 pub mod Refused
@@ -12,3 +10,4 @@ pub mod SlotForm
 pub mod Stands
 pub mod SuperForm
 pub mod Told
+pub mod Tried

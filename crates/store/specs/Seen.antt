@@ -3,7 +3,7 @@ use Rattle.std.specs.Prelude.{◌≡◌, Bool, false, ◌&&◌, List, nat_eq}
 use Rattle.std.specs.List.{list_any}
 use Rattle.objects.specs.declared.addr.Addr.{Addr}
 use Rattle.disk.specs.declared.block.BlockNo.{BlockNo}
-use Rattle.store.specs.Object.{ObjectBytes}
+use Rattle.txn.specs.Object.{ObjectBytes}
 use Rattle.store.specs.declared.procs.done.Done.{Done}
 use Rattle.store.specs.declared.procs.next.Plan.{Plan}
 use Rattle.store.specs.declared.procs.next.Plan.TheVariants as plan

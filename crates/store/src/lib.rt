@@ -1,16 +1,22 @@
-//! The store: files kept in blocks.
+//! The store: files kept in blocks, and procedures as transactions.
 #![tactic(auto)]
 
-mod change;
+mod formatting;
 mod laws;
 mod layout;
-mod object;
+mod one_call;
+mod opened;
+mod opening;
 mod procs;
 
-pub use change::Change;
+pub use formatting::{FormatFault, format};
 pub use laws::blocks_stand_for_one_tree;
 pub use layout::{
     Geometry, GeometryFault, Inode, InodeKind, LayoutFault, Numbers, SLOT_BYTES, Slot, Super,
 };
-pub use object::Object;
-pub use procs::{Done, Plan, Snap, has_rules, plan, refused_reply, unsupported_reply};
+pub use one_call::{Verdict, procedure};
+pub use opened::{Store, close, settle};
+pub use opening::{OpenFault, open};
+pub use procs::{
+    Done, Plan, Snap, has_rules, is_answered_stable, plan, refused_reply, unsupported_reply,
+};

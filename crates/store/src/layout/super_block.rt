@@ -43,7 +43,8 @@ impl Super {
 
     /// The bytes of the super block.
     pub fn write(&self, alloc: Global) -> Result<Vec<u8>, AllocError>
-        ensures { IfOk result (λ bytes. bytes.items ≡ super_bytes self.now) }
+        ensures bytes { IfOk result (λ bytes. bytes.items ≡ super_bytes self.now) }
+        ensures len { IfOk result (λ bytes. length bytes.items ≡ BLOCK_BYTES) }
     {
         let mut bytes = Vec::with_capacity(alloc, BLOCK_BYTES)?;
         put_head(&mut bytes, self)?;

@@ -1,12 +1,12 @@
 //! What comes of a call.
 ghost use Rattle.std.specs.Prelude.{◌≡◌, ◌≤◌, length, IfOk};
 ghost use Rattle.limits.specs.declared.TheConstants.{CHANGED_BLOCKS};
-ghost use Rattle.store.specs.Group.{blocks_of};
+ghost use Rattle.txn.specs.Group.{blocks_of};
 
 use crate::procs::Snap;
-use crate::{Change, Object};
 use nfs_types::Reply;
 use std::alloc::{AllocError, Global};
+use txn::{Change, Object};
 
 /// A finished plan: the reply, the objects that were read for it, those that it writes, and the counts of the image
 /// that it was worked out for. It writes no more blocks than a transaction changes.

@@ -1,8 +1,8 @@
 //! Which calls are served.
 ghost use Rattle.std.specs.Prelude.{◌≡◌};
-ghost use Rattle.model.specs.Calls.{has_rules, sets_only_mode, is_kept};
+ghost use Rattle.model.specs.Calls.{has_rules, sets_only_mode, is_kept, is_answered_stable, is_unstable};
 
-use nfs_types::{Call, NewAttributes, SetTime};
+use nfs_types::{Call, NewAttributes, SetTime, Stability};
 
 fn is_kept(time: &SetTime) -> bool
     ensures { result ≡ is_kept time.now }
@@ -30,6 +30,35 @@ pub fn has_rules(call: &Call) -> bool
     match call {
         Call::GetAttr { .. } => true,
         Call::SetAttr { attributes, .. } => sets_only_mode(attributes),
+        _ => false,
+    }
+}
+
+fn is_unstable(stability: Stability) -> bool
+    ensures { result ≡ is_unstable stability }
+{
+    match stability {
+        Stability::Unstable => true,
+        Stability::DataSync | Stability::FileSync => false,
+    }
+}
+
+/// Whether the call is answered only once its place is settled (RFC 1813, section 4.8).
+pub fn is_answered_stable(call: &Call) -> bool
+    ensures { result ≡ is_answered_stable call.now }
+{
+    match call {
+        Call::Write { stability, .. } => !is_unstable(*stability),
+        Call::SetAttr { .. }
+        | Call::Create { .. }
+        | Call::MkDir { .. }
+        | Call::SymLink { .. }
+        | Call::MkNod { .. }
+        | Call::Remove { .. }
+        | Call::RmDir { .. }
+        | Call::Rename { .. }
+        | Call::Link { .. }
+        | Call::Commit { .. } => true,
         _ => false,
     }
 }

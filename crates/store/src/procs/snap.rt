@@ -2,11 +2,11 @@
 ghost use Rattle.std.specs.Prelude.{◌≡◌, false, true, ◌∷◌, [], ◌++◌, length, IfSome, IfNone, OnOk, OnErr};
 ghost use Rattle.store.specs.Seen.{is_seen, same_addr};
 
-use crate::Object;
 use crate::layout::Geometry;
 use disk::BlockNo;
 use objects::Addr;
 use std::alloc::{AllocError, Global};
+use txn::Object;
 
 /// The geometry of the image, the objects that were read so far in their order, and the blocks that were claimed.
 #[derive(Drop)]

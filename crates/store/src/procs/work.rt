@@ -3,7 +3,6 @@ ghost use Rattle.std.specs.Prelude.{◌≡◌, true, ◌<◌, IfErr, IfOk};
 ghost use Rattle.model.specs.Calls.{has_rules, sets_only_mode};
 ghost use Rattle.store.specs.Seen.{IsNew, IsPlanFor, IsDoneFor};
 
-use crate::Object;
 use crate::procs::attributes::Found;
 use crate::procs::done::Done;
 use crate::procs::find::find;
@@ -14,6 +13,7 @@ use crate::procs::snap::Snap;
 use crate::procs::stop::Stop;
 use nfs_types::{Call, Ctx, Handle, Moment, NewAttributes, Reply, Status, WeakCacheData};
 use std::alloc::{AllocError, Global};
+use txn::Object;
 
 // What is done without a write.
 fn told(alloc: Global, snap: &Snap, reply: Reply) -> Result<Done, AllocError>

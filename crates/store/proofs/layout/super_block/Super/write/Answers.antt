@@ -4,8 +4,8 @@ use Rattle.limits.specs.declared.TheConstants.{BLOCK_BYTES}
 use Rattle.store.specs.SuperForm.{super_head}
 use Rattle.store.proofs.layout.super_block.Super.write.Goals as goal
 
-pub returns : goal.returns
-returns c =
+pub returns-clause-bytes : goal.returns-clause-bytes
+returns-clause-bytes c =
     let n : length c.put_head.new.bytes.items ≡ 32 = omega (arith, c.in_ok-put_head.ensures.len, ap length c.in_ok-bytes.ensures.items) in
     let b : c.put_head.new.bytes.items ≡ super_head c.args.self.now =
     c.in_ok-put_head.ensures.bytes ∙ ap (λ (l : List ℕ). l ++ super_head c.args.self.now) c.in_ok-bytes.ensures.items in

@@ -1,0 +1,14 @@
+-- A device call leaves the count of blocks.
+use Rattle.std.specs.Prelude.{◌≡◌, Result}
+use Rattle.disk.specs.Device.{Content, Device}
+use Rattle.disk.specs.declared.device.Failed.{Failed}
+use Rattle.wal.specs.Io.{Io, HasMade, HasMadeCall}
+use Rattle.wal.specs.declared.io.IoCall.{IoCall}
+use Rattle.wal.specs.declared.io.IoCall.TheVariants.{Write, Barrier}
+
+call_size : (old : Device) (call : IoCall) (content : Content) (result : Result Unit Failed) (new : Device) → HasMadeCall old call content result new → new.size ≡ old.size
+call_size old (Write block) content result new made = made.later.size
+call_size old (Barrier side) content result new made = made.later.size
+
+pub made_size : (old : Device) (io : Io) (result : Result Unit Failed) (new : Device) → HasMade old io result new → new.size ≡ old.size
+made_size old io result new made = call_size old io.call io.content result new made

@@ -1,0 +1,150 @@
+//! Opening a store: what a crash left in the log is brought home, and the boot number rises.
+ghost use Rattle.std.specs.Prelude.{◌≡◌, ◌+◌, ◌^◌, ◌<◌, IfOk, None};
+ghost use Rattle.wal.specs.Io.{IsCallWithin};
+ghost use Rattle.store.specs.Places.{IsLawful};
+
+use crate::layout::{LayoutFault, Super};
+use crate::opened::Store;
+use crate::procs::Done;
+use disk::{Block, BlockNo, CrashDisk, Side};
+use limits::{LOG_SLOTS, SUPER_BLOCK};
+use std::alloc::Global;
+use thiserror::Error;
+use txn::Core;
+use wal::circ::{self, LogFault};
+use wal::{InstIo, Wal};
+
+/// Why an image isn't opened.
+#[derive(Clone, Copy, Debug, PartialEq, Eq, Error)]
+pub enum OpenFault {
+    #[error("Magic")]
+    Magic = 1,
+    #[error("Version")]
+    Version = 2,
+    #[error("Range")]
+    Range = 3,
+    #[error("Log")]
+    Log = 4,
+    #[error("Device")]
+    Device = 5,
+    #[error("NoMemory")]
+    NoMemory = 6,
+}
+
+impl OpenFault {
+    /// Its number.
+    pub fn number(self) -> u8 {
+        self as u8
+    }
+}
+
+/// Opens a store. Range is answered too where the image hasn't as many blocks as its super block says, and where no
+/// boot number is left. The faults up to Log come before any write. A refusal hands the disk back.
+pub fn open<D: CrashDisk>(alloc: Global, disk: D) -> Result<Store<D>, (D, OpenFault)>
+    ensures { IfOk result (λ store. store.core.out ≡ None) }
+{
+    let mut disk = disk;
+    match recover(alloc, &mut disk) {
+        Ok((core, boot)) => Ok(Store { disk, core, boot }),
+        Err(fault) => Err((disk, fault)),
+    }
+}
+
+// Brings home what the log has, and settles the next boot number.
+fn recover<D: CrashDisk>(alloc: Global, disk: &mut D) -> Result<(Core<Done>, u64), OpenFault>
+    ensures size { IfOk result (λ opened. (D.device disk.new).size ≡ opened.0.log.blocks) }
+    ensures lawful { IfOk result (λ opened. IsLawful opened.0.log.blocks opened.0.inodes) }
+    ensures idle { IfOk result (λ opened. opened.0.out ≡ None) }
+{
+    let mut block = Block::zeros(alloc).map_err(|_| OpenFault::NoMemory)?;
+    let found = read_super(disk, &mut block)?;
+    let log = circ::recover(alloc, disk).map_err(log_fault)?;
+    let mut wal = Wal::new(alloc, found.geometry.blocks, log).map_err(|_| OpenFault::NoMemory)?;
+    install(disk, &mut wal)?;
+    let raised = Super {
+        geometry: found.geometry,
+        boot: found.boot + 1,
+    };
+    write_super(alloc, disk, &mut block, raised)?;
+    Ok((Core::new(alloc, wal, found.geometry.inodes), raised.boot))
+}
+
+// The super block of an image that may be opened, as far as it shows.
+fn read_super<D: CrashDisk>(disk: &mut D, block: &mut Block) -> Result<Super, OpenFault>
+    ensures size { (D.device disk.new).size ≡ (D.device disk.old).size }
+    ensures blocks { IfOk result (λ found. found.geometry.blocks ≡ (D.device disk.old).size) }
+    ensures boot { IfOk result (λ found. found.boot + 1 < 2 ^ 64) }
+{
+    if disk.blocks() == 0 {
+        return Err(OpenFault::Magic);
+    }
+    disk.read(BlockNo(SUPER_BLOCK), block)
+        .map_err(|_| OpenFault::Device)?;
+    let found = Super::read(block.as_slice()).map_err(layout_fault)?;
+    if found.geometry.blocks != disk.blocks() || found.boot == u64::MAX {
+        return Err(OpenFault::Range);
+    }
+    Ok(found)
+}
+
+// Makes the calls of an installation of all that is logged.
+fn install<D: CrashDisk>(disk: &mut D, wal: &mut Wal) -> Result<(), OpenFault>
+    requires { (D.device disk.old).size ≡ wal.old.blocks }
+    ensures size { (D.device disk.new).size ≡ (D.device disk.old).size }
+    ensures blocks { wal.new.blocks ≡ wal.old.blocks }
+{
+    'calls: for _ in 0..LOG_SLOTS + 3 {
+        let Some(io) = wal.inst_next() else {
+            break;
+        };
+        if !install_one(disk, wal, io) {
+            return Err(OpenFault::Device);
+        }
+    }
+    Ok(())
+}
+
+// Makes a call of the installer, gives it back, and tells whether it was answered Ok.
+#[tactic(auto, using(crate::proofs::Made::made_size))]
+fn install_one<D: CrashDisk>(disk: &mut D, wal: &mut Wal, io: InstIo) -> bool
+    requires { IsCallWithin (D.device disk.old).size io.call }
+    ensures size { (D.device disk.new).size ≡ (D.device disk.old).size }
+    ensures blocks { wal.new.blocks ≡ wal.old.blocks }
+{
+    let ok = io.perform(disk).is_ok();
+    wal.inst_done(io, ok);
+    ok
+}
+
+// Writes the super block, and settles it.
+fn write_super<D: CrashDisk>(
+    alloc: Global,
+    disk: &mut D,
+    block: &mut Block,
+    found: Super,
+) -> Result<(), OpenFault>
+    requires { 0 < (D.device disk.old).size }
+    ensures { (D.device disk.new).size ≡ (D.device disk.old).size }
+{
+    let bytes = found.write(alloc).map_err(|_| OpenFault::NoMemory)?;
+    block.put(0, &bytes);
+    disk.write(BlockNo(SUPER_BLOCK), block)
+        .map_err(|_| OpenFault::Device)?;
+    disk.barrier(Side::Home).map_err(|_| OpenFault::Device)
+}
+
+fn layout_fault(fault: LayoutFault) -> OpenFault {
+    match fault {
+        LayoutFault::Magic => OpenFault::Magic,
+        LayoutFault::Version => OpenFault::Version,
+        LayoutFault::Range => OpenFault::Range,
+    }
+}
+
+fn log_fault(fault: LogFault) -> OpenFault {
+    match fault {
+        LogFault::Range | LogFault::Address => OpenFault::Log,
+        LogFault::Device => OpenFault::Device,
+        LogFault::NoMemory => OpenFault::NoMemory,
+    }
+}
