@@ -1,0 +1,79 @@
+-- What the words of a command line ask of the program.
+use Rattle.std.specs.Prelude.{◌≡◌, ℕ, List, [], ◌∷◌, Option, Some, true, codes, pos}
+use Rattle.std.specs.Option.{IsSomeAnd}
+use Rattle.std.specs.Str.Parse.{IsNumeral, digits_value, without_leading_plus}
+use Rattle.clap.specs.Words.{App, Row, Rule, Text, first_of, new_app, new_rule, one_of, subcommand_of}
+use Rattle.clap.specs.Words.{with_rule, with_subcommand}
+use Rattle.clap.specs.declared.builder.ValueParser.TheVariants as value_parser
+use Rattle.nfsd_words.specs.declared.Args.{Args}
+use Rattle.nfsd_words.specs.declared.Args.TheVariants.{Format, Once}
+
+-- the image, a word that must be there
+abbrev pub image_rule : Rule
+image_rule = record (new_rule (codes "IMAGE")) { required = true }
+
+-- an option with a number of 32 bits
+abbrev pub number_rule : Text → Rule
+number_rule name = record (new_rule name) {
+  long = Some name;
+  parser = Some (value_parser.Signed (pos 0) (pos 4294967295));
+}
+
+-- an option with a number that may be left out
+abbrev pub default_rule : Text → Text → Rule
+default_rule name default = record (number_rule name) { defaults = default ∷ [] }
+
+-- an option with a number that must be there
+abbrev pub required_rule : Text → Rule
+required_rule name = record (number_rule name) { required = true }
+
+-- `format IMAGE --blocks N --inodes I --time S`, with the defaults 16384, 4096 and 0
+abbrev pub format_command : App
+format_command = with_rule
+    (with_rule
+    (with_rule (with_rule (new_app (codes "format")) image_rule)
+    (default_rule (codes "blocks") (codes "16384")))
+    (default_rule (codes "inodes") (codes "4096")))
+    (default_rule (codes "time") (codes "0"))
+
+-- `once IMAGE --time S`
+abbrev pub once_command : App
+once_command = with_rule (with_rule (new_app (codes "once")) image_rule)
+    (required_rule (codes "time"))
+
+-- the program before its commands
+abbrev pub bare_program : App
+bare_program = record (new_app (codes "nfsd")) {
+  top = record (new_app (codes "nfsd")).top { subcommand_required = true };
+}
+
+-- the program's commands, one of which must be there
+abbrev pub whole_program : App
+whole_program = with_subcommand (with_subcommand bare_program format_command.top) once_command.top
+
+-- the option of this name has this number, given or by default
+abbrev pub IsNumber : List Row → Text → ℕ → Type 0
+IsNumber found name number = IsSomeAnd (one_of name found) (λ text.
+    IsNumeral 10 (without_leading_plus text)
+    × (number ≡ digits_value 10 (without_leading_plus text)))
+
+-- a command of this name, with what was found of its words, asks for this
+abbrev pub Asks : Text → List Row → Args → Type 0
+Asks name found (Format image blocks inodes time) = (name ≡ codes "format")
+    × (first_of (codes "IMAGE") found ≡ Some image.now)
+    × IsNumber found (codes "blocks") blocks × IsNumber found (codes "inodes") inodes
+    × IsNumber found (codes "time") time
+Asks name found (Once image time) = (name ≡ codes "once")
+    × (first_of (codes "IMAGE") found ≡ Some image.now) × IsNumber found (codes "time") time
+
+-- the command that was met, if one was, asks for this
+abbrev pub IsAsked : Option (Text × List Row) → Args → Type 0
+IsAsked met args = IsSomeAnd met (λ command. Asks command.0 command.1 args)
+
+-- the words, the program's name first, ask for this
+abbrev pub WordsAsk : List Text → Args → Type 0
+WordsAsk words args = IsAsked (subcommand_of whole_program words) args
+
+-- the words ask for something
+abbrev pub HasMeaning : List Text → Type 0
+HasMeaning words = (args : Args) × WordsAsk words args

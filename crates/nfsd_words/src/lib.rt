@@ -1,0 +1,133 @@
+//! The words of the program's command line: which commands there are, and what they take.
+#![tactic(auto)]
+
+ghost use Rattle.std.specs.Prelude.{◌≡◌, ◌⊎◌, IfOk, IfErr, IfSome, [], codes, map, false};
+ghost use Rattle.clap.specs.Words.{HasKind, app_of, fault_of, found_of, kind_of, rows_of};
+ghost use Rattle.clap.specs.Words.{rule_of, subcommand_rows_of};
+ghost use Rattle.clap.specs.declared.Command.TheViews.{out-Command};
+ghost use Rattle.nfsd_words.specs.Words.{Asks, IsAsked, WordsAsk, default_rule, format_command};
+ghost use Rattle.nfsd_words.specs.Words.{image_rule, number_rule, once_command, required_rule, whole_program};
+
+use clap::error::ErrorKind;
+use clap::{Arg, ArgMatches, Command, Error, value_parser};
+use std::alloc::{AllocError, Global};
+
+#[cfg(test)]
+mod tests;
+
+/// What the words ask for.
+#[derive(Clone, Copy, Debug, PartialEq, Eq)]
+pub enum Args<'a> {
+    /// Makes an image anew.
+    Format {
+        image: &'a str,
+        blocks: u32,
+        inodes: u32,
+        time: u32,
+    },
+    /// Serves one client, over the standard input and output.
+    Once {
+        image: &'a str,
+        time: u32,
+    },
+}
+
+/// Reads the words of a command line, of which the first is the program's name. A refused value that should have been
+/// there is reported as missing; that this never comes is tested and not proved.
+pub fn words<'a>(alloc: Global, line: &'a [&'a str]) -> Result<Args<'a>, Error>
+    ensures asked { IfOk result (WordsAsk (map (λ word. word.now) line.now)) }
+    ensures lawful { IfOk result (λ _. fault_of whole_program (map (λ word. word.now) line.now) ≡ []) }
+    ensures refused { IfErr result (λ e. HasKind (fault_of whole_program (map (λ word. word.now) line.now)) e
+        ⊎ (kind_of e ≡ ErrorKind.MissingRequiredArgument)) }
+{
+    let mut command = program(alloc)?;
+    let matches = command.try_get_matches_from_mut(line)?;
+    match asked(&matches) {
+        Some(args) => Ok(args),
+        None => Err(command.error(ErrorKind::MissingRequiredArgument, "a value is missing")?),
+    }
+}
+
+fn asked<'a>(matches: &ArgMatches<'a>) -> Option<Args<'a>>
+    ensures { IfSome result (IsAsked (subcommand_rows_of matches.now)) }
+{
+    match matches.subcommand_matches("format") {
+        Some(given) => asked_format(given),
+        None => asked_once(matches.subcommand_matches("once")?),
+    }
+}
+
+fn asked_format<'a>(given: &ArgMatches<'a>) -> Option<Args<'a>>
+    ensures { IfSome result (Asks (codes "format") (rows_of (found_of given.now))) }
+{
+    Some(Args::Format {
+        image: given.get_str("IMAGE")?,
+        blocks: given.get_one("blocks")?,
+        inodes: given.get_one("inodes")?,
+        time: given.get_one("time")?,
+    })
+}
+
+fn asked_once<'a>(given: &ArgMatches<'a>) -> Option<Args<'a>>
+    ensures { IfSome result (Asks (codes "once") (rows_of (found_of given.now))) }
+{
+    Some(Args::Once {
+        image: given.get_str("IMAGE")?,
+        time: given.get_one("time")?,
+    })
+}
+
+fn program<'a>(alloc: Global) -> Result<Command<'a>, AllocError>
+    ensures { IfOk result (λ command. app_of command ≡ whole_program) }
+{
+    Command::new(alloc, "nfsd")
+        .about("Keeps files in an image of blocks, and serves them by NFS version 3")
+        .subcommand_required(true)
+        .subcommand(format_words(alloc)?)?
+        .subcommand(once_words(alloc)?)
+}
+
+fn format_words<'a>(alloc: Global) -> Result<Command<'a>, AllocError>
+    ensures app { IfOk result (λ command. app_of command ≡ format_command) }
+    ensures local { IfOk result (λ command. (out-Command command).has_globals ≡ false) }
+{
+    Command::new(alloc, "format")
+        .about("Makes an image anew")
+        .arg(image(alloc))?
+        .arg(number_or(alloc, "blocks", "16384"))?
+        .arg(number_or(alloc, "inodes", "4096"))?
+        .arg(number_or(alloc, "time", "0"))
+}
+
+fn once_words<'a>(alloc: Global) -> Result<Command<'a>, AllocError>
+    ensures app { IfOk result (λ command. app_of command ≡ once_command) }
+    ensures local { IfOk result (λ command. (out-Command command).has_globals ≡ false) }
+{
+    Command::new(alloc, "once")
+        .about("Answers the records of the standard input on the standard output")
+        .arg(image(alloc))?
+        .arg(number(alloc, "time").required(true))
+}
+
+fn image<'a>(alloc: Global) -> Arg<'a>
+    ensures rule { rule_of result ≡ image_rule }
+    ensures local { result.global ≡ false }
+{
+    Arg::new(alloc, "IMAGE").required(true)
+}
+
+fn number<'a>(alloc: Global, name: &'a str) -> Arg<'a>
+    ensures rule { rule_of result ≡ number_rule name.entry.now }
+    ensures local { result.global ≡ false }
+{
+    Arg::new(alloc, name)
+        .long(name)
+        .value_parser(value_parser!(u32))
+}
+
+fn number_or<'a>(alloc: Global, name: &'a str, default: &'a str) -> Arg<'a>
+    ensures rule { rule_of result ≡ default_rule name.entry.now default.entry.now }
+    ensures local { result.global ≡ false }
+{
+    number(alloc, name).default_value(default)
+}
