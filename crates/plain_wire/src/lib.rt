@@ -8,6 +8,3 @@ mod replies;
 
 pub use calls::read_call;
 pub use replies::read_reply;
-
-#[cfg(test)]
-mod tests;
