@@ -11,3 +11,8 @@ pub mod Stands
 pub mod SuperForm
 pub mod Told
 pub mod Tried
+pub mod Transcript
+pub mod Schedule
+pub mod History
+pub mod Verdicts
+pub mod Headline

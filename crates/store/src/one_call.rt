@@ -3,21 +3,15 @@ ghost use Rattle.std.specs.Prelude.{◌≡◌, ◌<◌, None, Some, true};
 ghost use Rattle.model.specs.Calls.{has_rules};
 ghost use Rattle.store.specs.Tried.{IsTried};
 
+use crate::answers::Verdict;
 use crate::layout::Geometry;
 use crate::opened::{Store, settle};
 use crate::procs::{Done, Plan, Snap, has_rules, is_answered_stable, plan, refused_reply};
 use disk::{BlockNo, CrashDisk};
-use nfs_types::{Call, Credential, Ctx, Moment, Reply, Status};
+use nfs_types::{Call, Credential, Ctx, Moment, Status};
 use objects::Addr;
 use std::alloc::Global;
 use txn::{BeginFault, Claim, Commit, FetchIo, Seq, Tx, Want};
-
-/// What a call is answered: a reply of its procedure, or that memory was refused.
-#[derive(Drop)]
-pub enum Verdict {
-    Reply(Reply),
-    NoMemory,
-}
 
 // What came of a step of a transaction: it goes on, or it has to end with this status, or for want of memory.
 #[derive(Clone, Copy)]
