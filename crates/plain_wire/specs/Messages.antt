@@ -1,5 +1,5 @@
 -- Reading a call message from left to right (RFC 5531, section 9).
-use Rattle.std.specs.Prelude.{ℕ, List, Bool, Option, Some, None, Result, Ok, Err, length, ◌==◌, if◌then◌else◌}
+use Rattle.std.specs.Prelude.{ℕ, List, Option, Some, None, Result, Ok, Err, length, ◌==◌, if◌then◌else◌}
 use Rattle.session.specs.declared.rpc.numbers.TheConstants.{CALL, RPC_VERSION, NFS_PROGRAM, NFS_VERSION, AUTH_NONE, AUTH_SYS}
 use Rattle.session.specs.declared.message.MessageCredential.{MessageCredential}
 use Rattle.session.specs.declared.message.MessageCredential.TheVariants.{Nobody, Caller}
