@@ -10,3 +10,4 @@ pub mod CodedAttributes
 pub mod CodedReplies
 pub mod ReplyLaws
 pub mod RecordLaws
+pub mod Cutting

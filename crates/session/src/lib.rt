@@ -8,6 +8,7 @@ mod message;
 pub mod nfs_codec;
 mod reply;
 pub mod rpc;
+mod serving;
 pub mod xdr;
 
 pub use judging::judge;
@@ -21,6 +22,7 @@ pub use message::{
     Answer, CallMessage, Judged, MessageCredential, ReplyBody, ReplyMessage, Verifier,
 };
 pub use reply::reply_bytes;
+pub use serving::{SessionFault, serve};
 
 #[cfg(test)]
 mod tests;

@@ -1,0 +1,198 @@
+//! Serving a stream: the calls of its records, one after the other, and their replies.
+ghost use Rattle.std.specs.Prelude.{◌≡◌, ◌<◌, ◌↔◌, IsTrue, IsSome, IfOk, None, length};
+ghost use Rattle.session.specs.Replies.{IsSpellable, body_of};
+ghost use Rattle.session.specs.Results.{IsServed};
+
+use crate::judging::judge;
+use crate::message::{Answer, Judged};
+use crate::reply::reply_bytes;
+use crate::rpc::{Records, Refusal, RpcFault};
+use bytes::Bytes;
+use disk::CrashDisk;
+use nfs_types::{Moment, Reply};
+use std::alloc::Global;
+use std::io::{Read, Write};
+use store::{Store, Verdict, procedure, settle};
+use thiserror::Error;
+
+/// Why a stream isn't served to its end.
+#[derive(Clone, Copy, Debug, PartialEq, Eq, Error)]
+pub enum SessionFault {
+    /// A record isn't one fragment, announces too much, or has no header that can be read.
+    #[error("Record")]
+    Record = 1,
+    /// A read failed, or there were too many of them.
+    #[error("Input")]
+    Input = 2,
+    /// A write of a reply failed.
+    #[error("Output")]
+    Output = 3,
+    /// A record found no memory.
+    #[error("NoMemory")]
+    NoMemory = 4,
+    /// The input ends inside a record.
+    #[error("Truncated")]
+    Truncated = 5,
+    /// The last settling failed.
+    #[error("Device")]
+    Device = 6,
+}
+
+impl SessionFault {
+    /// Its number.
+    pub fn number(self) -> u8 {
+        self as u8
+    }
+}
+
+/// How many reads there may be.
+const MOST_READS: u64 = 1 << 48;
+
+/// The bytes of one read.
+const PIECE_BYTES: usize = 4096;
+
+/// Answers the records of a stream in their order, each call at the moment, and gives the count of the replies. At the
+/// end of the input everything is settled. The records before a fault are answered, and then, but after Output, what
+/// can be settled is settled too.
+pub fn serve<D: CrashDisk, R: Read, W: Write>(
+    alloc: Global,
+    store: &mut Store<D>,
+    reader: &mut R,
+    writer: &mut W,
+    moment: Moment,
+) -> Result<u64, SessionFault>
+    requires { store.old.core.out ≡ None }
+    ensures { store.new.core.out ≡ None }
+{
+    let served = serve_all(alloc, store, reader, writer, moment);
+    match served {
+        Err(SessionFault::Output) => served,
+        Err(_) => {
+            let _ = settle(store);
+            served
+        }
+        Ok(_) => match settle(store) {
+            Ok(()) => served,
+            Err(_) => Err(SessionFault::Device),
+        },
+    }
+}
+
+// Answers the records up to the end of the input or the first fault.
+fn serve_all<D: CrashDisk, R: Read, W: Write>(
+    alloc: Global,
+    store: &mut Store<D>,
+    reader: &mut R,
+    writer: &mut W,
+    moment: Moment,
+) -> Result<u64, SessionFault>
+    requires { store.old.core.out ≡ None }
+    ensures { store.new.core.out ≡ None }
+{
+    let mut records = Records::new(alloc);
+    let mut piece = [0; PIECE_BYTES];
+    let mut count: u64 = 0;
+    'reads: for _ in 0..MOST_READS {
+        let read = reader.read(&mut piece).map_err(|_| SessionFault::Input)?;
+        if read == 0 {
+            if records.is_empty() {
+                return Ok(count);
+            }
+            return Err(SessionFault::Truncated);
+        }
+        records
+            .feed(&piece[..read])
+            .map_err(|_| SessionFault::NoMemory)?;
+        count = answer_whole(alloc, store, &mut records, writer, moment, count)?;
+    }
+    Err(SessionFault::Input)
+}
+
+// Answers the records that have come whole, and counts their replies on.
+fn answer_whole<D: CrashDisk, W: Write>(
+    alloc: Global,
+    store: &mut Store<D>,
+    records: &mut Records,
+    writer: &mut W,
+    moment: Moment,
+    count: u64,
+) -> Result<u64, SessionFault>
+    requires { store.old.core.out ≡ None }
+    ensures { store.new.core.out ≡ None }
+{
+    let mut replies = count;
+    'records: while let Some(record) = next_record(alloc, records)? {
+        answer(alloc, store, &record, writer, moment)?;
+        replies = replies.saturating_add(1);
+    }
+    Ok(replies)
+}
+
+// The next record that has come whole.
+fn next_record(alloc: Global, records: &mut Records) -> Result<Option<Bytes>, SessionFault>
+    ensures { IfOk result (λ o. IsSome o → length records.new < length records.old) }
+{
+    match records.next(alloc) {
+        Ok(record) => Ok(record),
+        Err(RpcFault::NoMemory) => Err(SessionFault::NoMemory),
+        Err(RpcFault::TooLong) | Err(RpcFault::NotACall) => Err(SessionFault::Record),
+    }
+}
+
+// Answers one record.
+fn answer<D: CrashDisk, W: Write>(
+    alloc: Global,
+    store: &mut Store<D>,
+    record: &[u8],
+    writer: &mut W,
+    moment: Moment,
+) -> Result<(), SessionFault>
+    requires { store.old.core.out ≡ None }
+    ensures { store.new.core.out ≡ None }
+{
+    match judge(alloc, record) {
+        Err(_) => Err(SessionFault::NoMemory),
+        Ok(Judged::Closed) => Err(SessionFault::Record),
+        Ok(Judged::Refused { xid, refusal }) => put(alloc, writer, xid, Answer::Refused(refusal)),
+        Ok(
+            Judged::Call {
+                xid,
+                credential,
+                call,
+            },
+        ) => match procedure(alloc, store, credential, moment, &call) {
+            Verdict::Reply(reply) if is_served(&reply) => put(
+                alloc,
+                writer,
+                xid,
+                Answer::Done(&reply),
+            ),
+            _ => put(alloc, writer, xid, Answer::Refused(Refusal::SystemError)),
+        },
+    }
+}
+
+// Writes a reply.
+fn put<W: Write>(
+    alloc: Global,
+    writer: &mut W,
+    xid: u32,
+    answer: Answer<'_>,
+) -> Result<(), SessionFault>
+    requires { IsSpellable (body_of answer) }
+{
+    let mut bytes = Vec::new(alloc);
+    reply_bytes(alloc, &mut bytes, xid, answer).map_err(|_| SessionFault::NoMemory)?;
+    writer.write_all(&bytes).map_err(|_| SessionFault::Output)?;
+    writer.flush().map_err(|_| SessionFault::Output)
+}
+
+// Whether the reply is one of a procedure that is served so far.
+fn is_served(reply: &Reply) -> bool
+    ensures { IsTrue result ↔ IsServed reply.now }
+{
+    matches!(
+        reply,
+        Reply::Null | Reply::GetAttr { .. } | Reply::SetAttr { .. }
+    )
+}
