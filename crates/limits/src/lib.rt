@@ -97,5 +97,7 @@ pub const CHANGED_BLOCKS: usize = 64;
 pub const MOST_WORKERS: usize = 64;
 
 const _: () = prove!(FILE_INDEXES == DIRECT_INDEXES + INDIRECT_INDEXES);
+
 const _: () = prove!(LARGEST_FILE == FILE_INDEXES as u64 * BLOCK_BYTES as u64);
+
 const _: () = prove!(FIRST_SLOT_BLOCK as u64 + LOG_SLOTS == START_BLOCK as u64);

@@ -4,20 +4,20 @@
 mod answers;
 mod change;
 mod commit;
-mod state;
 mod group;
 mod holds;
 mod object;
 mod present;
 mod records;
+mod state;
 mod tx;
 mod want;
 mod window;
 
-pub use state::Core;
 pub use answers::{BeginFault, Claim, Commit, Want};
 pub use change::Change;
 pub use object::Object;
+pub use state::Core;
 pub use tx::{FetchIo, Stable, Tx};
 pub use wal::{InstIo, LogIo, Seq};
 pub use window::a_window_reads_one_content;
