@@ -1,6 +1,6 @@
 //! Why an image isn't read.
+use layout::LayoutFault;
 use std::alloc::AllocError;
-use store::LayoutFault;
 use thiserror::Error;
 
 /// What is wrong with an image, or want of memory.

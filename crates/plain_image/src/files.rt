@@ -4,10 +4,10 @@ ghost use Rattle.std.specs.Prelude.{◌<◌};
 use crate::parts::{block_of, bytes_of, held, names_of, numbers_of};
 use crate::{ImageFault, PlainName};
 use disk::MemDisk;
+use layout::{Geometry, Inode, InodeKind, Super};
 use limits::SUPER_BLOCK;
 use nfs_types::Octets;
 use std::alloc::{AllocError, Global};
-use store::{Geometry, Inode, InodeKind, Super};
 
 /// What is in a file.
 #[derive(Drop)]

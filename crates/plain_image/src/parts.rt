@@ -4,10 +4,10 @@ ghost use Rattle.limits.specs.declared.TheConstants.{BLOCK_BYTES};
 
 use crate::ImageFault;
 use disk::{BlockNo, CrashDisk, MemDisk};
+use layout::{Geometry, Inode, Numbers, SLOT_BYTES, Slot};
 use limits::BLOCK_BYTES;
 use nfs_types::Octets;
 use std::alloc::{AllocError, Global};
-use store::{Geometry, Inode, Numbers, SLOT_BYTES, Slot};
 
 /// A name in a directory, the number of the file that it names, and its slot.
 #[derive(Drop)]

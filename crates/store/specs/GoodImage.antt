@@ -4,9 +4,9 @@ use Rattle.limits.specs.declared.TheConstants.{SUPER_BLOCK}
 use Rattle.disk.specs.Crash.{Image}
 use Rattle.model.specs.Node.{Node}
 use Rattle.model.specs.Tree.{Tree, node_at}
-use Rattle.store.specs.declared.layout.super_block.Super.{Super}
-use Rattle.store.specs.Stands.{Stands}
-use Rattle.store.specs.SuperForm.{IsSuper}
+use Rattle.layout.specs.declared.super_block.Super.{Super}
+use Rattle.layout.specs.Stands.{Stands}
+use Rattle.layout.specs.SuperForm.{IsSuper}
 
 -- A good image of so many blocks, with its tree and its boot number: the super block is one, the headers of the log are
 -- in range, what the image holds once its log is laid over it stands for the tree, and no file was made in a later boot.

@@ -50,7 +50,7 @@ moved_on broken again call (step.Begun (Err fault)) = Idle
 moved_on broken again call (step.Wanted addr wish.Fetch) = ReadDue call
 moved_on broken again call (step.Commit (committing.Committed place)) = if is_answered_stable call then HasCall call false else Idle
 moved_on broken again call (step.Commit committing.Foreign) = HasCall call true
-moved_on broken again call step.Aborted = if again then HasCall call false else Idle
+moved_on broken again call (step.Aborted refused) = if again then HasCall call false else Idle
 moved_on broken again call (step.Stable place true) = Idle
 moved_on broken again call (step.Stable place false) = if broken then Idle else HasCall call false
 moved_on broken again call _ = HasCall call again
@@ -109,7 +109,7 @@ is_work (step.Claimed block answer) = true
 is_work (step.Fetched block) = true
 is_work (step.FetchFailed block) = true
 is_work (step.Commit answer) = true
-is_work step.Aborted = true
+is_work (step.Aborted refused) = true
 is_work (step.Stable place settled) = true
 is_work _ = false
 

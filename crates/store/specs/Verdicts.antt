@@ -16,7 +16,7 @@ use Rattle.store.specs.declared.events.Step.TheVariants as step
 use Rattle.store.specs.declared.events.Wish.TheVariants as wish
 use Rattle.store.specs.declared.transcript.Answer.{Answer}
 use Rattle.store.specs.declared.transcript.Committed.{Committed}
-use Rattle.store.specs.Refused.{refused}
+use Rattle.procs.specs.Refused.{refused}
 use Rattle.store.specs.Schedule.{Schedule, worker_of, breaks, is_idle, told_before}
 use Rattle.store.specs.Transcript.{Transcript, step_at, committed_at, device_calls}
 
@@ -53,6 +53,7 @@ is_refused_memory (step.Begun (Err fault.NoMemory)) = true
 is_refused_memory (step.Wanted addr wish.NoMemory) = true
 is_refused_memory (step.Claimed block wish.NoMemory) = true
 is_refused_memory (step.Commit committing.NoMemory) = true
+is_refused_memory (step.Aborted refused) = refused
 is_refused_memory _ = false
 
 -- a step that found a counter spent

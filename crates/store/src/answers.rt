@@ -1,10 +1,26 @@
-//! What a call is answered.
+//! What a worker gives.
 
-use nfs_types::Reply;
+use nfs_types::{Call, Ctx, Reply};
+use txn::Seq;
 
 /// What a call is answered: a reply of its procedure, or that memory was refused.
 #[derive(Drop)]
 pub enum Verdict {
     Reply(Reply),
     NoMemory,
+}
+
+/// An answer, with the place of its procedure, if that was committed.
+#[derive(Drop)]
+pub struct Answered {
+    pub verdict: Verdict,
+    pub place: Option<Seq>,
+}
+
+/// A committed procedure: what it was run with, what it was asked, and its reply.
+#[derive(Drop)]
+pub struct Entry {
+    pub ctx: Ctx,
+    pub call: Call,
+    pub reply: Reply,
 }

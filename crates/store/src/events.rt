@@ -78,8 +78,8 @@ pub enum Step {
     Fetched(BlockNo),
     FetchFailed(BlockNo),
     Commit(Committing),
-    /// The transaction was ended without a change.
-    Aborted,
+    /// The transaction was ended without a change: for want of memory to plan with, or else.
+    Aborted(bool),
     /// Whether the place is settled.
     Stable(Seq, bool),
     /// The worker's block was read, or not.

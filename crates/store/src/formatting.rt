@@ -1,10 +1,10 @@
 //! Making an image: the root alone, and an empty log.
 ghost use Rattle.std.specs.Prelude.{◌≡◌, ◌≤◌, ◌<◌, ◌+◌, ◌-◌, ◌^◌, length, IfOk};
 ghost use Rattle.limits.specs.declared.TheConstants.{INODE_BYTES};
-ghost use Rattle.store.specs.Places.{data_at};
+ghost use Rattle.layout.specs.Places.{data_at};
 
-use crate::layout::{Geometry, GeometryFault, Inode, InodeKind, Super};
 use disk::{Block, BlockNo, CrashDisk, Failed, Side};
+use layout::{Geometry, GeometryFault, Inode, InodeKind, Super};
 use limits::{
     BITS_PER_BLOCK, BLOCK_BYTES, DIRECT_INDEXES, INODES_PER_BLOCK, LOG_HEADER_BLOCK, ROOT,
     START_BLOCK, SUPER_BLOCK,

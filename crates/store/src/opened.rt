@@ -1,9 +1,10 @@
 //! An open store: a disk with the core over it.
 ghost use Rattle.std.specs.Prelude.{◌≡◌};
-ghost use Rattle.store.specs.Places.{IsLawful};
+ghost use Rattle.layout.specs.Places.{IsLawful};
+ghost use Rattle.store.specs.Counts.{SameCounts};
 
-use crate::procs::Done;
 use disk::{CrashDisk, Failed};
+use procs::Done;
 use txn::Core;
 
 /// A store that was opened.
@@ -39,7 +40,8 @@ pub fn close<D: CrashDisk>(store: Store<D>) -> D
 /// Makes every change settled, and brings it home. It fails only where a device call fails in it, or where a write or a
 /// barrier failed since the opening.
 pub fn settle<D: CrashDisk>(store: &mut Store<D>) -> Result<(), Failed>
-    ensures { store.new.core.out ≡ store.old.core.out }
+    ensures out { store.new.core.out ≡ store.old.core.out }
+    ensures counts { SameCounts store.old.core store.new.core }
 {
     'calls: for _ in 0..u64::MAX {
         if store.core.broken() {
@@ -55,7 +57,8 @@ pub fn settle<D: CrashDisk>(store: &mut Store<D>) -> Result<(), Failed>
 // Makes the next device call of the log, if there is one.
 #[tactic(auto, using(crate::proofs::Made::made_size))]
 fn log_one<D: CrashDisk>(store: &mut Store<D>) -> bool
-    ensures { store.new.core.out ≡ store.old.core.out }
+    ensures out { store.new.core.out ≡ store.old.core.out }
+    ensures counts { SameCounts store.old.core store.new.core }
 {
     let Some(io) = store.core.log_next() else {
         return false;
@@ -68,7 +71,8 @@ fn log_one<D: CrashDisk>(store: &mut Store<D>) -> bool
 // Makes the next device call of the installer, if there is one.
 #[tactic(auto, using(crate::proofs::Made::made_size))]
 fn install_one<D: CrashDisk>(store: &mut Store<D>) -> bool
-    ensures { store.new.core.out ≡ store.old.core.out }
+    ensures out { store.new.core.out ≡ store.old.core.out }
+    ensures counts { SameCounts store.old.core store.new.core }
 {
     let Some(io) = store.core.inst_next() else {
         return false;

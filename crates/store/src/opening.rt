@@ -1,13 +1,13 @@
 //! Opening a store: what a crash left in the log is brought home, and the boot number rises.
 ghost use Rattle.std.specs.Prelude.{◌≡◌, ◌+◌, ◌^◌, ◌<◌, IfOk, None};
 ghost use Rattle.wal.specs.Io.{IsCallWithin};
-ghost use Rattle.store.specs.Places.{IsLawful};
+ghost use Rattle.layout.specs.Places.{IsLawful};
 
-use crate::layout::{LayoutFault, Super};
 use crate::opened::Store;
-use crate::procs::Done;
 use disk::{Block, BlockNo, CrashDisk, Side};
+use layout::{LayoutFault, Super};
 use limits::{LOG_SLOTS, SUPER_BLOCK};
+use procs::Done;
 use std::alloc::Global;
 use thiserror::Error;
 use txn::Core;

@@ -1,6 +1,7 @@
--- no transaction begins or ends
+-- no transaction begins or ends, and the image's counts stay
 use Rattle.std.proofs.Common.{◌≡◌}
+use Rattle.store.specs.Counts.{SameCounts}
 use Rattle.store.proofs.opened.settle.Given as goal
 
 abbrev pub invariant-calls : goal.invariant-calls
-invariant-calls g l = l.store.core.out ≡ l.fn.store.core.out
+invariant-calls g l = (l.store.core.out ≡ l.fn.store.core.out) × SameCounts l.fn.store.core l.store.core

@@ -1,0 +1,149 @@
+-- The inode: what the disk has of a file in 128 bytes.
+use Rattle.std.specs.Prelude.{ℕ, ◌/◌, ◌%◌, Bool, true, cond, not, ◌&&◌, ◌||◌, List, ◌++◌, nat_eq, nat_le, nat_lt, take, drop, min, Option, Some, None, Result, Ok, Err}
+use Rattle.std.specs.List.{list_all}
+use Rattle.limits.specs.declared.TheConstants.{BLOCK_BYTES, DIRECT_INDEXES, LARGEST_FILE, MODE_BITS, MOST_LINKS, NANOSECONDS, TARGET_BYTES}
+use Rattle.nfs_types.specs.declared.ctx.Moment.{Moment}
+use Rattle.layout.specs.declared.fault.LayoutFault.{LayoutFault}
+use Rattle.layout.specs.declared.fault.LayoutFault.TheVariants.{Range}
+use Rattle.layout.specs.declared.inode.Inode.{Inode}
+use Rattle.layout.specs.declared.inode.InodeKind.{InodeKind}
+use Rattle.layout.specs.declared.inode.InodeKind.TheVariants.{Free, Regular, Directory, Link}
+use Rattle.layout.specs.Fields.{four_at, eight_at, numbers_at, four_bytes, eight_bytes, number_bytes, is_zeros}
+use Rattle.layout.specs.Places.{is_data}
+
+-- the kind of a number: those of RFC 1813, section 2.5, and 0 for an inode that no file has
+abbrev pub kind_of_number : ℕ → Option InodeKind
+kind_of_number number =
+    cond (nat_eq number 0) (Some Free)
+    (cond (nat_eq number 1) (Some Regular)
+    (cond (nat_eq number 2) (Some Directory)
+    (cond (nat_eq number 5) (Some Link) None)))
+
+abbrev pub number_of_kind : InodeKind → ℕ
+number_of_kind Free = 0
+number_of_kind Regular = 1
+number_of_kind Directory = 2
+number_of_kind Link = 5
+
+-- a time: seconds, then nanoseconds
+abbrev pub time_at : ℕ → ℕ → List ℕ → Moment
+time_at place behind bytes = record { seconds = four_at place bytes; nanoseconds = four_at behind bytes }
+
+-- whether a file has a create verifier stands apart from the verifier
+abbrev pub verifier_of : ℕ → ℕ → Option ℕ
+verifier_of flags verifier = cond (nat_eq flags 1) (Some verifier) None
+
+-- the fields of an inode, each at its place in the bytes
+unfoldable pub fields_of : InodeKind → List ℕ → Inode
+fields_of kind bytes = record {
+  kind = kind;
+  mode = four_at 4 bytes;
+  uid = four_at 8 bytes;
+  gid = four_at 12 bytes;
+  nlink = four_at 16 bytes;
+  size = eight_at 24 bytes;
+  atime = time_at 32 36 bytes;
+  mtime = time_at 40 44 bytes;
+  ctime = time_at 48 52 bytes;
+  stamp = record { boot = eight_at 56 bytes; transaction = eight_at 64 bytes };
+  parent = four_at 72 bytes;
+  verifier = verifier_of (four_at 76 bytes) (eight_at 80 bytes);
+  direct = numbers_at DIRECT_INDEXES 88 bytes;
+  indirect = four_at 120 bytes;
+}
+
+-- what no field has is zero; a free inode is nothing but zeros
+abbrev pub rest_is_zero : InodeKind → List ℕ → Bool
+rest_is_zero Free bytes = is_zeros bytes
+rest_is_zero _ bytes =
+    nat_eq (four_at 20 bytes) 0 && nat_eq (four_at 124 bytes) 0
+    && (nat_eq (four_at 76 bytes) 1 || nat_eq (four_at 76 bytes) 0 && nat_eq (eight_at 80 bytes) 0)
+
+-- no block, or a data block
+abbrev pub is_place : ℕ → ℕ → ℕ → Bool
+is_place blocks inodes number = nat_eq number 0 || is_data blocks inodes number
+
+abbrev pub is_time : Moment → Bool
+is_time time = nat_lt time.nanoseconds NANOSECONDS
+
+-- the first numbers are those of blocks, and the others of none
+abbrev pub names_first : ℕ → List ℕ → Bool
+names_first count numbers =
+    list_all (λ number. not (nat_eq number 0)) (take count numbers) && list_all (λ number. nat_eq number 0) (drop count numbers)
+
+-- what each file's inode keeps to
+abbrev pub is_sound_file : Inode → Bool
+is_sound_file inode =
+    nat_le inode.mode MODE_BITS && nat_le 1 inode.nlink && nat_le inode.nlink MOST_LINKS
+    && is_time inode.atime && is_time inode.mtime && is_time inode.ctime
+
+-- each block that it names is a data block
+abbrev pub is_sound_map : ℕ → ℕ → Inode → Bool
+is_sound_map blocks inodes inode =
+    list_all (is_place blocks inodes) inode.direct && is_place blocks inodes inode.indirect
+
+-- a regular file keeps any blocks, up to the size of the largest
+abbrev pub is_sound_regular : Inode → Bool
+is_sound_regular inode = nat_le inode.size LARGEST_FILE && nat_eq inode.parent 0
+
+-- a directory has two links at least, and keeps each block that it spans and no other
+abbrev pub is_sound_directory : ℕ → Inode → Bool
+is_sound_directory inodes inode =
+    nat_le 2 inode.nlink && nat_le inode.size LARGEST_FILE && nat_eq (inode.size % BLOCK_BYTES) 0
+    && nat_lt 0 inode.parent && nat_lt inode.parent inodes
+    && names_first (min (inode.size / BLOCK_BYTES) DIRECT_INDEXES) inode.direct
+    && (cond (nat_lt DIRECT_INDEXES (inode.size / BLOCK_BYTES)) (not (nat_eq inode.indirect 0)) (nat_eq inode.indirect 0))
+
+-- a link keeps one block, with its target
+abbrev pub is_sound_link : Inode → Bool
+is_sound_link inode =
+    nat_le 1 inode.size && nat_le inode.size TARGET_BYTES && nat_eq inode.parent 0
+    && names_first 1 inode.direct && nat_eq inode.indirect 0
+
+-- an inode of a kind that shows nothing wrong by itself
+abbrev pub is_sound_kind : ℕ → ℕ → InodeKind → Inode → Bool
+is_sound_kind blocks inodes Free inode = true
+is_sound_kind blocks inodes Regular inode = is_sound_file inode && is_sound_map blocks inodes inode && is_sound_regular inode
+is_sound_kind blocks inodes Directory inode =
+    is_sound_file inode && is_sound_map blocks inodes inode && is_sound_directory inodes inode
+is_sound_kind blocks inodes Link inode = is_sound_file inode && is_sound_map blocks inodes inode && is_sound_link inode
+
+unfoldable pub is_sound_inode : ℕ → ℕ → Inode → Bool
+is_sound_inode blocks inodes inode = is_sound_kind blocks inodes inode.kind inode
+
+abbrev pub inode_of_kind : ℕ → ℕ → Option InodeKind → List ℕ → Result Inode LayoutFault
+inode_of_kind blocks inodes None bytes = Err Range
+inode_of_kind blocks inodes (Some kind) bytes =
+    cond (rest_is_zero kind bytes && is_sound_inode blocks inodes (fields_of kind bytes)) (Ok (fields_of kind bytes)) (Err Range)
+
+-- the inode that 128 bytes are in an image of these sizes
+unfoldable pub read_inode : ℕ → ℕ → List ℕ → Result Inode LayoutFault
+read_inode blocks inodes bytes = inode_of_kind blocks inodes (kind_of_number (four_at 0 bytes)) bytes
+
+abbrev pub time_bytes : Moment → List ℕ
+time_bytes time = four_bytes time.seconds ++ four_bytes time.nanoseconds
+
+-- the flags and the verifier behind them
+abbrev pub verifier_bytes : Option ℕ → List ℕ
+verifier_bytes None = four_bytes 0 ++ eight_bytes 0
+verifier_bytes (Some verifier) = four_bytes 1 ++ eight_bytes verifier
+
+-- the parts of an inode's bytes, in their order
+unfoldable pub head_bytes : Inode → List ℕ
+head_bytes inode =
+    four_bytes (number_of_kind inode.kind) ++ four_bytes inode.mode ++ four_bytes inode.uid
+    ++ four_bytes inode.gid ++ four_bytes inode.nlink ++ four_bytes 0
+
+unfoldable pub middle_bytes : Inode → List ℕ
+middle_bytes inode =
+    eight_bytes inode.size ++ time_bytes inode.atime ++ time_bytes inode.mtime ++ time_bytes inode.ctime
+    ++ eight_bytes inode.stamp.boot ++ eight_bytes inode.stamp.transaction
+
+unfoldable pub tail_bytes : Inode → List ℕ
+tail_bytes inode =
+    four_bytes inode.parent ++ verifier_bytes inode.verifier ++ number_bytes inode.direct
+    ++ four_bytes inode.indirect ++ four_bytes 0
+
+-- the bytes that an inode gets
+abbrev pub inode_bytes : Inode → List ℕ
+inode_bytes inode = head_bytes inode ++ middle_bytes inode ++ tail_bytes inode

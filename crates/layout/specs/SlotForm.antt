@@ -1,0 +1,29 @@
+-- The slot of a directory: a name and the number of the file that it names.
+use Rattle.std.specs.Prelude.{ℕ, ◌+◌, Bool, cond, ◌&&◌, List, nat_eq, nat_le, nat_lt, take, drop, Option, Some, None, Result, Ok, Err}
+use Rattle.limits.specs.declared.TheConstants.{NAME_BYTES}
+use Rattle.layout.specs.declared.fault.LayoutFault.{LayoutFault}
+use Rattle.layout.specs.declared.fault.LayoutFault.TheVariants.{Range}
+use Rattle.layout.specs.declared.slot.Slot.{Slot}
+use Rattle.layout.specs.Fields.{four_at, is_zeros}
+
+-- where the name begins, behind the number and the name's length
+abbrev pub NAME_PLACE : ℕ
+NAME_PLACE = 8
+
+-- the name and the number of a slot that is in use
+abbrev pub slot_of : List ℕ → Slot
+slot_of bytes = record { number = four_at 0 bytes; name = take (four_at 4 bytes) (drop NAME_PLACE bytes) }
+
+-- the number is that of an inode of the image, the name's length is lawful, and nothing but zeros is behind the name
+abbrev pub is_sound_slot : ℕ → List ℕ → Bool
+is_sound_slot inodes bytes =
+    nat_lt (four_at 0 bytes) inodes && nat_le 1 (four_at 4 bytes) && nat_le (four_at 4 bytes) NAME_BYTES
+    && is_zeros (drop (NAME_PLACE + four_at 4 bytes) bytes)
+
+-- The slot that 128 bytes are in an image of so many inodes; a free one is nothing but zeros. The characters of a
+-- name aren't looked at.
+unfoldable pub read_slot : ℕ → List ℕ → Result (Option Slot) LayoutFault
+read_slot inodes bytes =
+    cond (nat_eq (four_at 0 bytes) 0)
+    (cond (is_zeros bytes) (Ok None) (Err Range))
+    (cond (is_sound_slot inodes bytes) (Ok (Some (slot_of bytes))) (Err Range))

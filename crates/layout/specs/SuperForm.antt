@@ -1,0 +1,54 @@
+-- The super block: how large the image is, and how often it was opened.
+use Rattle.std.specs.Prelude.{◌≡◌, ℕ, ◌-◌, Bool, true, ◌&&◌, List, [], ◌∷◌, ◌++◌, nat_eq, take, drop, replicate}
+use Rattle.limits.specs.declared.TheConstants.{BLOCK_BYTES, FORMAT_VERSION}
+use Rattle.layout.specs.declared.fault.LayoutFault.{LayoutFault}
+use Rattle.layout.specs.declared.fault.LayoutFault.TheVariants.{Magic, Version, Range}
+use Rattle.layout.specs.declared.super_block.Super.{Super}
+use Rattle.layout.specs.Fields.{four_at, eight_at, four_bytes, eight_bytes, is_zeros}
+use Rattle.layout.specs.Places.{IsLawful}
+
+-- `NFSJRNL1`
+abbrev pub MAGIC_BYTES : List ℕ
+MAGIC_BYTES = 78 ∷ 70 ∷ 83 ∷ 74 ∷ 82 ∷ 78 ∷ 76 ∷ 49 ∷ []
+
+-- the bytes begin as those of an image do
+abbrev pub HasMagic : List ℕ → Type 0
+HasMagic bytes = take 8 bytes ≡ MAGIC_BYTES
+
+-- they are of this version of the format
+abbrev pub HasVersion : List ℕ → Type 0
+HasVersion bytes = four_at 8 bytes ≡ FORMAT_VERSION
+
+-- what isn't used is zero
+abbrev pub is_unused_zero : List ℕ → Bool
+is_unused_zero bytes = nat_eq (four_at 20 bytes) 0 && is_zeros (drop 32 bytes)
+
+-- the sizes are lawful, and what isn't used is zero
+pub record HasSizes (bytes : List ℕ) : Type 0 where
+  pub lawful : IsLawful (four_at 12 bytes) (four_at 16 bytes)
+  pub unused : is_unused_zero bytes ≡ true
+
+-- the bytes of a block are those of this super block
+pub record IsSuper (bytes : List ℕ) (super : Super) : Type 0 where
+  pub magic : HasMagic bytes
+  pub version : HasVersion bytes
+  pub sizes : HasSizes bytes
+  pub blocks : super.geometry.blocks ≡ four_at 12 bytes
+  pub inodes : super.geometry.inodes ≡ four_at 16 bytes
+  pub boot : super.boot ≡ eight_at 24 bytes
+
+-- the bytes are those of no super block, and this is the first thing that is wrong with them
+abbrev pub IsNoSuper : List ℕ → LayoutFault → Type 0
+IsNoSuper bytes Magic = HasMagic bytes → ⊥
+IsNoSuper bytes Version = HasMagic bytes × (HasVersion bytes → ⊥)
+IsNoSuper bytes Range = HasMagic bytes × HasVersion bytes × (HasSizes bytes → ⊥)
+
+-- what of its bytes isn't zero always
+unfoldable pub super_head : Super → List ℕ
+super_head super =
+    MAGIC_BYTES ++ four_bytes FORMAT_VERSION ++ four_bytes super.geometry.blocks ++ four_bytes super.geometry.inodes
+    ++ four_bytes 0 ++ eight_bytes super.boot
+
+-- the bytes that a super block gets
+abbrev pub super_bytes : Super → List ℕ
+super_bytes super = super_head super ++ replicate (BLOCK_BYTES - 32) 0

@@ -1,0 +1,58 @@
+//! Numbers in bytes, the least byte first.
+ghost use Rattle.std.specs.Prelude.{◌≡◌, ◌+◌, ◌≤◌, ◌++◌, length, OnOk};
+ghost use Rattle.layout.specs.Fields.{four_at, eight_at, four_bytes, eight_bytes, is_zeros};
+
+use std::alloc::AllocError;
+
+/// The number in the 4 bytes from a place on.
+pub(crate) fn four_at(bytes: &[u8], place: usize) -> u32
+    requires { place + 4 ≤ length bytes.now }
+    ensures { result ≡ four_at place bytes.now }
+{
+    u32::from_le_bytes([
+        bytes[place],
+        bytes[place + 1],
+        bytes[place + 2],
+        bytes[place + 3],
+    ])
+}
+
+/// The number in the 8 bytes from a place on.
+pub(crate) fn eight_at(bytes: &[u8], place: usize) -> u64
+    requires { place + 8 ≤ length bytes.now }
+    ensures { result ≡ eight_at place bytes.now }
+{
+    u64::from_le_bytes([
+        bytes[place],
+        bytes[place + 1],
+        bytes[place + 2],
+        bytes[place + 3],
+        bytes[place + 4],
+        bytes[place + 5],
+        bytes[place + 6],
+        bytes[place + 7],
+    ])
+}
+
+/// Whether each byte is zero.
+pub(crate) fn is_zeros(bytes: &[u8]) -> bool
+    ensures { result ≡ is_zeros bytes.now }
+{
+    bytes.iter().all(|byte| *byte == 0)
+}
+
+/// Adds a number in 4 bytes.
+pub(crate) fn put_four(bytes: &mut Vec<u8>, number: u32) -> Result<(), AllocError>
+    ensures bytes { OnOk result (bytes.new.items ≡ bytes.old.items ++ four_bytes number) }
+    ensures len { OnOk result (length bytes.new.items ≡ length bytes.old.items + 4) }
+{
+    bytes.extend_from_slice(&number.to_le_bytes())
+}
+
+/// Adds a number in 8 bytes.
+pub(crate) fn put_eight(bytes: &mut Vec<u8>, number: u64) -> Result<(), AllocError>
+    ensures bytes { OnOk result (bytes.new.items ≡ bytes.old.items ++ eight_bytes number) }
+    ensures len { OnOk result (length bytes.new.items ≡ length bytes.old.items + 8) }
+{
+    bytes.extend_from_slice(&number.to_le_bytes())
+}

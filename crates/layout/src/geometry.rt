@@ -1,0 +1,134 @@
+//! Where the parts of an image lie.
+ghost use Rattle.std.specs.Prelude.{◌≡◌, ◌+◌, ◌-◌, ◌<◌, ◌≤◌, IfOk, IfErr};
+ghost use Rattle.limits.specs.declared.TheConstants.{MOST_BLOCKS, INODE_BYTES};
+ghost use Rattle.layout.specs.Places.{IsLawful, IsLawfulSize, IsLawfulCount, bitmap_blocks, inode_bitmap_at, table_at, data_at, is_data, inode_block, inode_place};
+
+use disk::BlockNo;
+use limits::{
+    BITS_PER_BLOCK, FIRST_HOME_BLOCK, INODE_BYTES, INODES_PER_BLOCK, LEAST_BLOCKS,
+    LEAST_DATA_BLOCKS, LEAST_INODES, MOST_BLOCKS, MOST_INODES,
+};
+use objects::Addr;
+use thiserror::Error;
+
+/// Why there is no image of these sizes.
+#[derive(Clone, Copy, Debug, PartialEq, Eq, Error)]
+pub enum GeometryFault {
+    #[error("Size")]
+    Size,
+    #[error("Inodes")]
+    Inodes,
+}
+
+/// How many blocks and inodes an image has, from which follows where its parts lie: behind the log the bitmap of
+/// blocks, the bitmap of inodes, the table of inodes and the data.
+#[derive(Clone, Copy, Debug, PartialEq, Eq)]
+pub struct Geometry {
+    pub blocks: u32,
+    pub inodes: u32,
+    pub ghost lawful: { IsLawful blocks inodes },
+}
+
+impl Geometry {
+    /// The geometry of an image of these sizes. The blocks are tested before the inodes.
+    pub fn new(blocks: u32, inodes: u32) -> Result<Geometry, GeometryFault>
+        ensures ok { IfOk result (λ g. (g.blocks ≡ blocks) × (g.inodes ≡ inodes) × IsLawful blocks inodes) }
+        ensures err { IfErr result (λ _. IsLawful blocks inodes → ⊥) }
+        ensures size { result ≡ Err GeometryFault.Size → IsLawfulSize blocks → ⊥ }
+        ensures count { result ≡ Err GeometryFault.Inodes → IsLawfulSize blocks × (IsLawfulCount blocks inodes → ⊥) }
+    {
+        if blocks < LEAST_BLOCKS || blocks > MOST_BLOCKS {
+            return Err(GeometryFault::Size);
+        }
+        if inodes < LEAST_INODES || inodes > MOST_INODES || inodes % INODES_PER_BLOCK != 0 {
+            return Err(GeometryFault::Inodes);
+        }
+        if data_at(blocks, inodes) + LEAST_DATA_BLOCKS > blocks {
+            return Err(GeometryFault::Inodes);
+        }
+        Ok(Geometry { blocks, inodes })
+    }
+
+    /// The first block of the bitmap of blocks.
+    pub fn block_bitmap(&self) -> BlockNo
+        ensures { result.0 ≡ FIRST_HOME_BLOCK }
+    {
+        BlockNo(FIRST_HOME_BLOCK)
+    }
+
+    /// The first block of the bitmap of inodes.
+    pub fn inode_bitmap(&self) -> BlockNo
+        ensures { result.0 ≡ inode_bitmap_at self.now.blocks }
+    {
+        BlockNo(FIRST_HOME_BLOCK + bitmap_blocks(self.blocks))
+    }
+
+    /// The first block of the table of inodes.
+    pub fn inode_table(&self) -> BlockNo
+        ensures { result.0 ≡ table_at self.now.blocks self.now.inodes }
+    {
+        BlockNo(table_at(self.blocks, self.inodes))
+    }
+
+    /// The first data block.
+    pub fn data(&self) -> BlockNo
+        ensures { result.0 ≡ data_at self.now.blocks self.now.inodes }
+    {
+        BlockNo(data_at(self.blocks, self.inodes))
+    }
+
+    /// How many data blocks there are.
+    pub fn data_blocks(&self) -> u32
+        ensures { result ≡ self.now.blocks - data_at self.now.blocks self.now.inodes }
+    {
+        self.blocks - data_at(self.blocks, self.inodes)
+    }
+
+    /// Whether the number is that of a data block.
+    pub fn is_data(&self, number: u32) -> bool
+        ensures { result ≡ is_data self.now.blocks self.now.inodes number }
+    {
+        data_at(self.blocks, self.inodes) <= number && number < self.blocks
+    }
+
+    /// Where an inode lies.
+    pub fn inode_addr(&self, number: u32) -> Addr
+        requires { number < self.now.inodes }
+        ensures block { result.block.0 ≡ inode_block self.now.blocks self.now.inodes number }
+        ensures offset { result.offset ≡ inode_place number }
+        ensures len { result.len ≡ INODE_BYTES }
+    {
+        Addr {
+            block: BlockNo(table_at(self.blocks, self.inodes) + number / INODES_PER_BLOCK),
+            offset: INODE_BYTES * (number % INODES_PER_BLOCK) as usize,
+            len: INODE_BYTES,
+        }
+    }
+}
+
+// How many blocks the bitmap of so many items takes.
+fn bitmap_blocks(items: u32) -> u32
+    requires { items ≤ MOST_BLOCKS }
+    ensures { result ≡ bitmap_blocks items }
+{
+    (items + (BITS_PER_BLOCK - 1)) / BITS_PER_BLOCK
+}
+
+// The first block of the table of inodes.
+fn table_at(blocks: u32, inodes: u32) -> u32
+    requires blocks { blocks ≤ MOST_BLOCKS }
+    requires inodes { inodes ≤ MOST_INODES }
+    ensures { result ≡ table_at blocks inodes }
+{
+    FIRST_HOME_BLOCK + bitmap_blocks(blocks) + bitmap_blocks(inodes)
+}
+
+// The first data block.
+fn data_at(blocks: u32, inodes: u32) -> u32
+    requires blocks { blocks ≤ MOST_BLOCKS }
+    requires inodes { inodes ≤ MOST_INODES }
+    ensures value { result ≡ data_at blocks inodes }
+    ensures small { result < 4096 }
+{
+    table_at(blocks, inodes) + inodes / INODES_PER_BLOCK
+}

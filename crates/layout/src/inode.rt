@@ -1,0 +1,89 @@
+//! Inodes: what the disk has of a file in 128 bytes.
+ghost use Rattle.std.specs.Prelude.{◌≡◌, ◌≤◌, length, IfOk};
+
+use crate::fields::four_at;
+use crate::inode_bytes::{put_head, put_middle, put_tail};
+use crate::inode_fields::{fields_of, kind_of_number, rest_is_zero};
+use crate::numbers::count_kept;
+use crate::{Geometry, LayoutFault};
+use limits::{DIRECT_INDEXES, INODE_BYTES};
+use nfs_types::{Moment, Stamp};
+use std::alloc::{AllocError, Global};
+
+/// What an inode is of (RFC 1813, section 2.5); or that no file has it.
+#[derive(Clone, Copy, Debug, PartialEq, Eq)]
+pub enum InodeKind {
+    Free,
+    Regular,
+    Directory,
+    Link,
+}
+
+/// An inode. Its numbers of blocks are 0 where the file keeps none.
+#[derive(Clone, Copy, Debug, PartialEq, Eq)]
+pub struct Inode {
+    pub kind: InodeKind,
+    pub mode: u32,
+    pub uid: u32,
+    pub gid: u32,
+    pub nlink: u32,
+    pub size: u64,
+    pub atime: Moment,
+    pub mtime: Moment,
+    pub ctime: Moment,
+    pub stamp: Stamp,
+    pub parent: u32,
+    pub verifier: Option<u64>,
+    pub direct: [u32; DIRECT_INDEXES],
+    pub indirect: u32,
+}
+
+impl Inode {
+    ghost use Rattle.limits.specs.declared.TheConstants.{INODE_BYTES, DIRECT_INDEXES};
+    ghost use Rattle.layout.specs.InodeForm.{read_inode, inode_bytes};
+
+    /// Reads an inode of an image of this geometry. It is refused by what it shows by itself.
+    pub fn read(geometry: &Geometry, bytes: &[u8]) -> Result<Inode, LayoutFault>
+        requires { length bytes.now ≡ INODE_BYTES }
+        ensures { result ≡ read_inode geometry.now.blocks geometry.now.inodes bytes.now }
+    {
+        let Some(kind) = kind_of_number(four_at(bytes, 0)) else {
+            return Err(LayoutFault::Range);
+        };
+        let inode = fields_of(kind, bytes);
+        if rest_is_zero(kind, bytes) && inode.is_sound(geometry) {
+            Ok(inode)
+        } else {
+            Err(LayoutFault::Range)
+        }
+    }
+
+    /// The bytes of the inode.
+    pub fn write(&self, alloc: Global) -> Result<Vec<u8>, AllocError>
+        ensures bytes { IfOk result (λ bytes. bytes.items ≡ inode_bytes self.now) }
+        ensures len { IfOk result (λ bytes. length bytes.items ≡ INODE_BYTES) }
+    {
+        let mut bytes = Vec::with_capacity(alloc, INODE_BYTES)?;
+        put_head(&mut bytes, self)?;
+        put_middle(&mut bytes, self)?;
+        put_tail(&mut bytes, self)?;
+        Ok(bytes)
+    }
+
+    /// How many blocks it names directly.
+    pub fn directly_held(&self) -> u32
+        ensures { result ≤ DIRECT_INDEXES }
+    {
+        count_kept(&self.direct)
+    }
+
+    /// The inode with another mode, changed at the moment.
+    pub fn with_mode(&self, mode: u32, moment: Moment) -> Inode
+        ensures { result ≡ record (self.now) { mode = mode; ctime = moment } }
+    {
+        let mut inode = *self;
+        inode.mode = mode;
+        inode.ctime = moment;
+        inode
+    }
+}

@@ -1,0 +1,23 @@
+//! How files are spelled in blocks: where the parts of an image lie, inodes, slots of directories, indirect blocks, and the
+//! tree that blocks stand for.
+#![tactic(auto)]
+
+mod fault;
+mod fields;
+mod geometry;
+mod inode;
+mod inode_bytes;
+mod inode_fields;
+mod inode_rules;
+mod laws;
+mod numbers;
+mod slot;
+mod super_block;
+
+pub use fault::LayoutFault;
+pub use geometry::{Geometry, GeometryFault};
+pub use inode::{Inode, InodeKind};
+pub use laws::blocks_stand_for_one_tree;
+pub use numbers::Numbers;
+pub use slot::{SLOT_BYTES, Slot};
+pub use super_block::Super;

@@ -1,0 +1,75 @@
+//! Indirect blocks: the numbers of the blocks that an inode doesn't name itself.
+ghost use Rattle.std.specs.Prelude.{◌≡◌, ◌≤◌, not, nat_eq, length, count_by, IfOk, MatchResult};
+ghost use Rattle.limits.specs.declared.TheConstants.{BLOCK_BYTES, INDIRECT_INDEXES};
+
+use crate::fields::four_at;
+use crate::inode_rules::are_places;
+use crate::{Geometry, LayoutFault};
+use limits::{BLOCK_BYTES, INDIRECT_INDEXES};
+use std::alloc::{AllocError, Global};
+use std::marker::Model;
+
+/// The numbers of an indirect block, 0 where no block is kept.
+#[derive(Drop)]
+pub struct Numbers {
+    numbers: Vec<u32>,
+}
+
+impl Model for Numbers {
+    ghost use Rattle.std.specs.Prelude.{List, ℕ, ◌≡◌, length};
+    ghost use Rattle.limits.specs.declared.TheConstants.{INDIRECT_INDEXES};
+
+    ghost Value = { List ℕ };
+
+    ghost view = { λ n. n.numbers.items };
+
+    ghost invariant = { λ n. length n.numbers.items ≡ INDIRECT_INDEXES };
+}
+
+impl Numbers {
+    /// Reads an indirect block of an image of this geometry. It is refused where a number isn't that of a data block.
+    pub fn read(
+        alloc: Global,
+        geometry: &Geometry,
+        bytes: &[u8],
+    ) -> Result<Result<Numbers, LayoutFault>, AllocError>
+        requires { length bytes.now ≡ BLOCK_BYTES }
+    {
+        let mut numbers = Vec::with_capacity(alloc, INDIRECT_INDEXES)?;
+        for index in 0..INDIRECT_INDEXES {
+            numbers.push(four_at(bytes, 4 * index))?;
+        }
+        if !are_places(geometry, &numbers) {
+            return Ok(Err(LayoutFault::Range));
+        }
+        Ok(Ok(Numbers { numbers }))
+    }
+
+    /// How many blocks it keeps.
+    pub fn kept(&self) -> u32
+        ensures { result ≤ INDIRECT_INDEXES }
+    {
+        count_kept(&self.numbers)
+    }
+
+    /// The numbers.
+    pub fn as_slice(&self) -> &[u32]
+        ensures { result.now ≡ self.now }
+    {
+        &self.numbers
+    }
+}
+
+/// How many of these numbers are those of blocks.
+pub(crate) fn count_kept(numbers: &[u32]) -> u32
+    requires { length numbers.now ≤ INDIRECT_INDEXES }
+    ensures { result ≤ length numbers.now }
+{
+    let mut kept = 0;
+    for number in numbers {
+        if *number != 0 {
+            kept += 1;
+        }
+    }
+    kept
+}

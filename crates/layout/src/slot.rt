@@ -1,0 +1,67 @@
+//! Slots: what the disk has of a name in a directory in 128 bytes.
+ghost use Rattle.std.specs.Prelude.{◌≡◌, ◌≤◌, length, IfOk};
+ghost use Rattle.layout.specs.SlotForm.{is_sound_slot};
+
+use crate::LayoutFault;
+use crate::fields::{four_at, is_zeros};
+use limits::{BLOCK_BYTES, NAME_BYTES, SLOTS_PER_BLOCK};
+use nfs_types::Octets;
+use std::alloc::{AllocError, Global};
+
+/// The bytes of a slot.
+pub const SLOT_BYTES: usize = BLOCK_BYTES / SLOTS_PER_BLOCK as usize;
+
+// Where the name begins.
+const NAME_PLACE: usize = 8;
+
+/// A name in a directory, and the number of the file that it names.
+#[derive(Drop)]
+pub struct Slot {
+    pub number: u32,
+    pub name: Octets,
+}
+
+impl Slot {
+    ghost use Rattle.layout.specs.SlotForm.{read_slot};
+    ghost use Rattle.layout.specs.declared.slot.TheConstants.{SLOT_BYTES};
+
+    /// Reads a slot of an image of so many inodes: None where it is free. It is refused by what it shows by itself,
+    /// but for the characters of the name.
+    pub fn read(
+        alloc: Global,
+        inodes: u32,
+        bytes: &[u8],
+    ) -> Result<Result<Option<Slot>, LayoutFault>, AllocError>
+        requires { length bytes.now ≡ SLOT_BYTES }
+        ensures { IfOk result (λ slot. slot ≡ read_slot inodes bytes.now) }
+    {
+        let number = four_at(bytes, 0);
+        if number == 0 {
+            return Ok(if is_zeros(bytes) {
+                Ok(None)
+            } else {
+                Err(LayoutFault::Range)
+            });
+        }
+        if !is_sound_slot(inodes, bytes) {
+            return Ok(Err(LayoutFault::Range));
+        }
+        let (_, behind) = bytes.split_at(NAME_PLACE);
+        let (name, _) = behind.split_at(four_at(bytes, 4) as usize);
+        let name = Octets::copied(alloc, name)?;
+        Ok(Ok(Some(Slot { number, name })))
+    }
+}
+
+// Whether a slot that is in use shows nothing wrong by itself.
+fn is_sound_slot(inodes: u32, bytes: &[u8]) -> bool
+    requires { length bytes.now ≡ SLOT_BYTES }
+    ensures { result ≡ is_sound_slot inodes bytes.now }
+{
+    let count = four_at(bytes, 4) as usize;
+    if four_at(bytes, 0) >= inodes || count < 1 || count > NAME_BYTES {
+        return false;
+    }
+    let (_, rest) = bytes.split_at(NAME_PLACE + count);
+    is_zeros(rest)
+}

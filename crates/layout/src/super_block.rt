@@ -1,0 +1,98 @@
+//! The super block.
+ghost use Rattle.std.specs.Prelude.{◌≡◌, ◌+◌, ◌++◌, ◌≤◌, ◌↔◌, length, IfOk, IfErr, IfSome, IfNone, OnOk, IsTrue};
+ghost use Rattle.limits.specs.declared.TheConstants.{BLOCK_BYTES};
+ghost use Rattle.layout.specs.SuperForm.{HasMagic, HasSizes, is_unused_zero, super_head};
+ghost use Rattle.layout.specs.Fields.{four_at};
+
+use crate::fields::{eight_at, four_at, is_zeros, put_eight, put_four};
+use crate::{Geometry, LayoutFault};
+use limits::{BLOCK_BYTES, FORMAT_VERSION};
+use std::alloc::{AllocError, Global};
+
+/// The bytes that an image of this format begins with.
+pub const MAGIC: [u8; 8] = *b"NFSJRNL1";
+
+/// What the super block says: how large the image is, and how often it was opened.
+#[derive(Clone, Copy, Debug, PartialEq, Eq)]
+pub struct Super {
+    pub geometry: Geometry,
+    pub boot: u64,
+}
+
+impl Super {
+    ghost use Rattle.layout.specs.SuperForm.{IsNoSuper, IsSuper, super_bytes};
+
+    /// Reads a super block.
+    pub fn read(bytes: &[u8]) -> Result<Super, LayoutFault>
+        requires { length bytes.now ≡ BLOCK_BYTES }
+        ensures ok { IfOk result (λ s. IsSuper bytes.now s) }
+        ensures err { IfErr result (λ fault. IsNoSuper bytes.now fault) }
+    {
+        if !has_magic(bytes) {
+            return Err(LayoutFault::Magic);
+        }
+        if four_at(bytes, 8) != FORMAT_VERSION {
+            return Err(LayoutFault::Version);
+        }
+        let Some(geometry) = geometry_in(bytes) else {
+            return Err(LayoutFault::Range);
+        };
+        let boot = eight_at(bytes, 24);
+        Ok(Super { geometry, boot })
+    }
+
+    /// The bytes of the super block.
+    pub fn write(&self, alloc: Global) -> Result<Vec<u8>, AllocError>
+        ensures bytes { IfOk result (λ bytes. bytes.items ≡ super_bytes self.now) }
+        ensures len { IfOk result (λ bytes. length bytes.items ≡ BLOCK_BYTES) }
+    {
+        let mut bytes = Vec::with_capacity(alloc, BLOCK_BYTES)?;
+        put_head(&mut bytes, self)?;
+        bytes.resize(BLOCK_BYTES, 0)?;
+        Ok(bytes)
+    }
+}
+
+// The sizes, if they are lawful and what isn't used is zero.
+fn geometry_in(bytes: &[u8]) -> Option<Geometry>
+    requires { length bytes.now ≡ BLOCK_BYTES }
+    ensures some { IfSome result (λ g. HasSizes bytes.now × (g.blocks ≡ four_at 12 bytes.now) × (g.inodes ≡ four_at 16 bytes.now)) }
+    ensures none { IfNone result (HasSizes bytes.now → ⊥) }
+{
+    let geometry = Geometry::new(four_at(bytes, 12), four_at(bytes, 16)).ok()?;
+    if is_unused_zero(bytes) {
+        Some(geometry)
+    } else {
+        None
+    }
+}
+
+// Whether what isn't used is zero.
+fn is_unused_zero(bytes: &[u8]) -> bool
+    requires { length bytes.now ≡ BLOCK_BYTES }
+    ensures { result ≡ is_unused_zero bytes.now }
+{
+    let (_, rest) = bytes.split_at(32);
+    four_at(bytes, 20) == 0 && is_zeros(rest)
+}
+
+// Whether the bytes begin as those of an image do.
+fn has_magic(bytes: &[u8]) -> bool
+    requires { 8 ≤ length bytes.now }
+    ensures { IsTrue result ↔ HasMagic bytes.now }
+{
+    bytes[..8] == MAGIC[..]
+}
+
+// Adds what of the bytes isn't zero always.
+fn put_head(bytes: &mut Vec<u8>, super_block: &Super) -> Result<(), AllocError>
+    ensures bytes { OnOk result (bytes.new.items ≡ bytes.old.items ++ super_head super_block.now) }
+    ensures len { OnOk result (length bytes.new.items ≡ length bytes.old.items + 32) }
+{
+    bytes.extend_from_slice(&MAGIC)?;
+    put_four(bytes, FORMAT_VERSION)?;
+    put_four(bytes, super_block.geometry.blocks)?;
+    put_four(bytes, super_block.geometry.inodes)?;
+    put_four(bytes, 0)?;
+    put_eight(bytes, super_block.boot)
+}

@@ -1,0 +1,76 @@
+//! What a reply tells of a file (RFC 1813, section 2.6).
+ghost use Rattle.std.specs.Prelude.{◌≡◌, ◌*◌};
+ghost use Rattle.model.specs.Attributes.{attributes_of, before_change, change_of, kind_of, size_of};
+ghost use Rattle.model.specs.Node.{Body};
+ghost use Rattle.layout.specs.Decode.{node_with};
+ghost use Rattle.procs.specs.Told.{file_kind, IsBodyOf};
+
+use layout::{Inode, InodeKind};
+use limits::BLOCK_BYTES;
+use nfs_types::{Attributes, DeviceNumber, FileKind, WeakCacheAttributes, WeakCacheData};
+
+/// A file that was found: its number, its inode, and how many blocks it holds.
+#[derive(Clone, Copy, Debug, PartialEq, Eq)]
+pub(crate) struct Found {
+    pub(crate) number: u32,
+    pub(crate) inode: Inode,
+    pub(crate) held: u32,
+}
+
+/// The number of the one file system.
+const FILE_SYSTEM: u64 = 1;
+
+fn file_kind(kind: InodeKind) -> FileKind
+    ensures { result ≡ file_kind kind }
+{
+    match kind {
+        InodeKind::Regular | InodeKind::Free => FileKind::Regular,
+        InodeKind::Directory => FileKind::Directory,
+        InodeKind::Link => FileKind::Link,
+    }
+}
+
+impl Found {
+    /// The attributes of the file.
+    pub(crate) fn attributes(&self) -> Attributes
+        ensures { (body : Body) → IsBodyOf self.now body → result ≡ attributes_of self.now.number (node_with self.now.inode body) }
+    {
+        Attributes {
+            kind: file_kind(self.inode.kind),
+            mode: self.inode.mode,
+            nlink: self.inode.nlink,
+            uid: self.inode.uid,
+            gid: self.inode.gid,
+            size: self.inode.size,
+            used: BLOCK_BYTES as u64 * self.held as u64,
+            device: DeviceNumber { major: 0, minor: 0 },
+            file_system: FILE_SYSTEM,
+            number: self.number as u64,
+            atime: self.inode.atime,
+            mtime: self.inode.mtime,
+            ctime: self.inode.ctime,
+        }
+    }
+
+    /// The file as it is before a change.
+    pub(crate) fn before_change(&self) -> WeakCacheAttributes
+        ensures { (body : Body) → IsBodyOf self.now body → result ≡ before_change (node_with self.now.inode body) }
+    {
+        WeakCacheAttributes {
+            size: self.inode.size,
+            mtime: self.inode.mtime,
+            ctime: self.inode.ctime,
+        }
+    }
+
+    /// The file before and after a change.
+    pub(crate) fn change_to(&self, new: &Found) -> WeakCacheData
+        requires { new.now.number ≡ self.now.number }
+        ensures { (body : Body) → IsBodyOf self.now body → IsBodyOf new.now body → result ≡ change_of self.now.number (node_with self.now.inode body) (node_with new.now.inode body) }
+    {
+        WeakCacheData {
+            before: Some(self.before_change()),
+            after: Some(new.attributes()),
+        }
+    }
+}

@@ -1,0 +1,76 @@
+//! The file that a handle names.
+ghost use Rattle.std.specs.Prelude.{◌≡◌, ◌+◌, ◌<◌, ◌≤◌, length, IfErr, IfOk};
+ghost use Rattle.limits.specs.declared.TheConstants.{INDIRECT_INDEXES};
+ghost use Rattle.procs.specs.Seen.{IsNew};
+
+use crate::attributes::Found;
+use crate::snap::Snap;
+use crate::stop::Stop;
+use disk::BlockNo;
+use layout::{Inode, InodeKind, Numbers};
+use nfs_types::{Handle, Status};
+use objects::Addr;
+use std::alloc::Global;
+
+// The bytes at an address, once they were read.
+fn bytes_at(snap: &Snap, addr: Addr) -> Result<&[u8], Stop>
+    ensures ok { IfOk result (λ bytes. length bytes.now ≡ addr.len) }
+    ensures err { IfErr result (λ stop. IsNew snap.now stop) }
+{
+    match snap.get(addr) {
+        Some(object) => Ok(object.bytes()),
+        None => Err(Stop::Need(addr)),
+    }
+}
+
+// How many blocks the indirect block of this number keeps, and itself.
+fn held_by(alloc: Global, snap: &Snap, indirect: u32) -> Result<u32, Stop>
+    ensures ok { IfOk result (λ held. held ≤ INDIRECT_INDEXES + 1) }
+    ensures err { IfErr result (λ stop. IsNew snap.now stop) }
+{
+    if indirect == 0 {
+        return Ok(0);
+    }
+    let bytes = bytes_at(snap, Addr::whole(BlockNo(indirect)))?;
+    match Numbers::read(alloc, &snap.geometry, bytes)? {
+        Ok(numbers) => Ok(numbers.kept() + 1),
+        Err(_) => Err(Stop::Io),
+    }
+}
+
+// The inode of a number, which is that of an inode of the image.
+fn inode_of(snap: &Snap, number: u32) -> Result<Inode, Stop>
+    requires { number < snap.now.geometry.inodes }
+    ensures err { IfErr result (λ stop. IsNew snap.now stop) }
+{
+    let bytes = bytes_at(snap, snap.geometry.inode_addr(number))?;
+    Inode::read(&snap.geometry, bytes).map_err(|_| Stop::Io)
+}
+
+/// The file that a handle names, or why there is none: BADHANDLE for what can't be a handle of this server, STALE
+/// for a file that is no more (RFC 1813, section 2.6).
+pub(crate) fn find(
+    alloc: Global,
+    snap: &Snap,
+    handle: &Handle,
+) -> Result<Result<Found, Status>, Stop>
+    ensures err { IfErr result (λ stop. IsNew snap.now stop) }
+    ensures ok { IfOk result (λ found. IfOk found (λ f. f.number < snap.now.geometry.inodes)) }
+{
+    let Some((number, stamp)) = handle.parts() else {
+        return Ok(Err(Status::BadHandle));
+    };
+    if number == 0 || number >= snap.geometry.inodes {
+        return Ok(Err(Status::BadHandle));
+    }
+    let inode = inode_of(snap, number)?;
+    if inode.kind == InodeKind::Free || inode.stamp != stamp {
+        return Ok(Err(Status::Stale));
+    }
+    let held = inode.directly_held() + held_by(alloc, snap, inode.indirect)?;
+    Ok(Ok(Found {
+        number,
+        inode,
+        held,
+    }))
+}

@@ -1,0 +1,20 @@
+//! The procedures: what is to be read for a call, and what comes of it.
+#![tactic(auto)]
+
+mod attributes;
+mod done;
+mod find;
+mod next;
+mod refused;
+mod rules;
+mod set_attr;
+mod snap;
+mod stop;
+mod work;
+
+pub use done::Done;
+pub use next::Plan;
+pub use refused::{refused_reply, unsupported_reply};
+pub use rules::{has_rules, is_answered_stable};
+pub use snap::Snap;
+pub use work::plan;

@@ -1,0 +1,90 @@
+//! What has been read for a call so far.
+ghost use Rattle.std.specs.Prelude.{◌≡◌, false, true, ◌∷◌, [], ◌++◌, length, IfSome, IfNone, OnOk};
+ghost use Rattle.procs.specs.Seen.{HasRoom, is_seen, same_addr};
+
+use disk::BlockNo;
+use layout::Geometry;
+use objects::Addr;
+use std::alloc::{AllocError, Global};
+use txn::Object;
+
+/// The geometry of the image, the objects that were read so far in their order, and the blocks that were claimed.
+#[derive(Drop)]
+pub struct Snap {
+    pub(crate) geometry: Geometry,
+    pub(crate) objects: Vec<Object>,
+    pub(crate) claims: Vec<BlockNo>,
+}
+
+impl Snap {
+    /// Nothing was read yet.
+    pub fn new(alloc: Global, geometry: Geometry) -> Snap
+        ensures geometry { result.geometry ≡ geometry }
+        ensures objects { result.objects.items ≡ [] }
+        ensures claims { result.claims.items ≡ [] }
+    {
+        Snap {
+            geometry,
+            objects: Vec::new(alloc),
+            claims: Vec::new(alloc),
+        }
+    }
+
+    /// Makes room for one more object and one more claim.
+    pub fn make_room(&mut self) -> Result<(), AllocError>
+        ensures room { OnOk result (HasRoom self.new) }
+        ensures geometry { self.new.geometry ≡ self.old.geometry }
+        ensures objects { self.new.objects.items ≡ self.old.objects.items }
+        ensures claims { self.new.claims.items ≡ self.old.claims.items }
+    {
+        self.objects.reserve(1)?;
+        self.claims.reserve(1)
+    }
+
+    /// Adds an object that was read, for which there is room.
+    pub fn add(&mut self, addr: Addr, bytes: Vec<u8>)
+        requires len { length bytes.items ≡ addr.len }
+        requires room { HasRoom self.old }
+        ensures objects { self.new.objects.items ≡ self.old.objects.items ++ record { addr = addr; bytes = bytes.items } ∷ [] }
+        ensures geometry { self.new.geometry ≡ self.old.geometry }
+        ensures claims { self.new.claims.items ≡ self.old.claims.items }
+    {
+        match self.objects.push(Object::new(addr, bytes)) {
+            Ok(()) => {}
+            Err(_) => unreachable!(),
+        }
+    }
+
+    /// Notes that a block was claimed, for which there is room.
+    pub fn claimed(&mut self, block: BlockNo)
+        requires { HasRoom self.old }
+        ensures claims { self.new.claims.items ≡ self.old.claims.items ++ block ∷ [] }
+        ensures geometry { self.new.geometry ≡ self.old.geometry }
+        ensures objects { self.new.objects.items ≡ self.old.objects.items }
+    {
+        match self.claims.push(block) {
+            Ok(()) => {}
+            Err(_) => unreachable!(),
+        }
+    }
+
+    /// The object of an address, if it was read.
+    pub fn get(&self, addr: Addr) -> Option<&Object>
+        ensures some { IfSome result (λ o. same_addr addr o.now.addr ≡ true) }
+        ensures none { IfNone result (is_seen addr self.now.objects.items ≡ false) }
+    {
+        for object in &self.objects {
+            if same_addr(addr, object.addr()) {
+                return Some(object);
+            }
+        }
+        None
+    }
+}
+
+// Whether two addresses are one.
+fn same_addr(a: Addr, b: Addr) -> bool
+    ensures { result ≡ same_addr a b }
+{
+    a.block.0 == b.block.0 && a.offset == b.offset && a.len == b.len
+}

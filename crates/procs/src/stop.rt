@@ -1,0 +1,22 @@
+//! Why a plan goes no further.
+use objects::Addr;
+use std::alloc::AllocError;
+
+/// What stands in a plan's way: an object that wasn't read yet, one that the layout refuses, or want of memory.
+#[derive(Clone, Copy, Debug, PartialEq, Eq)]
+pub enum Stop {
+    Need(Addr),
+    Io,
+    NoMemory,
+}
+
+impl From<AllocError> for Stop {
+    ghost use Rattle.std.specs.Prelude.{◌≡◌};
+    ghost use Rattle.procs.specs.declared.stop.Stop.TheVariants.{NoMemory};
+
+    ghost from_gives = { λ _ stop. stop ≡ NoMemory };
+
+    fn from(_: AllocError) -> Stop {
+        Stop::NoMemory
+    }
+}

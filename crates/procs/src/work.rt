@@ -1,0 +1,130 @@
+//! Plans: what a call needs next, or what comes of it.
+ghost use Rattle.std.specs.Prelude.{◌≡◌, true, ◌<◌, IfErr, IfOk};
+ghost use Rattle.model.specs.Calls.{has_rules, sets_only_mode};
+ghost use Rattle.procs.specs.Seen.{IsNew, IsPlanFor, IsDoneFor};
+
+use crate::attributes::Found;
+use crate::done::Done;
+use crate::find::find;
+use crate::next::Plan;
+use crate::refused::refused_reply;
+use crate::set_attr::{refusal, with_mode};
+use crate::snap::Snap;
+use crate::stop::Stop;
+use nfs_types::{Call, Ctx, Handle, Moment, NewAttributes, Reply, Status, WeakCacheData};
+use std::alloc::{AllocError, Global};
+use txn::Object;
+
+// What is done without a write.
+fn told(alloc: Global, snap: &Snap, reply: Reply) -> Result<Done, AllocError>
+    ensures { IfOk result (λ done. IsDoneFor snap.now done) }
+{
+    Done::new(alloc, snap, reply, Vec::new(alloc))
+}
+
+// GETATTR (RFC 1813, section 3.3.1).
+fn get_attr(alloc: Global, snap: &Snap, object: &Handle) -> Result<Done, Stop>
+    ensures ok { IfOk result (λ done. IsDoneFor snap.now done) }
+    ensures err { IfErr result (λ stop. IsNew snap.now stop) }
+{
+    let outcome = match find(alloc, snap, object)? {
+        Ok(found) => Ok(found.attributes()),
+        Err(status) => Err(status),
+    };
+    Ok(told(alloc, snap, Reply::GetAttr { outcome })?)
+}
+
+// A SETATTR that changes nothing.
+fn left(
+    alloc: Global,
+    snap: &Snap,
+    status: Status,
+    object: WeakCacheData,
+) -> Result<Done, AllocError>
+    ensures { IfOk result (λ done. IsDoneFor snap.now done) }
+{
+    let outcome = Err(status);
+    told(alloc, snap, Reply::SetAttr { outcome, object })
+}
+
+// The change of an inode, with its reply.
+fn changed(alloc: Global, snap: &Snap, old: &Found, new: &Found) -> Result<Done, AllocError>
+    requires number { new.now.number < snap.now.geometry.inodes }
+    requires same { new.now.number ≡ old.now.number }
+    ensures { IfOk result (λ done. IsDoneFor snap.now done) }
+{
+    let addr = snap.geometry.inode_addr(new.number);
+    let mut written = Vec::new(alloc);
+    written.push(Object::new(addr, new.inode.write(alloc)?))?;
+    let reply = Reply::SetAttr {
+        outcome: Ok(()),
+        object: old.change_to(new),
+    };
+    Done::new(alloc, snap, reply, written)
+}
+
+// SETATTR of the mode (RFC 1813, section 3.3.2).
+fn set_attr(
+    alloc: Global,
+    ctx: &Ctx,
+    snap: &Snap,
+    object: &Handle,
+    wanted: &NewAttributes,
+    guard: &Option<Moment>,
+) -> Result<Done, Stop>
+    requires { sets_only_mode wanted.now ≡ true }
+    ensures ok { IfOk result (λ done. IsDoneFor snap.now done) }
+    ensures err { IfErr result (λ stop. IsNew snap.now stop) }
+{
+    let found = match find(alloc, snap, object)? {
+        Ok(found) => found,
+        Err(status) => {
+            let untold = WeakCacheData {
+                before: None,
+                after: None,
+            };
+            return Ok(left(alloc, snap, status, untold)?);
+        }
+    };
+    match refusal(ctx, wanted, guard, &found) {
+        Some(status) => Ok(left(alloc, snap, status, found.change_to(&found))?),
+        None => {
+            let new = with_mode(ctx.moment, wanted, &found);
+            Ok(changed(alloc, snap, &found, &new)?)
+        }
+    }
+}
+
+// What comes of a call that is served, or what stands in its way.
+fn work(alloc: Global, ctx: &Ctx, call: &Call, snap: &Snap) -> Result<Done, Stop>
+    requires { has_rules call.now ≡ true }
+    ensures ok { IfOk result (λ done. IsDoneFor snap.now done) }
+    ensures err { IfErr result (λ stop. IsNew snap.now stop) }
+{
+    match call {
+        Call::GetAttr { object } => get_attr(alloc, snap, object),
+        Call::SetAttr {
+            object,
+            attributes,
+            guard,
+        } => set_attr(alloc, ctx, snap, object, attributes, guard),
+        _ => Err(Stop::Io),
+    }
+}
+
+/// What a call needs next, or what comes of it, by what was read so far. It asks for one object at a time, and
+/// begins anew each time. An object that the layout refuses makes it IO, with nothing told and nothing written.
+pub fn plan(alloc: Global, ctx: &Ctx, call: &Call, snap: &Snap) -> Plan
+    requires { has_rules call.now ≡ true }
+    ensures { IsPlanFor snap.now result }
+{
+    match work(alloc, ctx, call, snap) {
+        Ok(done) => Plan::Done(done),
+        Err(Stop::Need(addr)) => Plan::Need(addr),
+        Err(Stop::NoMemory) => Plan::NoMemory,
+        Err(Stop::Io) => match told(alloc, snap, refused_reply(call, Status::Io)) {
+            Ok(done) => Plan::Done(done),
+            Err(_) => Plan::NoMemory,
+        },
+    }
+}

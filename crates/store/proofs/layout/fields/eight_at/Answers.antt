@@ -1,8 +1,0 @@
-use Rattle.std.proofs.lemmas.List.{get_or-drop}
-use Rattle.std.proofs.Common.{◌∙◌, add-zero}
-use Rattle.store.specs.Fields.{eight_at}
-use Rattle.store.proofs.layout.fields.eight_at.Goals as goal
-
-pub returns : goal.returns
-unfolding eight_at
-returns c = c.from_le_bytes.ensures ∙ simp (get_or-drop, add-zero)

@@ -1,6 +1,0 @@
-use Rattle.std.proofs.Common.{◌≡◌, ◌+◌, ◌*◌, ◌++◌, length, take}
-use Rattle.store.specs.Fields.{number_bytes}
-use Rattle.store.proofs.layout.inode_bytes.put_numbers.Given as goal
-
-abbrev pub invariant-loop-number : goal.invariant-loop-number
-invariant-loop-number l = (l.bytes.items ≡ l.fn.bytes.items ++ number_bytes (take l.number-index l.numbers)) × (length l.bytes.items ≡ length l.fn.bytes.items + 4 * l.number-index)

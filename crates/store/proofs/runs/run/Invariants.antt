@@ -1,0 +1,6 @@
+-- the run goes on as it should
+use Rattle.store.specs.Running.{RunsWell}
+use Rattle.store.proofs.runs.run.Given as goal
+
+abbrev pub invariant-events : goal.invariant-events
+invariant-events g l = RunsWell l.running.worker l.running.store.core l.running.log l.running.inst

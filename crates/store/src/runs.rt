@@ -1,0 +1,39 @@
+//! A whole run: an opening, and then events one by one.
+ghost use Rattle.std.specs.Prelude.{◌≡◌};
+ghost use Rattle.store.specs.Running.{RunsWell};
+
+mod running;
+
+use crate::events::Event;
+use crate::opened::close;
+use crate::opening::{OpenFault, open};
+use crate::transcript::Run;
+use disk::CrashDisk;
+use running::Running;
+use std::alloc::Global;
+
+/// Opens a store and takes events one by one, with one worker for now. An event that doesn't apply does nothing; each
+/// other makes one step. All events are taken, or fewer where there was no memory to tell of the next. The disk comes
+/// back as the run left it.
+pub fn run<D: CrashDisk>(
+    alloc: Global,
+    disk: D,
+    workers: usize,
+    events: Vec<Event>,
+) -> (D, Result<Run, OpenFault>)
+    requires { workers ≡ 1 }
+{
+    let store = match open(alloc, disk) {
+        Ok(store) => store,
+        Err((disk, fault)) => return (disk, Err(fault)),
+    };
+    let mut run = Run::new(alloc, store.boot());
+    let mut running = Running::new(store);
+    'events: for event in events {
+        if run.make_room().is_err() {
+            break;
+        }
+        running.take(alloc, event, &mut run);
+    }
+    (close(running.end()), Ok(run))
+}

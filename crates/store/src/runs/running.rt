@@ -1,0 +1,229 @@
+//! The events of a run.
+ghost use Rattle.std.specs.Prelude.{◌≡◌, None};
+ghost use Rattle.store.specs.Room.{HasRoom};
+ghost use Rattle.store.specs.Running.{RunsWell};
+
+use crate::events::{Event, Step};
+use crate::opened::Store;
+use crate::slots::put;
+use crate::transcript::Run;
+use crate::workers::Worker;
+use disk::CrashDisk;
+use nfs_types::{Call, Credential, Moment};
+use std::alloc::Global;
+use txn::{InstIo, LogIo};
+
+/// A run that goes on: the store with its worker, the device calls that the log and the installer have out, whether
+/// these were made and answered Ok, and how many device calls the events have made.
+pub(super) struct Running<D: CrashDisk> {
+    store: Store<D>,
+    worker: Worker,
+    log: Option<LogIo>,
+    log_made: Option<bool>,
+    inst: Option<InstIo>,
+    inst_made: Option<bool>,
+    moment: u64,
+}
+
+impl<D: CrashDisk> Running<D> {
+    /// A run of an opened store in which nothing has happened yet.
+    pub(super) fn new(store: Store<D>) -> Running<D>
+        requires { store.core.out ≡ None }
+        ensures { RunsWell result.worker result.store.core result.log result.inst }
+    {
+        let boot = store.boot();
+        Running {
+            store,
+            worker: Worker::new(boot),
+            log: None,
+            log_made: None,
+            inst: None,
+            inst_made: None,
+            moment: 0,
+        }
+    }
+
+    /// Makes the step of an event, if it applies, and tells of it.
+    pub(super) fn take(&mut self, alloc: Global, event: Event, run: &mut Run)
+        requires well { RunsWell self.old.worker self.old.store.core self.old.log self.old.inst }
+        requires room { HasRoom run.old }
+        ensures { RunsWell self.new.worker self.new.store.core self.new.log self.new.inst }
+    {
+        let step = match event {
+            Event::Call {
+                worker,
+                credential,
+                moment,
+                call,
+            } => self.hand(worker, credential, moment, call),
+            Event::Work(worker) => self.work(alloc, worker, run),
+            Event::Read(worker) => self.read(worker),
+            Event::Log => self.log(),
+            Event::LogIo => self.log_io(),
+            Event::Install => self.install(),
+            Event::InstIo => self.inst_io(),
+        };
+        run.note_step(step);
+    }
+
+    // Hands the worker a call.
+    fn hand(
+        &mut self,
+        worker: usize,
+        credential: Credential,
+        moment: Moment,
+        call: Call,
+    ) -> Option<Step>
+        requires { RunsWell self.old.worker self.old.store.core self.old.log self.old.inst }
+        ensures { RunsWell self.new.worker self.new.store.core self.new.log self.new.inst }
+    {
+        if worker == 0 && self.worker.hand(credential, moment, call) {
+            Some(Step::Called)
+        } else {
+            None
+        }
+    }
+
+    // The worker makes a step. What it commits and answers is told.
+    fn work(&mut self, alloc: Global, worker: usize, run: &mut Run) -> Option<Step>
+        requires well { RunsWell self.old.worker self.old.store.core self.old.log self.old.inst }
+        requires room { HasRoom run.old }
+        ensures well { RunsWell self.new.worker self.new.store.core self.new.log self.new.inst }
+        ensures steps { run.new.steps ≡ run.old.steps }
+    {
+        if worker != 0 {
+            return None;
+        }
+        let step = self.worker.step(alloc, &mut self.store.core);
+        if let Some(entry) = self.worker.take_entry() {
+            run.note_entry(worker, self.moment, entry);
+        }
+        if let Some(answer) = self.worker.take_answer() {
+            run.note_answer(worker, self.moment, answer);
+        }
+        step
+    }
+
+    // The worker's read is made.
+    fn read(&mut self, worker: usize) -> Option<Step>
+        requires { RunsWell self.old.worker self.old.store.core self.old.log self.old.inst }
+        ensures { RunsWell self.new.worker self.new.store.core self.new.log self.new.inst }
+    {
+        if worker != 0 {
+            return None;
+        }
+        let step = self.worker.read(&mut self.store.disk)?;
+        self.count();
+        Some(step)
+    }
+
+    // Counts a device call.
+    fn count(&mut self)
+        ensures { RunsWell self.old.worker self.old.store.core self.old.log self.old.inst → RunsWell self.new.worker self.new.store.core self.new.log self.new.inst }
+    {
+        self.moment = self.moment.saturating_add(1);
+    }
+}
+
+impl<D: CrashDisk> Running<D> {
+    // Gives back the log's device call that was made, or takes the next.
+    fn log(&mut self) -> Option<Step>
+        requires { RunsWell self.old.worker self.old.store.core self.old.log self.old.inst }
+        ensures { RunsWell self.new.worker self.new.store.core self.new.log self.new.inst }
+    {
+        let Some(io) = self.log.take() else {
+            let io = self.store.core.log_next()?;
+            let call = io.call();
+            put(&mut self.log, io);
+            return Some(Step::LogNext(call));
+        };
+        match self.log_made.take() {
+            Some(ok) => {
+                self.store.core.log_done(io, ok);
+                Some(Step::LogDone(ok))
+            }
+            None => {
+                put(&mut self.log, io);
+                None
+            }
+        }
+    }
+
+    // The log's device call is made.
+    #[tactic(auto, using(crate::proofs::Made::made_size))]
+    fn log_io(&mut self) -> Option<Step>
+        requires { RunsWell self.old.worker self.old.store.core self.old.log self.old.inst }
+        ensures { RunsWell self.new.worker self.new.store.core self.new.log self.new.inst }
+    {
+        if self.log_made.is_some() {
+            return None;
+        }
+        let io = self.log.as_ref()?;
+        let ok = io.perform(&mut self.store.disk).is_ok();
+        self.log_made = Some(ok);
+        self.count();
+        Some(Step::LogIo(ok))
+    }
+
+    // Gives back the installer's device call that was made, or takes the next.
+    fn install(&mut self) -> Option<Step>
+        requires { RunsWell self.old.worker self.old.store.core self.old.log self.old.inst }
+        ensures { RunsWell self.new.worker self.new.store.core self.new.log self.new.inst }
+    {
+        let Some(io) = self.inst.take() else {
+            let io = self.store.core.inst_next()?;
+            let call = io.call();
+            put(&mut self.inst, io);
+            return Some(Step::InstNext(call));
+        };
+        match self.inst_made.take() {
+            Some(ok) => {
+                self.store.core.inst_done(io, ok);
+                Some(Step::InstDone(ok))
+            }
+            None => {
+                put(&mut self.inst, io);
+                None
+            }
+        }
+    }
+
+    // The installer's device call is made.
+    #[tactic(auto, using(crate::proofs::Made::made_size))]
+    fn inst_io(&mut self) -> Option<Step>
+        requires { RunsWell self.old.worker self.old.store.core self.old.log self.old.inst }
+        ensures { RunsWell self.new.worker self.new.store.core self.new.log self.new.inst }
+    {
+        if self.inst_made.is_some() {
+            return None;
+        }
+        let io = self.inst.as_ref()?;
+        let ok = io.perform(&mut self.store.disk).is_ok();
+        self.inst_made = Some(ok);
+        self.count();
+        Some(Step::InstIo(ok))
+    }
+
+    /// The store, once what is out was given back and the worker has ended.
+    pub(super) fn end(self) -> Store<D>
+        requires { RunsWell self.worker self.store.core self.log self.inst }
+    {
+        let Running {
+            mut store,
+            worker,
+            log,
+            log_made: _,
+            inst,
+            inst_made: _,
+            moment: _,
+        } = self;
+        worker.end(&mut store.core);
+        if let Some(io) = log {
+            store.core.log_done(io, false);
+        }
+        if let Some(io) = inst {
+            store.core.inst_done(io, false);
+        }
+        store
+    }
+}

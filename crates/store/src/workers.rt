@@ -1,0 +1,205 @@
+//! One procedure at a time, as steps of the core.
+
+mod planning;
+mod steps;
+
+use crate::answers::{Answered, Entry, Verdict};
+use crate::events::Step;
+use disk::CrashDisk;
+use nfs_types::{Call, Credential, Ctx, Moment, Reply};
+use procs::{Done, Snap};
+use std::alloc::Global;
+use txn::{Core, FetchIo, Seq, Tx};
+
+// A call that was handed over, with what its procedure is run with.
+#[derive(Drop)]
+pub(crate) struct Job {
+    pub(crate) ctx: Ctx,
+    pub(crate) call: Call,
+}
+
+// How far a worker is with its call.
+#[derive(Clone, Copy, Debug, PartialEq, Eq)]
+pub(crate) enum Phase {
+    Idle,
+    // It has a call, and no transaction.
+    Called,
+    // It has a transaction, and what it has read in it.
+    Planning,
+    // A read is due.
+    Reading,
+    // The read was made, well or not.
+    Read(bool),
+    // The transaction has to be ended, and then the call is answered.
+    Refused(Refusal),
+    // The transaction has to be ended, and then the call begins again.
+    Again,
+    // The procedure was committed at this place, and is answered once the place is settled, or can't be any more.
+    Waiting(Seq),
+}
+
+// Why a call is refused.
+#[derive(Clone, Copy, Debug, PartialEq, Eq)]
+pub(crate) enum Refusal {
+    Io,
+    Spent,
+    NoMemory,
+}
+
+/// A worker: the state of one procedure. What its steps commit and answer lies ready to be taken.
+pub struct Worker {
+    boot: u64,
+    phase: Phase,
+    job: Option<Job>,
+    snap: Option<Snap>,
+    tx: Option<Tx>,
+    io: Option<FetchIo>,
+    // The replies of a committed procedure: the one that is told, and the one that is told where the store is broken.
+    told: Option<Reply>,
+    broken: Option<Reply>,
+    entry: Option<Entry>,
+    answer: Option<Answered>,
+}
+
+impl Worker {
+    ghost use Rattle.std.specs.Prelude.{◌≡◌, ◌↔◌, IsTrue, IsSome, None, is_some};
+    ghost use Rattle.txn.specs.Core.{CoreState};
+    ghost use Rattle.store.specs.declared.workers.Phase.TheVariants.{Idle, Reading};
+    ghost use Rattle.store.specs.Counts.{SameCounts};
+    ghost use Rattle.store.specs.Worker.{Fits, ReadsWithin, has_fetch};
+
+    /// An idle worker of a store with this boot number.
+    pub fn new(boot: u64) -> Worker
+        ensures idle { result.phase ≡ Idle }
+        ensures boot { result.boot ≡ boot }
+        ensures out { (result.tx ≡ None) × (result.io ≡ None) }
+        ensures ready { (result.entry ≡ None) × (result.answer ≡ None) }
+    {
+        Worker {
+            boot,
+            phase: Phase::Idle,
+            job: None,
+            snap: None,
+            tx: None,
+            io: None,
+            told: None,
+            broken: None,
+            entry: None,
+            answer: None,
+        }
+    }
+
+    /// Whether the worker has no call.
+    pub fn is_idle(&self) -> bool
+        ensures { IsTrue result ↔ (self.now.phase ≡ Idle) }
+    {
+        self.phase == Phase::Idle
+    }
+
+    /// Whether a read is due.
+    pub fn due(&self) -> bool
+        ensures { IsTrue result ↔ (self.now.phase ≡ Reading) }
+    {
+        self.phase == Phase::Reading
+    }
+
+    /// Hands a worker a call, and answers whether it took it: a busy one does nothing.
+    pub fn hand(&mut self, credential: Credential, moment: Moment, call: Call) -> bool
+        ensures fits { (core : CoreState) → Fits self.old core → Fits self.new core }
+        ensures taken { IsTrue result ↔ (self.old.phase ≡ Idle) }
+    {
+        if !self.is_idle() {
+            return false;
+        }
+        let ctx = Ctx {
+            credential,
+            moment,
+            boot: self.boot,
+            transaction: 0,
+        };
+        self.job = Some(Job { ctx, call });
+        self.phase = Phase::Called;
+        true
+    }
+
+    /// Reads the block that is due, and keeps the answer for the next step. It answers the step, or None where no
+    /// read is due.
+    pub fn read<D: CrashDisk>(&mut self, disk: &mut D) -> Option<Step>
+        requires within { ReadsWithin (D.device disk.old).size self.old }
+        requires fetch { is_some self.old.io ≡ has_fetch self.old.phase }
+        ensures fits { (core : CoreState) → Fits self.old core → Fits self.new core }
+        ensures size { (D.device disk.new).size ≡ (D.device disk.old).size }
+        ensures due { IsSome result ↔ (self.old.phase ≡ Reading) }
+    {
+        if self.phase != Phase::Reading {
+            return None;
+        }
+        let Some(io) = self.io.as_mut() else {
+            unreachable!();
+        };
+        let block = io.block();
+        let ok = io.perform(disk).is_ok();
+        self.phase = Phase::Read(ok);
+        Some(Step::Read(block, ok))
+    }
+
+    /// Makes the next step: one method of the core, or the answer of a call that needs no transaction. None where the
+    /// worker has no call or a read is due.
+    pub fn step(&mut self, alloc: Global, core: &mut Core<Done>) -> Option<Step>
+        requires { Fits self.old core.old }
+        ensures fits { Fits self.new core.new }
+        ensures counts { SameCounts core.old core.new }
+    {
+        match self.phase {
+            Phase::Idle | Phase::Reading => None,
+            Phase::Called => Some(self.begin(alloc, core)),
+            Phase::Planning => Some(self.go_by_plan(alloc, core)),
+            Phase::Read(ok) => Some(self.give_back(core, ok)),
+            Phase::Refused(refusal) => Some(self.refuse(core, refusal)),
+            Phase::Again => Some(self.begin_again(core)),
+            Phase::Waiting(place) => Some(self.wait(core, place)),
+        }
+    }
+
+    /// Takes the procedure that the last step committed, if it committed one.
+    pub fn take_entry(&mut self) -> Option<Entry>
+        ensures result { result ≡ self.old.entry }
+        ensures fits { (core : CoreState) → Fits self.old core → Fits self.new core }
+    {
+        self.entry.take()
+    }
+
+    /// Takes the answer that the last step gave, if it gave one.
+    pub fn take_answer(&mut self) -> Option<Answered>
+        ensures result { result ≡ self.old.answer }
+        ensures fits { (core : CoreState) → Fits self.old core → Fits self.new core }
+    {
+        self.answer.take()
+    }
+
+    /// Ends the worker, and what it has begun.
+    pub fn end(self, core: &mut Core<Done>)
+        requires { Fits self core.old }
+        ensures counts { SameCounts core.old core.new }
+        ensures ended { core.new.out ≡ None }
+    {
+        let Worker {
+            boot: _,
+            phase: _,
+            job: _,
+            snap: _,
+            tx,
+            io,
+            told: _,
+            broken: _,
+            entry: _,
+            answer: _,
+        } = self;
+        if let Some(io) = io {
+            core.fetch_failed(io);
+        }
+        if let Some(tx) = tx {
+            core.abort(tx);
+        }
+    }
+}

@@ -1,0 +1,221 @@
+//! The steps of a worker that go by its plan: it reads and claims what the plan asks for, and commits what it ends in.
+ghost use Rattle.std.specs.Prelude.{◌≡◌, ◌≤◌, Some, None, true, length};
+
+use super::{Job, Phase, Refusal, Worker};
+use crate::answers::{Entry, Verdict};
+use crate::events::{Committing, Step, Wish};
+use crate::slots::put;
+use disk::BlockNo;
+use nfs_types::{Reply, Status};
+use objects::Addr;
+use procs::{Done, Plan, is_answered_stable, plan, refused_reply};
+use std::alloc::Global;
+use txn::{Claim, Commit, Core, Seq, Tx, Want};
+
+impl Worker {
+    ghost use Rattle.store.specs.declared.workers.Phase.TheVariants.{Planning};
+    ghost use Rattle.store.specs.Counts.{SameCounts};
+    ghost use Rattle.store.specs.Worker.{Fits, HasRoom, IsHeld, IsPlanned, IsStillPlanned, IsTold, IsWithout};
+
+    // Makes the step that the plan asks for. Where the plan finds no memory the transaction is ended.
+    pub(super) fn go_by_plan(&mut self, alloc: Global, core: &mut Core<Done>) -> Step
+        requires fits { Fits self.old core.old }
+        requires phase { self.old.phase ≡ Planning }
+        ensures fits { Fits self.new core.new }
+        ensures counts { SameCounts core.old core.new }
+    {
+        let next = self.next(alloc);
+        let Some(tx) = self.tx.take() else {
+            unreachable!();
+        };
+        match next {
+            Plan::Need(addr) => self.want(alloc, core, tx, addr),
+            Plan::Claim(block) => self.claim(core, tx, block),
+            Plan::Done(done) => self.commit(alloc, core, tx, done),
+            Plan::NoMemory => self.lack(core, tx),
+        }
+    }
+
+    // What the call needs next, or what comes of it, with room for what is read next.
+    fn next(&mut self, alloc: Global) -> Plan
+        requires { IsPlanned self.old }
+        ensures { IsTold self.old result self.new }
+    {
+        let (Some(job), Some(snap)) = (self.job.as_ref(), self.snap.as_mut()) else {
+            unreachable!();
+        };
+        if snap.make_room().is_err() {
+            return Plan::NoMemory;
+        }
+        plan(alloc, &job.ctx, &job.call, snap)
+    }
+
+    // Ends the transaction for want of memory.
+    fn lack(&mut self, core: &mut Core<Done>, tx: Tx) -> Step
+        requires { IsHeld self.old tx core.old }
+        ensures fits { Fits self.new core.new }
+        ensures counts { SameCounts core.old core.new }
+    {
+        core.abort(tx);
+        self.give(Verdict::NoMemory, None);
+        Step::Aborted(true)
+    }
+
+    // Reads an object in the transaction.
+    fn want(&mut self, alloc: Global, core: &mut Core<Done>, tx: Tx, addr: Addr) -> Step
+        requires held { IsHeld self.old tx core.old }
+        requires room { HasRoom self.old }
+        ensures fits { Fits self.new core.new }
+        ensures counts { SameCounts core.old core.new }
+    {
+        let wish = match core.want(alloc, tx, addr) {
+            Want::Held(tx, bytes) => {
+                self.keep(addr, bytes);
+                self.go_on(tx, Phase::Planning);
+                Wish::Held
+            }
+            Want::Fetch(tx, io) => {
+                put(&mut self.io, io);
+                self.go_on(tx, Phase::Reading);
+                Wish::Fetch
+            }
+            Want::Busy(tx) => {
+                self.go_on(tx, Phase::Planning);
+                Wish::Busy
+            }
+            Want::Loading(tx) => {
+                self.go_on(tx, Phase::Planning);
+                Wish::Loading
+            }
+            Want::Outside(tx) => {
+                self.go_on(tx, Phase::Refused(Refusal::Io));
+                Wish::Outside
+            }
+            Want::NoMemory(tx) => {
+                self.go_on(tx, Phase::Refused(Refusal::NoMemory));
+                Wish::NoMemory
+            }
+        };
+        Step::Wanted(addr, wish)
+    }
+
+    // Keeps what was read.
+    fn keep(&mut self, addr: Addr, bytes: Vec<u8>)
+        requires planned { IsPlanned self.old }
+        requires room { HasRoom self.old }
+        requires len { length bytes.items ≡ addr.len }
+        ensures { IsStillPlanned self.old self.new }
+    {
+        match self.snap.as_mut() {
+            Some(snap) => snap.add(addr, bytes),
+            None => unreachable!(),
+        }
+    }
+
+    // Claims a block that is written whole.
+    fn claim(&mut self, core: &mut Core<Done>, tx: Tx, block: BlockNo) -> Step
+        requires held { IsHeld self.old tx core.old }
+        requires room { HasRoom self.old }
+        ensures fits { Fits self.new core.new }
+        ensures counts { SameCounts core.old core.new }
+    {
+        let wish = match core.claim(tx, block) {
+            Claim::Held(tx) => {
+                self.note_claim(block);
+                self.go_on(tx, Phase::Planning);
+                Wish::Held
+            }
+            Claim::Busy(tx) => {
+                self.go_on(tx, Phase::Planning);
+                Wish::Busy
+            }
+            Claim::Loading(tx) => {
+                self.go_on(tx, Phase::Planning);
+                Wish::Loading
+            }
+            Claim::Outside(tx) => {
+                self.go_on(tx, Phase::Refused(Refusal::Io));
+                Wish::Outside
+            }
+            Claim::NoMemory(tx) => {
+                self.go_on(tx, Phase::Refused(Refusal::NoMemory));
+                Wish::NoMemory
+            }
+        };
+        Step::Claimed(block, wish)
+    }
+
+    // Notes that a block was claimed.
+    fn note_claim(&mut self, block: BlockNo)
+        requires planned { IsPlanned self.old }
+        requires room { HasRoom self.old }
+        ensures { IsStillPlanned self.old self.new }
+    {
+        match self.snap.as_mut() {
+            Some(snap) => snap.claimed(block),
+            None => unreachable!(),
+        }
+    }
+
+    // Commits what the plan ended in. The replies are made before.
+    fn commit(&mut self, alloc: Global, core: &mut Core<Done>, tx: Tx, done: Done) -> Step
+        requires held { IsHeld self.old tx core.old }
+        ensures fits { Fits self.new core.new }
+        ensures counts { SameCounts core.old core.new }
+    {
+        let (Ok(told), Ok(kept)) = (done.reply().again(alloc), done.reply().again(alloc)) else {
+            return self.lack(core, tx);
+        };
+        let answer = match core.commit(alloc, tx, done) {
+            Commit::Committed(place) => {
+                self.committed(place, told, kept);
+                Committing::Committed(place)
+            }
+            Commit::Full(tx, _) => {
+                self.go_on(tx, Phase::Planning);
+                Committing::Full
+            }
+            Commit::Foreign(tx, _) => {
+                self.go_on(tx, Phase::Again);
+                Committing::Foreign
+            }
+            Commit::NoMemory(tx, _) => {
+                self.go_on(tx, Phase::Refused(Refusal::NoMemory));
+                Committing::NoMemory
+            }
+            Commit::Broken(tx, _) => {
+                self.go_on(tx, Phase::Refused(Refusal::Io));
+                Committing::Broken
+            }
+            Commit::Spent(tx, _) => {
+                self.go_on(tx, Phase::Refused(Refusal::Spent));
+                Committing::Spent
+            }
+        };
+        Step::Commit(answer)
+    }
+
+    // The procedure was committed at this place. It is answered at once, or when its place is settled.
+    fn committed(&mut self, place: Seq, told: Reply, kept: Reply)
+        requires planned { IsPlanned self.old }
+        requires out { (self.old.tx ≡ None) × (self.old.io ≡ None) }
+        ensures out { (self.new.tx ≡ None) × (self.new.io ≡ None) }
+        ensures ready { IsWithout self.new }
+    {
+        let Some(Job { ctx, call }) = self.job.take() else {
+            unreachable!();
+        };
+        if is_answered_stable(&call) {
+            self.told = Some(told);
+            self.broken = Some(refused_reply(&call, Status::Io));
+            self.phase = Phase::Waiting(place);
+        } else {
+            self.give(Verdict::Reply(told), Some(place));
+        }
+        self.entry = Some(Entry {
+            ctx,
+            call,
+            reply: kept,
+        });
+    }
+}

@@ -1,0 +1,165 @@
+//! The steps of a worker besides planning.
+ghost use Rattle.std.specs.Prelude.{◌≡◌, Some, None, true};
+
+use super::{Phase, Refusal, Worker};
+use crate::answers::{Answered, Verdict};
+use crate::events::Step;
+use crate::slots::put;
+use layout::Geometry;
+use nfs_types::{Call, Status};
+use procs::{Done, Snap, has_rules, refused_reply};
+use std::alloc::Global;
+use txn::{BeginFault, Core, Seq, Tx};
+
+impl Worker {
+    ghost use Rattle.store.specs.declared.workers.Phase.TheVariants.{Idle, Called, Read, Refused, Again, Waiting};
+    ghost use Rattle.store.specs.Counts.{SameCounts};
+    ghost use Rattle.store.specs.Worker.{Fits};
+
+    // Begins the transaction of a call, or answers a call that needs none.
+    pub(super) fn begin(&mut self, alloc: Global, core: &mut Core<Done>) -> Step
+        requires fits { Fits self.old core.old }
+        requires phase { self.old.phase ≡ Called }
+        ensures fits { Fits self.new core.new }
+        ensures counts { SameCounts core.old core.new }
+    {
+        let Some(job) = self.job.as_mut() else {
+            unreachable!();
+        };
+        if !has_rules(&job.call) {
+            let reply = refused_reply(&job.call, Status::NotSupp);
+            self.give(Verdict::Reply(reply), None);
+            return Step::Replied;
+        }
+        match core.begin() {
+            Ok(tx) => {
+                let number = tx.number();
+                job.ctx.transaction = number;
+                let (blocks, inodes) = core.counts();
+                self.snap = Some(Snap::new(alloc, Geometry { blocks, inodes }));
+                self.go_on(tx, Phase::Planning);
+                Step::Begun(Ok(number))
+            }
+            Err(fault) => {
+                let told = verdict(&job.call, refusal_of(fault));
+                self.give(told, None);
+                Step::Begun(Err(fault))
+            }
+        }
+    }
+
+    // Gives the core the block that was read. Where the read failed the transaction has to be ended.
+    pub(super) fn give_back(&mut self, core: &mut Core<Done>, ok: bool) -> Step
+        requires fits { Fits self.old core.old }
+        requires phase { self.old.phase ≡ Read ok }
+        ensures fits { Fits self.new core.new }
+        ensures counts { SameCounts core.old core.new }
+    {
+        let Some(io) = self.io.take() else {
+            unreachable!();
+        };
+        let block = io.block();
+        if ok {
+            core.fetched(io);
+            self.phase = Phase::Planning;
+            Step::Fetched(block)
+        } else {
+            core.fetch_failed(io);
+            self.phase = Phase::Refused(Refusal::Io);
+            Step::FetchFailed(block)
+        }
+    }
+
+    // Ends the transaction, and answers why.
+    pub(super) fn refuse(&mut self, core: &mut Core<Done>, refusal: Refusal) -> Step
+        requires fits { Fits self.old core.old }
+        requires phase { self.old.phase ≡ Refused refusal }
+        ensures fits { Fits self.new core.new }
+        ensures counts { SameCounts core.old core.new }
+    {
+        let Some(tx) = self.tx.take() else {
+            unreachable!();
+        };
+        core.abort(tx);
+        let Some(job) = self.job.as_ref() else {
+            unreachable!();
+        };
+        let told = verdict(&job.call, refusal);
+        self.give(told, None);
+        Step::Aborted(false)
+    }
+
+    // Ends the transaction of a call that begins again.
+    pub(super) fn begin_again(&mut self, core: &mut Core<Done>) -> Step
+        requires fits { Fits self.old core.old }
+        requires phase { self.old.phase ≡ Again }
+        ensures fits { Fits self.new core.new }
+        ensures counts { SameCounts core.old core.new }
+    {
+        let Some(tx) = self.tx.take() else {
+            unreachable!();
+        };
+        core.abort(tx);
+        self.phase = Phase::Called;
+        Step::Aborted(false)
+    }
+
+    // Answers a committed procedure once its place is settled, or once it can't be any more.
+    pub(super) fn wait(&mut self, core: &Core<Done>, place: Seq) -> Step
+        requires fits { Fits self.old core.now }
+        requires phase { self.old.phase ≡ Waiting place }
+        ensures fits { Fits self.new core.now }
+    {
+        let settled = core.stable(place).is_some();
+        if settled || core.broken() {
+            let reply = if settled {
+                self.told.take()
+            } else {
+                self.broken.take()
+            };
+            let Some(reply) = reply else {
+                unreachable!();
+            };
+            self.give(Verdict::Reply(reply), Some(place));
+        }
+        Step::Stable(place, settled)
+    }
+
+    // The answer lies ready to be taken, and the worker is idle.
+    pub(super) fn give(&mut self, verdict: Verdict, place: Option<Seq>)
+        ensures idle { self.new.phase ≡ Idle }
+        ensures rest { (self.new.tx ≡ self.old.tx) × (self.new.io ≡ self.old.io) }
+    {
+        self.answer = Some(Answered { verdict, place });
+        self.phase = Phase::Idle;
+    }
+
+    // The worker goes on with its transaction.
+    pub(super) fn go_on(&mut self, tx: Tx, phase: Phase)
+        requires { self.old.tx ≡ None }
+        ensures tx { self.new.tx ≡ Some tx }
+        ensures phase { self.new.phase ≡ phase }
+        ensures rest { (self.new.job ≡ self.old.job) × (self.new.snap ≡ self.old.snap) × (self.new.io ≡ self.old.io) }
+    {
+        self.phase = phase;
+        put(&mut self.tx, tx);
+    }
+}
+
+// What a call is answered that is refused.
+fn verdict(call: &Call, refusal: Refusal) -> Verdict {
+    match refusal {
+        Refusal::Io => Verdict::Reply(refused_reply(call, Status::Io)),
+        Refusal::Spent => Verdict::Reply(refused_reply(call, Status::ServerFault)),
+        Refusal::NoMemory => Verdict::NoMemory,
+    }
+}
+
+// Why a call is refused that no transaction could be begun for.
+fn refusal_of(fault: BeginFault) -> Refusal {
+    match fault {
+        BeginFault::Broken => Refusal::Io,
+        BeginFault::Spent => Refusal::Spent,
+        BeginFault::NoMemory => Refusal::NoMemory,
+    }
+}

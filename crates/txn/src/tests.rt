@@ -1,0 +1,424 @@
+//! A toy change over a device in memory: what no contract says of reading, committing, settling and refusing.
+ghost use Rattle.std.specs.Prelude.{◌≡◌, ◌≤◌, length, IfOk, None, Some};
+ghost use Rattle.limits.specs.declared.TheConstants.{CHANGED_BLOCKS};
+ghost use Rattle.txn.specs.Group.{blocks_of};
+
+use crate::*;
+use disk::{Block, BlockNo, CrashDisk, MemDisk};
+use limits::FIRST_HOME_BLOCK;
+use objects::Addr;
+use std::alloc::Global;
+use std::test::Fail;
+use wal::circ::Recovered;
+use wal::{Seq, Wal};
+
+// The blocks and inodes of the image here.
+const BLOCKS: u32 = 1024;
+
+const INODES: u32 = 64;
+
+// The first block that a change may write.
+const HOME: BlockNo = BlockNo(FIRST_HOME_BLOCK);
+
+// A change that was read and writes as it is told.
+#[derive(Drop)]
+struct Toy {
+    read: Vec<Object>,
+    written: Vec<Object>,
+    inodes: u32,
+    ghost few: { length (blocks_of written.items) ≤ CHANGED_BLOCKS },
+}
+
+impl Change for Toy {
+    ghost objects_read = { λ toy. toy.read.items };
+
+    ghost objects_written = { λ toy. toy.written.items };
+
+    ghost planned_blocks = { λ _. BLOCKS };
+
+    ghost planned_inodes = { λ toy. toy.inodes };
+
+    fn read(&self) -> &[Object] {
+        &self.read
+    }
+
+    fn written(&self) -> &[Object] {
+        &self.written
+    }
+
+    fn blocks(&self) -> u32 {
+        BLOCKS
+    }
+
+    fn inodes(&self) -> u32 {
+        self.inodes
+    }
+}
+
+// A core over an empty log that begins at a position.
+fn core(alloc: Global, start: u64) -> Result<Core<Toy>, Fail>
+    ensures out { IfOk result (λ core. core.out ≡ None) }
+    ensures blocks { IfOk result (λ core. core.log.blocks ≡ BLOCKS) }
+{
+    let found = Recovered {
+        start,
+        logged: Vec::new(alloc),
+    };
+    let wal = Wal::new(alloc, BLOCKS, found)?;
+    Ok(Core::new(alloc, wal, INODES))
+}
+
+// The 8 bytes of the first block from an offset on.
+fn eight(offset: usize) -> Addr
+    requires { offset ≤ 4088 }
+    ensures { result.len ≡ 8 }
+{
+    Addr {
+        block: HOME,
+        offset,
+        len: 8,
+    }
+}
+
+// What a want came to, without what it hands out.
+#[derive(Clone, Copy, Debug, PartialEq, Eq)]
+enum Seen {
+    Bytes(u8),
+    Busy,
+    Fetched,
+    FetchFailed,
+    Loading,
+    Outside,
+    NoMemory,
+}
+
+// Wants an object, and makes its fetch where there is one.
+fn want(alloc: Global, core: &mut Core<Toy>, disk: &mut MemDisk, tx: Tx, addr: Addr) -> (Tx, Seen)
+    requires size { (MemDisk.device disk.old).size ≡ core.old.log.blocks }
+    ensures back { result.0 ≡ tx }
+    ensures out { core.new.out ≡ core.old.out }
+    ensures blocks { core.new.log.blocks ≡ core.old.log.blocks }
+    ensures size { (MemDisk.device disk.new).size ≡ (MemDisk.device disk.old).size }
+{
+    match core.want(alloc, tx, addr) {
+        Want::Held(tx, bytes) => (tx, Seen::Bytes(first(&bytes))),
+        Want::Busy(tx) => (tx, Seen::Busy),
+        Want::Fetch(tx, mut io) => {
+            if io.perform(disk).is_ok() {
+                core.fetched(io);
+                (tx, Seen::Fetched)
+            } else {
+                core.fetch_failed(io);
+                (tx, Seen::FetchFailed)
+            }
+        }
+        Want::Loading(tx) => (tx, Seen::Loading),
+        Want::Outside(tx) => (tx, Seen::Outside),
+        Want::NoMemory(tx) => (tx, Seen::NoMemory),
+    }
+}
+
+fn first(bytes: &[u8]) -> u8 {
+    match bytes.first() {
+        Some(byte) => *byte,
+        None => 255,
+    }
+}
+
+// What a commit came to, without what it hands back, which is let go.
+#[derive(Clone, Copy, Debug, PartialEq, Eq)]
+enum Ended {
+    Place(Seq),
+    Full,
+    Foreign,
+    NoMemory,
+    Broken,
+    Spent,
+}
+
+fn commit(alloc: Global, core: &mut Core<Toy>, tx: Tx, toy: Toy) -> Ended
+    ensures { core.new.log.blocks ≡ core.old.log.blocks }
+{
+    let (tx, ended) = match core.commit(alloc, tx, toy) {
+        Commit::Committed(place) => return Ended::Place(place),
+        Commit::Full(tx, _) => (tx, Ended::Full),
+        Commit::Foreign(tx, _) => (tx, Ended::Foreign),
+        Commit::NoMemory(tx, _) => (tx, Ended::NoMemory),
+        Commit::Broken(tx, _) => (tx, Ended::Broken),
+        Commit::Spent(tx, _) => (tx, Ended::Spent),
+    };
+    core.abort(tx);
+    ended
+}
+
+// A change that read one object and writes it with this byte.
+fn change_of(alloc: Global, addr: Addr, was: u8, byte: u8) -> Result<Toy, Fail>
+    requires { addr.len ≡ 8 }
+    ensures { IfOk result (λ toy. toy.inodes ≡ INODES) }
+{
+    let mut read = Vec::new(alloc);
+    read.push(Object::new(addr, vec![in alloc; was; 8]?))?;
+    let mut written = Vec::new(alloc);
+    written.push(Object::new(addr, vec![in alloc; byte; 8]?))?;
+    Ok(Toy {
+        read,
+        written,
+        inodes: INODES,
+    })
+}
+
+// Reads an object in a transaction of its own, and changes it to this byte.
+fn change(
+    alloc: Global,
+    core: &mut Core<Toy>,
+    disk: &mut MemDisk,
+    addr: Addr,
+    was: u8,
+    byte: u8,
+) -> Result<Ended, Fail>
+    requires size { (MemDisk.device disk.old).size ≡ core.old.log.blocks }
+    requires idle { core.old.out ≡ None }
+    requires len { addr.len ≡ 8 }
+    ensures size { (MemDisk.device disk.new).size ≡ core.new.log.blocks }
+    ensures blocks { core.new.log.blocks ≡ core.old.log.blocks }
+{
+    let toy = change_of(alloc, addr, was, byte)?;
+    let tx = core.begin()?;
+    let (tx, _) = want(alloc, core, disk, tx, addr);
+    let (tx, _) = want(alloc, core, disk, tx, addr);
+    Ok(commit(alloc, core, tx, toy))
+}
+
+// Makes the calls of the logger until it has none, and tells how many there were.
+fn log_all(core: &mut Core<Toy>, disk: &mut MemDisk) -> usize
+    requires { (MemDisk.device disk.old).size ≡ core.old.log.blocks }
+    ensures size { (MemDisk.device disk.new).size ≡ core.new.log.blocks }
+    ensures blocks { core.new.log.blocks ≡ core.old.log.blocks }
+    ensures out { core.new.out ≡ core.old.out }
+{
+    let mut calls = 0;
+    'calls: for _ in 0..600u16 {
+        let Some(io) = core.log_next() else {
+            break;
+        };
+        let ok = io.perform(disk).is_ok();
+        core.log_done(io, ok);
+        calls += 1;
+    }
+    calls
+}
+
+// Makes the calls of the installer until it has none, and tells how many there were.
+fn install_all(core: &mut Core<Toy>, disk: &mut MemDisk) -> usize
+    requires { (MemDisk.device disk.old).size ≡ core.old.log.blocks }
+    ensures size { (MemDisk.device disk.new).size ≡ core.new.log.blocks }
+    ensures blocks { core.new.log.blocks ≡ core.old.log.blocks }
+    ensures out { core.new.out ≡ core.old.out }
+{
+    let mut calls = 0;
+    'calls: for _ in 0..600u16 {
+        let Some(io) = core.inst_next() else {
+            break;
+        };
+        let ok = io.perform(disk).is_ok();
+        core.inst_done(io, ok);
+        calls += 1;
+    }
+    calls
+}
+
+// The first byte of the first home block on the disk.
+fn at_home(alloc: Global, disk: &mut MemDisk) -> Result<u8, Fail>
+    requires { (MemDisk.device disk.old).size ≡ BLOCKS }
+    ensures { (MemDisk.device disk.new).size ≡ BLOCKS }
+{
+    let mut block = Block::zeros(alloc)?;
+    disk.read(HOME, &mut block)?;
+    Ok(block.as_slice()[0])
+}
+
+#[test]
+fn a_change_is_settled_and_brought_home(rt: HostRuntime) -> Result<(), Fail> {
+    let alloc = rt.alloc();
+    let mut disk = MemDisk::new(alloc, BLOCKS)?;
+    let mut core = core(alloc, 0)?;
+    assert_eq!(rt; core.counts(), (BLOCKS, INODES));
+    assert_eq!(rt;
+        change(alloc, &mut core, &mut disk, eight(0), 0, 7)?,
+        Ended::Place(Seq(1))
+    );
+    assert!(rt; core.stable(Seq(1)).is_none());
+    assert_eq!(rt; log_all(&mut core, &mut disk), 4);
+    assert!(rt; core.stable(Seq(1)).is_some());
+    assert_eq!(rt; at_home(alloc, &mut disk)?, 0);
+    assert_eq!(rt; install_all(&mut core, &mut disk), 4);
+    assert_eq!(rt; at_home(alloc, &mut disk)?, 7);
+    assert!(rt; !core.broken());
+    Ok(())
+}
+
+#[test]
+fn a_later_transaction_reads_what_is_not_home(rt: HostRuntime) -> Result<(), Fail> {
+    let alloc = rt.alloc();
+    let mut disk = MemDisk::new(alloc, BLOCKS)?;
+    let mut core = core(alloc, 0)?;
+    assert_eq!(rt;
+        change(alloc, &mut core, &mut disk, eight(8), 0, 7)?,
+        Ended::Place(Seq(1))
+    );
+    assert_eq!(rt;
+        change(alloc, &mut core, &mut disk, eight(8), 7, 9)?,
+        Ended::Place(Seq(2))
+    );
+    assert_eq!(rt;
+        change(alloc, &mut core, &mut disk, eight(8), 7, 5)?,
+        Ended::Foreign
+    );
+    assert_eq!(rt; log_all(&mut core, &mut disk), 5);
+    assert!(rt; core.stable(Seq(2)).is_some());
+    assert!(rt; core.stable(Seq(3)).is_none());
+    Ok(())
+}
+
+#[test]
+fn wants_in_their_order(rt: HostRuntime) -> Result<(), Fail> {
+    let alloc = rt.alloc();
+    let mut disk = MemDisk::new(alloc, BLOCKS)?;
+    disk.fail_at(&[1])?;
+    let mut core = core(alloc, 0)?;
+    let tx = core.begin()?;
+    let number = tx.number();
+    let (tx, early) = want(alloc, &mut core, &mut disk, tx, Addr::whole(BlockNo(513)));
+    let (tx, late) = want(
+        alloc,
+        &mut core,
+        &mut disk,
+        tx,
+        Addr::whole(BlockNo(BLOCKS)),
+    );
+    let (tx, failed) = want(alloc, &mut core, &mut disk, tx, eight(0));
+    let (tx, fetched) = want(alloc, &mut core, &mut disk, tx, eight(0));
+    let (tx, held) = want(alloc, &mut core, &mut disk, tx, eight(0));
+    let (tx, busy) = want(alloc, &mut core, &mut disk, tx, eight(4));
+    let (tx, beside) = want(alloc, &mut core, &mut disk, tx, eight(8));
+    core.abort(tx);
+    let again = core.begin()?;
+    let next = again.number();
+    let (again, anew) = want(alloc, &mut core, &mut disk, again, eight(4));
+    core.abort(again);
+    assert_eq!(rt; [number, next], [1, 2]);
+    assert_eq!(rt; [early, late], [Seen::Outside, Seen::Outside]);
+    assert_eq!(rt;
+        [failed, fetched, held],
+        [Seen::FetchFailed, Seen::Fetched, Seen::Bytes(0)]
+    );
+    assert_eq!(rt;
+        [busy, beside, anew],
+        [Seen::Busy, Seen::Bytes(0), Seen::Fetched]
+    );
+    Ok(())
+}
+
+// Claims a block in a transaction of its own, and writes its first bytes.
+fn claim_and_write(alloc: Global, core: &mut Core<Toy>, block: BlockNo) -> Result<Ended, Fail>
+    requires { core.old.out ≡ None }
+{
+    let addr = Addr::whole(block);
+    let mut written = Vec::new(alloc);
+    written.push(Object::new(addr, vec![in alloc; 3u8; 4096]?))?;
+    let toy = Toy {
+        read: Vec::new(alloc),
+        written,
+        inodes: INODES,
+    };
+    let tx = core.begin()?;
+    let tx = match core.claim(tx, block) {
+        Claim::Held(tx) => tx,
+        Claim::Busy(tx) | Claim::Loading(tx) | Claim::Outside(tx) | Claim::NoMemory(tx) => {
+            core.abort(tx);
+            return Err("not held")?;
+        }
+    };
+    Ok(commit(alloc, core, tx, toy))
+}
+
+#[test]
+fn a_claimed_block_is_written_whole(rt: HostRuntime) -> Result<(), Fail> {
+    let alloc = rt.alloc();
+    let mut disk = MemDisk::new(alloc, BLOCKS)?;
+    let mut core = core(alloc, 0)?;
+    assert_eq!(rt;
+        claim_and_write(alloc, &mut core, HOME)?,
+        Ended::Place(Seq(1))
+    );
+    Ok(())
+}
+
+#[test]
+fn commits_are_refused_in_their_order(rt: HostRuntime) -> Result<(), Fail> {
+    let alloc = rt.alloc();
+    let mut disk = MemDisk::new(alloc, BLOCKS)?;
+    let mut spent = core(alloc, u64::MAX)?;
+    assert_eq!(rt;
+        change(alloc, &mut spent, &mut disk, eight(0), 0, 7)?,
+        Ended::Spent
+    );
+    assert_eq!(rt;
+        change(alloc, &mut spent, &mut disk, eight(0), 1, 7)?,
+        Ended::Foreign
+    );
+    let mut core = core(alloc, 0)?;
+    let unread = change_of(alloc, eight(0), 0, 7)?;
+    let tx = core.begin()?;
+    let (tx, _) = want(alloc, &mut core, &mut disk, tx, eight(0));
+    assert_eq!(rt; commit(alloc, &mut core, tx, unread), Ended::Foreign);
+    let mut other = change_of(alloc, eight(0), 0, 7)?;
+    other.inodes = 96;
+    let tx = core.begin()?;
+    let (tx, _) = want(alloc, &mut core, &mut disk, tx, eight(0));
+    let (tx, _) = want(alloc, &mut core, &mut disk, tx, eight(0));
+    assert_eq!(rt; commit(alloc, &mut core, tx, other), Ended::Foreign);
+    Ok(())
+}
+
+#[test]
+fn a_failed_call_of_the_log_breaks_the_core(rt: HostRuntime) -> Result<(), Fail> {
+    let alloc = rt.alloc();
+    let mut disk = MemDisk::new(alloc, BLOCKS)?;
+    disk.fail_at(&[2])?;
+    let mut core = core(alloc, 0)?;
+    assert_eq!(rt;
+        change(alloc, &mut core, &mut disk, eight(0), 0, 7)?,
+        Ended::Place(Seq(1))
+    );
+    let late = change_of(alloc, eight(0), 7, 8)?;
+    let tx = core.begin()?;
+    let calls = log_all(&mut core, &mut disk);
+    let ended = commit(alloc, &mut core, tx, late);
+    assert_eq!(rt; calls, 1);
+    assert!(rt; core.broken());
+    assert_eq!(rt; ended, Ended::Broken);
+    assert!(rt; core.stable(Seq(1)).is_none());
+    begin_refused(&mut core, BeginFault::Broken)
+}
+
+// No transaction is begun, for this cause.
+fn begin_refused(core: &mut Core<Toy>, cause: BeginFault) -> Result<(), Fail>
+    requires { core.old.out ≡ None }
+{
+    match core.begin() {
+        Ok(tx) => {
+            core.abort(tx);
+            Err("begun")?
+        }
+        Err(fault) if fault == cause => Ok(()),
+        Err(_) => Err("another cause")?,
+    }
+}
+
+#[test]
+fn the_last_transaction_number_is_spent(rt: HostRuntime) -> Result<(), Fail> {
+    let mut core = core(rt.alloc(), 0)?;
+    core.begun = u64::MAX;
+    begin_refused(&mut core, BeginFault::Spent)
+}
