@@ -1,2 +1,6 @@
 pub mod OneTree
 pub mod ReadInode
+pub mod FreshBits
+pub mod FreshBytes
+pub mod FreshFiles
+pub mod FreshInodes

@@ -6,3 +6,4 @@ pub mod Places
 pub mod SlotForm
 pub mod Stands
 pub mod SuperForm
+pub mod Fresh

@@ -4,6 +4,7 @@
 
 mod fault;
 mod fields;
+mod fresh;
 mod geometry;
 mod inode;
 mod inode_bytes;
@@ -15,6 +16,9 @@ mod slot;
 mod super_block;
 
 pub use fault::LayoutFault;
+pub use fresh::{
+    a_fresh_image_stands_for_the_format_tree, a_super_block_is_its_bytes, there_is_a_fresh_image,
+};
 pub use geometry::{Geometry, GeometryFault};
 pub use inode::{Inode, InodeKind};
 pub use laws::blocks_stand_for_one_tree;

@@ -1,9 +1,9 @@
-mod Answered
+pub mod Answered
 mod Attributed
 mod Determined
-mod Formatted
+pub mod Formatted
 pub mod Joined
-mod Maps
+pub mod Maps
 mod Replaced
 pub mod Sets
 mod Unsupported

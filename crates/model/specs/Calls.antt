@@ -1,5 +1,5 @@
 -- What is known of a call before it is served (RFC 1813, section 3.3).
-use Rattle.std.specs.Prelude.{Bool, true, false, not, ◌&&◌, is_none, None, Err}
+use Rattle.std.specs.Prelude.{Bool, true, false, not, ◌&&◌, is_none}
 use Rattle.nfs_types.specs.declared.attributes.NewAttributes.{NewAttributes}
 use Rattle.nfs_types.specs.declared.attributes.SetTime.{SetTime}
 use Rattle.nfs_types.specs.declared.attributes.SetTime.TheVariants.{Keep, Server, Client}
@@ -8,9 +8,8 @@ use Rattle.nfs_types.specs.declared.call.Call.TheVariants as call
 use Rattle.nfs_types.specs.declared.call.Stability.{Stability}
 use Rattle.nfs_types.specs.declared.call.Stability.TheVariants.{Unstable, DataSync, FileSync}
 use Rattle.nfs_types.specs.declared.reply.Reply.{Reply}
-use Rattle.nfs_types.specs.declared.reply.Reply.TheVariants as reply
 use Rattle.nfs_types.specs.declared.status.Status.TheVariants as status
-use Rattle.model.specs.Attributes.{untold}
+use Rattle.model.specs.Refused.{refused}
 
 abbrev pub is_kept : SetTime → Bool
 is_kept Keep = true
@@ -34,28 +33,7 @@ begins_transaction c = has_rules c
 
 -- The reply to a call that isn't served: NOTSUPP, with nothing told of any file. NULL is never refused.
 abbrev pub unsupported : Call → Reply
-unsupported call.Null = reply.Null
-unsupported (call.GetAttr _) = reply.GetAttr (Err status.NotSupp)
-unsupported (call.SetAttr _ _ _) = reply.SetAttr (Err status.NotSupp) untold
-unsupported (call.Lookup _) = reply.Lookup (Err status.NotSupp) None
-unsupported (call.Access _ _) = reply.Access (Err status.NotSupp) None
-unsupported (call.ReadLink _) = reply.ReadLink (Err status.NotSupp) None
-unsupported (call.Read _ _ _) = reply.Read (Err status.NotSupp) None
-unsupported (call.Write _ _ _ _ _) = reply.Write (Err status.NotSupp) untold
-unsupported (call.Create _ _) = reply.Create (Err status.NotSupp) untold
-unsupported (call.MkDir _ _) = reply.MkDir (Err status.NotSupp) untold
-unsupported (call.SymLink _ _ _) = reply.SymLink (Err status.NotSupp) untold
-unsupported (call.MkNod _ _) = reply.MkNod (Err status.NotSupp) untold
-unsupported (call.Remove _) = reply.Remove (Err status.NotSupp) untold
-unsupported (call.RmDir _) = reply.RmDir (Err status.NotSupp) untold
-unsupported (call.Rename _ _) = reply.Rename (Err status.NotSupp) untold untold
-unsupported (call.Link _ _) = reply.Link (Err status.NotSupp) None untold
-unsupported (call.ReadDir _ _ _ _) = reply.ReadDir (Err status.NotSupp) None
-unsupported (call.ReadDirPlus _ _ _ _ _) = reply.ReadDirPlus (Err status.NotSupp) None
-unsupported (call.FsStat _) = reply.FsStat (Err status.NotSupp) None
-unsupported (call.FsInfo _) = reply.FsInfo (Err status.NotSupp) None
-unsupported (call.PathConf _) = reply.PathConf (Err status.NotSupp) None
-unsupported (call.Commit _ _ _) = reply.Commit (Err status.NotSupp) untold
+unsupported c = refused status.NotSupp c
 
 abbrev pub is_unstable : Stability → Bool
 is_unstable Unstable = true

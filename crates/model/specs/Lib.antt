@@ -8,6 +8,7 @@ pub mod GetAttr
 pub mod Names
 pub mod Node
 pub mod Permissions
+pub mod Refused
 pub mod SetAttr
 pub mod Sound
 pub mod Step

@@ -6,12 +6,16 @@
 mod calls;
 mod handles;
 mod histories;
+mod rules;
 mod steps;
 mod trees;
 
 pub use calls::an_unsupported_call_is_no_step;
 pub use handles::a_files_handle_names_it;
 pub use histories::{an_empty_history_leads_nowhere, histories_join};
+pub use rules::{
+    a_mode_alone_is_set, another_stamp_is_stale, the_guard_comes_first, the_owners_bits_count_alone,
+};
 pub use steps::{
     getattr_is_determined, getattr_leaves_the_tree, served_calls_have_a_step,
     setattr_is_determined, setattr_keeps_trees_sound, setattrs_have_a_step,

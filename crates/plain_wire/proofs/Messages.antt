@@ -4,27 +4,27 @@ use Rattle.std.specs.Prelude.{◌==◌, IfSome, IfNone}
 use Rattle.std.specs.Result.{result_ok}
 use Rattle.std.proofs.lemmas.Bool.{eqb-true}
 use Rattle.std.proofs.lemmas.List.{nil_from_length}
-use Rattle.session.specs.declared.rpc.numbers.TheConstants.{CALL, RPC_VERSION, NFS_PROGRAM, NFS_VERSION, AUTH_NONE, AUTH_SYS}
-use Rattle.session.specs.declared.message.MessageCredential.{MessageCredential}
-use Rattle.session.specs.declared.message.MessageCredential.TheVariants.{Nobody, Caller}
-use Rattle.session.specs.declared.message.CallMessage.{CallMessage}
-use Rattle.session.specs.declared.nfs_codec.procedure.Procedure.{Procedure}
-use Rattle.session.specs.declared.xdr.fault.XdrFault.{XdrFault}
-use Rattle.session.specs.declared.xdr.fault.XdrFault.TheVariants.{Value, NoMemory}
-use Rattle.session.specs.declared.message.ReplyMessage.{ReplyMessage}
-use Rattle.session.specs.Replies.{SpellsReply}
-use Rattle.session.specs.ReadingReplies.{reply_of}
-use Rattle.session.specs.Reading.{◌>>=◌, Reads}
-use Rattle.session.specs.Headers.{opening_at, header_at}
-use Rattle.session.specs.Credentials.{System, caller_at}
-use Rattle.session.specs.Calls.{procedure_of, procedure_number, called, arguments, CredentialFits, call_bytes, SpellsCall}
-use Rattle.session.specs.ReadingCalls.{call_of}
-use Rattle.session.proofs.Coded.{IsBytes, bind_ok, holds_ok}
-use Rattle.session.proofs.CodedCalls.{call_takes, call_again, procedure_again, procedure_takes}
-use Rattle.session.proofs.CodedHeaders.{openings, headings, opening_bytes, heading_bytes, caller_takes, caller_again, flavor_of, body_of}
-use Rattle.session.proofs.CallLaws.{opening_of, heading_of, parted, opens, heads, body_bytes, same_opening, same_heading, joined_parts}
-use Rattle.session.proofs.CodedReplies.{chosen}
-use Rattle.session.proofs.ReplyLaws.{read_reply, reply_takes, reply_again}
+use Rattle.session_wire.specs.declared.rpc.numbers.TheConstants.{CALL, RPC_VERSION, NFS_PROGRAM, NFS_VERSION, AUTH_NONE, AUTH_SYS}
+use Rattle.session_wire.specs.declared.message.MessageCredential.{MessageCredential}
+use Rattle.session_wire.specs.declared.message.MessageCredential.TheVariants.{Nobody, Caller}
+use Rattle.session_wire.specs.declared.message.CallMessage.{CallMessage}
+use Rattle.session_wire.specs.declared.nfs_codec.procedure.Procedure.{Procedure}
+use Rattle.session_wire.specs.declared.xdr.fault.XdrFault.{XdrFault}
+use Rattle.session_wire.specs.declared.xdr.fault.XdrFault.TheVariants.{Value, NoMemory}
+use Rattle.session_wire.specs.declared.message.ReplyMessage.{ReplyMessage}
+use Rattle.session_wire.specs.Replies.{SpellsReply}
+use Rattle.session_wire.specs.ReadingReplies.{reply_of}
+use Rattle.session_wire.specs.Reading.{◌>>=◌, Reads}
+use Rattle.session_wire.specs.Headers.{opening_at, header_at}
+use Rattle.session_wire.specs.Credentials.{System, caller_at}
+use Rattle.session_wire.specs.Calls.{procedure_of, procedure_number, called, arguments, CredentialFits, call_bytes, SpellsCall}
+use Rattle.session_wire.specs.ReadingCalls.{call_of}
+use Rattle.session_wire.proofs.Coded.{IsBytes, bind_ok, holds_ok}
+use Rattle.session_wire.proofs.CodedCalls.{call_takes, call_again, procedure_again, procedure_takes}
+use Rattle.session_wire.proofs.CodedHeaders.{openings, headings, opening_bytes, heading_bytes, caller_takes, caller_again, flavor_of, body_of}
+use Rattle.session_wire.proofs.CallLaws.{opening_of, heading_of, parted, opens, heads, body_bytes, same_opening, same_heading, joined_parts}
+use Rattle.session_wire.proofs.CodedReplies.{chosen}
+use Rattle.session_wire.proofs.ReplyLaws.{read_reply, reply_takes, reply_again}
 use Rattle.plain_wire.specs.Messages.{wanted, numbered, credential_of, message_of}
 
 pub record IsCredential (flavor : ℕ) (body : List ℕ) (m : MessageCredential) : Type 0 where

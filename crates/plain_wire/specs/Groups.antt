@@ -2,7 +2,7 @@
 use Rattle.plain_wire.specs.declared.items.Owned.{Owned}
 use Rattle.plain_wire.specs.declared.items.Sized.{Sized}
 use Rattle.plain_wire.specs.declared.items.Timed.{Timed}
-use Rattle.session.specs.ReadingReplies.{Ownership, Extent, Times}
+use Rattle.session_wire.specs.ReadingReplies.{Ownership, Extent, Times}
 
 abbrev pub owned : Owned → Ownership
 owned o = record { kind = o.kind; mode = o.mode; nlink = o.nlink; uid = o.uid; gid = o.gid }

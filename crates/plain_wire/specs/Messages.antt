@@ -1,17 +1,17 @@
 -- Reading a call message from left to right (RFC 5531, section 9).
 use Rattle.std.specs.Prelude.{ℕ, List, Option, Some, None, Result, Ok, Err, length, ◌==◌, if◌then◌else◌}
-use Rattle.session.specs.declared.rpc.numbers.TheConstants.{CALL, RPC_VERSION, NFS_PROGRAM, NFS_VERSION, AUTH_NONE, AUTH_SYS}
-use Rattle.session.specs.declared.message.MessageCredential.{MessageCredential}
-use Rattle.session.specs.declared.message.MessageCredential.TheVariants.{Nobody, Caller}
-use Rattle.session.specs.declared.message.CallMessage.{CallMessage}
-use Rattle.session.specs.declared.nfs_codec.procedure.Procedure.{Procedure}
-use Rattle.session.specs.declared.xdr.fault.XdrFault.{XdrFault}
-use Rattle.session.specs.declared.xdr.fault.XdrFault.TheVariants.{Value}
-use Rattle.session.specs.Reading.{◌>>=◌}
-use Rattle.session.specs.Headers.{opening_at, header_at}
-use Rattle.session.specs.Credentials.{caller_at}
-use Rattle.session.specs.Calls.{procedure_of}
-use Rattle.session.specs.ReadingCalls.{call_of}
+use Rattle.session_wire.specs.declared.rpc.numbers.TheConstants.{CALL, RPC_VERSION, NFS_PROGRAM, NFS_VERSION, AUTH_NONE, AUTH_SYS}
+use Rattle.session_wire.specs.declared.message.MessageCredential.{MessageCredential}
+use Rattle.session_wire.specs.declared.message.MessageCredential.TheVariants.{Nobody, Caller}
+use Rattle.session_wire.specs.declared.message.CallMessage.{CallMessage}
+use Rattle.session_wire.specs.declared.nfs_codec.procedure.Procedure.{Procedure}
+use Rattle.session_wire.specs.declared.xdr.fault.XdrFault.{XdrFault}
+use Rattle.session_wire.specs.declared.xdr.fault.XdrFault.TheVariants.{Value}
+use Rattle.session_wire.specs.Reading.{◌>>=◌}
+use Rattle.session_wire.specs.Headers.{opening_at, header_at}
+use Rattle.session_wire.specs.Credentials.{caller_at}
+use Rattle.session_wire.specs.Calls.{procedure_of}
+use Rattle.session_wire.specs.ReadingCalls.{call_of}
 
 -- this very number
 abbrev pub wanted : ℕ → ℕ → Result (Unit {0}) XdrFault

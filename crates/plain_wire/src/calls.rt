@@ -1,18 +1,18 @@
 //! Reading call messages (RFC 5531, section 9).
 ghost use Rattle.std.specs.Prelude.{◌≡◌, IfOk, IfSome, IfNone};
-ghost use Rattle.session.specs.declared.message.CallMessage.{CallMessage};
-ghost use Rattle.session.specs.Reading.{Reads, Gives};
-ghost use Rattle.session.specs.Calls.{SpellsCall, procedure_of};
+ghost use Rattle.session_wire.specs.declared.message.CallMessage.{CallMessage};
+ghost use Rattle.session_wire.specs.Reading.{Reads, Gives};
+ghost use Rattle.session_wire.specs.Calls.{SpellsCall, procedure_of};
 ghost use Rattle.plain_wire.specs.Messages.{wanted as is_wanted, numbered, credential_of, message_of};
 
 use nfs_types::Octets;
-use session::nfs_codec::{Procedure, decode_call};
-use session::rpc::{
+use session_wire::nfs_codec::{Procedure, decode_call};
+use session_wire::rpc::{
     AUTH_NONE, AUTH_SYS, CALL, NFS_PROGRAM, NFS_VERSION, RPC_VERSION, read_caller, read_header,
     read_opening,
 };
-use session::xdr::{Reader, XdrFault};
-use session::{CallMessage, MessageCredential, Verifier};
+use session_wire::xdr::{Reader, XdrFault};
+use session_wire::{CallMessage, MessageCredential, Verifier};
 use std::alloc::{AllocError, Global};
 
 /// The call that the bytes spell, or None where they spell none.

@@ -1,14 +1,14 @@
 //! Reading the items of results (RFC 1813, section 2.6).
 ghost use Rattle.std.specs.Prelude.{◌≡◌};
-ghost use Rattle.session.specs.Reading.{Reads};
+ghost use Rattle.session_wire.specs.Reading.{Reads};
 ghost use Rattle.plain_wire.specs.Groups.{owned, sized, timed};
-ghost use Rattle.session.specs.ReadingReplies.{this_at, versions_at, status_of, kind_of, kind_at, ownership_at, extent_at, times_at, attributes_at, optional_attributes_at, weak_cache_attributes_at, before_at, weak_cache_at, outcome_at, got_at};
+ghost use Rattle.session_wire.specs.ReadingReplies.{this_at, versions_at, status_of, kind_of, kind_at, ownership_at, extent_at, times_at, attributes_at, optional_attributes_at, weak_cache_attributes_at, before_at, weak_cache_at, outcome_at, got_at};
 
 use nfs_types::{
     Attributes, DeviceNumber, FileKind, Moment, Status, WeakCacheAttributes, WeakCacheData,
 };
-use session::nfs_codec::read_moment;
-use session::xdr::{Reader, XdrFault};
+use session_wire::nfs_codec::read_moment;
+use session_wire::xdr::{Reader, XdrFault};
 
 /// This very number.
 pub fn expect(reader: &mut Reader, wanted: u32) -> Result<(), XdrFault>
@@ -22,7 +22,7 @@ pub fn expect(reader: &mut Reader, wanted: u32) -> Result<(), XdrFault>
 }
 
 /// The lowest and the highest version, which are both this one.
-#[tactic(auto, unfolding(session::specs::ReadingReplies::versions_at))]
+#[tactic(auto, unfolding(session_wire::specs::ReadingReplies::versions_at))]
 pub fn read_versions(reader: &mut Reader, version: u32) -> Result<(), XdrFault>
     ensures { Reads (λ x. (x, reader.new)) result (versions_at version reader.old) }
 {
@@ -73,7 +73,7 @@ fn kind(number: u32) -> Option<FileKind>
     }
 }
 
-#[tactic(auto, unfolding(session::specs::ReadingReplies::kind_at))]
+#[tactic(auto, unfolding(session_wire::specs::ReadingReplies::kind_at))]
 fn read_kind(reader: &mut Reader) -> Result<FileKind, XdrFault>
     ensures { Reads (λ x. (x, reader.new)) result (kind_at reader.old) }
 {
@@ -93,7 +93,7 @@ struct Owned {
     gid: u32,
 }
 
-#[tactic(auto, unfolding(session::specs::ReadingReplies::ownership_at))]
+#[tactic(auto, unfolding(session_wire::specs::ReadingReplies::ownership_at))]
 fn read_ownership(reader: &mut Reader) -> Result<Owned, XdrFault>
     ensures { Reads (λ x. (owned x, reader.new)) result (ownership_at reader.old) }
 {
@@ -121,7 +121,7 @@ struct Sized {
     number: u64,
 }
 
-#[tactic(auto, unfolding(session::specs::ReadingReplies::extent_at))]
+#[tactic(auto, unfolding(session_wire::specs::ReadingReplies::extent_at))]
 fn read_extent(reader: &mut Reader) -> Result<Sized, XdrFault>
     ensures { Reads (λ x. (sized x, reader.new)) result (extent_at reader.old) }
 {
@@ -148,7 +148,7 @@ struct Timed {
     ctime: Moment,
 }
 
-#[tactic(auto, unfolding(session::specs::ReadingReplies::times_at))]
+#[tactic(auto, unfolding(session_wire::specs::ReadingReplies::times_at))]
 fn read_times(reader: &mut Reader) -> Result<Timed, XdrFault>
     ensures { Reads (λ x. (timed x, reader.new)) result (times_at reader.old) }
 {
@@ -162,7 +162,7 @@ fn read_times(reader: &mut Reader) -> Result<Timed, XdrFault>
     })
 }
 
-#[tactic(auto, unfolding(session::specs::ReadingReplies::attributes_at))]
+#[tactic(auto, unfolding(session_wire::specs::ReadingReplies::attributes_at))]
 fn read_attributes(reader: &mut Reader) -> Result<Attributes, XdrFault>
     ensures { Reads (λ x. (x, reader.new)) result (attributes_at reader.old) }
 {
@@ -186,7 +186,7 @@ fn read_attributes(reader: &mut Reader) -> Result<Attributes, XdrFault>
     })
 }
 
-#[tactic(auto, unfolding(session::specs::ReadingReplies::optional_attributes_at))]
+#[tactic(auto, unfolding(session_wire::specs::ReadingReplies::optional_attributes_at))]
 fn read_optional_attributes(reader: &mut Reader) -> Result<Option<Attributes>, XdrFault>
     ensures { Reads (λ x. (x, reader.new)) result (optional_attributes_at reader.old) }
 {
@@ -197,7 +197,7 @@ fn read_optional_attributes(reader: &mut Reader) -> Result<Option<Attributes>, X
     }
 }
 
-#[tactic(auto, unfolding(session::specs::ReadingReplies::weak_cache_attributes_at))]
+#[tactic(auto, unfolding(session_wire::specs::ReadingReplies::weak_cache_attributes_at))]
 fn read_weak_cache_attributes(reader: &mut Reader) -> Result<WeakCacheAttributes, XdrFault>
     ensures { Reads (λ x. (x, reader.new)) result (weak_cache_attributes_at reader.old) }
 {
@@ -207,7 +207,7 @@ fn read_weak_cache_attributes(reader: &mut Reader) -> Result<WeakCacheAttributes
     Ok(WeakCacheAttributes { size, mtime, ctime })
 }
 
-#[tactic(auto, unfolding(session::specs::ReadingReplies::before_at))]
+#[tactic(auto, unfolding(session_wire::specs::ReadingReplies::before_at))]
 fn read_before(reader: &mut Reader) -> Result<Option<WeakCacheAttributes>, XdrFault>
     ensures { Reads (λ x. (x, reader.new)) result (before_at reader.old) }
 {
@@ -219,7 +219,7 @@ fn read_before(reader: &mut Reader) -> Result<Option<WeakCacheAttributes>, XdrFa
 }
 
 /// A file before and after a change (`wcc_data`).
-#[tactic(auto, unfolding(session::specs::ReadingReplies::weak_cache_at))]
+#[tactic(auto, unfolding(session_wire::specs::ReadingReplies::weak_cache_at))]
 pub fn read_weak_cache(reader: &mut Reader) -> Result<WeakCacheData, XdrFault>
     ensures { Reads (λ x. (x, reader.new)) result (weak_cache_at reader.old) }
 {
@@ -229,7 +229,7 @@ pub fn read_weak_cache(reader: &mut Reader) -> Result<WeakCacheData, XdrFault>
 }
 
 /// OK, or a status.
-#[tactic(auto, unfolding(session::specs::ReadingReplies::outcome_at))]
+#[tactic(auto, unfolding(session_wire::specs::ReadingReplies::outcome_at))]
 pub fn read_outcome(reader: &mut Reader) -> Result<Result<(), Status>, XdrFault>
     ensures { Reads (λ x. (x, reader.new)) result (outcome_at reader.old) }
 {
@@ -244,7 +244,7 @@ pub fn read_outcome(reader: &mut Reader) -> Result<Result<(), Status>, XdrFault>
 }
 
 /// The result of GETATTR.
-#[tactic(auto, unfolding(session::specs::ReadingReplies::got_at))]
+#[tactic(auto, unfolding(session_wire::specs::ReadingReplies::got_at))]
 pub fn read_got(reader: &mut Reader) -> Result<Result<Attributes, Status>, XdrFault>
     ensures { Reads (λ x. (x, reader.new)) result (got_at reader.old) }
 {

@@ -1,16 +1,16 @@
 //! Reading reply messages (RFC 5531, section 9; RFC 1813, section 3.3).
 ghost use Rattle.std.specs.Prelude.{◌≡◌, IfSome, IfNone};
-ghost use Rattle.session.specs.declared.message.ReplyMessage.{ReplyMessage};
-ghost use Rattle.session.specs.Reading.{Reads};
-ghost use Rattle.session.specs.Replies.{SpellsReply};
-ghost use Rattle.session.specs.ReadingReplies.{accepted_at, denied_at, state_of, result_at, reply_of};
+ghost use Rattle.session_wire.specs.declared.message.ReplyMessage.{ReplyMessage};
+ghost use Rattle.session_wire.specs.Reading.{Reads};
+ghost use Rattle.session_wire.specs.Replies.{SpellsReply};
+ghost use Rattle.session_wire.specs.ReadingReplies.{accepted_at, denied_at, state_of, result_at, reply_of};
 
 use crate::items::{expect, read_got, read_outcome, read_versions, read_weak_cache};
 use nfs_types::Reply;
-use session::nfs_codec::Procedure;
-use session::rpc::{NFS_VERSION, REPLY, RPC_VERSION, Refusal};
-use session::xdr::{Reader, XdrFault};
-use session::{ReplyBody, ReplyMessage};
+use session_wire::nfs_codec::Procedure;
+use session_wire::rpc::{NFS_VERSION, REPLY, RPC_VERSION, Refusal};
+use session_wire::xdr::{Reader, XdrFault};
+use session_wire::{ReplyBody, ReplyMessage};
 
 /// The reply to a call of a procedure that the bytes spell, or None where they spell none.
 pub fn read_reply(procedure: Procedure, bytes: &[u8]) -> Option<ReplyMessage>
@@ -20,7 +20,7 @@ pub fn read_reply(procedure: Procedure, bytes: &[u8]) -> Option<ReplyMessage>
     read_message(procedure, bytes).ok()
 }
 
-#[tactic(auto, unfolding(session::specs::ReadingReplies::reply_of))]
+#[tactic(auto, unfolding(session_wire::specs::ReadingReplies::reply_of))]
 fn read_message(procedure: Procedure, bytes: &[u8]) -> Result<ReplyMessage, XdrFault>
     ensures { Reads (λ m. m) result (reply_of procedure bytes.now) }
 {
@@ -44,7 +44,7 @@ fn read_body(procedure: Procedure, state: u32, reader: &mut Reader) -> Result<Re
     }
 }
 
-#[tactic(auto, unfolding(session::specs::ReadingReplies::accepted_at))]
+#[tactic(auto, unfolding(session_wire::specs::ReadingReplies::accepted_at))]
 fn read_accepted(procedure: Procedure, reader: &mut Reader) -> Result<ReplyBody, XdrFault>
     ensures { Reads (λ b. (b, reader.new)) result (accepted_at procedure reader.old) }
 {
@@ -64,7 +64,7 @@ fn read_accepted(procedure: Procedure, reader: &mut Reader) -> Result<ReplyBody,
     }
 }
 
-#[tactic(auto, unfolding(session::specs::ReadingReplies::denied_at))]
+#[tactic(auto, unfolding(session_wire::specs::ReadingReplies::denied_at))]
 fn read_denied(reader: &mut Reader) -> Result<ReplyBody, XdrFault>
     ensures { Reads (λ b. (b, reader.new)) result (denied_at reader.old) }
 {

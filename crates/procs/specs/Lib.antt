@@ -1,3 +1,2 @@
-pub mod Refused
 pub mod Seen
 pub mod Told

@@ -2,7 +2,7 @@
 ghost use Rattle.std.specs.Prelude.{◌≡◌};
 ghost use Rattle.model.specs.Attributes.{untold};
 ghost use Rattle.model.specs.Calls.{unsupported};
-ghost use Rattle.procs.specs.Refused.{refused};
+ghost use Rattle.model.specs.Refused.{refused};
 
 use nfs_types::{Call, Reply, Status, WeakCacheData};
 

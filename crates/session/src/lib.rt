@@ -1,28 +1,11 @@
-//! The bytes of calls and replies: the items of XDR (RFC 4506), the records and messages of RPC (RFC 5531),
-//! and the arguments and results of NFS version 3 (RFC 1813).
+//! From a stream of calls to a stream of replies (RFC 5531): each record is read, its call is served by one thread, and
+//! its reply is written. The bytes of messages are `session_wire`'s.
 #![tactic(auto)]
 
-mod judging;
-mod laws;
-mod message;
-pub mod nfs_codec;
-mod reply;
-pub mod rpc;
 mod serving;
-pub mod xdr;
 
-pub use judging::judge;
-pub use laws::{
-    a_record_stands_first, calls_have_one_spelling, calls_share_no_spelling,
-    judged_calls_are_spelled, no_record_stands_there, replies_have_one_spelling,
-    replies_share_no_spelling, spelled_calls_are_judged_so, spelled_replies_are_read,
-    streams_have_one_cut,
-};
-pub use message::{
-    Answer, CallMessage, Judged, MessageCredential, ReplyBody, ReplyMessage, Verifier,
-};
-pub use reply::reply_bytes;
 pub use serving::{SessionFault, serve};
-
-#[cfg(test)]
-mod tests;
+pub use session_wire::{
+    Answer, CallMessage, Judged, MessageCredential, ReplyBody, ReplyMessage, Verifier, judge,
+    nfs_codec, reply_bytes, rpc, xdr,
+};

@@ -1,15 +1,14 @@
 //! Serving a stream: the calls of its records, one after the other, and their replies.
 ghost use Rattle.std.specs.Prelude.{◌≡◌, ◌<◌, ◌↔◌, IsTrue, IsSome, IfOk, None, length};
-ghost use Rattle.session.specs.Replies.{IsSpellable, body_of};
-ghost use Rattle.session.specs.Results.{IsServed};
+ghost use Rattle.model.specs.Sound.{SoundTime};
+ghost use Rattle.session_wire.specs.Replies.{IsSpellable, body_of};
+ghost use Rattle.session_wire.specs.Results.{IsServed};
 
-use crate::judging::judge;
-use crate::message::{Answer, Judged};
-use crate::reply::reply_bytes;
-use crate::rpc::{Records, Refusal, RpcFault};
 use bytes::Bytes;
 use disk::CrashDisk;
 use nfs_types::{Moment, Reply};
+use session_wire::rpc::{Records, Refusal, RpcFault};
+use session_wire::{Answer, Judged, judge, reply_bytes};
 use std::alloc::Global;
 use std::io::{Read, Write};
 use store::{Store, Verdict, procedure, settle};
@@ -61,7 +60,8 @@ pub fn serve<D: CrashDisk, R: Read, W: Write>(
     writer: &mut W,
     moment: Moment,
 ) -> Result<u64, SessionFault>
-    requires { store.old.core.out ≡ None }
+    requires idle { store.old.core.out ≡ None }
+    requires timely { SoundTime moment }
     ensures { store.new.core.out ≡ None }
 {
     let served = serve_all(alloc, store, reader, writer, moment);
@@ -86,7 +86,8 @@ fn serve_all<D: CrashDisk, R: Read, W: Write>(
     writer: &mut W,
     moment: Moment,
 ) -> Result<u64, SessionFault>
-    requires { store.old.core.out ≡ None }
+    requires idle { store.old.core.out ≡ None }
+    requires timely { SoundTime moment }
     ensures { store.new.core.out ≡ None }
 {
     let mut records = Records::new(alloc);
@@ -117,7 +118,8 @@ fn answer_whole<D: CrashDisk, W: Write>(
     moment: Moment,
     count: u64,
 ) -> Result<u64, SessionFault>
-    requires { store.old.core.out ≡ None }
+    requires idle { store.old.core.out ≡ None }
+    requires timely { SoundTime moment }
     ensures { store.new.core.out ≡ None }
 {
     let mut replies = count;
@@ -147,7 +149,8 @@ fn answer<D: CrashDisk, W: Write>(
     writer: &mut W,
     moment: Moment,
 ) -> Result<(), SessionFault>
-    requires { store.old.core.out ≡ None }
+    requires idle { store.old.core.out ≡ None }
+    requires timely { SoundTime moment }
     ensures { store.new.core.out ≡ None }
 {
     match judge(alloc, record) {
@@ -160,7 +163,7 @@ fn answer<D: CrashDisk, W: Write>(
                 credential,
                 call,
             },
-        ) => match procedure(alloc, store, credential, moment, &call) {
+        ) => match procedure(alloc, store, credential, moment, call) {
             Verdict::Reply(reply) if is_served(&reply) => put(
                 alloc,
                 writer,

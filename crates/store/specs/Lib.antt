@@ -1,5 +1,8 @@
 pub mod GoodImage
 pub mod Transcript
+pub mod Progress
+pub mod LogTold
+pub mod Openings
 pub mod Schedule
 pub mod History
 pub mod Verdicts

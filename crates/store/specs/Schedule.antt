@@ -1,197 +1,226 @@
 -- Which events apply, and what step each may make, told from the events and steps before it alone.
-use Rattle.std.specs.Prelude.{◌≡◌, ℕ, Bool, true, false, not, ◌||◌, if◌then◌else◌, nat_eq, List, [], ◌∷◌, take, Option, Some, None, Err, ◌<◌, ◌≤◌, length, slice_get}
-use Rattle.std.specs.List.{zip}
+use Rattle.std.specs.Prelude.{◌≡◌, ℕ, ◌+◌, ◌^◌, ◌<◌, ◌≤◌, ◌⊎◌, Bool, true, false, if◌then◌else◌, nat_eq, nat_le, List, [], ◌∷◌, take, Option, Some, None, Ok, Err, length, slice_get}
+use Rattle.std.specs.List.{zip, list_any}
+use Rattle.limits.specs.declared.TheConstants.{CHANGED_BLOCKS, LOG_SLOTS}
+use Rattle.disk.specs.declared.block.BlockNo.{BlockNo}
+use Rattle.objects.specs.declared.addr.Addr.{Addr}
 use Rattle.nfs_types.specs.declared.call.Call.{Call}
-use Rattle.model.specs.Calls.{is_answered_stable}
+use Rattle.model.specs.Calls.{has_rules}
+use Rattle.procs.specs.Seen.{is_claimed, same_addr}
+use Rattle.txn.specs.declared.answers.BeginFault.{BeginFault}
+use Rattle.txn.specs.declared.answers.BeginFault.TheVariants as fault
+use Rattle.wal.specs.declared.answers.Seq.{Seq}
+use Rattle.store.specs.declared.events.Committing.{Committing}
 use Rattle.store.specs.declared.events.Committing.TheVariants as committing
+use Rattle.store.specs.declared.events.Ending.TheVariants as ending
 use Rattle.store.specs.declared.events.Event.{Event}
 use Rattle.store.specs.declared.events.Event.TheVariants as event
 use Rattle.store.specs.declared.events.Step.{Step}
 use Rattle.store.specs.declared.events.Step.TheVariants as step
+use Rattle.store.specs.declared.events.Wish.{Wish}
 use Rattle.store.specs.declared.events.Wish.TheVariants as wish
+use Rattle.store.specs.LogTold.{DeviceCall, Free, Taken, Made, LogTold, empty_log, log_moved, may_log_told, may_install_told, settled_told}
+use Rattle.store.specs.Progress.{Begun, Progress, Idle, Called, Planning, ReadDue, Returned, IsEnding, Waiting, progressed}
 
 -- a schedule is any list of events
 abbrev pub Schedule : Type 0
 Schedule = List Event
 
--- how far a worker is: it has no call; it has one, which begins again once its transaction is ended, or doesn't; a read
--- of its call is due
-pub data Progress : Type 0 where
-  Idle : Progress
-  HasCall : Call → Bool → Progress
-  ReadDue : Call → Progress
-
-abbrev pub is_idle : Progress → Bool
-is_idle Idle = true
-is_idle (HasCall call again) = false
-is_idle (ReadDue call) = false
-
--- a device call of the log, or of the installer: none is out, one is out, or it was made and answered Ok or not
-pub data DeviceCall : Type 0 where
-  Free : DeviceCall
-  Taken : DeviceCall
-  Made : Bool → DeviceCall
-
--- what is told of a worker, of the log's and the installer's device calls, and whether one of these failed
+-- what is told of a worker, of the count of transactions, and of the log
 pub record Told : Type 0 where
   pub worker : Progress
-  pub log : DeviceCall
-  pub installer : DeviceCall
-  pub broken : Bool
+  pub begun : ℕ
+  pub log : LogTold
 
--- before the first event
-abbrev pub at_first : Told
-at_first = record { worker = Idle; log = Free; installer = Free; broken = false }
+-- before the first event, where the log ends at a position
+abbrev pub at_first : ℕ → Told
+at_first position = record { worker = Idle; begun = 0; log = empty_log position }
 
--- how far a worker is after a step of its own, which has this call
-abbrev pub moved_on : Bool → Bool → Call → Step → Progress
-moved_on broken again call step.Replied = Idle
-moved_on broken again call (step.Begun (Err fault)) = Idle
-moved_on broken again call (step.Wanted addr wish.Fetch) = ReadDue call
-moved_on broken again call (step.Commit (committing.Committed place)) = if is_answered_stable call then HasCall call false else Idle
-moved_on broken again call (step.Commit committing.Foreign) = HasCall call true
-moved_on broken again call (step.Aborted refused) = if again then HasCall call false else Idle
-moved_on broken again call (step.Stable place true) = Idle
-moved_on broken again call (step.Stable place false) = if broken then Idle else HasCall call false
-moved_on broken again call _ = HasCall call again
+-- the event is one of this worker's
+abbrev pub is_of : ℕ → Event → Bool
+is_of number (event.Call worker credential moment call) = nat_eq worker number
+is_of number (event.Work worker) = nat_eq worker number
+is_of number (event.Read worker) = nat_eq worker number
+is_of number event.Log = false
+is_of number event.LogIo = false
+is_of number event.Install = false
+is_of number event.InstIo = false
 
-abbrev pub progressed : Bool → Step → Progress → Progress
-progressed broken step Idle = Idle
-progressed broken step (HasCall call again) = moved_on broken again call step
-progressed broken step (ReadDue call) = HasCall call false
+-- how far a worker is after a step of an event of its own
+abbrev pub after_own : Bool → Event → Step → Progress → Progress
+after_own broken (event.Call worker credential moment call) made progress = Called call
+after_own broken _ made progress = progressed broken made progress
 
--- a device call after a step: it is taken, made, and given back
-abbrev pub log_moved : Step → DeviceCall → DeviceCall
-log_moved (step.LogNext call) device = Taken
-log_moved (step.LogIo ok) device = Made ok
-log_moved (step.LogDone ok) device = Free
-log_moved _ device = device
-
-abbrev pub installer_moved : Step → DeviceCall → DeviceCall
-installer_moved (step.InstNext call) device = Taken
-installer_moved (step.InstIo ok) device = Made ok
-installer_moved (step.InstDone ok) device = Free
-installer_moved _ device = device
-
--- the store is broken once the log or the installer is told of a device call that failed
-abbrev pub breaks : Step → Bool
-breaks (step.LogDone ok) = not ok
-breaks (step.InstDone ok) = not ok
-breaks _ = false
-
--- how far the worker of this number is after a step of an event
-abbrev pub worker_moved : ℕ → Bool → Event → Step → Progress → Progress
-worker_moved number broken (event.Call worker credential moment call) step progress = if nat_eq worker number then HasCall call false else progress
-worker_moved number broken (event.Work worker) step progress = if nat_eq worker number then progressed broken step progress else progress
-worker_moved number broken (event.Read worker) step progress = if nat_eq worker number then progressed broken step progress else progress
-worker_moved number broken _ step progress = progress
+abbrev pub begun_after : ℕ → Step → ℕ
+begun_after begun (step.Begun (Ok number)) = begun + 1
+begun_after begun _ = begun
 
 -- what is told after an event, which made a step or none
 abbrev pub told_after : ℕ → Told → Event → Option Step → Told
 told_after number told event None = told
-told_after number told event (Some step) = record {
-  worker = worker_moved number told.broken event step told.worker;
-  log = log_moved step told.log;
-  installer = installer_moved step told.installer;
-  broken = told.broken || breaks step;
+told_after number told event (Some made) = record {
+  worker = if is_of number event then after_own told.log.broken event made told.worker else told.worker;
+  begun = begun_after told.begun made;
+  log = log_moved told.log made;
 }
 
 abbrev pub told_along : ℕ → Told → List (Event × Option Step) → Told
 told_along number told [] = told
 told_along number told (first ∷ others) = told_along number (told_after number told first.0 first.1) others
 
--- a step of a worker's call, which is no read and no step of the log's or the installer's
-abbrev pub is_work : Step → Bool
-is_work step.Replied = true
-is_work (step.Begun answer) = true
-is_work (step.Wanted addr answer) = true
-is_work (step.Claimed block answer) = true
-is_work (step.Fetched block) = true
-is_work (step.FetchFailed block) = true
-is_work (step.Commit answer) = true
-is_work (step.Aborted refused) = true
-is_work (step.Stable place settled) = true
-is_work _ = false
-
 -- a worker without a call takes one
 abbrev pub IsStepOfCall : Progress → Option Step → Type 0
 IsStepOfCall Idle made = made ≡ Some step.Called
-IsStepOfCall (HasCall call again) made = made ≡ None
-IsStepOfCall (ReadDue call) made = made ≡ None
+IsStepOfCall (Called call) made = made ≡ None
+IsStepOfCall (Planning call begun) made = made ≡ None
+IsStepOfCall (ReadDue call begun block) made = made ≡ None
+IsStepOfCall (Returned call begun block ok) made = made ≡ None
+IsStepOfCall (IsEnding call why) made = made ≡ None
+IsStepOfCall (Waiting call place) made = made ≡ None
+
+-- a transaction takes the next number; a broken store begins none, nor does one whose numbers are spent
+abbrev pub IsBeginning : Told → Step → Type 0
+IsBeginning told (step.Begun (Ok number)) = (told.log.broken ≡ false) × (number ≡ told.begun + 1)
+IsBeginning told (step.Begun (Err fault.Broken)) = told.log.broken ≡ true
+IsBeginning told (step.Begun (Err fault.Spent)) = (told.log.broken ≡ false) × (2 ^ 64 ≤ told.begun + 1)
+IsBeginning told (step.Begun (Err fault.NoMemory)) = told.log.broken ≡ false
+IsBeginning told _ = ⊥
+
+-- a call with rules begins a transaction, and another is answered
+abbrev pub IsStepOfCalled : Told → Bool → Step → Type 0
+IsStepOfCalled told true made = IsBeginning told made
+IsStepOfCalled told false made = made ≡ step.Replied
+
+-- an object is among these
+abbrev pub is_held : Addr → List Addr → Bool
+is_held addr held = list_any (λ other. same_addr addr other) held
+
+-- a wish is never for a block that holds no object
+abbrev pub IsWish : Wish → Type 0
+IsWish wish.Outside = ⊥
+IsWish _ = Unit {0}
+
+-- What a commit may be answered: the next place, after which the tail holds as much as before and what the change adds to
+-- it; and each refusal with its cause. What was read stays as it was while it is held, so no change is foreign.
+abbrev pub IsCommitting : LogTold → Committing → Type 0
+IsCommitting log (committing.Committed place tail) =
+    (log.broken ≡ false) × (place.0 ≡ log.places + 1) × (log.tail ≤ tail) × (tail ≤ log.tail + CHANGED_BLOCKS) × (tail ≤ LOG_SLOTS)
+IsCommitting log committing.Broken = log.broken ≡ true
+IsCommitting log committing.Foreign = ⊥
+IsCommitting log committing.Spent =
+    (log.broken ≡ false) × ((2 ^ 64 ≤ log.places + 1) ⊎ (2 ^ 64 ≤ log.position + CHANGED_BLOCKS))
+IsCommitting log committing.Full = (log.broken ≡ false) × (LOG_SLOTS < log.tail + CHANGED_BLOCKS)
+IsCommitting log committing.NoMemory = log.broken ≡ false
+
+-- A plan asks for an object or a block that it doesn't have, or is done and commits; or it finds no memory.
+abbrev pub IsStepOfPlan : LogTold → Begun → Step → Type 0
+IsStepOfPlan log begun (step.Wanted addr answer) = (is_held addr begun.held ≡ false) × IsWish answer
+IsStepOfPlan log begun (step.Claimed block answer) = (is_claimed block begun.claimed ≡ false) × IsWish answer
+IsStepOfPlan log begun (step.Commit answer) = IsCommitting log answer
+IsStepOfPlan log begun (step.Ended ending.NoMemory) = Unit {0}
+IsStepOfPlan log begun _ = ⊥
+
+-- the place is found settled where it is
+abbrev pub IsStepOfWaiting : LogTold → ℕ → Step → Type 0
+IsStepOfWaiting log place (step.Stable seq settled) = (seq.0 ≡ place) × (settled ≡ nat_le place (settled_told log))
+IsStepOfWaiting log place _ = ⊥
 
 -- a worker with a call, of which no read is due, goes on with it
-abbrev pub IsStepOfWork : Progress → Option Step → Type 0
-IsStepOfWork Idle made = made ≡ None
-IsStepOfWork (HasCall call again) made = (work : Step) × (made ≡ Some work) × (is_work work ≡ true)
-IsStepOfWork (ReadDue call) made = made ≡ None
+abbrev pub IsStepWith : Told → Progress → Step → Type 0
+IsStepWith told Idle made = ⊥
+IsStepWith told (Called call) made = IsStepOfCalled told (has_rules call) made
+IsStepWith told (Planning call begun) made = IsStepOfPlan told.log begun made
+IsStepWith told (ReadDue call begun block) made = ⊥
+IsStepWith told (Returned call begun block ok) made = made ≡ (if ok then step.Fetched block else step.FetchFailed block)
+IsStepWith told (IsEnding call why) made = made ≡ step.Ended why
+IsStepWith told (Waiting call place) made = IsStepOfWaiting told.log place made
+
+abbrev pub IsStepOfWork : Told → Progress → Option Step → Type 0
+IsStepOfWork told Idle made = made ≡ None
+IsStepOfWork told (ReadDue call begun block) made = made ≡ None
+IsStepOfWork told progress (Some made) = IsStepWith told progress made
+IsStepOfWork told progress None = ⊥
 
 -- a read that is due is made
-abbrev pub IsStepOfRead : Progress → Option Step → Type 0
-IsStepOfRead Idle made = made ≡ None
-IsStepOfRead (HasCall call again) made = made ≡ None
-IsStepOfRead (ReadDue call) (Some (step.Read block ok)) = Unit {0}
-IsStepOfRead (ReadDue call) _ = ⊥
+abbrev pub IsReadOf : BlockNo → Option Step → Type 0
+IsReadOf block (Some (step.Read read ok)) = read ≡ block
+IsReadOf block _ = ⊥
 
--- none may be to be had, and none is of a broken store
+abbrev pub IsStepOfRead : Progress → Option Step → Type 0
+IsStepOfRead (ReadDue call begun block) made = IsReadOf block made
+IsStepOfRead _ made = made ≡ None
+
+-- the call that was made is given back, and where none is out the next is taken, if one is to be had
 abbrev pub IsNextOfLog : Bool → Option Step → Type 0
-IsNextOfLog broken None = Unit {0}
-IsNextOfLog broken (Some (step.LogNext call)) = broken ≡ false
-IsNextOfLog broken _ = ⊥
+IsNextOfLog true (Some (step.LogNext call)) = Unit {0}
+IsNextOfLog true _ = ⊥
+IsNextOfLog false made = made ≡ None
 
 abbrev pub IsNextOfInstaller : Bool → Option Step → Type 0
-IsNextOfInstaller broken None = Unit {0}
-IsNextOfInstaller broken (Some (step.InstNext call)) = broken ≡ false
-IsNextOfInstaller broken _ = ⊥
+IsNextOfInstaller true (Some (step.InstNext call)) = Unit {0}
+IsNextOfInstaller true _ = ⊥
+IsNextOfInstaller false made = made ≡ None
 
--- the call that was made is given back, or the next is taken
-abbrev pub IsStepOfLog : Bool → DeviceCall → Option Step → Type 0
-IsStepOfLog broken Free made = IsNextOfLog broken made
-IsStepOfLog broken Taken made = made ≡ None
-IsStepOfLog broken (Made ok) made = made ≡ Some (step.LogDone ok)
+abbrev pub IsStepOfLog : LogTold → DeviceCall → Option Step → Type 0
+IsStepOfLog log Free made = IsNextOfLog (may_log_told log) made
+IsStepOfLog log (Taken call) made = made ≡ None
+IsStepOfLog log (Made call ok) made = made ≡ Some (step.LogDone ok)
 
-abbrev pub IsStepOfInstaller : Bool → DeviceCall → Option Step → Type 0
-IsStepOfInstaller broken Free made = IsNextOfInstaller broken made
-IsStepOfInstaller broken Taken made = made ≡ None
-IsStepOfInstaller broken (Made ok) made = made ≡ Some (step.InstDone ok)
+abbrev pub IsStepOfInstaller : LogTold → DeviceCall → Option Step → Type 0
+IsStepOfInstaller log Free made = IsNextOfInstaller (may_install_told log) made
+IsStepOfInstaller log (Taken call) made = made ≡ None
+IsStepOfInstaller log (Made call ok) made = made ≡ Some (step.InstDone ok)
 
 -- the call that is out is made
 abbrev pub IsStepOfLogIo : DeviceCall → Option Step → Type 0
-IsStepOfLogIo Taken (Some (step.LogIo ok)) = Unit {0}
-IsStepOfLogIo Taken _ = ⊥
+IsStepOfLogIo (Taken call) (Some (step.LogIo ok)) = Unit {0}
+IsStepOfLogIo (Taken call) _ = ⊥
 IsStepOfLogIo Free made = made ≡ None
-IsStepOfLogIo (Made ok) made = made ≡ None
+IsStepOfLogIo (Made call ok) made = made ≡ None
 
 abbrev pub IsStepOfInstIo : DeviceCall → Option Step → Type 0
-IsStepOfInstIo Taken (Some (step.InstIo ok)) = Unit {0}
-IsStepOfInstIo Taken _ = ⊥
+IsStepOfInstIo (Taken call) (Some (step.InstIo ok)) = Unit {0}
+IsStepOfInstIo (Taken call) _ = ⊥
 IsStepOfInstIo Free made = made ≡ None
-IsStepOfInstIo (Made ok) made = made ≡ None
+IsStepOfInstIo (Made call ok) made = made ≡ None
 
--- the worker that an event is of, or 0
-abbrev pub worker_of : Event → ℕ
-worker_of (event.Call worker credential moment call) = worker
-worker_of (event.Work worker) = worker
-worker_of (event.Read worker) = worker
-worker_of _ = 0
-
--- An event that applies makes a step of its kind, and one that doesn't makes none. The log and the installer have no call
--- to take where nothing is to be logged or installed, which these steps don't tell.
+-- An event that applies makes a step of its kind, and one that doesn't makes none.
 abbrev pub IsStepOf : Told → Event → Option Step → Type 0
 IsStepOf told (event.Call worker credential moment call) made = IsStepOfCall told.worker made
-IsStepOf told (event.Work worker) made = IsStepOfWork told.worker made
+IsStepOf told (event.Work worker) made = IsStepOfWork told told.worker made
 IsStepOf told (event.Read worker) made = IsStepOfRead told.worker made
-IsStepOf told event.Log made = IsStepOfLog told.broken told.log made
-IsStepOf told event.LogIo made = IsStepOfLogIo told.log made
-IsStepOf told event.Install made = IsStepOfInstaller told.broken told.installer made
-IsStepOf told event.InstIo made = IsStepOfInstIo told.installer made
+IsStepOf told event.Log made = IsStepOfLog told.log told.log.log_call made
+IsStepOf told event.LogIo made = IsStepOfLogIo told.log.log_call made
+IsStepOf told event.Install made = IsStepOfInstaller told.log told.log.inst_call made
+IsStepOf told event.InstIo made = IsStepOfInstIo told.log.inst_call made
 
 -- what is told of a worker before the event of an index
-abbrev pub told_before : List Event → List (Option Step) → ℕ → ℕ → Told
-told_before events steps number index = told_along number at_first (take index (zip events steps))
+abbrev pub told_before : ℕ → Schedule → List (Option Step) → ℕ → ℕ → Told
+told_before position events steps number index = told_along number (at_first position) (take index (zip events steps))
 
--- The events are taken from the first on, of so many workers, each once: all, or fewer where memory to tell of the next
--- was refused. Each makes the step that it may make, and an event of a worker that isn't there makes none.
-pub record AreTaken (workers : ℕ) (events : Schedule) (steps : List (Option Step)) : Type 0 where
+-- how far a worker is before the event of an index, which the log's position has no part in
+abbrev pub progress_before : Schedule → List (Option Step) → ℕ → ℕ → Progress
+progress_before events steps number index = (told_before 0 events steps number index).worker
+
+-- a write or a barrier failed, and the log was told of it before the event of an index
+abbrev pub is_broken_before : Schedule → List (Option Step) → ℕ → Bool
+is_broken_before events steps index = (told_before 0 events steps 0 index).log.broken
+
+-- the worker that an event is of; those of the log and the installer are of none
+abbrev pub worker_of : Event → Option ℕ
+worker_of (event.Call worker credential moment call) = Some worker
+worker_of (event.Work worker) = Some worker
+worker_of (event.Read worker) = Some worker
+worker_of _ = None
+
+-- The events are taken from the first on, of so many workers, each once, over a log that ends at a position: all, or
+-- fewer, which only want of memory to tell of the next may cause (tests show that). Each makes the step that it may make,
+-- and an event of a worker that isn't there makes none.
+pub record AreTaken (position workers : ℕ) (events : Schedule) (steps : List (Option Step)) : Type 0 where
   pub fewer : length steps ≤ length events
-  pub each : (index : ℕ) (event : Event) (made : Option Step) → slice_get events index ≡ Some event → slice_get steps index ≡ Some made → worker_of event < workers → IsStepOf (told_before events steps (worker_of event) index) event made
-  pub others : (index : ℕ) (event : Event) (made : Option Step) → slice_get events index ≡ Some event → slice_get steps index ≡ Some made → workers ≤ worker_of event → made ≡ None
+  pub own : (index worker : ℕ) (event : Event) (made : Option Step) → slice_get events index ≡ Some event → slice_get steps index ≡ Some made
+      → worker_of event ≡ Some worker → worker < workers → IsStepOf (told_before position events steps worker index) event made
+  pub log : (index : ℕ) (event : Event) (made : Option Step) → slice_get events index ≡ Some event → slice_get steps index ≡ Some made
+      → worker_of event ≡ None → IsStepOf (told_before position events steps 0 index) event made
+  pub others : (index worker : ℕ) (event : Event) (made : Option Step) → slice_get events index ≡ Some event → slice_get steps index ≡ Some made
+      → worker_of event ≡ Some worker → workers ≤ worker → made ≡ None

@@ -1,5 +1,5 @@
 -- What a run tells, as lists.
-use Rattle.std.specs.Prelude.{ℕ, ◌-◌, ◌+◌, Bool, true, false, List, map, take, count_by, slice_get, Option, Some, None, nat_le}
+use Rattle.std.specs.Prelude.{ℕ, zero, suc, ◌+◌, Bool, true, false, not, List, map, take, count_by, slice_get, Option, Some, None, nat_le}
 use Rattle.model.specs.After.{Entry}
 use Rattle.store.specs.declared.events.Step.{Step}
 use Rattle.store.specs.declared.events.Step.TheVariants as step
@@ -28,7 +28,8 @@ entries_of t = map entry_of t.history
 
 -- the committed procedure of a place; places count from 1
 abbrev pub committed_at : Transcript → ℕ → Option Committed
-committed_at t place = slice_get t.history (place - 1)
+committed_at t zero = None
+committed_at t (suc index) = slice_get t.history index
 
 -- the step of an event, if one was made
 abbrev pub made : Option (Option Step) → Option Step
@@ -44,6 +45,13 @@ calls_device (Some (step.Read block ok)) = true
 calls_device (Some (step.LogIo ok)) = true
 calls_device (Some (step.InstIo ok)) = true
 calls_device _ = false
+
+-- a step that is a call of the device that failed
+abbrev pub fails : Option Step → Bool
+fails (Some (step.Read block ok)) = not ok
+fails (Some (step.LogIo ok)) = not ok
+fails (Some (step.InstIo ok)) = not ok
+fails _ = false
 
 -- how many device calls the events before this one made
 abbrev pub device_calls : Transcript → ℕ → ℕ

@@ -9,6 +9,7 @@ use Rattle.model.specs.Calls.{has_rules, is_answered_stable, unsupported}
 use Rattle.txn.specs.declared.answers.BeginFault.TheVariants as fault
 use Rattle.store.specs.declared.answers.Verdict.TheVariants as verdict
 use Rattle.store.specs.declared.events.Committing.TheVariants as committing
+use Rattle.store.specs.declared.events.Ending.TheVariants as ending
 use Rattle.store.specs.declared.events.Event.{Event}
 use Rattle.store.specs.declared.events.Event.TheVariants as event
 use Rattle.store.specs.declared.events.Step.{Step}
@@ -16,8 +17,9 @@ use Rattle.store.specs.declared.events.Step.TheVariants as step
 use Rattle.store.specs.declared.events.Wish.TheVariants as wish
 use Rattle.store.specs.declared.transcript.Answer.{Answer}
 use Rattle.store.specs.declared.transcript.Committed.{Committed}
-use Rattle.procs.specs.Refused.{refused}
-use Rattle.store.specs.Schedule.{Schedule, worker_of, breaks, is_idle, told_before}
+use Rattle.model.specs.Refused.{refused}
+use Rattle.store.specs.Progress.{is_idle}
+use Rattle.store.specs.Schedule.{Schedule, worker_of, progress_before, is_broken_before}
 use Rattle.store.specs.Transcript.{Transcript, step_at, committed_at, device_calls}
 
 -- The answer is the reply of the procedure of a place, which is to be answered, with refusals too, only once what it
@@ -53,7 +55,7 @@ is_refused_memory (step.Begun (Err fault.NoMemory)) = true
 is_refused_memory (step.Wanted addr wish.NoMemory) = true
 is_refused_memory (step.Claimed block wish.NoMemory) = true
 is_refused_memory (step.Commit committing.NoMemory) = true
-is_refused_memory (step.Aborted refused) = refused
+is_refused_memory (step.Ended ending.NoMemory) = true
 is_refused_memory _ = false
 
 -- a step that found a counter spent
@@ -74,18 +76,10 @@ pub record HasStep (events : Schedule) (t : Transcript) (worker from by : ℕ) (
   pub not_after : at ≤ by
   pub event : Event
   pub is_event : slice_get events at ≡ Some event
-  pub own : worker_of event ≡ worker
+  pub own : worker_of event ≡ Some worker
   pub step : Step
   pub made : step_at t at ≡ Some step
   pub is_kind : kind step ≡ true
-
--- a write or a barrier failed, and the log was told of it before this event
-pub record IsBroken (t : Transcript) (by : ℕ) : Type 0 where
-  pub at : ℕ
-  pub earlier : at < by
-  pub step : Step
-  pub made : step_at t at ≡ Some step
-  pub failed : breaks step ≡ true
 
 -- the procedure of this place was committed in the call that the worker was handed by an event, up to another
 pub record IsOfCall (t : Transcript) (asked : Call) (worker from by place : ℕ) (entry : Committed) : Type 0 where
@@ -109,7 +103,7 @@ pub record IsOfNone (t : Transcript) (from : ℕ) (asked : Call) (a : Answer) : 
 pub data IsVerdict (events : Schedule) (t : Transcript) (from : ℕ) (asked : Call) (a : Answer) : Type 0 where
   -- the reply of its procedure, with the step that committed it
   AtOnce : (place : ℕ) (entry : Committed) → IsOfPlace t from asked a place entry → is_answered_stable asked ≡ false
-      → step_at t a.event ≡ Some (step.Commit (committing.Committed (record { 0 = place })))
+      → (tail : ℕ) → step_at t a.event ≡ Some (step.Commit (committing.Committed (record { 0 = place }) tail))
       → a.verdict ≡ verdict.Reply entry.reply → IsVerdict events t from asked a
   -- the reply of its procedure, with the step that found its place settled
   Stable : (place : ℕ) (entry : Committed) → IsOfPlace t from asked a place entry → is_answered_stable asked ≡ true
@@ -117,13 +111,13 @@ pub data IsVerdict (events : Schedule) (t : Transcript) (from : ℕ) (asked : Ca
       → a.verdict ≡ verdict.Reply entry.reply → IsVerdict events t from asked a
   -- it was committed, and a failure kept it from being settled
   Unsettled : (place : ℕ) (entry : Committed) → IsOfPlace t from asked a place entry → is_answered_stable asked ≡ true
-      → step_at t a.event ≡ Some (step.Stable (record { 0 = place }) false) → IsBroken t a.event
+      → step_at t a.event ≡ Some (step.Stable (record { 0 = place }) false) → is_broken_before events t.steps a.event ≡ true
       → a.verdict ≡ verdict.Reply (refused status.Io asked) → IsVerdict events t from asked a
   -- it wasn't committed, as a read of the call failed
   FailedRead : IsOfNone t from asked a → HasStep events t a.worker from a.event is_failed_read
       → a.verdict ≡ verdict.Reply (refused status.Io asked) → IsVerdict events t from asked a
   -- it wasn't committed, as the store was broken
-  Broken : IsOfNone t from asked a → IsBroken t a.event → a.verdict ≡ verdict.Reply (refused status.Io asked)
+  Broken : IsOfNone t from asked a → is_broken_before events t.steps a.event ≡ true → a.verdict ≡ verdict.Reply (refused status.Io asked)
       → IsVerdict events t from asked a
   -- it wasn't committed, as a step of the call was refused memory
   NoMemory : IsOfNone t from asked a → HasStep events t a.worker from a.event is_refused_memory → a.verdict ≡ verdict.NoMemory
@@ -145,16 +139,19 @@ pub record IsAnswer (events : Schedule) (t : Transcript) (a : Answer) : Type 0 w
   pub asked : Call
   pub handed : slice_get events from ≡ Some (event.Call a.worker credential time asked)
   pub taken : step_at t from ≡ Some step.Called
-  pub last : (between : ℕ) (other : Event) → from < between → between ≤ a.event → slice_get events between ≡ Some other → worker_of other ≡ a.worker → step_at t between ≢ Some step.Called
+  pub last : (between : ℕ) (other : Event) → from < between → between ≤ a.event → slice_get events between ≡ Some other → worker_of other ≡ Some a.worker → step_at t between ≢ Some step.Called
   pub event : slice_get events a.event ≡ Some (event.Work a.worker)
-  pub ends : is_idle (told_before events t.steps a.worker (a.event + 1)).worker ≡ true
+  pub ends : is_idle (progress_before events t.steps a.worker (a.event + 1)) ≡ true
   pub verdict : IsVerdict events t from asked a
   pub moment : a.moment ≡ device_calls t a.event
 
--- Each answer is one to its call, a call is answered once and so is a procedure, and each event by which a worker ends a
--- call gives its answer.
+-- Each answer is one to its call, in the order of their events; a call is answered once and so is a procedure, and each
+-- event by which a worker ends a call gives its answer.
 pub record AreAnswers (events : Schedule) (t : Transcript) : Type 0 where
   pub each : (index : ℕ) (a : Answer) → slice_get t.answers index ≡ Some a → IsAnswer events t a
   pub once : (one other : ℕ) (a b : Answer) (first : IsAnswer events t a) (second : IsAnswer events t b) → slice_get t.answers one ≡ Some a → slice_get t.answers other ≡ Some b → first.from ≡ second.from → one ≡ other
   pub placed_once : (one other place : ℕ) (a b : Answer) → slice_get t.answers one ≡ Some a → slice_get t.answers other ≡ Some b → a.place ≡ Some (record { 0 = place }) → b.place ≡ Some (record { 0 = place }) → one ≡ other
-  pub whole : (index : ℕ) (event : Event) → slice_get events index ≡ Some event → index < length t.steps → is_idle (told_before events t.steps (worker_of event) index).worker ≡ false → is_idle (told_before events t.steps (worker_of event) (index + 1)).worker ≡ true → (a : Answer) × Contains t.answers a × (a.event ≡ index)
+  pub ordered : (one other : ℕ) (a b : Answer) → slice_get t.answers one ≡ Some a → slice_get t.answers other ≡ Some b → one < other → a.event < b.event
+  pub whole : (index worker : ℕ) (event : Event) → slice_get events index ≡ Some event → index < length t.steps → worker_of event ≡ Some worker
+      → is_idle (progress_before events t.steps worker index) ≡ false → is_idle (progress_before events t.steps worker (index + 1)) ≡ true
+      → (a : Answer) × Contains t.answers a × (a.event ≡ index)

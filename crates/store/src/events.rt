@@ -30,17 +30,6 @@ pub enum Event {
     InstIo,
 }
 
-impl Event {
-    /// The worker that the event is of, or 0 where it is of none.
-    pub fn worker(&self) -> usize {
-        match self {
-            Event::Call { worker, .. } => *worker,
-            Event::Work(worker) | Event::Read(worker) => *worker,
-            Event::Log | Event::LogIo | Event::Install | Event::InstIo => 0,
-        }
-    }
-}
-
 /// What a wish of a transaction was answered.
 #[derive(Clone, Copy, Debug, PartialEq, Eq)]
 pub enum Wish {
@@ -52,15 +41,26 @@ pub enum Wish {
     NoMemory,
 }
 
-/// What a commit was answered.
+/// What a commit was answered: its place, and how many blocks the open tail of the log holds then.
 #[derive(Clone, Copy, Debug, PartialEq, Eq)]
 pub enum Committing {
-    Committed(Seq),
+    Committed(Seq, usize),
     Full,
     Foreign,
     NoMemory,
     Broken,
     Spent,
+}
+
+/// Why a transaction is ended without a change.
+#[derive(Clone, Copy, Debug, PartialEq, Eq)]
+pub enum Ending {
+    /// Its call begins again.
+    Again,
+    /// A step of it was refused, or its read failed.
+    Refused,
+    /// The worker found no memory to plan with.
+    NoMemory,
 }
 
 /// The step that an event made: a method of the core with what it was asked and answered, a device call with whether
@@ -78,8 +78,8 @@ pub enum Step {
     Fetched(BlockNo),
     FetchFailed(BlockNo),
     Commit(Committing),
-    /// The transaction was ended without a change: for want of memory to plan with, or else.
-    Aborted(bool),
+    /// The transaction was ended without a change.
+    Ended(Ending),
     /// Whether the place is settled.
     Stable(Seq, bool),
     /// The worker's block was read, or not.

@@ -1,5 +1,5 @@
 //! Laws on the promise of a run.
-ghost use Rattle.std.specs.Prelude.{◌≡◌, ◌≢◌, ◌+◌, ◌<◌, ◌≤◌, ℕ, List, [], ◌∷◌, slice_get, Some, Contains, take};
+ghost use Rattle.std.specs.Prelude.{◌≡◌, ◌≢◌, ◌+◌, ◌<◌, ◌≤◌, ℕ, List, [], ◌∷◌, slice_get, Some, None, true, Contains, count_by, length, take};
 ghost use Rattle.disk.specs.Crash.{Image, IsCrashImage};
 ghost use Rattle.disk.specs.Device.{Device};
 ghost use Rattle.model.specs.After.{after};
@@ -9,14 +9,17 @@ ghost use Rattle.store.specs.declared.events.Event.TheVariants as event;
 ghost use Rattle.store.specs.declared.events.Step.TheVariants as step;
 ghost use Rattle.store.specs.declared.transcript.Answer.{Answer};
 ghost use Rattle.store.specs.declared.transcript.Committed.{Committed};
-ghost use Rattle.store.specs.Headline.{IsKept, KeepsTree, Recovers, began};
-ghost use Rattle.store.specs.Schedule.{Schedule};
-ghost use Rattle.store.specs.Transcript.{Transcript, entries_of, step_at};
+ghost use Rattle.store.specs.GoodImage.{IsGoodImage};
+ghost use Rattle.store.specs.Headline.{IsKept};
+ghost use Rattle.store.specs.Openings.{IsOpened};
+ghost use Rattle.store.specs.LogTold.{Free, may_log_told};
+ghost use Rattle.store.specs.Schedule.{Schedule, told_before};
+ghost use Rattle.store.specs.Transcript.{Transcript, device_calls, entries_of, fails, step_at};
 ghost use Rattle.store.specs.Verdicts.{IsStableAnswer};
 
-/// A run of no events keeps the promise, where its opening keeps the tree.
+/// A run of no events keeps the promise, where its opening is one.
 pub fn a_run_of_no_events_keeps_the_promise()
-    ensures { (before later : Device) (tree : Tree) (first workers : ℕ) → KeepsTree before later tree first
+    ensures { (before later : Device) (tree : Tree) (first position workers : ℕ) → IsOpened before later tree first position
         → IsKept before later tree first workers [] (record { boot = first + 1; history = []; answers = []; steps = [] }) }
 {}
 
@@ -32,8 +35,8 @@ pub fn an_entry_was_called()
 pub fn what_is_stable_is_kept()
     ensures { (before later : Device) (tree : Tree) (first workers moment place : ℕ) (events : Schedule) (t : Transcript) (a : Answer) (image : Image)
         → before.clock ≤ moment → moment ≤ later.clock → IsCrashImage later moment image
-        → Contains t.answers a → began later t + a.moment ≤ moment → IsStableAnswer t a place
-        → ((count boot : ℕ) (left : Tree) → place ≤ count → after tree (take count (entries_of t)) left → Recovers later.size image left boot → ⊥)
+        → Contains t.answers a → later.clock + a.moment ≤ moment + device_calls t (length t.steps) → IsStableAnswer t a place
+        → ((count boot : ℕ) (left : Tree) → place ≤ count → after tree (take count (entries_of t)) left → IsGoodImage later.size image left boot → ⊥)
         → IsKept before later tree first workers events t → ⊥ }
 {}
 
@@ -41,15 +44,36 @@ pub fn what_is_stable_is_kept()
 pub fn half_a_group_breaks_the_promise()
     ensures { (before later : Device) (tree : Tree) (first workers moment : ℕ) (events : Schedule) (t : Transcript) (image : Image)
         → before.clock ≤ moment → moment ≤ later.clock → IsCrashImage later moment image
-        → ((count boot : ℕ) (left : Tree) → after tree (take count (entries_of t)) left → Recovers later.size image left boot → ⊥)
+        → ((count boot : ℕ) (left : Tree) → after tree (take count (entries_of t)) left → IsGoodImage later.size image left boot → ⊥)
         → IsKept before later tree first workers events t → ⊥ }
 {}
 
 /// An answer with the reply of a procedure that is to be answered once it is stable, given with the commit, breaks the
 /// promise.
 pub fn no_stable_answer_comes_with_its_commit()
-    ensures { (before later : Device) (tree : Tree) (first workers index place : ℕ) (events : Schedule) (t : Transcript) (a : Answer)
+    ensures { (before later : Device) (tree : Tree) (first workers index place tail : ℕ) (events : Schedule) (t : Transcript) (a : Answer)
         → slice_get t.answers index ≡ Some a → IsStableAnswer t a place
-        → step_at t a.event ≡ Some (step.Commit (committing.Committed (record { 0 = place })))
+        → step_at t a.event ≡ Some (step.Commit (committing.Committed (record { 0 = place }) tail))
+        → IsKept before later tree first workers events t → ⊥ }
+{}
+
+/// An answer that bears place 0, as no procedure has it, is no stable answer.
+pub fn no_stable_answer_bears_place_0()
+    ensures { (t : Transcript) (a : Answer) → IsStableAnswer t a 0 → ⊥ }
+{}
+
+/// An answer of IO where no device call failed breaks the promise: what the steps tell of failures the device has counted.
+pub fn a_failure_that_is_told_was_counted()
+    ensures { (before later : Device) (tree : Tree) (first workers : ℕ) (events : Schedule) (t : Transcript)
+        → later.failures ≡ before.failures → 0 < count_by fails t.steps
+        → IsKept before later tree first workers events t → ⊥ }
+{}
+
+/// A log that passes over an event which applies breaks the promise.
+pub fn the_log_passes_over_no_event()
+    ensures { (before later : Device) (tree : Tree) (first workers index : ℕ) (events : Schedule) (t : Transcript)
+        → slice_get events index ≡ Some event.Log → slice_get t.steps index ≡ Some None
+        → ((position : ℕ) → may_log_told (told_before position events t.steps 0 index).log ≡ true)
+        → ((position : ℕ) → (told_before position events t.steps 0 index).log.log_call ≡ Free)
         → IsKept before later tree first workers events t → ⊥ }
 {}

@@ -1,6 +1,6 @@
 //! A whole run: an opening, and then events one by one.
-ghost use Rattle.std.specs.Prelude.{◌≡◌};
-ghost use Rattle.store.specs.Running.{RunsWell};
+ghost use Rattle.std.specs.Prelude.{◌≡◌, All};
+ghost use Rattle.store.specs.Running.{IsTimely};
 
 mod running;
 
@@ -21,7 +21,8 @@ pub fn run<D: CrashDisk>(
     workers: usize,
     events: Vec<Event>,
 ) -> (D, Result<Run, OpenFault>)
-    requires { workers ≡ 1 }
+    requires one { workers ≡ 1 }
+    requires timely { All IsTimely events.items }
 {
     let store = match open(alloc, disk) {
         Ok(store) => store,

@@ -1,6 +1,6 @@
 //! The core: who holds what, what is in memory, and the commits that aren't installed.
 ghost use Rattle.std.specs.Prelude.{◌≡◌, ◌≤◌, ◌+◌, ◌^◌, ◌↔◌, IsTrue, IsSome, IsNone, IfSome, IsErrOf, OnErr, IfOk, Some, None, true, is_some, if◌then◌else◌};
-ghost use Rattle.wal.specs.Log.{settled_place, IsHomeOn};
+ghost use Rattle.wal.specs.Log.{settled_place, tail_count, IsHomeOn};
 ghost use Rattle.wal.specs.Io.{IsCallWithin};
 ghost use Rattle.wal.specs.Logger.{may_log, with_log_out, is_log_out, with_log_back};
 ghost use Rattle.wal.specs.Installer.{may_install, with_inst_out, is_inst_out, with_inst_back};
@@ -135,6 +135,13 @@ impl<C: Change> Core<C> {
         } else {
             None
         }
+    }
+
+    /// How many blocks the open tail of the log holds.
+    pub fn tail(&self) -> usize
+        ensures { result ≡ tail_count self.now.log }
+    {
+        self.wal.tail()
     }
 
     /// Whether a write or a barrier has failed. Nothing is begun or committed any more.

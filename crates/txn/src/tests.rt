@@ -2,6 +2,7 @@
 ghost use Rattle.std.specs.Prelude.{◌≡◌, ◌≤◌, length, IfOk, None, Some};
 ghost use Rattle.limits.specs.declared.TheConstants.{CHANGED_BLOCKS};
 ghost use Rattle.txn.specs.Group.{blocks_of};
+ghost use Rattle.txn.specs.declared.tests.TheConstants.{BLOCKS, INODES};
 
 use crate::*;
 use disk::{Block, BlockNo, CrashDisk, MemDisk};
@@ -93,12 +94,18 @@ enum Seen {
 }
 
 // Wants an object, and makes its fetch where there is one.
-fn want(alloc: Global, core: &mut Core<Toy>, disk: &mut MemDisk, tx: Tx, addr: Addr) -> (Tx, Seen)
-    requires size { (MemDisk.device disk.old).size ≡ core.old.log.blocks }
+fn want<D: CrashDisk>(
+    alloc: Global,
+    core: &mut Core<Toy>,
+    disk: &mut D,
+    tx: Tx,
+    addr: Addr,
+) -> (Tx, Seen)
+    requires size { (D.device disk.old).size ≡ core.old.log.blocks }
     ensures back { result.0 ≡ tx }
     ensures out { core.new.out ≡ core.old.out }
     ensures blocks { core.new.log.blocks ≡ core.old.log.blocks }
-    ensures size { (MemDisk.device disk.new).size ≡ (MemDisk.device disk.old).size }
+    ensures size { (D.device disk.new).size ≡ (D.device disk.old).size }
 {
     match core.want(alloc, tx, addr) {
         Want::Held(tx, bytes) => (tx, Seen::Bytes(first(&bytes))),
@@ -137,7 +144,9 @@ enum Ended {
 }
 
 fn commit(alloc: Global, core: &mut Core<Toy>, tx: Tx, toy: Toy) -> Ended
-    ensures { core.new.log.blocks ≡ core.old.log.blocks }
+    requires { core.old.out ≡ Some tx }
+    ensures blocks { core.new.log.blocks ≡ core.old.log.blocks }
+    ensures idle { core.new.out ≡ None }
 {
     let (tx, ended) = match core.commit(alloc, tx, toy) {
         Commit::Committed(place) => return Ended::Place(place),
@@ -168,19 +177,20 @@ fn change_of(alloc: Global, addr: Addr, was: u8, byte: u8) -> Result<Toy, Fail>
 }
 
 // Reads an object in a transaction of its own, and changes it to this byte.
-fn change(
+fn change<D: CrashDisk>(
     alloc: Global,
     core: &mut Core<Toy>,
-    disk: &mut MemDisk,
+    disk: &mut D,
     addr: Addr,
     was: u8,
     byte: u8,
 ) -> Result<Ended, Fail>
-    requires size { (MemDisk.device disk.old).size ≡ core.old.log.blocks }
+    requires size { (D.device disk.old).size ≡ core.old.log.blocks }
     requires idle { core.old.out ≡ None }
     requires len { addr.len ≡ 8 }
-    ensures size { (MemDisk.device disk.new).size ≡ core.new.log.blocks }
+    ensures size { (D.device disk.new).size ≡ core.new.log.blocks }
     ensures blocks { core.new.log.blocks ≡ core.old.log.blocks }
+    ensures idle { core.new.out ≡ None }
 {
     let toy = change_of(alloc, addr, was, byte)?;
     let tx = core.begin()?;
@@ -190,47 +200,47 @@ fn change(
 }
 
 // Makes the calls of the logger until it has none, and tells how many there were.
-fn log_all(core: &mut Core<Toy>, disk: &mut MemDisk) -> usize
-    requires { (MemDisk.device disk.old).size ≡ core.old.log.blocks }
-    ensures size { (MemDisk.device disk.new).size ≡ core.new.log.blocks }
+fn log_all<D: CrashDisk>(core: &mut Core<Toy>, disk: &mut D) -> u16
+    requires { (D.device disk.old).size ≡ core.old.log.blocks }
+    ensures size { (D.device disk.new).size ≡ core.new.log.blocks }
     ensures blocks { core.new.log.blocks ≡ core.old.log.blocks }
     ensures out { core.new.out ≡ core.old.out }
 {
-    let mut calls = 0;
+    let mut calls: u16 = 0;
     'calls: for _ in 0..600u16 {
         let Some(io) = core.log_next() else {
             break;
         };
         let ok = io.perform(disk).is_ok();
         core.log_done(io, ok);
-        calls += 1;
+        calls = calls.saturating_add(1);
     }
     calls
 }
 
 // Makes the calls of the installer until it has none, and tells how many there were.
-fn install_all(core: &mut Core<Toy>, disk: &mut MemDisk) -> usize
-    requires { (MemDisk.device disk.old).size ≡ core.old.log.blocks }
-    ensures size { (MemDisk.device disk.new).size ≡ core.new.log.blocks }
+fn install_all<D: CrashDisk>(core: &mut Core<Toy>, disk: &mut D) -> u16
+    requires { (D.device disk.old).size ≡ core.old.log.blocks }
+    ensures size { (D.device disk.new).size ≡ core.new.log.blocks }
     ensures blocks { core.new.log.blocks ≡ core.old.log.blocks }
     ensures out { core.new.out ≡ core.old.out }
 {
-    let mut calls = 0;
+    let mut calls: u16 = 0;
     'calls: for _ in 0..600u16 {
         let Some(io) = core.inst_next() else {
             break;
         };
         let ok = io.perform(disk).is_ok();
         core.inst_done(io, ok);
-        calls += 1;
+        calls = calls.saturating_add(1);
     }
     calls
 }
 
 // The first byte of the first home block on the disk.
-fn at_home(alloc: Global, disk: &mut MemDisk) -> Result<u8, Fail>
-    requires { (MemDisk.device disk.old).size ≡ BLOCKS }
-    ensures { (MemDisk.device disk.new).size ≡ BLOCKS }
+fn at_home<D: CrashDisk>(alloc: Global, disk: &mut D) -> Result<u8, Fail>
+    requires { (D.device disk.old).size ≡ BLOCKS }
+    ensures { (D.device disk.new).size ≡ BLOCKS }
 {
     let mut block = Block::zeros(alloc)?;
     disk.read(HOME, &mut block)?;

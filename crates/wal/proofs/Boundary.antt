@@ -1,9 +1,9 @@
 -- Lemmas: what agrees with a log leaves a group boundary.
-use Rattle.std.proofs.Common.{◌≡◌, ℕ, zero, suc, ◌+◌, ◌-◌, ◌*◌, ◌%◌, ◌≤◌, ◌<◌, ◌⊎◌, inl, inr, List, [], ◌∷◌, ◌++◌, length, take, drop, map, get_or, slice_get, Option, Some, None, refl, sym, ap, subst, ◌∙◌, arith, nat_eq, if◌then◌else◌}
-use Rattle.std.proofs.lemmas.List.{map-append, get_or-drop, get_or-take, length-drop, length-take, length-take-le}
+use Rattle.std.proofs.Common.{◌≡◌, ℕ, zero, suc, ◌+◌, ◌-◌, ◌*◌, ◌%◌, ◌≤◌, ◌<◌, ◌⊎◌, inl, inr, List, [], ◌∷◌, ◌++◌, length, take, drop, get_or, slice_get, Option, Some, None, refl, sym, ap, subst, ◌∙◌, arith, nat_eq, if◌then◌else◌}
+use Rattle.std.proofs.lemmas.List.{map-append, length-drop}
 use Rattle.std.proofs.lemmas.Bool.{cases_lt}
 use Rattle.std.proofs.lemmas.List.Elements.{All-get_or}
-use Rattle.std.proofs.lemmas.Option.{slice_get_cases, get_or_from_slice_get, slice_get_within, slice_get_read}
+use Rattle.std.proofs.lemmas.Option.{slice_get_cases}
 use Rattle.std.proofs.Math.Seq.{take-suc, take-add}
 use Rattle.limits.specs.declared.TheConstants.{LOG_SLOTS, LOG_HEADER_BLOCK, START_BLOCK}
 use Rattle.disk.specs.Device.{Content, Device}
@@ -15,22 +15,13 @@ use Rattle.wal.specs.Logger.{slot_block}
 use Rattle.wal.specs.Numbers.{number_at}
 use Rattle.wal.specs.Overlay.{start_in, end_in, count_in, home_at, positions, logged_in, IsInRange, HasHomes, content_or, over}
 use Rattle.wal.specs.Seen.{newest_in, brought_home}
-use Rattle.wal.specs.Law.{IsOutside, after, HoldsSlots, IsHeaderOf, IsStartBehind, Agrees, IsAfter, IsBoundary}
+use Rattle.wal.specs.Law.{IsOutside, after, HoldsSlots, IsHeaderOf, IsStartBehind, Agrees, IsAfter, pairs_of, ShowsLog, IsBoundary}
 use Rattle.wal.proofs.Newest.{newest_of-append}
-
--- changes as an image's log tells them
-abbrev pub pairs_of : List Change → List (BlockNo × Content)
-pairs_of changes = map (λ (change : Change). (change.block, change.content)) changes
+use Rattle.wal.proofs.Lists.{slice_get-drop}
 
 pub newest_in-pairs : (changes : List Change) (block : ℕ) → newest_in (pairs_of changes) block ≡ newest_of changes block
 newest_in-pairs [] block = refl
 newest_in-pairs (change ∷ later) block = ap (λ o. or_else o (if nat_eq change.block.0 block then Some change.content else None)) (newest_in-pairs later block)
-
-pub slice_get-drop : (changes : List Change) (n k : ℕ) (change : Change) → slice_get (drop n changes) k ≡ Some change → slice_get changes (n + k) ≡ Some change
-slice_get-drop changes n k change h =
-    let a = slice_get_within (drop n changes) k change h in
-    let b : n + k < length changes = omega (arith, length-drop n changes) in
-    slice_get_read changes (length changes) (n + k) change refl b (sym (sym (get_or-drop n changes k change) ∙ get_or_from_slice_get (drop n changes) k change change h))
 
 -- the positions of an image are the changes that stand in its header and its slots
 pub positions_are : (header : Content) (image : Image) (start : ℕ) (changes : List Change) (n : ℕ) → n ≤ length changes
@@ -56,12 +47,6 @@ content_or-or_else : (a b : Option Content) (c : Content) → content_or (or_els
 content_or-or_else (Some a) b c = refl
 content_or-or_else None b c = refl
 
-slice_get-into_take : (changes : List Change) (n k : ℕ) (change : Change) → k < n → slice_get changes k ≡ Some change → slice_get (take n changes) k ≡ Some change
-slice_get-into_take changes n k change lt h =
-    let a = slice_get_within changes k change h in
-    let b : k < length (take n changes) = omega (arith, length-take n changes) in
-    slice_get_read (take n changes) (length (take n changes)) k change refl b (sym (get_or-take n changes k change lt ∙ get_or_from_slice_get changes k change change h))
-
 -- What an image shows of a log: a header of the first `count` changes, a start behind the first `gone`, and their slots.
 pub record Shows (image : Image) (log : Log) (count gone : ℕ) : Type 0 where
   pub within : count ≤ length log.changes
@@ -72,7 +57,7 @@ pub record Shows (image : Image) (log : Log) (count gone : ℕ) : Type 0 where
   pub slots : (k : ℕ) → k < count → (change : Change) → slice_get log.changes k ≡ Some change → image (slot_block (log.start + k)) ≡ change.content
 
 end_shown : (image : Image) (log : Log) (count gone : ℕ) → Shows image log count gone → end_in image ≡ log.start + count
-end_shown image log count gone s = s.header.end ∙ ap (λ n. log.start + n) (length-take-le count log.changes s.within)
+end_shown image log count gone s = s.header.0
 
 count_shown : (image : Image) (log : Log) (count gone : ℕ) → Shows image log count gone → count_in image ≡ count - gone
 count_shown image log count gone s = omega (arith, end_shown image log count gone s, s.start, s.behind)
@@ -87,7 +72,7 @@ home_shown : (image : Image) (log : Log) (count gone k : ℕ) (change : Change) 
 home_shown image log count gone k change s lt is =
     let e : (log.start + gone) + k ≡ log.start + (gone + k) = omega arith in
     let n : number_at (image LOG_HEADER_BLOCK) (8 + 8 * (((log.start + gone) + k) % LOG_SLOTS)) ≡ change.block.0 =
-    ap (λ p. number_at (image LOG_HEADER_BLOCK) (8 + 8 * (p % LOG_SLOTS))) e ∙ s.header.homes (gone + k) change (slice_get-into_take log.changes count (gone + k) change lt is) in
+    ap (λ p. number_at (image LOG_HEADER_BLOCK) (8 + 8 * (p % LOG_SLOTS))) e ∙ s.header.1 (gone + k) lt change is in
     let f : ℕ → BlockNo = λ number. record { 0 = number } in
     ap f n
 
@@ -178,17 +163,41 @@ pub data Raised (image base : Image) (log : Log) : Type 0 where
   Installed : IsStartBehind log log.installing (image START_BLOCK)
       → ((block : ℕ) → IsOutside log.blocks block → image block ≡ after base (take log.installing log.changes) block) → Raised image base log
 
--- an image with a header of the first so many changes is the blocks after them
-pub boundary_of : (image base : Image) (log : Log) (count : ℕ) → IsLawful log → count ≤ length log.changes → count ≤ LOG_SLOTS → log.installing ≤ count
+-- the settled groups, or one more
+abbrev IsEnd : Log → ℕ → Type 0
+IsEnd log count = (count ≡ log.logged) ⊎ (count ≡ log.logged + log.taken)
+
+shown : (image : Image) (log : Log) (count gone : ℕ) → (gone ≡ 0) ⊎ (gone ≡ log.installing) → IsEnd log count → Shows image log count gone → ShowsLog log (start_in image) (logged_in image)
+shown image log count gone from to s = record { first = gone; end = count; from = from; to = to; position = s.start; changes = logged_shown image log count gone s }
+
+-- What an image with a header of the first so many changes is.
+record Opens (image base : Image) (log : Log) (count : ℕ) : Type 0 where
+  range : IsInRange image
+  homes : HasHomes log.blocks image
+  blocks : IsAfter base log count image
+  positions : ShowsLog log (start_in image) (logged_in image)
+
+-- it is the blocks after them
+boundary_of : (image base : Image) (log : Log) (count : ℕ) → IsLawful log → count ≤ length log.changes → count ≤ LOG_SLOTS → log.installing ≤ count → IsEnd log count
     → IsHeaderOf log count (image LOG_HEADER_BLOCK)
     → ((k : ℕ) → k < count → (change : Change) → slice_get log.changes k ≡ Some change → image (slot_block (log.start + k)) ≡ change.content)
-    → Raised image base log → IsInRange image × HasHomes log.blocks image × IsAfter base log count image
-boundary_of image base log count h within few le header slots (Unraised start home) =
+    → Raised image base log → Opens image base log count
+boundary_of image base log count h within few le to header slots (Unraised start home) =
     let s : Shows image log count 0 = record { within = within; few = few; behind = omega arith; header = header; start = start; slots = slots } in
-    (range_shown image log count 0 s, homes_shown image log count 0 h s, λ block outside. after_unraised image base log count block s le (home block outside))
-boundary_of image base log count h within few le header slots (Installed start home) =
+    record {
+      range = range_shown image log count 0 s;
+      homes = homes_shown image log count 0 h s;
+      blocks = λ block outside. after_unraised image base log count block s le (home block outside);
+      positions = shown image log count 0 (inl refl) to s;
+    }
+boundary_of image base log count h within few le to header slots (Installed start home) =
     let s : Shows image log count log.installing = record { within = within; few = few; behind = le; header = header; start = start; slots = slots } in
-    (range_shown image log count log.installing s, homes_shown image log count log.installing h s, λ block outside. after_raised image base log count block s (home block outside))
+    record {
+      range = range_shown image log count log.installing s;
+      homes = homes_shown image log count log.installing h s;
+      blocks = λ block outside. after_raised image base log count block s (home block outside);
+      positions = shown image log count log.installing (inr refl) to s;
+    }
 
 -- the log's own blocks lie on the disk
 slot_within : (log : Log) (position : ℕ) → IsLawful log → slot_block position < log.blocks
@@ -201,12 +210,12 @@ raised_of d base log image h a crash =
     elim (cases_lt log.installing log.inst_step) as (λ _. Raised image base log) [
       | inl made ↦
           let new : (block : ℕ) → IsOutside log.blocks block → image block ≡ after base (take log.installing log.changes) block =
-          λ block o. a.brought made block o (image block) (crash block (outside block o)) in
-          elim (a.raised_start made (image START_BLOCK) (crash START_BLOCK at)) as (λ _. Raised image base log) [
+          λ block o. a.homes.brought made block o (image block) (crash block (outside block o)) in
+          elim (a.homes.raised_start made (image START_BLOCK) (crash START_BLOCK at)) as (λ _. Raised image base log) [
             | inl start ↦ Unraised start (λ block o. new_either (newest_of (take log.installing log.changes) block) (image block) (base block) (new block o))
             | inr start ↦ Installed start new
           ]
-      | inr notyet ↦ Unraised (a.start notyet (image START_BLOCK) (crash START_BLOCK at)) (λ block o. a.home notyet block o (image block) (crash block (outside block o)))
+      | inr notyet ↦ Unraised (a.homes.start notyet (image START_BLOCK) (crash START_BLOCK at)) (λ block o. a.homes.home notyet block o (image block) (crash block (outside block o)))
     ]
 
 slots_of : (d : Device) (base : Image) (log : Log) (image : Image) (count : ℕ) → IsLawful log → Agrees d base log → IsCrashImage d d.clock image → HoldsSlots d log count
@@ -215,25 +224,31 @@ slots_of d base log image count h a crash holds k lt change is =
     let within : slot_block (log.start + k) < d.size = omega (arith, h.disk, a.size) in
     holds k lt change is (image (slot_block (log.start + k))) (crash (slot_block (log.start + k)) within)
 
-boundary : (base : Image) (log : Log) (image : Image) → (IsInRange image × HasHomes log.blocks image × IsAfter base log log.logged image)
-    ⊎ (IsInRange image × HasHomes log.blocks image × IsAfter base log (log.logged + log.taken) image) → IsBoundary base log image
-boundary base log image (inl p) = record { range = p.0; homes = p.1; blocks = inl p.2 }
-boundary base log image (inr p) = record { range = p.0; homes = p.1; blocks = inr p.2 }
-
 -- a crash leaves a group boundary
 pub crash_boundary : (d : Device) (base : Image) (log : Log) (image : Image) → IsLawful log → Agrees d base log → IsCrashImage d d.clock image → IsBoundary base log image
 crash_boundary d base log image h a crash =
-    let raised = raised_of d base log image h a crash in
-    let at : LOG_HEADER_BLOCK < d.size = omega (arith, h.disk, a.size) in
     let there = crash LOG_HEADER_BLOCK at in
-    let old : IsHeaderOf log log.logged (image LOG_HEADER_BLOCK) → IsBoundary base log image =
-    λ header. boundary base log image (inl (boundary_of image base log log.logged h (omega (arith, h.taken_within)) (omega (arith, h.slots)) h.installing header
-    (slots_of d base log image log.logged h a crash a.slots) raised)) in
     elim (cases_lt log.taken log.log_step) as (λ _. IsBoundary base log image) [
-      | inl made ↦ elim (a.group_header made (image LOG_HEADER_BLOCK) there) as (λ _. IsBoundary base log image) [
+      | inl made ↦ elim (a.own.group_header made (image LOG_HEADER_BLOCK) there) as (λ _. IsBoundary base log image) [
         | inl header ↦ old header
-        | inr header ↦ boundary base log image (inr (boundary_of image base log (log.logged + log.taken) h h.taken_within h.slots (omega (arith, h.installing)) header
-            (slots_of d base log image (log.logged + log.taken) h a crash (a.group_slots made)) raised))
+        | inr header ↦ new made header
       ]
-      | inr notyet ↦ old (a.header notyet (image LOG_HEADER_BLOCK) there)
+      | inr notyet ↦ old (a.own.header notyet (image LOG_HEADER_BLOCK) there)
     ]
+  where
+    raised : Raised image base log
+    raised = raised_of d base log image h a crash
+
+    at : LOG_HEADER_BLOCK < d.size
+    at = omega (arith, h.disk, a.size)
+
+    old : IsHeaderOf log log.logged (image LOG_HEADER_BLOCK) → IsBoundary base log image
+    old header =
+        let o = boundary_of image base log log.logged h (omega (arith, h.taken_within)) (omega (arith, h.slots)) h.installing (inl refl) header (slots_of d base log image log.logged h a crash a.own.slots) raised in
+        record { range = o.range; homes = o.homes; blocks = inl o.blocks; positions = o.positions }
+
+    new : log.taken < log.log_step → IsHeaderOf log (log.logged + log.taken) (image LOG_HEADER_BLOCK) → IsBoundary base log image
+    new made header =
+        let o = boundary_of image base log (log.logged + log.taken) h h.taken_within h.slots (omega (arith, h.installing)) (inr refl) header
+        (slots_of d base log image (log.logged + log.taken) h a crash (a.own.group_slots made)) raised in
+        record { range = o.range; homes = o.homes; blocks = inr o.blocks; positions = o.positions }

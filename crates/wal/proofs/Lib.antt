@@ -1,8 +1,17 @@
+pub mod Contents
 pub mod Boundary
 pub mod Lawful
+pub mod LogCalls
+pub mod NextHome
+pub mod HomeMoves
+pub mod HomeCalls
+pub mod LogMoves
+pub mod Steps
 pub mod Lists
 pub mod Newest
 pub mod Numbers
 pub mod Places
 pub mod OnlyRead
+pub mod Opening
 pub mod Seen
+pub mod Stands

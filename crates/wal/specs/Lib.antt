@@ -9,3 +9,5 @@ pub mod Seen
 pub mod Overlay
 pub mod Found
 pub mod Law
+pub mod Calls
+pub mod ReadBack

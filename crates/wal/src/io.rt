@@ -1,7 +1,10 @@
 //! The device calls that the memory log hands out.
 ghost use Rattle.std.specs.Prelude.{◌≡◌, OnOk};
 ghost use Rattle.disk.specs.Device.{CountsFailure};
-ghost use Rattle.wal.specs.Io.{Io, IsCallWithin, HasMade};
+ghost use Rattle.disk.specs.Crash.{Image};
+ghost use Rattle.wal.specs.Io.{Io, IsCallWithin, HasMade, HasMadeCall};
+ghost use Rattle.wal.specs.Log.{Log, IsLawful};
+ghost use Rattle.wal.specs.Calls.{Pending, out, answered, Stands};
 
 use disk::{Block, BlockNo, CrashDisk, Failed, Side};
 use std::marker::Model;
@@ -66,11 +69,10 @@ impl LogIo {
         ensures call { HasMade (D.device disk.old) self.now result (D.device disk.new) }
         ensures failure { CountsFailure (D.device disk.old) (D.device disk.new) result }
         ensures model { D.keeps_model disk.new → D.keeps_model disk.old }
+        ensures law { (base : Image) (log : Log) (installing : Pending) → IsLawful log → Stands (D.device disk.old) base log (out self.now) installing
+            → Stands (D.device disk.new) base log (answered self.now result) installing }
     {
-        match self.call {
-            IoCall::Write(block) => disk.write(block, &self.content),
-            IoCall::Barrier(side) => disk.barrier(side),
-        }
+        make(disk, self.call, &self.content)
     }
 }
 
@@ -95,10 +97,22 @@ impl InstIo {
         ensures call { HasMade (D.device disk.old) self.now result (D.device disk.new) }
         ensures failure { CountsFailure (D.device disk.old) (D.device disk.new) result }
         ensures model { D.keeps_model disk.new → D.keeps_model disk.old }
+        ensures law { (base : Image) (log : Log) (logging : Pending) → IsLawful log → Stands (D.device disk.old) base log logging (out self.now)
+            → Stands (D.device disk.new) base log logging (answered self.now result) }
     {
-        match self.call {
-            IoCall::Write(block) => disk.write(block, &self.content),
-            IoCall::Barrier(side) => disk.barrier(side),
-        }
+        make(disk, self.call, &self.content)
+    }
+}
+
+// Makes a call, whose content a write writes.
+fn make<D: CrashDisk>(disk: &mut D, call: IoCall, content: &Block) -> Result<(), Failed>
+    requires { IsCallWithin (D.device disk.old).size call }
+    ensures call { HasMadeCall (D.device disk.old) call content.now result (D.device disk.new) }
+    ensures failure { CountsFailure (D.device disk.old) (D.device disk.new) result }
+    ensures model { D.keeps_model disk.new → D.keeps_model disk.old }
+{
+    match call {
+        IoCall::Write(block) => disk.write(block, content),
+        IoCall::Barrier(side) => disk.barrier(side),
     }
 }

@@ -1,10 +1,24 @@
-//! The law of the log, over definitions alone.
-ghost use Rattle.std.specs.Prelude.{◌≡◌, ℕ};
-ghost use Rattle.disk.specs.Device.{Device};
-ghost use Rattle.disk.specs.Crash.{Image, IsCrashImage};
-ghost use Rattle.wal.specs.Log.{Log, IsLawful};
-ghost use Rattle.wal.specs.Overlay.{start_in, end_in, over};
-ghost use Rattle.wal.specs.Law.{Agrees, IsBoundary};
+//! The law of the log, over definitions alone: while the contents that a disk may have agree with a log, a crash leaves
+//! the blocks after a whole group, and each step of the log and each of its calls keeps the agreement, in any order.
+ghost use Rattle.std.specs.Prelude.{◌≡◌, ◌≤◌, ℕ, List, Result, is_ok, Vec};
+ghost use Rattle.std.specs.declared.alloc.Global.{Global};
+ghost use Rattle.limits.specs.declared.TheConstants.{FIRST_HOME_BLOCK};
+ghost use Rattle.disk.specs.declared.block.BlockNo.{BlockNo};
+ghost use Rattle.disk.specs.declared.device.Failed.{Failed};
+ghost use Rattle.disk.specs.Device.{Content, Device, HasRead};
+ghost use Rattle.disk.specs.Crash.{Image, IsCrashImage, IsAtRest};
+ghost use Rattle.wal.specs.declared.circ.found.LogFault.{LogFault};
+ghost use Rattle.wal.specs.declared.circ.found.Recovered.{Recovered};
+ghost use Rattle.wal.specs.Io.{Io, HasMade};
+ghost use Rattle.wal.specs.Log.{Log, IsLawful, opened};
+ghost use Rattle.wal.specs.Room.{with_group};
+ghost use Rattle.wal.specs.Logger.{IsNextLogCall, with_log_out, with_log_back};
+ghost use Rattle.wal.specs.Installer.{IsNextInstCall, with_inst_out, with_inst_back};
+ghost use Rattle.wal.specs.Overlay.{start_in, end_in, logged_in, IsInRange, over};
+ghost use Rattle.wal.specs.Found.{image_of, IsFound, IsLog};
+ghost use Rattle.wal.specs.Law.{Agrees, IsBoundary, after};
+ghost use Rattle.wal.specs.Calls.{Pending, idle, out, answered, Stands, home_after};
+ghost use Rattle.wal.specs.ReadBack.{IsReadBack, IsLogReadBack};
 
 /// An image whose log is empty stands for its own blocks.
 pub fn an_empty_log_overlays_nothing()
@@ -15,4 +29,52 @@ pub fn an_empty_log_overlays_nothing()
 pub fn a_crash_leaves_whole_groups()
     ensures { (d : Device) (base : Image) (log : Log) (image : Image) → IsLawful log → Agrees d base log
         → IsCrashImage d d.clock image → IsBoundary base log image }
+{}
+
+/// An opening of what such a crash left refuses nothing that stands there, and answers those changes in order.
+pub fn an_opening_reads_whole_groups()
+    ensures found { (d : Device) (base : Image) (log : Log) (image : Image) (result : Result Recovered LogFault) → IsLawful log → Agrees d base log
+        → IsCrashImage d d.clock image → IsFound log.blocks image result → IsReadBack log result }
+    ensures log { (d : Device) (base : Image) (log : Log) (image : Image) (result : Result (Vec (BlockNo × Content) Global) LogFault) → IsLawful log → Agrees d base log
+        → IsCrashImage d d.clock image → IsLog log.blocks image result → IsLogReadBack log result }
+{}
+
+/// A disk at rest agrees with the log that an opening finds on it, which lies over the homes as the overlay does.
+pub fn an_opening_begins_in_agreement()
+    ensures stands { (d : Device) → FIRST_HOME_BLOCK ≤ d.size → IsAtRest d → IsInRange (image_of d)
+        → Stands d (image_of d) (opened d.size (start_in (image_of d)) (logged_in (image_of d))) idle idle }
+    ensures overlay { (d : Device) (block : ℕ) → after (image_of d) (opened d.size (start_in (image_of d)) (logged_in (image_of d))).changes block ≡ over (image_of d) block }
+{}
+
+/// A commit that is appended keeps the agreement.
+pub fn an_append_keeps_agreement()
+    ensures { (d : Device) (base : Image) (log : Log) (group : List (BlockNo × Content)) (logging installing : Pending) → IsLawful log
+        → Stands d base log logging installing → Stands d base (with_group log group) logging installing }
+{}
+
+/// A read keeps the agreement, whatever is out.
+pub fn a_read_keeps_agreement()
+    ensures { (old new : Device) (base : Image) (log : Log) (logging installing : Pending) → IsLawful log → HasRead old new
+        → Stands old base log logging installing → Stands new base log logging installing }
+{}
+
+/// The logger's next call is handed out, made on the disk with any answer, and given back with that answer, each of it
+/// whatever the installer has out: each keeps the agreement.
+pub fn a_call_of_the_logger_keeps_agreement()
+    ensures goes_out { (d : Device) (base : Image) (log : Log) (io : Io) (installing : Pending) → IsLawful log → IsNextLogCall (with_log_out log) io
+        → Stands d base log idle installing → Stands d base (with_log_out log) (out io) installing }
+    ensures is_made { (old new : Device) (base : Image) (log : Log) (io : Io) (answer : Result Unit Failed) (installing : Pending) → IsLawful log → HasMade old io answer new
+        → Stands old base log (out io) installing → Stands new base log (answered io answer) installing }
+    ensures comes_back { (d : Device) (base : Image) (log : Log) (io : Io) (answer : Result Unit Failed) (installing : Pending) → IsLawful log
+        → Stands d base log (answered io answer) installing → Stands d base (with_log_back log (is_ok answer)) idle installing }
+{}
+
+/// The same of the installer's calls. After its last, what it has brought home is what is at home.
+pub fn a_call_of_the_installer_keeps_agreement()
+    ensures goes_out { (d : Device) (base : Image) (log : Log) (io : Io) (logging : Pending) → IsLawful log → IsNextInstCall (with_inst_out log) io
+        → Stands d base log logging idle → Stands d base (with_inst_out log) logging (out io) }
+    ensures is_made { (old new : Device) (base : Image) (log : Log) (io : Io) (answer : Result Unit Failed) (logging : Pending) → IsLawful log → HasMade old io answer new
+        → Stands old base log logging (out io) → Stands new base log logging (answered io answer) }
+    ensures comes_back { (d : Device) (base : Image) (log : Log) (io : Io) (answer : Result Unit Failed) (logging : Pending) → IsLawful log
+        → Stands d base log logging (answered io answer) → Stands d (home_after base log (is_ok answer)) (with_inst_back log (is_ok answer)) logging idle }
 {}

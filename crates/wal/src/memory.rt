@@ -1,7 +1,7 @@
 //! The memory log.
 ghost use Rattle.std.specs.Prelude.{◌≡◌, ◌≤◌, ◌<◌, ◌^◌, ◌+◌, length, IfOk, MatchOption, Some, None, All, map};
 ghost use Rattle.limits.specs.declared.TheConstants.{LOG_SLOTS, FIRST_HOME_BLOCK};
-ghost use Rattle.wal.specs.Log.{newest, settled_place, installed_place, opened, IsHomeOn, blocks_of, IsLawful};
+ghost use Rattle.wal.specs.Log.{newest, settled_place, installed_place, tail_count, opened, IsHomeOn, blocks_of, IsLawful};
 ghost use Rattle.wal.specs.Room.{IsRoom};
 
 mod append;
@@ -113,6 +113,13 @@ impl Wal {
         Seq(self.places)
     }
 
+    /// How many blocks the open tail holds: what is changed and not yet taken by the logger.
+    pub fn tail(&self) -> usize
+        ensures { result ≡ tail_count self.now }
+    {
+        self.changes.len() - (self.logged + self.taken)
+    }
+
     /// The count of the disk's blocks.
     pub fn blocks(&self) -> u32
         ensures { result ≡ self.now.blocks }
@@ -134,7 +141,7 @@ impl Wal {
         if self.places == u64::MAX {
             return Room::Spent;
         }
-        let tail = self.changes.len() - (self.logged + self.taken);
+        let tail = self.tail();
         let count = blocks.len();
         let left = u64::MAX - (self.start + self.changes.len() as u64);
         if left < count as u64 {

@@ -211,23 +211,74 @@ fn positions_wrap(rt: HostRuntime) -> Result<(), Fail> {
     Ok(())
 }
 
-#[test]
-fn a_failed_call_breaks(rt: HostRuntime) -> Result<(), Fail> {
-    for failing in 0..6u8 {
-        let mut log = opened(rt.alloc(), 0)?;
-        assert_eq!(rt;
-            add(rt.alloc(), &mut log, group(rt.alloc(), 0, 3, 1)?)?,
-            Append::Appended
-        );
-        for step in 0..=failing {
-            match log.log_next() {
-                Some(io) => log.log_done(io, step < failing),
-                None => Err("no call")?,
-            }
+// Makes the calls of the logger, and where it has none those of the installer, until neither has one.
+fn make_all(log: &mut Wal, disk: &mut MemDisk) -> Result<(), Fail> {
+    for _ in 0..2 * LOG_SLOTS {
+        if disk.blocks() != log.blocks() {
+            Err("another disk")?;
         }
-        assert_eq!(rt; log.settled(), Seq(0));
-        assert_eq!(rt; log_all(rt.alloc(), &mut log)?.len(), 0);
-        assert_eq!(rt; install_all(rt.alloc(), &mut log)?.len(), 0);
+        if let Some(io) = log.log_next() {
+            let ok = io.perform(disk).is_ok();
+            log.log_done(io, ok);
+        } else if let Some(io) = log.inst_next() {
+            let ok = io.perform(disk).is_ok();
+            log.inst_done(io, ok);
+        } else {
+            break;
+        }
+    }
+    Ok(())
+}
+
+// How many blocks an opening finds in the log after a crash that the digits choose, where the call of this number
+// failed while three blocks were logged and brought home.
+fn found_after(alloc: Global, failing: u64, digits: &[u32]) -> Result<usize, Fail> {
+    let mut log = opened(alloc, 0)?;
+    let mut disk = MemDisk::new(alloc, BLOCKS)?;
+    disk.fail_at(&[failing])?;
+    if add(alloc, &mut log, group(alloc, 0, 3, 1)?)? != Append::Appended {
+        Err("not appended")?;
+    }
+    make_all(&mut log, &mut disk)?;
+    let settled = if failing > 6 { Seq(1) } else { Seq(0) };
+    let installed = if failing > 12 { Seq(1) } else { Seq(0) };
+    if log.settled() != settled || log.installed() != installed || log.broken() != (failing <= 12) {
+        Err("not as far as the calls were made")?;
+    }
+    if disk.calls() != failing.min(12) {
+        Err("a call after one that failed")?;
+    }
+    let mut rest = disk.crash(digits);
+    if rest.blocks() < FIRST_HOME_BLOCK {
+        Err("too small")?;
+    }
+    match read_log(alloc, &mut rest) {
+        Ok(found) => Ok(found.len()),
+        Err(_) => Err("no log")?,
+    }
+}
+
+#[test]
+fn each_call_fails_once(rt: HostRuntime) -> Result<(), Fail> {
+    for failing in 1..14u8 {
+        let (oldest, newest) = match failing {
+            1..5 => (0, 0),
+            5..7 => (0, 3),
+            7..11 => (3, 3),
+            11..13 => (3, 0),
+            _ => (0, 0),
+        };
+        let failing = u64::from(failing);
+        assert_eq!(rt;
+            found_after(rt.alloc(), failing, &[])?,
+            oldest,
+            "oldest at {failing}"
+        );
+        assert_eq!(rt;
+            found_after(rt.alloc(), failing, &[9; 16])?,
+            newest,
+            "newest at {failing}"
+        );
     }
     Ok(())
 }

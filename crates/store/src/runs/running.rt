@@ -1,7 +1,8 @@
 //! The events of a run.
 ghost use Rattle.std.specs.Prelude.{◌≡◌, None};
 ghost use Rattle.store.specs.Room.{HasRoom};
-ghost use Rattle.store.specs.Running.{RunsWell};
+ghost use Rattle.model.specs.Sound.{SoundTime};
+ghost use Rattle.store.specs.Running.{IsTimely, RunsWell};
 
 use crate::events::{Event, Step};
 use crate::opened::Store;
@@ -46,6 +47,7 @@ impl<D: CrashDisk> Running<D> {
     /// Makes the step of an event, if it applies, and tells of it.
     pub(super) fn take(&mut self, alloc: Global, event: Event, run: &mut Run)
         requires well { RunsWell self.old.worker self.old.store.core self.old.log self.old.inst }
+        requires timely { IsTimely event }
         requires room { HasRoom run.old }
         ensures { RunsWell self.new.worker self.new.store.core self.new.log self.new.inst }
     {
@@ -74,7 +76,8 @@ impl<D: CrashDisk> Running<D> {
         moment: Moment,
         call: Call,
     ) -> Option<Step>
-        requires { RunsWell self.old.worker self.old.store.core self.old.log self.old.inst }
+        requires well { RunsWell self.old.worker self.old.store.core self.old.log self.old.inst }
+        requires timely { SoundTime moment }
         ensures { RunsWell self.new.worker self.new.store.core self.new.log self.new.inst }
     {
         if worker == 0 && self.worker.hand(credential, moment, call) {

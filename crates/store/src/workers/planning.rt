@@ -3,7 +3,7 @@ ghost use Rattle.std.specs.Prelude.{◌≡◌, ◌≤◌, Some, None, true, leng
 
 use super::{Job, Phase, Refusal, Worker};
 use crate::answers::{Entry, Verdict};
-use crate::events::{Committing, Step, Wish};
+use crate::events::{Committing, Ending, Step, Wish};
 use crate::slots::put;
 use disk::BlockNo;
 use nfs_types::{Reply, Status};
@@ -58,7 +58,7 @@ impl Worker {
     {
         core.abort(tx);
         self.give(Verdict::NoMemory, None);
-        Step::Aborted(true)
+        Step::Ended(Ending::NoMemory)
     }
 
     // Reads an object in the transaction.
@@ -169,7 +169,7 @@ impl Worker {
         let answer = match core.commit(alloc, tx, done) {
             Commit::Committed(place) => {
                 self.committed(place, told, kept);
-                Committing::Committed(place)
+                Committing::Committed(place, core.tail())
             }
             Commit::Full(tx, _) => {
                 self.go_on(tx, Phase::Planning);

@@ -3,7 +3,7 @@ ghost use Rattle.std.specs.Prelude.{◌≡◌, Some, None, true};
 
 use super::{Phase, Refusal, Worker};
 use crate::answers::{Answered, Verdict};
-use crate::events::Step;
+use crate::events::{Ending, Step};
 use crate::slots::put;
 use layout::Geometry;
 use nfs_types::{Call, Status};
@@ -86,7 +86,7 @@ impl Worker {
         };
         let told = verdict(&job.call, refusal);
         self.give(told, None);
-        Step::Aborted(false)
+        Step::Ended(Ending::Refused)
     }
 
     // Ends the transaction of a call that begins again.
@@ -101,7 +101,7 @@ impl Worker {
         };
         core.abort(tx);
         self.phase = Phase::Called;
-        Step::Aborted(false)
+        Step::Ended(Ending::Again)
     }
 
     // Answers a committed procedure once its place is settled, or once it can't be any more.

@@ -3,7 +3,10 @@ ghost use Rattle.std.specs.Prelude.{◌≡◌, ◌≢◌, ◌≤◌, ◌<◌, �
 ghost use Rattle.std.specs.VecDeque.{deque_capacity};
 ghost use Rattle.wal.specs.Log.{changes_of, blocks_of, tail_after, IsHomeOn};
 ghost use Rattle.wal.specs.Room.{HasPlaces, with_group};
+ghost use Rattle.disk.specs.Device.{Device};
+ghost use Rattle.disk.specs.Crash.{Image};
 ghost use Rattle.wal.specs.Seen.{HasAppended};
+ghost use Rattle.wal.specs.Calls.{Pending, Stands};
 
 use super::Wal;
 use crate::{Append, Change};
@@ -20,6 +23,8 @@ impl Wal {
         ensures refused { result ≢ Append.Appended → self.new ≡ self.old }
         ensures full { result ≡ Append.Full ↔ (LOG_SLOTS < tail_after self.old (blocks_of group.items)) }
         ensures seen { result ≡ Append.Appended → HasAppended self.old group.items self.new }
+        ensures law { (d : Device) (base : Image) (logging installing : Pending) → Stands d base self.old logging installing
+            → Stands d base self.new logging installing }
     {
         self.lawful();
         self.add(group)

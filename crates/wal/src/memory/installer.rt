@@ -1,5 +1,9 @@
 //! The installer: it brings logged changes home, and then raises the start of the log.
-ghost use Rattle.std.specs.Prelude.{◌≡◌, ◌<◌, ◌≤◌, length, drop, IfSome, IsNone, IsSome, is_some, if◌then◌else◌, true, false, nat_lt, ◌||◌};
+ghost use Rattle.std.specs.Prelude.{◌≡◌, ◌<◌, ◌≤◌, length, drop, IfSome, IsNone, IsSome, is_some, if◌then◌else◌, true, false, nat_lt, ◌||◌, Result, is_ok};
+ghost use Rattle.disk.specs.declared.device.Failed.{Failed};
+ghost use Rattle.disk.specs.Device.{Device};
+ghost use Rattle.disk.specs.Crash.{Image};
+ghost use Rattle.wal.specs.Calls.{Pending, idle, out, answered, Stands, home_after};
 ghost use Rattle.wal.specs.Io.{IsCallWithin};
 ghost use Rattle.wal.specs.Seen.{HasGoneOn};
 ghost use Rattle.wal.specs.Installer.{may_install, with_inst_out, is_inst_out, with_inst_back, with_installed, next_home, IsNextInstCall};
@@ -22,6 +26,8 @@ impl Wal {
         ensures call { IfSome result (IsNextInstCall self.new) }
         ensures within { IfSome result (λ io. IsCallWithin self.new.blocks io.call) }
         ensures seen { HasGoneOn self.old self.new }
+        ensures law { (d : Device) (base : Image) (logging : Pending) → Stands d base self.old logging idle
+            → IfSome result (λ io. Stands d base self.new logging (out io)) }
     {
         self.lawful();
         self.next_inst_io()
@@ -32,6 +38,8 @@ impl Wal {
     pub fn inst_done(&mut self, io: InstIo, ok: bool)
         ensures log { self.new ≡ (if is_inst_out self.old io then with_inst_back self.old ok else self.old) }
         ensures seen { HasGoneOn self.old self.new }
+        ensures law { (d : Device) (base : Image) (answer : Result Unit Failed) (logging : Pending) → is_ok answer ≡ ok
+            → Stands d base self.old logging (answered io answer) → Stands d (home_after base self.old ok) self.new logging idle }
     {
         self.lawful();
         self.take_inst_io(io, ok);

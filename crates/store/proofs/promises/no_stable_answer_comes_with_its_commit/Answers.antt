@@ -33,19 +33,19 @@ differs {asked} {a} {b} call_is waits unstable same =
     cc
 
 refuted : (events : Schedule) (t : Transcript) (from place : ℕ) (asked : Call) (a : Answer) → IsStableAnswer t a place
-    → step_at t a.event ≡ Some (step.Commit (committing.Committed (record { 0 = place }))) → IsVerdict events t from asked a → ⊥
-refuted events t from place asked a stable made (AtOnce other entry of unstable same told) =
+    → (tail : ℕ) → step_at t a.event ≡ Some (step.Commit (committing.Committed (record { 0 = place }) tail)) → IsVerdict events t from asked a → ⊥
+refuted events t from place asked a stable tail made (AtOnce other entry of unstable other_tail same told) =
     differs (of.committed.call_is) stable.waits unstable
     (one_entry t other place entry stable.entry (one_place other place a of.placed stable.placed) of.committed.is_entry stable.is_entry)
-refuted events t from place asked a stable made (Stable other entry of waits same told) = cc
-refuted events t from place asked a stable made (Unsettled other entry of waits same broken told) = cc
-refuted events t from place asked a stable made (FailedRead none failed told) = let placed = stable.placed in let unplaced = none.placed in cc
-refuted events t from place asked a stable made (Broken none broken told) = let placed = stable.placed in let unplaced = none.placed in cc
-refuted events t from place asked a stable made (NoMemory none refused told) = let placed = stable.placed in let unplaced = none.placed in cc
-refuted events t from place asked a stable made (Spent none spent told) = let placed = stable.placed in let unplaced = none.placed in cc
-refuted events t from place asked a stable made (Untaken none without same told) = cc
+refuted events t from place asked a stable tail made (Stable other entry of waits same told) = cc
+refuted events t from place asked a stable tail made (Unsettled other entry of waits same broken told) = cc
+refuted events t from place asked a stable tail made (FailedRead none failed told) = let placed = stable.placed in let unplaced = none.placed in cc
+refuted events t from place asked a stable tail made (Broken none broken told) = let placed = stable.placed in let unplaced = none.placed in cc
+refuted events t from place asked a stable tail made (NoMemory none refused told) = let placed = stable.placed in let unplaced = none.placed in cc
+refuted events t from place asked a stable tail made (Spent none spent told) = let placed = stable.placed in let unplaced = none.placed in cc
+refuted events t from place asked a stable tail made (Untaken none without same told) = cc
 
 pub returns : goal.returns
-returns c = λ before later tree first workers index place events t a given stable made kept.
+returns c = λ before later tree first workers index place tail events t a given stable made kept.
     let answer = kept.answers.each index a given in
-    refuted events t answer.from place answer.asked a stable made answer.verdict
+    refuted events t answer.from place answer.asked a stable tail made answer.verdict

@@ -1,0 +1,53 @@
+//! Laws on single rules: what comes first, what is set, and whose bits count.
+ghost use Rattle.std.specs.Prelude.{◌≡◌, ◌≢◌, ℕ, ◌<◌, ◌^◌, true, not, nat_eq, bit_and, Some, None};
+ghost use Rattle.limits.specs.declared.TheConstants.{MODE_BITS};
+ghost use Rattle.nfs_types.specs.Handle.{handle_bytes};
+ghost use Rattle.nfs_types.specs.declared.attributes.NewAttributes.{NewAttributes};
+ghost use Rattle.nfs_types.specs.declared.attributes.SetTime.TheVariants.{Keep};
+ghost use Rattle.nfs_types.specs.declared.call.Call.TheVariants as call;
+ghost use Rattle.nfs_types.specs.declared.ctx.Credential.{Credential};
+ghost use Rattle.nfs_types.specs.declared.ctx.Ctx.{Ctx};
+ghost use Rattle.nfs_types.specs.declared.ctx.Moment.{Moment};
+ghost use Rattle.nfs_types.specs.declared.handle.Handle.{Handle};
+ghost use Rattle.nfs_types.specs.declared.handle.Stamp.{Stamp};
+ghost use Rattle.nfs_types.specs.declared.reply.Reply.{Reply};
+ghost use Rattle.nfs_types.specs.declared.reply.Reply.TheVariants as replies;
+ghost use Rattle.nfs_types.specs.declared.status.Status.TheVariants as status;
+ghost use Rattle.model.specs.Attributes.{change_of};
+ghost use Rattle.model.specs.Find.{find_file};
+ghost use Rattle.model.specs.Node.{Node};
+ghost use Rattle.model.specs.Permissions.{WRITE, acts_as_owner, has_right};
+ghost use Rattle.model.specs.Step.{step};
+ghost use Rattle.model.specs.Tree.{Tree, node_at, with_node};
+
+/// A handle with the number of a file and another stamp, as that of an earlier file has, is STALE.
+pub fn another_stamp_is_stale()
+    ensures { (tree : Tree) (number : ℕ) (stamp : Stamp) (node : Node) → 0 < number → number < tree.geometry.inodes → number < 2 ^ 32
+        → stamp.boot < 2 ^ 64 → stamp.transaction < 2 ^ 64 → node_at tree number ≡ Some node → stamp ≢ node.stamp
+        → find_file tree (handle_bytes number stamp) ≡ Err status.Stale }
+{}
+
+/// A SETATTR whose guard isn't the time of the last change is answered NOT_SYNC, whatever else it asks for and whoever
+/// asks, and changes nothing.
+pub fn the_guard_comes_first()
+    ensures { (tree next : Tree) (ctx : Ctx) (object : Handle) (wanted : NewAttributes) (time : Moment) (number : ℕ) (node : Node) (reply : Reply)
+        → find_file tree object.bytes ≡ Ok (number, node) → time ≢ node.ctime
+        → step tree ctx (call.SetAttr object wanted (Some time)) reply next
+        → (reply ≡ replies.SetAttr (Err status.NotSync) (change_of number node node)) × (next ≡ tree) }
+{}
+
+/// A SETATTR of the mode alone by uid 0 or the owner sets the bits of a mode and the time of the last change, and nothing
+/// else.
+pub fn a_mode_alone_is_set()
+    ensures { (tree next : Tree) (ctx : Ctx) (object : Handle) (mode number : ℕ) (node : Node) (reply : Reply)
+        → find_file tree object.bytes ≡ Ok (number, node) → acts_as_owner ctx.credential node ≡ true
+        → step tree ctx (call.SetAttr object (record { mode = Some mode; uid = None; gid = None; size = None; atime = Keep; mtime = Keep }) None) reply next
+        → (reply ≡ replies.SetAttr (Ok tt) (change_of number node (record node { mode = bit_and mode MODE_BITS; ctime = ctx.moment })))
+        × (next ≡ with_node tree number (record node { mode = bit_and mode MODE_BITS; ctime = ctx.moment })) }
+{}
+
+/// For an owner who isn't uid 0 the owner's bits count, and no others: here the right to write.
+pub fn the_owners_bits_count_alone()
+    ensures { (caller : Credential) (node : Node) → caller.uid ≢ 0 → caller.uid ≡ node.uid
+        → has_right WRITE caller node ≡ not (nat_eq (bit_and node.mode 128) 0) }
+{}

@@ -1,0 +1,56 @@
+-- What a record of bytes is taken for, test by test (RFC 5531, section 9).
+use Rattle.std.specs.Prelude.{◌≡◌, ℕ, List, Option, Some, None, Result, Ok, Err, ◌==◌, if◌then◌else◌, ◌⊎◌}
+use Rattle.nfs_types.specs.declared.ctx.Credential.{Credential}
+use Rattle.nfs_types.specs.declared.call.Call as types
+use Rattle.session_wire.specs.declared.nfs_codec.procedure.Procedure.{Procedure}
+use Rattle.session_wire.specs.declared.rpc.numbers.TheConstants.{CALL, RPC_VERSION, NFS_PROGRAM, NFS_VERSION}
+use Rattle.session_wire.specs.declared.rpc.header.Opening.{Opening}
+use Rattle.session_wire.specs.declared.rpc.refusal.Refusal.{Refusal}
+use Rattle.session_wire.specs.declared.rpc.refusal.Refusal.TheVariants.{RpcMismatch, ProgramUnavailable, ProgramMismatch, ProcedureUnavailable, GarbageArguments, SystemError}
+use Rattle.session_wire.specs.declared.message.Judged.{Judged}
+use Rattle.session_wire.specs.declared.message.Judged.TheVariants.{Closed, Refused, Call}
+use Rattle.session_wire.specs.declared.xdr.fault.XdrFault.{XdrFault}
+use Rattle.session_wire.specs.Headers.{opening_at, Heading, header_at}
+use Rattle.session_wire.specs.Credentials.{credential_of}
+use Rattle.session_wire.specs.Calls.{procedure_of}
+use Rattle.session_wire.specs.ReadingCalls.{call_of}
+
+abbrev pub on_arguments : ℕ → Credential → Result types.Call XdrFault → Judged
+on_arguments xid credential (Ok call) = Call xid credential call
+on_arguments xid credential (Err e) = Refused xid GarbageArguments
+
+abbrev pub on_procedure : ℕ → Credential → List ℕ → Option Procedure → Judged
+on_procedure xid credential arguments None = Refused xid ProcedureUnavailable
+on_procedure xid credential arguments (Some procedure) = on_arguments xid credential (call_of procedure arguments)
+
+-- the program first, then its version, the procedure, and at last the arguments
+abbrev pub requested : ℕ → Credential → Heading → List ℕ → Judged
+requested xid credential h arguments =
+    if h.program == NFS_PROGRAM then
+    (if h.version == NFS_VERSION then on_procedure xid credential arguments (procedure_of h.procedure)
+    else Refused xid ProgramMismatch)
+    else Refused xid ProgramUnavailable
+
+abbrev pub on_credential : ℕ → Heading → List ℕ → Result Credential Refusal → Judged
+on_credential xid h arguments (Ok credential) = requested xid credential h arguments
+on_credential xid h arguments (Err refusal) = Refused xid refusal
+
+abbrev pub on_header : ℕ → Result (Heading × List ℕ) XdrFault → Judged
+on_header xid (Ok h) = on_credential xid h.0 h.1 (credential_of h.0.flavor h.0.body)
+on_header xid (Err e) = Closed
+
+abbrev pub on_opening : Result (Opening × List ℕ) XdrFault → Judged
+on_opening (Ok o) =
+    if o.0.kind == CALL then
+    (if o.0.rpc_version == RPC_VERSION then on_header o.0.xid (header_at o.1) else Refused o.0.xid RpcMismatch)
+    else Closed
+on_opening (Err e) = Closed
+
+-- no call is closed; then the version of RPC, the rest of the header, the credential, and what is called
+abbrev pub judged : List ℕ → Judged
+judged bytes = on_opening (opening_at bytes)
+
+-- the same, but that a call for which memory was refused has a system error
+abbrev pub Judges : Judged → Judged → Type 0
+Judges told (Call xid credential call) = (told ≡ Call xid credential call) ⊎ (told ≡ Refused xid SystemError)
+Judges told verdict = told ≡ verdict

@@ -1,0 +1,63 @@
+-- How replies are spelled (RFC 5531, sections 9 and 11).
+use Rattle.std.specs.Prelude.{◌≡◌, ◌<◌, ◌^◌, ℕ, List, ◌++◌}
+use Rattle.session_wire.specs.declared.rpc.numbers.TheConstants.{REPLY, RPC_VERSION, NFS_VERSION}
+use Rattle.session_wire.specs.declared.rpc.refusal.Refusal.{Refusal}
+use Rattle.session_wire.specs.declared.rpc.refusal.Refusal.TheVariants.{RpcMismatch, BadCredential, RejectedCredential, ProgramUnavailable, ProgramMismatch, ProcedureUnavailable, GarbageArguments, SystemError}
+use Rattle.session_wire.specs.declared.message.Answer.{Answer}
+use Rattle.session_wire.specs.declared.message.Answer.TheVariants.{Done, Refused}
+use Rattle.session_wire.specs.declared.message.ReplyBody.{ReplyBody}
+use Rattle.session_wire.specs.declared.message.ReplyBody.TheVariants as bodies
+use Rattle.session_wire.specs.Items.{word}
+use Rattle.session_wire.specs.declared.message.ReplyMessage.{ReplyMessage}
+use Rattle.session_wire.specs.declared.nfs_codec.procedure.Procedure.{Procedure}
+use Rattle.session_wire.specs.Results.{IsServed, result_bytes, ReplyFits, answered}
+
+-- an accepted reply up to its status: its verifier is of flavor 0 and empty
+abbrev pub accepted : ℕ → ℕ → List ℕ
+accepted xid status = word xid ++ word REPLY ++ word 0 ++ word 0 ++ word 0 ++ word status
+
+-- a denied reply up to its reason: 0 for the version of RPC, 1 for the credential
+abbrev pub denied : ℕ → ℕ → List ℕ
+denied xid reason = word xid ++ word REPLY ++ word 1 ++ word reason
+
+-- a reply that refuses: behind a mismatch stand the lowest and the highest version that is served
+abbrev pub refused : ℕ → Refusal → List ℕ
+refused xid RpcMismatch = denied xid 0 ++ word RPC_VERSION ++ word RPC_VERSION
+refused xid BadCredential = denied xid 1 ++ word 1
+refused xid RejectedCredential = denied xid 1 ++ word 2
+refused xid ProgramUnavailable = accepted xid 1
+refused xid ProgramMismatch = accepted xid 2 ++ word NFS_VERSION ++ word NFS_VERSION
+refused xid ProcedureUnavailable = accepted xid 3
+refused xid GarbageArguments = accepted xid 4
+refused xid SystemError = accepted xid 5
+
+-- the one spelling of a reply
+abbrev pub reply_bytes : ℕ → ReplyBody → List ℕ
+reply_bytes xid (bodies.Done reply) = accepted xid 0 ++ result_bytes reply
+reply_bytes xid (bodies.Refused refusal) = refused xid refusal
+
+-- an answer as the body of a reply
+abbrev pub body_of : Answer → ReplyBody
+body_of (Done reply) = bodies.Done reply.now
+body_of (Refused refusal) = bodies.Refused refusal
+
+-- what has a spelling so far
+abbrev pub IsSpellable : ReplyBody → Type 0
+IsSpellable (bodies.Done reply) = IsServed reply
+IsSpellable (bodies.Refused refusal) = Unit {0}
+
+abbrev pub BodyFits : ReplyBody → Type 0
+BodyFits (bodies.Done reply) = ReplyFits reply
+BodyFits (bodies.Refused refusal) = Unit {0}
+
+-- a refusal may answer any procedure
+abbrev pub Answers : Procedure → ReplyBody → Type 0
+Answers p (bodies.Done reply) = answered reply ≡ p
+Answers p (bodies.Refused refusal) = Unit {0}
+
+-- the bytes spell the reply to a call of this procedure
+pub record SpellsReply (p : Procedure) (bytes : List ℕ) (m : ReplyMessage) : Type 0 where
+  pub xid : m.xid < 2 ^ 32
+  pub body_fits : BodyFits m.body
+  pub answers : Answers p m.body
+  pub spelled : bytes ≡ reply_bytes m.xid m.body

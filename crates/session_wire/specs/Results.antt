@@ -1,0 +1,132 @@
+-- How results are spelled (RFC 1813, sections 2.6 and 3.3).
+use Rattle.std.specs.Prelude.{◌<◌, ◌^◌, IfSome, IfOk, ℕ, List, [], ◌++◌, Option, Result, Ok, Err}
+use Rattle.nfs_types.specs.declared.attributes.Attributes.{Attributes}
+use Rattle.nfs_types.specs.declared.attributes.WeakCacheAttributes.{WeakCacheAttributes}
+use Rattle.nfs_types.specs.declared.attributes.WeakCacheData.{WeakCacheData}
+use Rattle.nfs_types.specs.declared.attributes.FileKind.{FileKind}
+use Rattle.nfs_types.specs.declared.attributes.FileKind.TheVariants as kinds
+use Rattle.nfs_types.specs.declared.status.Status.{Status}
+use Rattle.nfs_types.specs.declared.status.Status.TheVariants as statuses
+use Rattle.nfs_types.specs.declared.reply.Reply.{Reply}
+use Rattle.nfs_types.specs.declared.reply.Reply.TheVariants as replies
+use Rattle.session_wire.specs.Items.{word, double, optional}
+use Rattle.session_wire.specs.declared.nfs_codec.procedure.Procedure.{Procedure}
+use Rattle.session_wire.specs.declared.nfs_codec.procedure.Procedure.TheVariants.{Null, GetAttr, SetAttr}
+use Rattle.session_wire.specs.Calls.{moment, MomentFits}
+
+-- the number of each status but OK, which is 0 (`nfsstat3`)
+abbrev pub status_number : Status → ℕ
+status_number statuses.Perm = 1
+status_number statuses.NoEnt = 2
+status_number statuses.Io = 5
+status_number statuses.Acces = 13
+status_number statuses.Exist = 17
+status_number statuses.NotDir = 20
+status_number statuses.IsDir = 21
+status_number statuses.Inval = 22
+status_number statuses.FBig = 27
+status_number statuses.NoSpc = 28
+status_number statuses.MLink = 31
+status_number statuses.NameTooLong = 63
+status_number statuses.NotEmpty = 66
+status_number statuses.Stale = 70
+status_number statuses.BadHandle = 10001
+status_number statuses.NotSync = 10002
+status_number statuses.BadCookie = 10003
+status_number statuses.NotSupp = 10004
+status_number statuses.TooSmall = 10005
+status_number statuses.ServerFault = 10006
+
+-- the number of each kind of file (`ftype3`)
+abbrev pub kind_number : FileKind → ℕ
+kind_number kinds.Regular = 1
+kind_number kinds.Directory = 2
+kind_number kinds.BlockDevice = 3
+kind_number kinds.CharacterDevice = 4
+kind_number kinds.Link = 5
+kind_number kinds.Socket = 6
+kind_number kinds.Fifo = 7
+
+-- all attributes of a file, in 84 bytes (`fattr3`)
+abbrev pub attributes : Attributes → List ℕ
+attributes a =
+    word (kind_number a.kind) ++ word a.mode ++ word a.nlink ++ word a.uid ++ word a.gid
+    ++ double a.size ++ double a.used ++ word a.device.major ++ word a.device.minor
+    ++ double a.file_system ++ double a.number ++ moment a.atime ++ moment a.mtime ++ moment a.ctime
+
+-- attributes after an operation, if they are told (`post_op_attr`)
+abbrev pub optional_attributes : Option Attributes → List ℕ
+optional_attributes a = optional attributes a
+
+-- what is told of a file before its change (`wcc_attr`)
+abbrev pub weak_cache_attributes : WeakCacheAttributes → List ℕ
+weak_cache_attributes w = double w.size ++ moment w.mtime ++ moment w.ctime
+
+-- the same, if it is told (`pre_op_attr`)
+abbrev pub before_attributes : Option WeakCacheAttributes → List ℕ
+before_attributes b = optional weak_cache_attributes b
+
+-- a file before and after a change (`wcc_data`)
+abbrev pub weak_cache : WeakCacheData → List ℕ
+weak_cache w = before_attributes w.before ++ optional_attributes w.after
+
+-- the status of an outcome that bears nothing else
+abbrev pub outcome_status : Result (Unit {0}) Status → List ℕ
+outcome_status (Ok done) = word 0
+outcome_status (Err s) = word (status_number s)
+
+-- the result of GETATTR (section 3.3.1)
+abbrev pub got : Result Attributes Status → List ℕ
+got (Ok a) = word 0 ++ attributes a
+got (Err s) = word (status_number s)
+
+-- ---- which values have a spelling
+
+pub record AttributesFit (a : Attributes) : Type 0 where
+  pub mode : a.mode < 2 ^ 32
+  pub nlink : a.nlink < 2 ^ 32
+  pub uid : a.uid < 2 ^ 32
+  pub gid : a.gid < 2 ^ 32
+  pub size : a.size < 2 ^ 64
+  pub used : a.used < 2 ^ 64
+  pub major : a.device.major < 2 ^ 32
+  pub minor : a.device.minor < 2 ^ 32
+  pub file_system : a.file_system < 2 ^ 64
+  pub number : a.number < 2 ^ 64
+  pub atime : MomentFits a.atime
+  pub mtime : MomentFits a.mtime
+  pub ctime : MomentFits a.ctime
+
+pub record WeakCacheAttributesFit (w : WeakCacheAttributes) : Type 0 where
+  pub size : w.size < 2 ^ 64
+  pub mtime : MomentFits w.mtime
+  pub ctime : MomentFits w.ctime
+
+pub record WeakCacheFits (w : WeakCacheData) : Type 0 where
+  pub before : IfSome w.before WeakCacheAttributesFit
+  pub after : IfSome w.after AttributesFit
+
+abbrev pub ReplyFits : Reply → Type 0
+ReplyFits replies.Null = Unit {0}
+ReplyFits (replies.GetAttr outcome) = IfOk outcome AttributesFit
+ReplyFits (replies.SetAttr outcome object) = WeakCacheFits object
+ReplyFits reply = ⊥
+
+-- the procedure that a reply answers; those of the others come when they are served
+abbrev pub answered : Reply → Procedure
+answered (replies.GetAttr outcome) = GetAttr
+answered (replies.SetAttr outcome object) = SetAttr
+answered reply = Null
+
+-- the replies that have a spelling so far
+abbrev pub IsServed : Reply → Type 0
+IsServed replies.Null = Unit {0}
+IsServed (replies.GetAttr outcome) = Unit {0}
+IsServed (replies.SetAttr outcome object) = Unit {0}
+IsServed reply = ⊥
+
+-- the result of each procedure (section 3.3)
+abbrev pub result_bytes : Reply → List ℕ
+result_bytes (replies.GetAttr outcome) = got outcome
+result_bytes (replies.SetAttr outcome object) = outcome_status outcome ++ weak_cache object
+result_bytes reply = []

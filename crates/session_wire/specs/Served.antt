@@ -1,0 +1,99 @@
+-- What one thread answers to a stream of messages.
+use Rattle.std.specs.Prelude.{◌≡◌, ℕ, ◌<◌, ◌≤◌, ◌⊎◌, Bool, true, false, List, [], ◌∷◌, ◌++◌}
+use Rattle.nfs_types.specs.declared.call.Call as types
+use Rattle.nfs_types.specs.declared.ctx.Credential.{Credential}
+use Rattle.nfs_types.specs.declared.ctx.Moment.{Moment}
+use Rattle.nfs_types.specs.declared.reply.Reply.{Reply}
+use Rattle.nfs_types.specs.declared.status.Status.TheVariants as status
+use Rattle.model.specs.Calls.{has_rules, is_answered_stable, unsupported}
+use Rattle.model.specs.Refused as model
+use Rattle.model.specs.Step.{step}
+use Rattle.model.specs.Tree.{Tree}
+use Rattle.session_wire.specs.declared.message.Judged.{Judged}
+use Rattle.session_wire.specs.declared.message.Judged.TheVariants.{Closed, Refused, Call}
+use Rattle.session_wire.specs.declared.rpc.refusal.Refusal.TheVariants.{SystemError}
+use Rattle.session_wire.specs.Judging.{judged}
+use Rattle.session_wire.specs.Replies.{accepted, refused}
+use Rattle.session_wire.specs.Results.{result_bytes}
+
+-- the boot number and the moment of all calls of a stream
+pub record Serving : Type 0 where
+  pub boot : ℕ
+  pub moment : Moment
+
+-- How a stream stands: the tree so far, the least number that the next transaction may have, how many device calls have
+-- failed, whether one of them was a write or a barrier since the opening, and whether a counter was found spent.
+pub record Standing : Type 0 where
+  pub tree : Tree
+  pub number : ℕ
+  pub failures : ℕ
+  pub is_broken : Bool
+  pub is_spent : Bool
+
+-- What a message may do besides its step: numbers of transactions and failures of the device only rise, a store breaks
+-- only as a device call fails, and neither that nor a spent counter is ever taken back.
+pub record IsLater (old new : Standing) : Type 0 where
+  pub numbers : old.number ≤ new.number
+  pub failures : old.failures ≤ new.failures
+  pub breaks : old.is_broken ≡ false → new.is_broken ≡ true → old.failures < new.failures
+  pub stays_broken : old.is_broken ≡ true → new.is_broken ≡ true
+  pub stays_spent : old.is_spent ≡ true → new.is_spent ≡ true
+
+-- the tree stays
+pub record Stays (old new : Standing) : Type 0 where
+  pub later : IsLater old new
+  pub tree : new.tree ≡ old.tree
+
+-- a step of the sequential server, with a number that no earlier transaction has
+pub record Steps (s : Serving) (old : Standing) (credential : Credential) (call : types.Call) (reply : Reply) (new : Standing) : Type 0 where
+  pub later : IsLater old new
+  pub number : ℕ
+  pub fresh : old.number ≤ number
+  pub rising : number < new.number
+  pub step : step old.tree (record { credential = credential; moment = s.moment; boot = s.boot; transaction = number }) call reply new.tree
+
+-- a device call failed for this message, or the store was broken before
+abbrev pub HasFailed : Standing → Standing → Type 0
+HasFailed old new = (old.failures < new.failures) ⊎ (old.is_broken ≡ true)
+
+-- a procedure's reply behind the accepted header
+abbrev pub done : ℕ → Reply → List ℕ
+done xid reply = accepted xid 0 ++ result_bytes reply
+
+-- What a call with rules is answered: the reply of its step. Or it made no step and is told why: memory was refused, a
+-- counter is spent, or a device call failed. A failure may also come after its step, where the answer had to wait until
+-- what it changed is stable.
+pub data IsServedCall (s : Serving) (old : Standing) (xid : ℕ) (credential : Credential) (call : types.Call) (bytes : List ℕ) (new : Standing) : Type 0 where
+  Done : (reply : Reply) → Steps s old credential call reply new → bytes ≡ done xid reply → IsServedCall s old xid credential call bytes new
+  NoMemory : Stays old new → bytes ≡ refused xid SystemError → IsServedCall s old xid credential call bytes new
+  Spent : Stays old new → new.is_spent ≡ true → bytes ≡ done xid (model.refused status.ServerFault call) → IsServedCall s old xid credential call bytes new
+  Failed : Stays old new → HasFailed old new → bytes ≡ done xid (model.refused status.Io call) → IsServedCall s old xid credential call bytes new
+  Unsettled : (reply : Reply) → Steps s old credential call reply new → HasFailed old new → is_answered_stable call ≡ true
+      → bytes ≡ done xid (model.refused status.Io call) → IsServedCall s old xid credential call bytes new
+
+-- what a call without rules is answered: a function of the message alone, or that memory was refused
+pub record IsPlainCall (old : Standing) (xid : ℕ) (call : types.Call) (bytes : List ℕ) (new : Standing) : Type 0 where
+  pub stays : new ≡ old
+  pub told : (bytes ≡ done xid (unsupported call)) ⊎ (bytes ≡ refused xid SystemError)
+
+abbrev pub IsCallAnswer : Serving → Standing → Bool → ℕ → Credential → types.Call → List ℕ → Standing → Type 0
+IsCallAnswer s old true xid credential call bytes new = IsServedCall s old xid credential call bytes new
+IsCallAnswer s old false xid credential call bytes new = IsPlainCall old xid call bytes new
+
+-- what a message is answered, by what it is taken for: one on which the connection closes gets no reply
+abbrev pub IsReplyTo : Serving → Standing → Judged → List ℕ → Standing → Type 0
+IsReplyTo s old Closed bytes new = ⊥
+IsReplyTo s old (Refused xid refusal) bytes new = (bytes ≡ refused xid refusal) × (new ≡ old)
+IsReplyTo s old (Call xid credential call) bytes new = IsCallAnswer s old (has_rules call) xid credential call bytes new
+
+-- no message is left, or the connection closes on the next one
+abbrev pub Ends : List (List ℕ) → Type 0
+Ends [] = Unit {0}
+Ends (message ∷ messages) = judged message ≡ Closed
+
+-- The served stream: one reply a message, in order, up to the first on which the connection closes.
+abbrev pub served : Serving → Standing → List (List ℕ) → List (List ℕ) → Standing → Type 0
+served s old messages [] new = Ends messages × (new ≡ old)
+served s old [] (reply ∷ replies) new = ⊥
+served s old (message ∷ messages) (reply ∷ replies) new =
+    (middle : Standing) × IsReplyTo s old (judged message) reply middle × served s middle messages replies new

@@ -1,0 +1,83 @@
+//! What a record of bytes is taken for: the tests of its header in their order, then its arguments.
+ghost use Rattle.std.specs.Prelude.{◌≡◌, IfOk};
+ghost use Rattle.session_wire.specs.Headers.{header_at, heading};
+ghost use Rattle.session_wire.specs.Judging.{Judges, judged, on_header, requested};
+
+use crate::message::Judged;
+use crate::nfs_codec::{Procedure, decode_call};
+use crate::rpc::{
+    CALL, Header, NFS_PROGRAM, NFS_VERSION, RPC_VERSION, Refusal, read_credential, read_header,
+    read_opening,
+};
+use crate::xdr::{Reader, XdrFault};
+use nfs_types::Credential;
+use std::alloc::{AllocError, Global};
+
+/// What a record is taken for. Refused memory is answered by `Err` while the header is read, and by the
+/// refusal `SystemError` afterwards.
+pub fn judge(alloc: Global, bytes: &[u8]) -> Result<Judged, AllocError>
+    ensures { IfOk result (λ j. Judges j (judged bytes.now)) }
+{
+    let mut reader = Reader::new(bytes);
+    let Ok(opening) = read_opening(&mut reader) else {
+        return Ok(Judged::Closed);
+    };
+    if opening.kind != CALL {
+        return Ok(Judged::Closed);
+    }
+    let xid = opening.xid;
+    if opening.rpc_version != RPC_VERSION {
+        return Ok(refused(xid, Refusal::RpcMismatch));
+    }
+    judge_header(alloc, xid, &mut reader)
+}
+
+fn refused(xid: u32, refusal: Refusal) -> Judged
+    ensures { result ≡ Judged.Refused xid refusal }
+{
+    Judged::Refused { xid, refusal }
+}
+
+// What a call is taken for by the rest of its header and its arguments.
+fn judge_header(alloc: Global, xid: u32, reader: &mut Reader) -> Result<Judged, AllocError>
+    ensures { IfOk result (λ j. Judges j (on_header xid (header_at reader.old))) }
+{
+    let Ok(header) = read_header(reader) else {
+        return Ok(Judged::Closed);
+    };
+    match read_credential(alloc, header.flavor, header.body)? {
+        Err(refusal) => Ok(refused(xid, refusal)),
+        Ok(credential) => Ok(judge_request(alloc, xid, credential, header, reader.rest())),
+    }
+}
+
+// What a call with a lawful credential is taken for.
+#[tactic(auto, using(crate::proofs::Memory::call_never))]
+fn judge_request(
+    alloc: Global,
+    xid: u32,
+    credential: Credential,
+    header: Header,
+    arguments: &[u8],
+) -> Judged
+    ensures { Judges result (requested xid credential (heading header.entry) arguments.now) }
+{
+    if header.program != NFS_PROGRAM {
+        return refused(xid, Refusal::ProgramUnavailable);
+    }
+    if header.version != NFS_VERSION {
+        return refused(xid, Refusal::ProgramMismatch);
+    }
+    let Some(procedure) = Procedure::numbered(header.procedure) else {
+        return refused(xid, Refusal::ProcedureUnavailable);
+    };
+    match decode_call(alloc, procedure, arguments) {
+        Ok(call) => Judged::Call {
+            xid,
+            credential,
+            call,
+        },
+        Err(XdrFault::NoMemory) => refused(xid, Refusal::SystemError),
+        Err(_) => refused(xid, Refusal::GarbageArguments),
+    }
+}

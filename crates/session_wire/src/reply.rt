@@ -1,0 +1,46 @@
+//! Replies as they go onto the stream.
+ghost use Rattle.std.specs.Prelude.{◌≡◌, ◌++◌, true, OnOk, OnErr, IfOk};
+ghost use Rattle.session_wire.specs.Replies.{IsSpellable, body_of, reply_bytes as bytes_of};
+ghost use Rattle.session_wire.specs.Records.{fragment};
+
+use crate::message::Answer;
+use crate::nfs_codec::encode_reply;
+use crate::rpc::{LAST_FRAGMENT, put_accepted, put_refusal};
+use crate::xdr::Writer;
+use std::alloc::{AllocError, Global};
+
+/// Writes a reply at the end of `out`, as a record of one fragment.
+#[tactic(auto, using(crate::proofs::Lengths::reply_is_short), unfolding(crate::specs::Items::word))]
+pub fn reply_bytes(
+    alloc: Global,
+    out: &mut Vec<u8>,
+    xid: u32,
+    answer: Answer,
+) -> Result<(), AllocError>
+    requires { IsSpellable (body_of answer) }
+    ensures ok { OnOk result (out.new.items ≡ out.old.items ++ fragment true (bytes_of xid (body_of answer.entry))) }
+    ensures err { OnErr result (out.new.items ≡ out.old.items) }
+{
+    let reply = message(alloc, xid, answer)?;
+    let reply = reply.as_slice();
+    let mark = (LAST_FRAGMENT + reply.len() as u32).to_be_bytes();
+    out.reserve(mark.len() + reply.len())?;
+    out.extend_from_slice(&mark)?;
+    out.extend_from_slice(reply)
+}
+
+// The reply without its mark.
+fn message(alloc: Global, xid: u32, answer: Answer) -> Result<Writer, AllocError>
+    requires { IsSpellable (body_of answer) }
+    ensures { IfOk result (λ w. w ≡ bytes_of xid (body_of answer.entry)) }
+{
+    let mut out = Writer::new(alloc);
+    match answer {
+        Answer::Done(reply) => {
+            put_accepted(&mut out, xid, 0)?;
+            encode_reply(&mut out, reply)?;
+        }
+        Answer::Refused(refusal) => put_refusal(&mut out, xid, refusal)?,
+    }
+    Ok(out)
+}

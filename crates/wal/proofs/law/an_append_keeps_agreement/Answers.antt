@@ -1,0 +1,5 @@
+use Rattle.wal.proofs.Stands.{stands_appended}
+use Rattle.wal.proofs.law.an_append_keeps_agreement.Goals as goal
+
+pub returns : goal.returns
+returns c = stands_appended
