@@ -1,12 +1,11 @@
 -- The bytes of an image that was just made.
-use Rattle.std.proofs.Common.{◌≡◌, ℕ, zero, suc, ◌+◌, ◌-◌, ◌*◌, ◌%◌, ◌/◌, ◌^◌, ◌<◌, ◌≤◌, inl, inr, Bool, true, false, cond, List, [], ◌∷◌, ◌++◌, length, replicate, get_or, map, nat_eq, nat_lt, refl, sym, ap, ◌∙◌, subst, arith, length-append}
+use Rattle.std.proofs.Common.{◌≡◌, ℕ, zero, suc, ◌+◌, ◌-◌, ◌*◌, ◌<◌, ◌≤◌, inl, inr, Bool, true, false, cond, List, [], ◌∷◌, ◌++◌, length, replicate, get_or, nat_eq, nat_lt, refl, sym, ap, ◌∙◌, subst, arith, length-append}
 use Rattle.std.specs.Int.{byte_at, bytes_low_first}
-use Rattle.std.specs.List.{range_with_len}
 use Rattle.std.proofs.lemmas.Bool.{lt-ltb, eq-eqb, cases_lt}
 use Rattle.std.proofs.lemmas.Bool.Decides.{leb_tells, eqb_tells}
-use Rattle.std.proofs.lemmas.List.{get_or_append_left, get_or-append-add, get_or_past, get_or-replicate, length-replicate}
+use Rattle.std.proofs.lemmas.List.{get_or_append_left, get_or-append-add, get_or_past, length-replicate}
 use Rattle.std.proofs.lemmas.List.FromFn.{get_or-map-range_with_len, length-map-range_with_len}
-use Rattle.limits.specs.declared.TheConstants.{BITS_PER_BLOCK, BLOCK_BYTES, FIRST_HOME_BLOCK, INODE_BYTES, INODES_PER_BLOCK, ROOT, SUPER_BLOCK}
+use Rattle.limits.specs.declared.TheConstants.{BITS_PER_BLOCK, BLOCK_BYTES, FIRST_HOME_BLOCK, INODE_BYTES, ROOT, SUPER_BLOCK}
 use Rattle.nfs_types.specs.declared.ctx.Moment.{Moment}
 use Rattle.model.specs.Sound.{AreBytes}
 use Rattle.layout.specs.declared.geometry.Geometry.{Geometry}
@@ -14,7 +13,7 @@ use Rattle.layout.specs.declared.super_block.Super.{Super}
 use Rattle.layout.specs.Fields.{four_bytes, eight_bytes, number_bytes}
 use Rattle.layout.specs.Fresh.{IsFresh, fresh, bit, byte_of, bitmap_block, is_outside, root_inode, root_block}
 use Rattle.layout.specs.InodeForm.{inode_bytes, head_bytes, middle_bytes, tail_bytes}
-use Rattle.layout.specs.Places.{IsLawful, bitmap_blocks, inode_bitmap_at, table_at, data_at}
+use Rattle.layout.specs.Places.{bitmap_blocks, inode_bitmap_at, table_at, data_at}
 use Rattle.layout.specs.SuperForm.{MAGIC_BYTES, super_head, super_bytes}
 
 -- each item is a byte
@@ -22,12 +21,14 @@ record IsBytes (bytes : List ℕ) : Type 0 where
   are : AreBytes bytes
 
 join : {xs ys : List ℕ} → IsBytes xs → IsBytes ys → IsBytes (xs ++ ys)
-join {xs} {ys} a b = record { are = λ index. elim (cases_lt index (length xs)) [
-    inl less ↦ subst (λ n. n < 256) (sym (get_or_append_left xs ys 0 index less)) (a.are index)
-  | inr more ↦
-      let there : index ≡ length xs + (index - length xs) = omega (arith, more) in
-      subst (λ n. n < 256) (sym (ap (λ k. get_or (xs ++ ys) k 0) there ∙ get_or-append-add xs ys (index - length xs) 0)) (b.are (index - length xs))
-  ] }
+join {xs} {ys} a b = record {
+  are = λ index. elim (cases_lt index (length xs)) [
+    | inl less ↦ subst (λ n. n < 256) (sym (get_or_append_left xs ys 0 index less)) (a.are index)
+    | inr more ↦
+        let there : index ≡ length xs + (index - length xs) = omega (arith, more) in
+        subst (λ n. n < 256) (sym (ap (λ k. get_or (xs ++ ys) k 0) there ∙ get_or-append-add xs ys (index - length xs) 0)) (b.are (index - length xs))
+  ];
+}
 
 nothing : IsBytes []
 nothing = record { are = λ index. omega arith }
@@ -102,10 +103,10 @@ module _ (moment : Moment) where
     long =
         length-append (replicate {A = ℕ} INODE_BYTES 0) (inode ++ replicate (BLOCK_BYTES - INODE_BYTES - INODE_BYTES) 0)
         ∙ (let a = length-replicate {A = ℕ} INODE_BYTES 0 in
-          let b = length-append inode (replicate (BLOCK_BYTES - INODE_BYTES - INODE_BYTES) 0) in
-          let c = length-replicate {A = ℕ} (BLOCK_BYTES - INODE_BYTES - INODE_BYTES) 0 in
-          let d = inode-length in
-          omega (arith, a, b, c, d));
+        let b = length-append inode (replicate (BLOCK_BYTES - INODE_BYTES - INODE_BYTES) 0) in
+        let c = length-replicate {A = ℕ} (BLOCK_BYTES - INODE_BYTES - INODE_BYTES) 0 in
+        let d = inode-length in
+        omega (arith, a, b, c, d));
     each = join (zeros INODE_BYTES) (join inode_are (zeros (BLOCK_BYTES - INODE_BYTES - INODE_BYTES)));
   }
 
@@ -129,10 +130,12 @@ module _ (marked : ℕ → Bool) (first : ℕ) where
   bitmap : IsBlock (bitmap_block marked first)
   bitmap = record {
     long = block-length;
-    each = record { are = λ index. elim (cases_lt index BLOCK_BYTES) [
-        inl less ↦ let is = block-at index less in let s = small_bits marked (first + 8 * index) in omega (arith, is, s)
-      | inr more ↦ let n = block-length in let is = get_or_past (bitmap_block marked first) index 0 (omega (arith, more, n)) in omega (arith, is)
-      ] };
+    each = record {
+      are = λ index. elim (cases_lt index BLOCK_BYTES) [
+        | inl less ↦ let is = block-at index less in let s = small_bits marked (first + 8 * index) in omega (arith, is, s)
+        | inr more ↦ let n = block-length in let is = get_or_past (bitmap_block marked first) index 0 (omega (arith, more, n)) in omega (arith, is)
+      ];
+    };
   }
 
 either : (b : Bool) (x y : List ℕ) → IsBlock x → IsBlock y → IsBlock (cond b x y)

@@ -1,8 +1,8 @@
 -- The files of a fresh image, who owns its blocks, and what its bitmaps mark.
-use Rattle.std.proofs.Common.{◌≡◌, ℕ, zero, suc, ◌+◌, ◌-◌, ◌*◌, ◌/◌, ◌%◌, ◌<◌, ◌≤◌, ◌⊎◌, inl, inr, Bool, true, false, cond, ◌||◌, List, [], ◌∷◌, ◌++◌, length, Option, Some, None, Ok, nat_eq, nat_lt, nat_le, count_by, refl, sym, ap, ◌∙◌, subst, arith}
+use Rattle.std.proofs.Common.{◌≡◌, ℕ, zero, suc, ◌+◌, ◌/◌, ◌<◌, ◌≤◌, inl, inr, Bool, true, false, cond, ◌||◌, List, [], ◌++◌, Some, None, Ok, nat_eq, nat_lt, nat_le, count_by, refl, sym, ap, ◌∙◌, subst, arith}
 use Rattle.std.specs.Cmp.{nat_cmp_total}
 use Rattle.std.specs.Cmp.Lexicographic.{slice_cmp}
-use Rattle.std.specs.FinMap.{empty, get, get-insert, get-empty, len-empty, nat_cmp-IsAntisymmetric}
+use Rattle.std.specs.FinMap.{empty, get-insert, get-empty, len-empty}
 use Rattle.std.specs.List.{flat_map, list_any, range_with_len}
 use Rattle.std.specs.Ordering.{nat_cmp, eq_by_cmp}
 use Rattle.std.proofs.lemmas.Bool.{lt-ltb, le-leb, cases_eq, cases_lt}
@@ -11,19 +11,17 @@ use Rattle.limits.specs.declared.TheConstants.{BITS_PER_BLOCK, FIRST_HOME_BLOCK,
 use Rattle.disk.specs.Crash.{Image}
 use Rattle.nfs_types.specs.declared.ctx.Moment.{Moment}
 use Rattle.model.specs.Format.{format_tree, format_root}
-use Rattle.model.specs.Node.{Node, DirectoryEntry}
+use Rattle.model.specs.Node.{DirectoryEntry}
 use Rattle.model.specs.Sound.{SoundTime}
 use Rattle.model.specs.Tree.{node_at}
 use Rattle.model.proofs.Sets.{eq_by_cmp-is}
 use Rattle.layout.specs.declared.geometry.Geometry.{Geometry}
-use Rattle.layout.specs.declared.inode.Inode.{Inode}
-use Rattle.layout.specs.declared.inode.InodeKind.TheVariants.{Free, Directory}
-use Rattle.layout.specs.Decode.{IsFile, IsDirectory, file_at, file_of, inode_at, numbers_of, named_in, entries_in}
-use Rattle.layout.specs.Fields.{four_at, eight_at, numbers_at}
+use Rattle.layout.specs.Decode.{IsFile, IsDirectory, file_at, file_of, inode_at, numbers_of, named_in}
+use Rattle.layout.specs.Fields.{four_at, numbers_at}
 use Rattle.layout.specs.Fresh.{IsFresh, root_inode, is_outside}
 use Rattle.layout.specs.InodeForm.{fields_of}
-use Rattle.layout.specs.Owners.{IsMarked, owned, owned_by, bit_at, is_used, is_marked_block, is_marked_inode}
-use Rattle.layout.specs.Places.{IsLawful, bitmap_blocks, inode_bitmap_at, data_at}
+use Rattle.layout.specs.Owners.{IsMarked, owned, owned_by, is_used, is_marked_block, is_marked_inode}
+use Rattle.layout.specs.Places.{IsLawful, inode_bitmap_at, data_at}
 use Rattle.layout.specs.Stands.{geometry_of}
 use Rattle.layout.proofs.FreshBits.{bit_is}
 use Rattle.layout.proofs.FreshInodes.{free_inode, free_at, root_at}
@@ -114,9 +112,9 @@ module _ (g : Geometry) (moment : Moment) (image : Image) (lawful : IsLawful g.b
 
   pub kept : (number : ℕ) → number < g.inodes → IsFile g image (inode_at g image number)
   kept number less = elim (cases_eq number 1) [
-      inl is ↦ subst (IsFile g image) (sym (root_there number is)) (root_kept g image moment)
+    | inl is ↦ subst (IsFile g image) (sym (root_there number is)) (root_kept g image moment)
     | inr not ↦ subst (IsFile g image) (sym (free_is number less not)) (free_kept g image moment)
-    ]
+  ]
 
   in_tree : (number : ℕ) → node_at (format_tree (geometry_of g) moment) number ≡ cond (eq_by_cmp nat_cmp number ROOT) (Some (format_root moment)) None
   in_tree number = get-insert nat_cmp_total empty ROOT (format_root moment) number ∙ ap (cond (eq_by_cmp nat_cmp number ROOT) (Some (format_root moment))) (get-empty nat_cmp number)
@@ -136,25 +134,25 @@ module _ (g : Geometry) (moment : Moment) (image : Image) (lawful : IsLawful g.b
 
   file_other : (number : ℕ) → (number ≡ 1 → ⊥) → file_at g image number ≡ None
   file_other number not = elim (cases_lt number g.inodes) [
-      inl less ↦ file_below number less ∙ ap (file_of g.inodes image) (free_is number less not) ∙ no_file g image moment
+    | inl less ↦ file_below number less ∙ ap (file_of g.inodes image) (free_is number less not) ∙ no_file g image moment
     | inr past ↦ file_past number past
-    ]
+  ]
 
   pub files : (number : ℕ) → node_at (format_tree (geometry_of g) moment) number ≡ file_at g image number
   files number = elim (cases_eq number 1) [
-      inl is ↦ file_root number is
+    | inl is ↦ file_root number is
     | inr not ↦
         in_tree number ∙ ap (λ b. cond b (Some (format_root moment)) None) (not_equal number ROOT not (eq_by_cmp nat_cmp number ROOT) refl)
         ∙ sym (file_other number not)
-    ]
+  ]
 
   -- ---- owners
 
   owns_none : (number : ℕ) → number < 0 + g.inodes → owned_by image (inode_at g image number) ≡ []
   owns_none number less = elim (cases_eq number 1) [
-      inl is ↦ ap (owned_by image) (root_there number is) ∙ root_owns g image moment
+    | inl is ↦ ap (owned_by image) (root_there number is) ∙ root_owns g image moment
     | inr not ↦ ap (owned_by image) (free_is number (omega (arith, less)) not) ∙ free_owns g image moment
-    ]
+  ]
 
   none_owned : owned g image ≡ []
   unfolding owned
@@ -174,9 +172,9 @@ module _ (g : Geometry) (moment : Moment) (image : Image) (lawful : IsLawful g.b
 
   low_marked : (number : ℕ) → number < 2 → is_marked_inode g image number ≡ true
   low_marked number low = elim (cases_eq number 1) [
-      inl is ↦ root_marked number is
+    | inl is ↦ root_marked number is
     | inr not ↦ let none : number ≡ 0 = least number low not in ap (is_marked_inode g image) none
-    ]
+  ]
 
   free_marked : (number : ℕ) → 2 ≤ number → number < g.inodes → is_marked_inode g image number ≡ false
   free_marked number more less =
@@ -192,12 +190,12 @@ module _ (g : Geometry) (moment : Moment) (image : Image) (lawful : IsLawful g.b
 
   inode_marks : (number : ℕ) → is_outside (ROOT + 1) g.inodes number ≡ is_marked_inode g image number
   inode_marks number = elim (cases_lt number 2) [
-      inl low ↦ ap (λ b. b || nat_le g.inodes number) (lt-ltb number 2 low) ∙ sym (low_marked number low)
+    | inl low ↦ ap (λ b. b || nat_le g.inodes number) (lt-ltb number 2 low) ∙ sym (low_marked number low)
     | inr more ↦ (elim (cases_lt number g.inodes) [
-          inl less ↦ (λ i. not_below number 2 more i || not_le g.inodes number less i) ∙ sym (free_marked number more less)
-        | inr past ↦ ap (λ b. nat_lt number 2 || b) (le-leb g.inodes number past) ∙ or_true (nat_lt number 2) ∙ sym (past_marked number past)
-      ])
-    ]
+      | inl less ↦ (λ i. not_below number 2 more i || not_le g.inodes number less i) ∙ sym (free_marked number more less)
+      | inr past ↦ ap (λ b. nat_lt number 2 || b) (le-leb g.inodes number past) ∙ or_true (nat_lt number 2) ∙ sym (past_marked number past)
+    ])
+  ]
 
   pub marked : IsMarked g image
   marked = record {

@@ -1,5 +1,5 @@
 -- What the inodes of a fresh table are read as.
-use Rattle.std.proofs.Common.{◌≡◌, ℕ, ◌+◌, ◌-◌, ◌*◌, ◌/◌, ◌%◌, ◌^◌, ◌<◌, ◌≤◌, ◌⊎◌, inl, inr, ◌++◌, true, false, cond, ◌&&◌, List, length, take, drop, replicate, Some, None, Ok, Err, nat_lt, nat_le, refl, sym, ap, ◌∙◌, subst, arith}
+use Rattle.std.proofs.Common.{◌≡◌, ℕ, ◌+◌, ◌-◌, ◌*◌, ◌/◌, ◌%◌, ◌<◌, ◌≤◌, inl, inr, ◌++◌, true, List, length, take, drop, replicate, Some, Ok, refl, sym, ap, ◌∙◌, arith}
 use Rattle.std.specs.Int.{w32, from_le_bytes, to_le_bytes}
 use Rattle.std.proofs.Math.Seq.{drop-append-add}
 use Rattle.std.proofs.lemmas.Bool.{lt-ltb, cases_eq, cases_lt}
@@ -123,16 +123,16 @@ module _ (g : Geometry) (moment : Moment) (image : Image) (lawful : IsLawful g.b
 
   zero_part : (number : ℕ) → number < g.inodes → (number ≡ 1 → ⊥) → at number ≡ replicate INODE_BYTES 0
   zero_part number less not = elim (cases_lt number INODES_PER_BLOCK) [
-      inl low ↦ (elim (cases_eq number 0) [
-          inl none ↦ at_is number (root_block moment) 0 (in_first number low) (omega (arith, none)) ∙ first moment now
-        | inr some ↦
-            let big : 1 < number = above number some not in
-            at_is number (root_block moment) (INODE_BYTES * number) (in_first number low) (omega (arith, low)) ∙ others moment now number big low
-        ])
+    | inl low ↦ (elim (cases_eq number 0) [
+      | inl none ↦ at_is number (root_block moment) 0 (in_first number low) (omega (arith, none)) ∙ first moment now
+      | inr some ↦
+          let big : 1 < number = above number some not in
+          at_is number (root_block moment) (INODE_BYTES * number) (in_first number low) (omega (arith, low)) ∙ others moment now number big low
+    ])
     | inr high ↦
         at_is number (replicate BLOCK_BYTES 0) (INODE_BYTES * (number % INODES_PER_BLOCK)) (in_later number high less) refl
         ∙ part moment now (INODE_BYTES * (number % INODES_PER_BLOCK)) BLOCK_BYTES (omega arith)
-    ]
+  ]
 
   pub free_at : (number : ℕ) → number < g.inodes → (number ≡ 1 → ⊥) → inode_at g image number ≡ Ok free_inode
   unfolding inode_at

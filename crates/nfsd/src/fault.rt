@@ -1,6 +1,8 @@
 //! Why the program didn't do what its words ask for.
-ghost use Rattle.std.specs.Prelude.{◌≤◌};
+ghost use Rattle.std.specs.Prelude.{◌≡◌};
+ghost use Rattle.nfsd.specs.Faults.{status_of};
 
+use crate::lines::{format_line, open_line, session_line};
 use session::SessionFault;
 use std::fmt;
 use store::{FormatFault, OpenFault};
@@ -25,8 +27,7 @@ pub enum Fault {
 impl Fault {
     /// The exit status.
     pub fn status(&self) -> u8
-        ensures fault { 1 ≤ result }
-        ensures most { result ≤ 2 }
+        ensures { result ≡ status_of self.now }
     {
         match self {
             Fault::Words(_) => 2,
@@ -36,14 +37,18 @@ impl Fault {
 }
 
 impl fmt::Display for Fault {
+    ghost use Rattle.nfsd.specs.Faults.{fault_line};
+
+    ghost output = { fault_line };
+
     fn fmt<W: fmt::Write>(&self, f: &mut fmt::Formatter<W>) -> fmt::Result {
         match self {
             Fault::Words(error) => write!(f, "{error}"),
-            Fault::File => writeln!(f, "nfsd: file"),
-            Fault::Format(fault) => writeln!(f, "nfsd: {} {fault}", fault.number()),
-            Fault::Open(fault) => writeln!(f, "nfsd: {} {fault}", fault.number()),
-            Fault::Session(fault) => writeln!(f, "nfsd: {} {fault}", fault.number()),
-            Fault::Print => writeln!(f, "nfsd: output"),
+            Fault::File => f.write_str("nfsd: file\n"),
+            Fault::Format(fault) => f.write_str(format_line(*fault)),
+            Fault::Open(fault) => f.write_str(open_line(*fault)),
+            Fault::Session(fault) => f.write_str(session_line(*fault)),
+            Fault::Print => f.write_str("nfsd: output\n"),
         }
     }
 }

@@ -3,6 +3,9 @@
 
 mod answer;
 mod fault;
+mod lines;
+#[cfg(test)]
+mod tests;
 
 use std::process::ExitCode;
 use std::{env, io};

@@ -1,7 +1,6 @@
 //! Plans: what a call needs next, or what comes of it.
 ghost use Rattle.std.specs.Prelude.{◌≡◌, true, ◌<◌, IfErr, IfOk};
 ghost use Rattle.model.specs.Calls.{has_rules, sets_only_mode};
-ghost use Rattle.model.specs.Sound.{SoundTime};
 ghost use Rattle.procs.specs.Seen.{IsNew, IsPlanFor, IsDoneFor};
 
 use crate::attributes::Found;
@@ -116,8 +115,7 @@ fn work(alloc: Global, ctx: &Ctx, call: &Call, snap: &Snap) -> Result<Done, Stop
 /// What a call needs next, or what comes of it, by what was read so far. It asks for one object at a time, and
 /// begins anew each time. An object that the layout refuses makes it IO, with nothing told and nothing written.
 pub fn plan(alloc: Global, ctx: &Ctx, call: &Call, snap: &Snap) -> Plan
-    requires served { has_rules call.now ≡ true }
-    requires timely { SoundTime ctx.now.moment }
+    requires { has_rules call.now ≡ true }
     ensures { IsPlanFor snap.now result }
 {
     match work(alloc, ctx, call, snap) {

@@ -4,7 +4,7 @@
 
 mod serving;
 
-pub use serving::{SessionFault, serve};
+pub use serving::{SessionFault, answer_to, serve};
 pub use session_wire::{
     Answer, CallMessage, Judged, MessageCredential, ReplyBody, ReplyMessage, Verifier, judge,
     nfs_codec, reply_bytes, rpc, xdr,

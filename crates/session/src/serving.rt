@@ -1,6 +1,5 @@
 //! Serving a stream: the calls of its records, one after the other, and their replies.
 ghost use Rattle.std.specs.Prelude.{◌≡◌, ◌<◌, ◌↔◌, IsTrue, IsSome, IfOk, None, length};
-ghost use Rattle.model.specs.Sound.{SoundTime};
 ghost use Rattle.session_wire.specs.Replies.{IsSpellable, body_of};
 ghost use Rattle.session_wire.specs.Results.{IsServed};
 
@@ -60,8 +59,7 @@ pub fn serve<D: CrashDisk, R: Read, W: Write>(
     writer: &mut W,
     moment: Moment,
 ) -> Result<u64, SessionFault>
-    requires idle { store.old.core.out ≡ None }
-    requires timely { SoundTime moment }
+    requires { store.old.core.out ≡ None }
     ensures { store.new.core.out ≡ None }
 {
     let served = serve_all(alloc, store, reader, writer, moment);
@@ -86,8 +84,7 @@ fn serve_all<D: CrashDisk, R: Read, W: Write>(
     writer: &mut W,
     moment: Moment,
 ) -> Result<u64, SessionFault>
-    requires idle { store.old.core.out ≡ None }
-    requires timely { SoundTime moment }
+    requires { store.old.core.out ≡ None }
     ensures { store.new.core.out ≡ None }
 {
     let mut records = Records::new(alloc);
@@ -118,8 +115,7 @@ fn answer_whole<D: CrashDisk, W: Write>(
     moment: Moment,
     count: u64,
 ) -> Result<u64, SessionFault>
-    requires idle { store.old.core.out ≡ None }
-    requires timely { SoundTime moment }
+    requires { store.old.core.out ≡ None }
     ensures { store.new.core.out ≡ None }
 {
     let mut replies = count;
@@ -149,8 +145,7 @@ fn answer<D: CrashDisk, W: Write>(
     writer: &mut W,
     moment: Moment,
 ) -> Result<(), SessionFault>
-    requires idle { store.old.core.out ≡ None }
-    requires timely { SoundTime moment }
+    requires { store.old.core.out ≡ None }
     ensures { store.new.core.out ≡ None }
 {
     match judge(alloc, record) {
@@ -163,15 +158,21 @@ fn answer<D: CrashDisk, W: Write>(
                 credential,
                 call,
             },
-        ) => match procedure(alloc, store, credential, moment, call) {
-            Verdict::Reply(reply) if is_served(&reply) => put(
-                alloc,
-                writer,
-                xid,
-                Answer::Done(&reply),
-            ),
-            _ => put(alloc, writer, xid, Answer::Refused(Refusal::SystemError)),
-        },
+        ) => {
+            let verdict = procedure(alloc, store, credential, moment, call);
+            put(alloc, writer, xid, answer_to(&verdict))
+        }
+    }
+}
+
+/// What a call is answered by what came of its procedure: its reply, or that a growth was refused.
+pub fn answer_to(verdict: &Verdict) -> Answer<'_>
+    ensures spellable { IsSpellable (body_of result) }
+    ensures no_memory { verdict.now ≡ Verdict.NoMemory → result ≡ Answer.Refused Refusal.SystemError }
+{
+    match verdict {
+        Verdict::Reply(reply) if is_served(reply) => Answer::Done(reply),
+        _ => Answer::Refused(Refusal::SystemError),
     }
 }
 

@@ -8,7 +8,7 @@ use Rattle.store.specs.declared.transcript.Answer.{Answer}
 use Rattle.store.specs.GoodImage.{IsGoodImage}
 use Rattle.store.specs.History.{IsHistory}
 use Rattle.store.specs.Openings.{AtEachStop, IsBootOf, IsLater, IsOpened}
-use Rattle.store.specs.Schedule.{Schedule, AreTaken}
+use Rattle.store.specs.Schedule.{Schedule, AreTaken, AreTimely}
 use Rattle.store.specs.Transcript.{Transcript, entries_of, device_calls, commits_by, fails}
 use Rattle.store.specs.Verdicts.{IsStableAnswer, IsCoveredWrite, AreAnswers}
 
@@ -47,3 +47,7 @@ pub record IsKept (before later : Device) (tree : Tree) (first workers : ℕ) (e
   pub answers : AreAnswers events t
   -- every event is taken
   pub taken : AreTaken position workers events t.steps
+
+-- What is promised: a run of calls at a moment keeps it, on an image that is good.
+abbrev pub IsPromised : Device → Device → Tree → ℕ → ℕ → Schedule → Transcript → Type 0
+IsPromised before later tree first workers events t = AreTimely events → IsKept before later tree first workers events t

@@ -3,9 +3,6 @@ use Rattle.std.specs.Prelude.{ℕ, Option, IfSome}
 use Rattle.txn.specs.Core.{CoreState}
 use Rattle.wal.specs.Io.{Io, IsCallWithin}
 use Rattle.store.specs.Worker.{Fits}
-use Rattle.model.specs.Sound.{SoundTime}
-use Rattle.store.specs.declared.events.Event.{Event}
-use Rattle.store.specs.declared.events.Event.TheVariants as event
 use Rattle.store.specs.declared.workers.Worker.{Worker}
 
 -- a device call that is out goes to a block of the image
@@ -17,13 +14,3 @@ pub record RunsWell (worker : Worker) (core : CoreState) (log inst : Option Io) 
   pub fits : Fits worker core
   pub log_within : IsWithin core.log.blocks log
   pub inst_within : IsWithin core.log.blocks inst
-
--- a call is handed over at a moment
-abbrev pub IsTimely : Event → Type 0
-IsTimely (event.Call worker credential moment call) = SoundTime moment
-IsTimely (event.Work worker) = Unit {0}
-IsTimely (event.Read worker) = Unit {0}
-IsTimely event.Log = Unit {0}
-IsTimely event.LogIo = Unit {0}
-IsTimely event.Install = Unit {0}
-IsTimely event.InstIo = Unit {0}

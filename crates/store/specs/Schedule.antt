@@ -6,6 +6,7 @@ use Rattle.disk.specs.declared.block.BlockNo.{BlockNo}
 use Rattle.objects.specs.declared.addr.Addr.{Addr}
 use Rattle.nfs_types.specs.declared.call.Call.{Call}
 use Rattle.model.specs.Calls.{has_rules}
+use Rattle.model.specs.Sound.{SoundTime}
 use Rattle.procs.specs.Seen.{is_claimed, same_addr}
 use Rattle.txn.specs.declared.answers.BeginFault.{BeginFault}
 use Rattle.txn.specs.declared.answers.BeginFault.TheVariants as fault
@@ -25,6 +26,19 @@ use Rattle.store.specs.Progress.{Begun, Progress, Idle, Called, Planning, ReadDu
 -- a schedule is any list of events
 abbrev pub Schedule : Type 0
 Schedule = List Event
+
+-- calls are handed over at a moment, of less than a second of nanoseconds
+abbrev pub IsTimely : Event → Type 0
+IsTimely (event.Call worker credential moment call) = SoundTime moment
+IsTimely (event.Work worker) = Unit {0}
+IsTimely (event.Read worker) = Unit {0}
+IsTimely event.Log = Unit {0}
+IsTimely event.LogIo = Unit {0}
+IsTimely event.Install = Unit {0}
+IsTimely event.InstIo = Unit {0}
+
+abbrev pub AreTimely : Schedule → Type 0
+AreTimely events = (index : ℕ) (event : Event) → slice_get events index ≡ Some event → IsTimely event
 
 -- what is told of a worker, of the count of transactions, and of the log
 pub record Told : Type 0 where

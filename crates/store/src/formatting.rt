@@ -2,7 +2,6 @@
 ghost use Rattle.std.specs.Prelude.{◌≡◌, ◌≤◌, ◌<◌, ◌+◌, ◌-◌, ◌^◌, length, IfOk};
 ghost use Rattle.limits.specs.declared.TheConstants.{INODE_BYTES};
 ghost use Rattle.layout.specs.Places.{data_at};
-ghost use Rattle.model.specs.Sound.{SoundTime};
 
 use disk::{Block, BlockNo, CrashDisk, Failed, Side};
 use layout::{Geometry, GeometryFault, Inode, InodeKind, Super};
@@ -58,7 +57,6 @@ pub fn format<D: CrashDisk>(
     inodes: u32,
     moment: Moment,
 ) -> Result<u32, FormatFault>
-    requires { SoundTime moment }
     ensures { IfOk result (λ count. count ≡ (D.device disk.old).size - data_at (D.device disk.old).size inodes) }
 {
     let geometry = match Geometry::new(disk.blocks(), inodes) {

@@ -4,6 +4,7 @@
 mod answers;
 mod events;
 mod formatting;
+mod fresh;
 mod one_call;
 mod opened;
 mod opening;
@@ -16,6 +17,7 @@ mod workers;
 pub use answers::{Answered, Entry, Verdict};
 pub use events::{Committing, Ending, Event, Step, Wish};
 pub use formatting::{FormatFault, format};
+pub use fresh::a_fresh_image_is_good;
 pub use one_call::procedure;
 pub use opened::{Store, close, settle};
 pub use opening::{OpenFault, open};

@@ -1,6 +1,5 @@
 //! One call to its answer, by one thread.
 ghost use Rattle.std.specs.Prelude.{◌≡◌, None};
-ghost use Rattle.model.specs.Sound.{SoundTime};
 ghost use Rattle.store.specs.Worker.{Fits};
 
 use crate::answers::Verdict;
@@ -20,8 +19,7 @@ pub fn procedure<D: CrashDisk>(
     moment: Moment,
     call: Call,
 ) -> Verdict
-    requires idle { store.old.core.out ≡ None }
-    requires timely { SoundTime moment }
+    requires { store.old.core.out ≡ None }
     ensures { store.new.core.out ≡ None }
 {
     let mut worker = Worker::new(store.boot);

@@ -1,6 +1,5 @@
 //! A whole run: an opening, and then events one by one.
-ghost use Rattle.std.specs.Prelude.{◌≡◌, All};
-ghost use Rattle.store.specs.Running.{IsTimely};
+ghost use Rattle.std.specs.Prelude.{◌≡◌};
 
 mod running;
 
@@ -21,8 +20,7 @@ pub fn run<D: CrashDisk>(
     workers: usize,
     events: Vec<Event>,
 ) -> (D, Result<Run, OpenFault>)
-    requires one { workers ≡ 1 }
-    requires timely { All IsTimely events.items }
+    requires { workers ≡ 1 }
 {
     let store = match open(alloc, disk) {
         Ok(store) => store,

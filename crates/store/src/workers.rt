@@ -1,5 +1,4 @@
 //! One procedure at a time, as steps of the core.
-ghost use Rattle.model.specs.Sound.{SoundTime};
 
 mod planning;
 mod steps;
@@ -17,7 +16,6 @@ use txn::{Core, FetchIo, Seq, Tx};
 pub(crate) struct Job {
     pub(crate) ctx: Ctx,
     pub(crate) call: Call,
-    ghost timely: { SoundTime ctx.moment },
 }
 
 // How far a worker is with its call.
@@ -107,7 +105,6 @@ impl Worker {
 
     /// Hands a worker a call, and answers whether it took it: a busy one does nothing.
     pub fn hand(&mut self, credential: Credential, moment: Moment, call: Call) -> bool
-        requires { SoundTime moment }
         ensures fits { (core : CoreState) → Fits self.old core → Fits self.new core }
         ensures taken { IsTrue result ↔ (self.old.phase ≡ Idle) }
     {

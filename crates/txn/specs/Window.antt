@@ -1,10 +1,11 @@
 -- When the commits that aren't installed agree with the log and with what is in memory.
-use Rattle.std.specs.Prelude.{◌≡◌, ℕ, ◌+◌, ◌-◌, if◌then◌else◌, cond, nat_eq, List, [], ◌∷◌, ◌++◌, length, take, drop, Some}
+use Rattle.std.specs.Prelude.{◌≡◌, ℕ, ◌+◌, ◌-◌, if◌then◌else◌, cond, nat_eq, List, [], ◌∷◌, ◌++◌, length, take, drop, slice_get, Some, Contains}
 use Rattle.std.specs.List.{AllByRecursion}
 use Rattle.disk.specs.Device.{Content}
 use Rattle.disk.specs.Crash.{Image}
 use Rattle.objects.specs.declared.addr.Addr.{Addr}
-use Rattle.wal.specs.Log.{Log, newest_of, place_before}
+use Rattle.wal.specs.Law.{after}
+use Rattle.wal.specs.Log.{Log, installed_place, newest, place_before}
 use Rattle.txn.specs.Object.{ObjectBytes}
 
 -- what a commit read, and what it wrote
@@ -48,18 +49,26 @@ after_commits blocks (commit ∷ commits) = after_commits (with_objects blocks c
 abbrev pub up_to : ℕ → ℕ → List Footprint → List Footprint
 up_to first place commits = take ((place + 1) - first) commits
 
--- the newest contents that the first of the log's changes have are those after the commits up to a place
+-- the blocks under the first of the log's changes are those after the commits whose changes are among them
 abbrev pub GroupAgrees : Image → List Footprint → Log → ℕ → Type 0
 GroupAgrees base commits log count =
-    (block : ℕ) (content : Content) → newest_of (take count log.changes) block ≡ Some content
-    → content ≡ after_commits base (up_to (place_before log.changes log.places + 1) (place_before (drop count log.changes) log.places) commits) block
+    (block : ℕ) → after base (take count log.changes) block
+    ≡ after_commits base (up_to (installed_place log + 1) (place_before (drop count log.changes) log.places) commits) block
 
 -- A legal window: there are blocks from which the commits follow, such that the log has, up to the end of each of its
--- groups, what they lead to, and so has each block in memory.
+-- groups, what they lead to, and so has each block in memory. The commits are those that aren't installed, by their places;
+-- what one of them read is in memory, and what one of them wrote is in the log. That its reply and its writes are its
+-- plan's is told by the change's type.
 pub record IsLegalWindow (log : Log) (commits : List Footprint) (held : List (ℕ × Content)) : Type 0 where
   pub base : Image
   pub follow : Follow base commits
+  pub places : (index : ℕ) (commit : Footprint) → slice_get commits index ≡ Some commit → commit.place ≡ installed_place log + 1 + index
+  pub all : installed_place log + length commits ≡ log.places
   pub logged : GroupAgrees base commits log log.logged
   pub taken : GroupAgrees base commits log (log.logged + log.taken)
   pub tail : GroupAgrees base commits log (length log.changes)
   pub memory : AllByRecursion (λ (entry : ℕ × Content). entry.1 ≡ after_commits base commits entry.0) held
+  pub pinned : (commit : Footprint) (object : ObjectBytes) → Contains commits commit → Contains commit.read object
+      → (content : Content) × Contains held (object.addr.block.0, content)
+  pub written : (commit : Footprint) (object : ObjectBytes) → Contains commits commit → Contains commit.written object
+      → (content : Content) × (newest log object.addr.block.0 ≡ Some content)

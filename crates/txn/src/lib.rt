@@ -22,4 +22,7 @@ pub use object::Object;
 pub use state::Core;
 pub use tx::{FetchIo, Stable, Tx};
 pub use wal::{InstIo, LogIo, Seq};
-pub use window::a_window_reads_one_content;
+pub use window::{
+    a_window_has_each_commit_that_is_not_installed, a_window_keeps_what_was_read,
+    a_window_reads_one_content,
+};

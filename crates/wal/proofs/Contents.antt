@@ -67,7 +67,7 @@ leaves_newest old new side block P h on holds content there =
     let is : content ≡ newest (current old block) = settled_newest (current old block) content (subst (λ (xs : List Content). Contains xs content) e there) in
     subst P (sym is) holds
 
-one_member : (one other : Content) → Contains (one ∷ []) other → one ≡ other
+pub one_member : (one other : Content) → Contains (one ∷ []) other → one ≡ other
 one_member one other (i, h, e) = let at : i ≡ 0 = omega (arith, h) in ap (λ n. get_or (one ∷ []) n other) (sym at) ∙ e
 
 -- a write leaves of its block what it left before, and what it wrote

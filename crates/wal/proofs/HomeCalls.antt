@@ -195,6 +195,14 @@ own_spared old new log io r lawful next made at low high = go (step_of log.inst_
     go (tells step) = same (record { 0 = START_BLOCK }) (omega arith) (next.start step).0
     go (ends step) = keeps_barrier old new io r (next.start_barrier step) made at
 
+-- a block that isn't the log's own lies on the side of the homes
+pub on_home : (blocks block : ℕ) → IsOutside blocks block → is_on Home block ≡ true
+on_home blocks block outside =
+    elim (outside.1) as (λ _. is_on Home block ≡ true) [
+      | inl below ↦ ap (λ (t : Bool). t || nat_le START_BLOCK block) (lt-ltb block LOG_HEADER_BLOCK below)
+      | inr above ↦ ap (λ (t : Bool). nat_lt block LOG_HEADER_BLOCK || t) (le-leb START_BLOCK block (omega arith)) ∙ or-true (nat_lt block LOG_HEADER_BLOCK)
+    ]
+
 -- what the disk shows once it was made
 pub inst_made : (old new : Device) (base : Image) (log : Log) (io : Io) → IsLawful log → IsNextInstCall log io → HasMade old io (Ok tt) new → HomeAgrees old base log → HasMadeInstCall new base log
 inst_made old new base log io lawful next made h = record { home = home; home_barrier = home_barrier; start = start; start_barrier = start_barrier }
@@ -203,13 +211,6 @@ inst_made old new base log io lawful next made h = record { home = home; home_ba
     home lt change is =
         let call = next.home lt change is in
         newest_written old new change.block.0 io.content (made_write old new io change.block (Ok tt) call.0 made) ∙ call.1
-
-    on : (block : ℕ) → IsOutside log.blocks block → is_on Home block ≡ true
-    on block outside =
-        elim (outside.1) as (λ _. is_on Home block ≡ true) [
-          | inl below ↦ ap (λ (t : Bool). t || nat_le START_BLOCK block) (lt-ltb block LOG_HEADER_BLOCK below)
-          | inr above ↦ ap (λ (t : Bool). nat_lt block LOG_HEADER_BLOCK || t) (le-leb START_BLOCK block (omega arith)) ∙ or-true (nat_lt block LOG_HEADER_BLOCK)
-        ]
 
     home_barrier : log.inst_step ≡ log.installing → (block : ℕ) → IsOutside log.blocks block → LeavesOnly new block (Brought base log block)
     home_barrier at block outside = go (brought_home log block) refl
@@ -226,7 +227,7 @@ inst_made old new base log io lawful next made h = record { home = home; home_ba
         go (Some content) e =
             let is : newest (current old block) ≡ after base (take log.installing log.changes) block =
             h.written (omega arith) block outside past content e ∙ ap (λ o. content_or o (base block)) (sym e) in
-            leaves_newest old new Home block (Brought base log block) settled (on block outside) is
+            leaves_newest old new Home block (Brought base log block) settled (on_home log.blocks block outside) is
         go None e =
             let same : (content : Content) → Either base log block content → Brought base log block content =
             λ content either. elim either as (λ _. Brought base log block content) [

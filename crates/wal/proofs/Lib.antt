@@ -4,6 +4,7 @@ pub mod Lawful
 pub mod LogCalls
 pub mod NextHome
 pub mod HomeMoves
+pub mod HomeWrites
 pub mod HomeCalls
 pub mod LogMoves
 pub mod Steps

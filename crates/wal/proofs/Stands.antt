@@ -54,7 +54,7 @@ for_inst_made P log home step end =
     ]
 
 -- a side whose calls nothing touched stands as it stood
-logger_as : (d e : Device) (log new : Log) (p : Pending) → new.log_out ≡ log.log_out → ((io : Io) → IsNextLogCall log io → IsNextLogCall new io)
+pub logger_as : (d e : Device) (log new : Log) (p : Pending) → new.log_out ≡ log.log_out → ((io : Io) → IsNextLogCall log io → IsNextLogCall new io)
     → (HasMadeLogCall d log → HasMadeLogCall e new) → IsLoggerAt d log p → IsLoggerAt e new p
 logger_as d e log new idle same next made h = same ∙ h
 logger_as d e log new (out io) same next made h = (same ∙ h.0, next io h.1)

@@ -1,6 +1,6 @@
 -- The law of the log: while the contents that the blocks of a disk may have agree with a log's meaning, a crash leaves the
 -- blocks after a whole group.
-use Rattle.std.specs.Prelude.{◌≡◌, ℕ, ◌+◌, ◌-◌, ◌*◌, ◌%◌, ◌≤◌, ◌<◌, ◌⊎◌, List, map, take, drop, slice_get, Some, None, Contains}
+use Rattle.std.specs.Prelude.{◌≡◌, ℕ, ◌+◌, ◌-◌, ◌*◌, ◌%◌, ◌≤◌, ◌<◌, ◌⊎◌, if◌then◌else◌, nat_eq, List, map, take, drop, slice_get, Some, None, Contains}
 use Rattle.limits.specs.declared.TheConstants.{LOG_SLOTS, LOG_HEADER_BLOCK, START_BLOCK}
 use Rattle.disk.specs.Device.{Content, Device, current, newest}
 use Rattle.disk.specs.Crash.{Image}
@@ -23,6 +23,10 @@ IsOutside blocks block = (block < blocks) × ((block < LOG_HEADER_BLOCK) ⊎ (ST
 -- the blocks after these changes
 abbrev pub after : Image → List Change → Image
 after base changes block = content_or (newest_of changes block) (base block)
+
+-- the blocks, of which one has this content
+abbrev pub with_home : Image → ℕ → Content → Image
+with_home base block content other = if nat_eq other block then content else base other
 
 -- the slots of the first so many changes hold their contents
 abbrev pub HoldsSlots : Device → Log → ℕ → Type 0

@@ -1,22 +1,23 @@
 //! The law of the log, over definitions alone: while the contents that a disk may have agree with a log, a crash leaves
 //! the blocks after a whole group, and each step of the log and each of its calls keeps the agreement, in any order.
-ghost use Rattle.std.specs.Prelude.{◌≡◌, ◌≤◌, ℕ, List, Result, is_ok, Vec};
+ghost use Rattle.std.specs.Prelude.{◌≡◌, ◌≤◌, ◌⊎◌, ℕ, List, None, Result, Ok, is_ok, Vec};
 ghost use Rattle.std.specs.declared.alloc.Global.{Global};
 ghost use Rattle.limits.specs.declared.TheConstants.{FIRST_HOME_BLOCK};
 ghost use Rattle.disk.specs.declared.block.BlockNo.{BlockNo};
+ghost use Rattle.disk.specs.declared.block.Side.TheVariants.{Home};
 ghost use Rattle.disk.specs.declared.device.Failed.{Failed};
-ghost use Rattle.disk.specs.Device.{Content, Device, HasRead};
+ghost use Rattle.disk.specs.Device.{Content, Device, HasRead, HasWritten, HasSettled};
 ghost use Rattle.disk.specs.Crash.{Image, IsCrashImage, IsAtRest};
 ghost use Rattle.wal.specs.declared.circ.found.LogFault.{LogFault};
 ghost use Rattle.wal.specs.declared.circ.found.Recovered.{Recovered};
 ghost use Rattle.wal.specs.Io.{Io, HasMade};
-ghost use Rattle.wal.specs.Log.{Log, IsLawful, opened};
+ghost use Rattle.wal.specs.Log.{Log, IsLawful, newest, opened};
 ghost use Rattle.wal.specs.Room.{with_group};
 ghost use Rattle.wal.specs.Logger.{IsNextLogCall, with_log_out, with_log_back};
 ghost use Rattle.wal.specs.Installer.{IsNextInstCall, with_inst_out, with_inst_back};
 ghost use Rattle.wal.specs.Overlay.{start_in, end_in, logged_in, IsInRange, over};
 ghost use Rattle.wal.specs.Found.{image_of, IsFound, IsLog};
-ghost use Rattle.wal.specs.Law.{Agrees, IsBoundary, after};
+ghost use Rattle.wal.specs.Law.{Agrees, IsOutside, IsBoundary, after, with_home};
 ghost use Rattle.wal.specs.Calls.{Pending, idle, out, answered, Stands, home_after};
 ghost use Rattle.wal.specs.ReadBack.{IsReadBack, IsLogReadBack};
 
@@ -77,4 +78,15 @@ pub fn a_call_of_the_installer_keeps_agreement()
         → Stands old base log logging (out io) → Stands new base log logging (answered io answer) }
     ensures comes_back { (d : Device) (base : Image) (log : Log) (io : Io) (answer : Result Unit Failed) (logging : Pending) → IsLawful log
         → Stands d base log logging (answered io answer) → Stands d (home_after base log (is_ok answer)) (with_inst_back log (is_ok answer)) logging idle }
+{}
+
+/// A block of which the log has no change may be written beside it: a crash in the middle leaves a whole group over what
+/// was at home or over what is written there, and once the write is settled it is at home.
+pub fn a_write_beside_the_log_keeps_agreement()
+    ensures crash { (old new : Device) (base : Image) (log : Log) (block : ℕ) (content : Content) (answer : Result Unit Failed) (image : Image) → IsLawful log
+        → IsOutside log.blocks block → newest log block ≡ None → HasWritten old block content answer new → Agrees old base log → IsCrashImage new new.clock image
+        → IsBoundary base log image ⊎ IsBoundary (with_home base block content) log image }
+    ensures settled { (old middle new : Device) (base : Image) (log : Log) (block : ℕ) (content : Content) (logging installing : Pending) → IsLawful log
+        → IsOutside log.blocks block → newest log block ≡ None → HasWritten old block content (Ok tt) middle → HasSettled middle Home (Ok tt) new
+        → Stands old base log logging installing → Stands new (with_home base block content) log logging installing }
 {}

@@ -1,8 +1,7 @@
 //! The events of a run.
 ghost use Rattle.std.specs.Prelude.{◌≡◌, None};
 ghost use Rattle.store.specs.Room.{HasRoom};
-ghost use Rattle.model.specs.Sound.{SoundTime};
-ghost use Rattle.store.specs.Running.{IsTimely, RunsWell};
+ghost use Rattle.store.specs.Running.{RunsWell};
 
 use crate::events::{Event, Step};
 use crate::opened::Store;
@@ -47,7 +46,6 @@ impl<D: CrashDisk> Running<D> {
     /// Makes the step of an event, if it applies, and tells of it.
     pub(super) fn take(&mut self, alloc: Global, event: Event, run: &mut Run)
         requires well { RunsWell self.old.worker self.old.store.core self.old.log self.old.inst }
-        requires timely { IsTimely event }
         requires room { HasRoom run.old }
         ensures { RunsWell self.new.worker self.new.store.core self.new.log self.new.inst }
     {
@@ -76,8 +74,7 @@ impl<D: CrashDisk> Running<D> {
         moment: Moment,
         call: Call,
     ) -> Option<Step>
-        requires well { RunsWell self.old.worker self.old.store.core self.old.log self.old.inst }
-        requires timely { SoundTime moment }
+        requires { RunsWell self.old.worker self.old.store.core self.old.log self.old.inst }
         ensures { RunsWell self.new.worker self.new.store.core self.new.log self.new.inst }
     {
         if worker == 0 && self.worker.hand(credential, moment, call) {

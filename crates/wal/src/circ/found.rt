@@ -35,7 +35,9 @@ pub enum LogFault {
 
 impl LogFault {
     /// The number of the fault.
-    pub fn number(self) -> u8 {
+    pub fn number(self) -> u8
+        ensures { result ≡ number_of self }
+    {
         match self {
             LogFault::Range => 1,
             LogFault::Address => 2,

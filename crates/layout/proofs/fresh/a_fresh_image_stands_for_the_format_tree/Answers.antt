@@ -1,14 +1,10 @@
 -- Each part of the definition, from the files, the owners and the bitmaps.
-use Rattle.std.proofs.Common.{◌≡◌, arith, refl}
-use Rattle.disk.specs.Crash.{Image}
-use Rattle.nfs_types.specs.declared.ctx.Moment.{Moment}
-use Rattle.model.specs.Format.{format_tree}
-use Rattle.model.specs.Sound.{SoundGeometry, SoundTime}
+use Rattle.std.proofs.Common.{arith, refl}
+use Rattle.model.specs.Sound.{SoundGeometry}
 use Rattle.model.proofs.Formatted.{sound}
 use Rattle.layout.specs.declared.geometry.Geometry.{Geometry}
-use Rattle.layout.specs.Fresh.{IsFresh}
 use Rattle.layout.specs.Places.{IsLawful}
-use Rattle.layout.specs.Stands.{Stands, geometry_of}
+use Rattle.layout.specs.Stands.{geometry_of}
 use Rattle.layout.proofs.FreshFiles.{marked, files, kept}
 use Rattle.layout.proofs.fresh.a_fresh_image_stands_for_the_format_tree.Goals as goal
 

@@ -1,11 +1,10 @@
 -- Each field is read where it was written.
-use Rattle.std.proofs.Common.{◌≡◌, ℕ, ◌^◌, ◌<◌, true, refl, sym, subst, arith}
+use Rattle.std.proofs.Common.{◌≡◌, ◌^◌, ◌<◌, true, refl, sym, subst, arith}
 use Rattle.std.proofs.lemmas.Nat.{from_le_bytes-to_le_bytes_4, from_le_bytes-to_le_bytes_8}
-use Rattle.limits.specs.declared.TheConstants.{FORMAT_VERSION}
 use Rattle.layout.specs.declared.super_block.Super.{Super}
 use Rattle.layout.specs.Fields.{four_at, eight_at, four_bytes, eight_bytes}
 use Rattle.layout.specs.Places.{IsLawful}
-use Rattle.layout.specs.SuperForm.{HasMagic, HasVersion, IsSuper, is_unused_zero, super_head, super_bytes}
+use Rattle.layout.specs.SuperForm.{HasMagic, HasVersion, is_unused_zero, super_head, super_bytes}
 use Rattle.layout.proofs.fresh.a_super_block_is_its_bytes.Goals as goal
 
 module _ (s : Super) where

@@ -1,0 +1,101 @@
+//! Inputs and outputs that fail in mid-stream.
+
+use crate::answer::answer;
+use crate::tests::outcome::{Host, Outcome, assert_fault, assert_served, fresh, remove};
+use crate::tests::wire::{
+    CHANGED_REPLY, GETATTR_CALL, NULL_CALL, NULL_REPLY, SETATTR_CALL, SETATTR_REPLY, stream,
+};
+use std::io;
+use std::io::{Error, ErrorKind, Read, Write};
+use std::test::Fail;
+
+// An input that fails behind its bytes.
+#[derive(Drop)]
+struct Broken<'a>(&'a [u8]);
+
+impl Read for Broken<'_> {
+    fn read(&mut self, buf: &mut [u8]) -> io::Result<usize> {
+        if self.0.is_empty() {
+            return Err(Error::from(ErrorKind::BrokenPipe));
+        }
+        self.0.read(buf)
+    }
+}
+
+// An output that fails once it would have more bytes than this.
+#[derive(Drop)]
+struct Full {
+    room: usize,
+    bytes: Vec<u8>,
+}
+
+impl Write for Full {
+    fn write(&mut self, buf: &[u8]) -> io::Result<usize> {
+        if self.bytes.len().saturating_add(buf.len()) > self.room {
+            return Err(Error::from(ErrorKind::BrokenPipe));
+        }
+        self.bytes.extend_from_slice(buf)?;
+        Ok(buf.len())
+    }
+
+    fn flush(&mut self) -> io::Result<()> {
+        Ok(())
+    }
+}
+
+// Serves an input from an image at second 2000, with room for so many bytes of output.
+fn served<I: Read>(rt: &impl Host, image: &str, reader: &mut I, room: usize) -> Outcome {
+    let mut output = Full {
+        room,
+        bytes: Vec::new(rt.alloc()),
+    };
+    let mut faults = Vec::new(rt.alloc());
+    let line = ["nfsd", "once", image, "--time", "2000"];
+    let status = answer(rt, &line, reader, &mut output, &mut faults);
+    Outcome {
+        status,
+        output: output.bytes,
+        faults,
+    }
+}
+
+#[test]
+fn an_input_that_fails(rt: HostRuntime) -> Result<(), Fail> {
+    fresh(&rt, "input.img");
+    let input = stream(rt.alloc(), &[&SETATTR_CALL])?;
+    let ran = served(&rt, "input.img", &mut Broken(input.as_slice()), usize::MAX);
+    assert_fault(&rt, &ran, b"nfsd: 2 Input\n", &SETATTR_REPLY)?;
+    assert_served(&rt, "input.img", &[&GETATTR_CALL], &[&CHANGED_REPLY])?;
+    remove(&rt, &["input.img"])
+}
+
+#[test]
+fn an_output_that_fails(rt: HostRuntime) -> Result<(), Fail> {
+    fresh(&rt, "output.img");
+    let input = stream(rt.alloc(), &[&NULL_CALL, &SETATTR_CALL, &NULL_CALL])?;
+    let ran = served(
+        &rt,
+        "output.img",
+        &mut input.as_slice(),
+        NULL_REPLY.len() * 4,
+    );
+    assert_fault(&rt, &ran, b"nfsd: 3 Output\n", &NULL_REPLY)?;
+    assert_served(&rt, "output.img", &[&GETATTR_CALL], &[&CHANGED_REPLY])?;
+    remove(&rt, &["output.img"])
+}
+
+#[test]
+fn a_line_that_cannot_be_printed(rt: HostRuntime) -> Result<(), Fail> {
+    let line = [
+        "nfsd", "format", "line.img", "--blocks", "1024", "--inodes", "64",
+    ];
+    let mut output = Full {
+        room: 0,
+        bytes: Vec::new(rt.alloc()),
+    };
+    let mut faults = Vec::new(rt.alloc());
+    let status = answer(&rt, &line, &mut &[][..], &mut output, &mut faults);
+    assert_eq!(rt; status, 1);
+    assert!(rt; faults.as_slice() == b"nfsd: output\n".as_slice());
+    remove(&rt, &["line.img"])
+}
