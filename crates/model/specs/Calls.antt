@@ -21,15 +21,11 @@ abbrev pub sets_only_mode : NewAttributes → Bool
 sets_only_mode wanted =
     is_none wanted.uid && is_none wanted.gid && is_none wanted.size && is_kept wanted.atime && is_kept wanted.mtime
 
--- the calls that this server serves so far
+-- the calls that have rules so far: each begins a transaction of its own; NULL has none, as it does nothing
 abbrev pub has_rules : Call → Bool
 has_rules (call.GetAttr object) = true
 has_rules (call.SetAttr object attributes guard) = sets_only_mode attributes
 has_rules _ = false
-
--- each call that is served takes a transaction of its own; NULL does nothing and takes none
-abbrev pub begins_transaction : Call → Bool
-begins_transaction c = has_rules c
 
 -- The reply to a call that isn't served: NOTSUPP, with nothing told of any file. NULL is never refused.
 abbrev pub unsupported : Call → Reply

@@ -40,7 +40,7 @@ has_right right caller node = is_superuser caller || not (nat_eq (bit_and node.m
 abbrev pub acts_as_owner : Credential → Node → Bool
 acts_as_owner caller node = is_superuser caller || nat_eq caller.uid node.uid
 
--- The owner of a regular file may write it and set its size whatever its mode says, so that a file that was made
+-- Of a regular file: its owner may write it and set its size whatever its mode says, so that a file that was made
 -- and opened can be written (RFC 1813, section 4.4).
 abbrev pub may_write_file : Credential → Node → Bool
 may_write_file caller node = has_right WRITE caller node || nat_eq caller.uid node.uid

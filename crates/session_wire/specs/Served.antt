@@ -22,7 +22,8 @@ pub record Serving : Type 0 where
   pub moment : Moment
 
 -- How a stream stands: the tree so far, the least number that the next transaction may have, how many device calls have
--- failed, whether one of them was a write or a barrier since the opening, and whether a counter was found spent.
+-- failed, whether one of them was a write or a barrier since the opening, and whether a counter was found spent. What is
+-- between two messages is free: the contract of a server ties the last one to its device and its core.
 pub record Standing : Type 0 where
   pub tree : Tree
   pub number : ℕ
