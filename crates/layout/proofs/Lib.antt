@@ -4,3 +4,4 @@ pub mod FreshBits
 pub mod FreshBytes
 pub mod FreshFiles
 pub mod FreshInodes
+pub mod NumbersAt

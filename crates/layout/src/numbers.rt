@@ -1,6 +1,9 @@
 //! Indirect blocks: the numbers of the blocks that an inode doesn't name itself.
-ghost use Rattle.std.specs.Prelude.{◌≡◌, ◌≤◌, not, nat_eq, length, count_by, IfOk, MatchResult};
+ghost use Rattle.std.specs.Prelude.{◌≡◌, ◌≤◌, true, false, length, IfOk, IfErr};
+ghost use Rattle.std.specs.List.{list_all};
 ghost use Rattle.limits.specs.declared.TheConstants.{BLOCK_BYTES, INDIRECT_INDEXES};
+ghost use Rattle.layout.specs.Fields.{numbers_at};
+ghost use Rattle.layout.specs.InodeForm.{is_place};
 
 use crate::fields::four_at;
 use crate::inode_rules::are_places;
@@ -34,9 +37,12 @@ impl Numbers {
         bytes: &[u8],
     ) -> Result<Result<Numbers, LayoutFault>, AllocError>
         requires { length bytes.now ≡ BLOCK_BYTES }
+        ensures ok { IfOk result (λ read. IfOk read (λ n. n ≡ numbers_at INDIRECT_INDEXES 0 bytes.now)) }
+        ensures places { IfOk result (λ read. IfOk read (λ n. list_all (is_place geometry.now.blocks geometry.now.inodes) n ≡ true)) }
+        ensures refused { IfOk result (λ read. IfErr read (λ _. list_all (is_place geometry.now.blocks geometry.now.inodes) (numbers_at INDIRECT_INDEXES 0 bytes.now) ≡ false)) }
     {
         let mut numbers = Vec::with_capacity(alloc, INDIRECT_INDEXES)?;
-        for index in 0..INDIRECT_INDEXES {
+        'indexes: for index in 0..INDIRECT_INDEXES {
             numbers.push(four_at(bytes, 4 * index))?;
         }
         if !are_places(geometry, &numbers) {

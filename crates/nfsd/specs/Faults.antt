@@ -4,8 +4,8 @@ use Rattle.session.specs.declared.serving.SessionFault.{SessionFault}
 use Rattle.session.specs.declared.serving.SessionFault.TheVariants as session
 use Rattle.store.specs.declared.formatting.FormatFault.{FormatFault}
 use Rattle.store.specs.declared.formatting.FormatFault.TheVariants as format
-use Rattle.store.specs.declared.opening.OpenFault.{OpenFault}
-use Rattle.store.specs.declared.opening.OpenFault.TheVariants as opening
+use Rattle.store_promise.specs.declared.fault.OpenFault.{OpenFault}
+use Rattle.store_promise.specs.declared.fault.OpenFault.TheVariants as opening
 use Rattle.nfsd.specs.declared.fault.Fault.{Fault}
 use Rattle.nfsd.specs.declared.fault.Fault.TheVariants as fault
 

@@ -1,7 +1,11 @@
 //! All files of an image.
-ghost use Rattle.std.specs.Prelude.{◌<◌};
+ghost use Rattle.std.specs.Prelude.{◌≡◌, ◌<◌, ◌++◌, IfOk, OnOk, All};
+ghost use Rattle.limits.specs.declared.TheConstants.{SUPER_BLOCK};
+ghost use Rattle.disk.specs.Memory.{image_of};
+ghost use Rattle.layout.specs.SuperForm.{IsSuper};
+ghost use Rattle.plain_image.specs.Held.{IsDecoded, IsFileOf, if_used, numbers_in, used_below};
 
-use crate::parts::{block_of, bytes_of, held, names_of, numbers_of};
+use crate::parts::{block_of, bytes_of, held, inode_of, names_of, numbers_of};
 use crate::{ImageFault, PlainName};
 use disk::MemDisk;
 use layout::{Geometry, Inode, InodeKind, Super};
@@ -46,16 +50,6 @@ impl PlainImage {
     }
 }
 
-// The inode of a number below the image's.
-fn inode_of(disk: &MemDisk, geometry: &Geometry, number: u32) -> Result<Inode, ImageFault>
-    requires { number < geometry.now.inodes }
-{
-    let addr = geometry.inode_addr(number);
-    let block = block_of(disk, addr.block.0)?;
-    let inode = Inode::read(geometry, &block[addr.offset..addr.offset + addr.len])?;
-    Ok(inode)
-}
-
 // The file of an inode that isn't free.
 fn file_of(
     alloc: Global,
@@ -63,7 +57,9 @@ fn file_of(
     geometry: &Geometry,
     number: u32,
     inode: Inode,
-) -> Result<PlainFile, ImageFault> {
+) -> Result<PlainFile, ImageFault>
+    ensures { IfOk result (λ file. IsFileOf geometry.now.inodes (image_of disk.now) number inode file) }
+{
     let numbers = numbers_of(alloc, disk, geometry, &inode)?;
     let bytes = bytes_of(alloc, disk, &numbers, inode.size as usize)?;
     let content = match inode.kind {
@@ -79,16 +75,36 @@ fn file_of(
     })
 }
 
+// Adds the file of a number, if an inode in use has it.
+fn push_file(
+    alloc: Global,
+    disk: &MemDisk,
+    geometry: &Geometry,
+    number: u32,
+    files: &mut Vec<PlainFile>,
+) -> Result<(), ImageFault>
+    requires { number < geometry.now.inodes }
+    ensures decoded { OnOk result (All (IsDecoded geometry.now (image_of disk.now)) files.old.items → All (IsDecoded geometry.now (image_of disk.now)) files.new.items) }
+    ensures numbers { OnOk result (numbers_in files.new.items ≡ numbers_in files.old.items ++ if_used geometry.now (image_of disk.now) number) }
+{
+    let inode = inode_of(disk, geometry, number)?;
+    if inode.kind != InodeKind::Free {
+        let file = file_of(alloc, disk, geometry, number, inode)?;
+        files.push(file).map_err(AllocError::from)?;
+    }
+    Ok(())
+}
+
 /// Reads all files of an image, or says what stands in the way. It doesn't look at the bitmaps.
-pub fn read_image(alloc: Global, disk: &MemDisk) -> Result<PlainImage, ImageFault> {
+pub fn read_image(alloc: Global, disk: &MemDisk) -> Result<PlainImage, ImageFault>
+    ensures head { IfOk result (λ image. IsSuper (image_of disk.now SUPER_BLOCK) (record { geometry = image.geometry; boot = image.boot })) }
+    ensures decoded { IfOk result (λ image. All (IsDecoded image.geometry (image_of disk.now)) image.files.items) }
+    ensures all { IfOk result (λ image. numbers_in image.files.items ≡ used_below image.geometry (image_of disk.now) image.geometry.inodes) }
+{
     let Super { geometry, boot } = Super::read(block_of(disk, SUPER_BLOCK)?)?;
     let mut files = Vec::new(alloc);
-    for number in 0..geometry.inodes {
-        let inode = inode_of(disk, &geometry, number)?;
-        if inode.kind != InodeKind::Free {
-            let file = file_of(alloc, disk, &geometry, number, inode)?;
-            files.push(file).map_err(AllocError::from)?;
-        }
+    'inodes: for number in 0..geometry.inodes {
+        push_file(alloc, disk, &geometry, number, &mut files)?;
     }
     Ok(PlainImage {
         boot,

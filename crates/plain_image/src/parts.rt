@@ -1,11 +1,17 @@
-//! The parts of a file: the numbers of its blocks, their bytes, and the names in them.
-ghost use Rattle.std.specs.Prelude.{◌≡◌, length, IfOk};
-ghost use Rattle.limits.specs.declared.TheConstants.{BLOCK_BYTES};
+//! The parts of a file: its inode, the numbers of its blocks, their bytes, and the names in them.
+ghost use Rattle.std.specs.Prelude.{◌≡◌, ◌≤◌, ◌<◌, ◌++◌, not, nat_eq, length, count_by, IfOk, IfErr, OnOk};
+ghost use Rattle.limits.specs.declared.TheConstants.{BLOCK_BYTES, INDIRECT_INDEXES};
+ghost use Rattle.disk.specs.Memory.{image_of, memory_device};
+ghost use Rattle.model.specs.SetAttr.{resized};
+ghost use Rattle.layout.specs.Fields.{numbers_at};
+ghost use Rattle.layout.specs.declared.slot.TheConstants.{SLOT_BYTES};
+ghost use Rattle.plain_image.specs.Named.{entries_in, entries_of, one_entry};
+ghost use Rattle.layout.specs.Decode.{bytes_of, content_of, inode_at, numbers_of};
 
 use crate::ImageFault;
 use disk::{BlockNo, CrashDisk, MemDisk};
 use layout::{Geometry, Inode, Numbers, SLOT_BYTES, Slot};
-use limits::BLOCK_BYTES;
+use limits::{BLOCK_BYTES, FILE_INDEXES, INDIRECT_INDEXES, LARGEST_FILE};
 use nfs_types::Octets;
 use std::alloc::{AllocError, Global};
 
@@ -19,7 +25,9 @@ pub struct PlainName {
 
 /// The bytes of a block.
 pub(crate) fn block_of(disk: &MemDisk, number: u32) -> Result<&[u8], ImageFault>
-    ensures { IfOk result (λ bytes. length bytes.now ≡ BLOCK_BYTES) }
+    ensures bytes { IfOk result (λ bytes. bytes.now ≡ image_of disk.now number) }
+    ensures len { IfOk result (λ bytes. length bytes.now ≡ BLOCK_BYTES) }
+    ensures err { IfErr result (λ _. (memory_device disk.now).size ≤ number) }
 {
     if number < disk.blocks() {
         Ok(disk.newest(BlockNo(number)).as_slice())
@@ -28,25 +36,73 @@ pub(crate) fn block_of(disk: &MemDisk, number: u32) -> Result<&[u8], ImageFault>
     }
 }
 
+/// The inode of a number below the image's.
+#[tactic(auto, using(crate::proofs::Decoded::inode_there))]
+pub(crate) fn inode_of(
+    disk: &MemDisk,
+    geometry: &Geometry,
+    number: u32,
+) -> Result<Inode, ImageFault>
+    requires { number < geometry.now.inodes }
+    ensures { IfOk result (λ inode. inode_at geometry.now (image_of disk.now) number ≡ Ok inode) }
+{
+    let addr = geometry.inode_addr(number);
+    let block = block_of(disk, addr.block.0)?;
+    let inode = Inode::read(geometry, &block[addr.offset..addr.offset + addr.len])?;
+    Ok(inode)
+}
+
+// The numbers in an indirect block.
+fn indirect(
+    alloc: Global,
+    disk: &MemDisk,
+    geometry: &Geometry,
+    number: u32,
+) -> Result<Numbers, ImageFault>
+    ensures { IfOk result (λ numbers. numbers ≡ numbers_at INDIRECT_INDEXES 0 (image_of disk.now number)) }
+{
+    let bytes = block_of(disk, number)?;
+    let numbers = Numbers::read(alloc, geometry, bytes)??;
+    Ok(numbers)
+}
+
 /// The numbers of a file's blocks, index by index, 0 where none is kept.
 pub(crate) fn numbers_of(
     alloc: Global,
     disk: &MemDisk,
     geometry: &Geometry,
     inode: &Inode,
-) -> Result<Vec<u32>, ImageFault> {
-    let mut numbers = inode.direct.to_vec(alloc)?;
-    if inode.indirect != 0 {
-        let bytes = block_of(disk, inode.indirect)?;
-        let more = Numbers::read(alloc, geometry, bytes)??;
+) -> Result<Vec<u32>, ImageFault>
+    ensures { IfOk result (λ numbers. numbers.items ≡ numbers_of (image_of disk.now) inode.now) }
+{
+    let mut numbers = Vec::with_capacity(alloc, FILE_INDEXES)?;
+    numbers.extend_from_slice(&inode.direct)?;
+    if inode.indirect == 0 {
+        numbers.extend_from_slice(&[0; INDIRECT_INDEXES])?;
+    } else {
+        let more = indirect(alloc, disk, geometry, inode.indirect)?;
         numbers.extend_from_slice(more.as_slice())?;
     }
     Ok(numbers)
 }
 
 /// How many of the numbers are those of blocks.
-pub(crate) fn held(numbers: &[u32]) -> usize {
+pub(crate) fn held(numbers: &[u32]) -> usize
+    ensures { result ≡ count_by (λ number. not (nat_eq number 0)) numbers.now }
+{
     numbers.iter().filter(|number| **number != 0).count()
+}
+
+// Adds the bytes of a block, zeros where its number is 0.
+fn push_block(disk: &MemDisk, number: u32, bytes: &mut Vec<u8>) -> Result<(), ImageFault>
+    ensures { OnOk result (bytes.new.items ≡ bytes.old.items ++ content_of (image_of disk.now) number) }
+{
+    if number == 0 {
+        bytes.extend_from_slice(&[0; BLOCK_BYTES])?;
+    } else {
+        bytes.extend_from_slice(block_of(disk, number)?)?;
+    }
+    Ok(())
 }
 
 /// So many bytes of the blocks of these numbers, zeros where there is none.
@@ -55,37 +111,59 @@ pub(crate) fn bytes_of(
     disk: &MemDisk,
     numbers: &[u32],
     size: usize,
-) -> Result<Vec<u8>, ImageFault> {
+) -> Result<Vec<u8>, ImageFault>
+    ensures { IfOk result (λ bytes. bytes.items ≡ resized size (bytes_of (image_of disk.now) numbers.now)) }
+{
     let mut bytes = Vec::new(alloc);
-    for number in numbers {
-        if *number == 0 {
-            bytes.extend_from_slice(&[0; BLOCK_BYTES])?;
-        } else {
-            bytes.extend_from_slice(block_of(disk, *number)?)?;
-        }
+    'each: for number in numbers {
+        push_block(disk, *number, &mut bytes)?;
     }
     bytes.resize(size, 0)?;
     Ok(bytes)
 }
 
-/// The names in the bytes of a directory.
+// Adds the name in a slot, if it has one.
+fn push_name(
+    alloc: Global,
+    inodes: u32,
+    place: u32,
+    part: &[u8],
+    names: &mut Vec<PlainName>,
+) -> Result<(), ImageFault>
+    requires { length part.now ≡ SLOT_BYTES }
+    ensures { OnOk result (entries_of names.new.items ≡ entries_of names.old.items ++ one_entry inodes place part.now) }
+{
+    if let Some(slot) = Slot::read(alloc, inodes, part)?? {
+        let Slot { number, name } = slot;
+        let slot = place;
+        let name = PlainName { name, number, slot };
+        names.push(name).map_err(AllocError::from)?;
+    }
+    Ok(())
+}
+
+/// The names in the bytes of a directory, which has no more than the largest file.
 pub(crate) fn names_of(
     alloc: Global,
     inodes: u32,
     bytes: &[u8],
-) -> Result<Vec<PlainName>, ImageFault> {
+) -> Result<Vec<PlainName>, ImageFault>
+    ensures { IfOk result (λ names. entries_of names.items ≡ entries_in inodes bytes.now) }
+{
+    if bytes.len() > LARGEST_FILE as usize {
+        return Err(ImageFault::Layout);
+    }
     let mut names = Vec::new(alloc);
-    let mut place = 0;
-    for part in bytes.chunks_exact(SLOT_BYTES) {
-        if part.len() == SLOT_BYTES {
-            if let Some(slot) = Slot::read(alloc, inodes, part)?? {
-                let Slot { number, name } = slot;
-                let slot = place;
-                let name = PlainName { name, number, slot };
-                names.push(name).map_err(AllocError::from)?;
-            }
-        }
-        place = u32::saturating_add(place, 1);
+    let slots = (bytes.len() / SLOT_BYTES) as u32;
+    'places: for place in 0..slots {
+        let from = SLOT_BYTES * place as usize;
+        push_name(
+            alloc,
+            inodes,
+            place,
+            &bytes[from..from + SLOT_BYTES],
+            &mut names,
+        )?;
     }
     Ok(names)
 }

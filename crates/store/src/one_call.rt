@@ -2,13 +2,12 @@
 ghost use Rattle.std.specs.Prelude.{◌≡◌, None};
 ghost use Rattle.store.specs.Worker.{Fits};
 
-use crate::answers::Verdict;
-use crate::events::{Committing, Step};
 use crate::opened::{Store, settle};
 use crate::workers::Worker;
 use disk::CrashDisk;
 use nfs_types::{Call, Credential, Moment};
 use std::alloc::Global;
+use store_promise::{Committing, Step, Verdict};
 
 /// Runs a call to its answer. Where the answer waits for its place everything is settled before; where the log is full,
 /// too. A call that isn't served is NOTSUPP and begins no transaction.

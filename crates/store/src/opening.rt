@@ -9,34 +9,10 @@ use layout::{LayoutFault, Super};
 use limits::{LOG_SLOTS, SUPER_BLOCK};
 use procs::Done;
 use std::alloc::Global;
-use thiserror::Error;
+use store_promise::OpenFault;
 use txn::Core;
 use wal::circ::{self, LogFault};
 use wal::{InstIo, Wal};
-
-/// Why an image isn't opened.
-#[derive(Clone, Copy, Debug, PartialEq, Eq, Error)]
-pub enum OpenFault {
-    #[error("Magic")]
-    Magic = 1,
-    #[error("Version")]
-    Version = 2,
-    #[error("Range")]
-    Range = 3,
-    #[error("Log")]
-    Log = 4,
-    #[error("Device")]
-    Device = 5,
-    #[error("NoMemory")]
-    NoMemory = 6,
-}
-
-impl OpenFault {
-    /// Its number.
-    pub fn number(self) -> u8 {
-        self as u8
-    }
-}
 
 /// Opens a store. Range is answered too where the image hasn't as many blocks as its super block says, and where no
 /// boot number is left. The faults up to Log come before any write. A refusal hands the disk back.

@@ -3,13 +3,12 @@ ghost use Rattle.std.specs.Prelude.{◌≡◌};
 
 mod running;
 
-use crate::events::Event;
 use crate::opened::close;
-use crate::opening::{OpenFault, open};
-use crate::transcript::Run;
+use crate::opening::open;
 use disk::CrashDisk;
 use running::Running;
 use std::alloc::Global;
+use store_promise::{Event, OpenFault, Run};
 
 /// Opens a store and takes events one by one, with one worker for now. An event that doesn't apply does nothing; each
 /// other makes one step. All events are taken, or fewer where there was no memory to tell of the next. The disk comes

@@ -3,12 +3,11 @@
 mod planning;
 mod steps;
 
-use crate::answers::{Answered, Entry, Verdict};
-use crate::events::Step;
 use disk::CrashDisk;
 use nfs_types::{Call, Credential, Ctx, Moment, Reply};
 use procs::{Done, Snap};
 use std::alloc::Global;
+use store_promise::{Answered, Entry, Step, Verdict};
 use txn::{Core, FetchIo, Seq, Tx};
 
 // A call that was handed over, with what its procedure is run with.

@@ -55,6 +55,18 @@ fn add(alloc: Global, log: &mut Wal, group: Vec<(BlockNo, Block)>) -> Result<App
     }
 }
 
+// Adds a group, which has to find room.
+fn append(alloc: Global, log: &mut Wal, group: Vec<(BlockNo, Block)>) -> Result<(), Fail>
+    requires blocks { log.old.blocks ≡ BLOCKS }
+    requires homes { All (IsHomeOn BLOCKS) (blocks_of group.items) }
+    ensures { log.new.blocks ≡ BLOCKS }
+{
+    match add(alloc, log, group)? {
+        Append::Appended => Ok(()),
+        Append::Full | Append::NoMemory => Err("not appended")?,
+    }
+}
+
 // Makes the logger's calls until it has none, and tells them.
 fn log_all(alloc: Global, log: &mut Wal) -> Result<Vec<IoCall>, Fail>
     ensures { log.new.blocks ≡ log.old.blocks }
@@ -90,18 +102,9 @@ fn install_all(alloc: Global, log: &mut Wal) -> Result<Vec<IoCall>, Fail>
 #[test]
 fn calls_come_in_order(rt: HostRuntime) -> Result<(), Fail> {
     let mut log = opened(rt.alloc(), 0)?;
-    assert_eq!(rt;
-        add(rt.alloc(), &mut log, group(rt.alloc(), 0, 2, 1)?)?,
-        Append::Appended
-    );
-    assert_eq!(rt;
-        add(rt.alloc(), &mut log, group(rt.alloc(), 1, 1, 2)?)?,
-        Append::Appended
-    );
-    assert_eq!(rt;
-        add(rt.alloc(), &mut log, group(rt.alloc(), 0, 0, 0)?)?,
-        Append::Appended
-    );
+    append(rt.alloc(), &mut log, group(rt.alloc(), 0, 2, 1)?)?;
+    append(rt.alloc(), &mut log, group(rt.alloc(), 1, 1, 2)?)?;
+    append(rt.alloc(), &mut log, group(rt.alloc(), 0, 0, 0)?)?;
     assert_eq!(rt; log.settled(), Seq(0));
     let logged = log_all(rt.alloc(), &mut log)?;
     assert_eq!(rt;
@@ -137,14 +140,8 @@ fn calls_come_in_order(rt: HostRuntime) -> Result<(), Fail> {
 #[test]
 fn newest_content_wins(rt: HostRuntime) -> Result<(), Fail> {
     let mut log = opened(rt.alloc(), 0)?;
-    assert_eq!(rt;
-        add(rt.alloc(), &mut log, group(rt.alloc(), 0, 2, 1)?)?,
-        Append::Appended
-    );
-    assert_eq!(rt;
-        add(rt.alloc(), &mut log, group(rt.alloc(), 1, 1, 2)?)?,
-        Append::Appended
-    );
+    append(rt.alloc(), &mut log, group(rt.alloc(), 0, 2, 1)?)?;
+    append(rt.alloc(), &mut log, group(rt.alloc(), 1, 1, 2)?)?;
     for (block, wanted) in [(BlockNo(514), 1), (BlockNo(515), 2)] {
         let content = log.latest(block).ok_or("no content")?;
         assert_eq!(rt; content.as_slice()[0], wanted);
@@ -156,19 +153,13 @@ fn newest_content_wins(rt: HostRuntime) -> Result<(), Fail> {
 #[test]
 fn a_full_tail_waits_for_the_installer(rt: HostRuntime) -> Result<(), Fail> {
     let mut log = opened(rt.alloc(), 0)?;
-    assert_eq!(rt;
-        add(rt.alloc(), &mut log, group(rt.alloc(), 0, 500, 1)?)?,
-        Append::Appended
-    );
+    append(rt.alloc(), &mut log, group(rt.alloc(), 0, 500, 1)?)?;
     assert_eq!(rt;
         add(rt.alloc(), &mut log, group(rt.alloc(), 0, 12, 1)?)?,
         Append::Full
     );
     assert_eq!(rt; log_all(rt.alloc(), &mut log)?.len(), 503);
-    assert_eq!(rt;
-        add(rt.alloc(), &mut log, group(rt.alloc(), 0, 12, 2)?)?,
-        Append::Appended
-    );
+    append(rt.alloc(), &mut log, group(rt.alloc(), 0, 12, 2)?)?;
     assert_eq!(rt; log_all(rt.alloc(), &mut log)?.len(), 0);
     assert_eq!(rt; log.settled(), Seq(1));
     assert_eq!(rt; install_all(rt.alloc(), &mut log)?.len(), 503);
@@ -180,10 +171,7 @@ fn a_full_tail_waits_for_the_installer(rt: HostRuntime) -> Result<(), Fail> {
 #[test]
 fn positions_wrap(rt: HostRuntime) -> Result<(), Fail> {
     let mut log = opened(rt.alloc(), 510)?;
-    assert_eq!(rt;
-        add(rt.alloc(), &mut log, group(rt.alloc(), 0, 3, 1)?)?,
-        Append::Appended
-    );
+    append(rt.alloc(), &mut log, group(rt.alloc(), 0, 3, 1)?)?;
     for wanted in [BlockNo(512), BlockNo(2), BlockNo(3)] {
         let io = log.log_next();
         match io {
@@ -239,9 +227,7 @@ fn found_after(alloc: Global, failing: u64, digits: &[u32]) -> Result<usize, Fai
     let mut log = opened(alloc, 0)?;
     let mut disk = MemDisk::new(alloc, BLOCKS)?;
     disk.fail_at(&[failing])?;
-    if add(alloc, &mut log, group(alloc, 0, 3, 1)?)? != Append::Appended {
-        Err("not appended")?;
-    }
+    append(alloc, &mut log, group(alloc, 0, 3, 1)?)?;
     make_all(&mut log, &mut disk)?;
     let settled = if failing > 6 { Seq(1) } else { Seq(0) };
     let installed = if failing > 12 { Seq(1) } else { Seq(0) };
@@ -290,14 +276,8 @@ fn each_call_fails_once(rt: HostRuntime) -> Result<(), Fail> {
 fn a_call_of_another_log_changes_nothing(rt: HostRuntime) -> Result<(), Fail> {
     let mut log = opened(rt.alloc(), 0)?;
     let mut other = opened(rt.alloc(), 7)?;
-    assert_eq!(rt;
-        add(rt.alloc(), &mut log, group(rt.alloc(), 0, 1, 1)?)?,
-        Append::Appended
-    );
-    assert_eq!(rt;
-        add(rt.alloc(), &mut other, group(rt.alloc(), 0, 1, 1)?)?,
-        Append::Appended
-    );
+    append(rt.alloc(), &mut log, group(rt.alloc(), 0, 1, 1)?)?;
+    append(rt.alloc(), &mut other, group(rt.alloc(), 0, 1, 1)?)?;
     match log.log_next() {
         Some(io) => {
             match other.log_next() {

@@ -1,16 +1,15 @@
 //! The events of a run.
 ghost use Rattle.std.specs.Prelude.{◌≡◌, None};
-ghost use Rattle.store.specs.Room.{HasRoom};
+ghost use Rattle.store_promise.specs.Room.{HasRoom};
 ghost use Rattle.store.specs.Running.{RunsWell};
 
-use crate::events::{Event, Step};
 use crate::opened::Store;
 use crate::slots::put;
-use crate::transcript::Run;
 use crate::workers::Worker;
 use disk::CrashDisk;
 use nfs_types::{Call, Credential, Moment};
 use std::alloc::Global;
+use store_promise::{Event, Run, Step};
 use txn::{InstIo, LogIo};
 
 /// A run that goes on: the store with its worker, the device calls that the log and the installer have out, whether

@@ -2,14 +2,13 @@
 ghost use Rattle.std.specs.Prelude.{◌≡◌, ◌≤◌, Some, None, true, length};
 
 use super::{Job, Phase, Refusal, Worker};
-use crate::answers::{Entry, Verdict};
-use crate::events::{Committing, Ending, Step, Wish};
 use crate::slots::put;
 use disk::BlockNo;
 use nfs_types::{Reply, Status};
 use objects::Addr;
 use procs::{Done, Plan, is_answered_stable, plan, refused_reply};
 use std::alloc::Global;
+use store_promise::{Committing, Ending, Entry, Step, Verdict, Wish};
 use txn::{Claim, Commit, Core, Seq, Tx, Want};
 
 impl Worker {

@@ -2,13 +2,12 @@
 ghost use Rattle.std.specs.Prelude.{◌≡◌, Some, None, true};
 
 use super::{Phase, Refusal, Worker};
-use crate::answers::{Answered, Verdict};
-use crate::events::{Ending, Step};
 use crate::slots::put;
 use layout::Geometry;
 use nfs_types::{Call, Status};
 use procs::{Done, Snap, has_rules, refused_reply};
 use std::alloc::Global;
+use store_promise::{Answered, Ending, Step, Verdict};
 use txn::{BeginFault, Core, Seq, Tx};
 
 impl Worker {

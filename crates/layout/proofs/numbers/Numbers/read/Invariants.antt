@@ -1,5 +1,7 @@
-use Rattle.std.proofs.Common.{◌≡◌, length}
+-- the numbers up to the index are read
+use Rattle.std.proofs.Common.{◌≡◌}
+use Rattle.layout.specs.Fields.{numbers_at}
 use Rattle.layout.proofs.numbers.Numbers.read.Given as goal
 
-abbrev pub invariant-loop-index : goal.invariant-loop-index
-invariant-loop-index l = length l.numbers.items ≡ l.index
+abbrev pub invariant-indexes : goal.invariant-indexes
+invariant-indexes l = l.numbers.items ≡ numbers_at l.index 0 l.bytes

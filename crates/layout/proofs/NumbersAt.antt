@@ -1,0 +1,25 @@
+-- Numbers one behind another.
+use Rattle.std.proofs.Common.{◌≡◌, ℕ, zero, suc, ◌+◌, ◌*◌, List, [], ◌∷◌, ◌++◌, length, refl, ap, ◌∙◌, arith}
+use Rattle.layout.specs.Fields.{four_at, numbers_at}
+
+-- one number more
+pub more : (count place : ℕ) (bytes : List ℕ) → numbers_at (suc count) place bytes ≡ numbers_at count place bytes ++ four_at (place + 4 * count) bytes ∷ []
+unfolding numbers_at
+more zero place bytes = ap (λ p. four_at p bytes ∷ []) (omega arith)
+more (suc count) place bytes =
+    ap (λ rest. four_at place bytes ∷ rest) (more count (place + 4) bytes ∙ ap (λ p. numbers_at count (place + 4) bytes ++ four_at p bytes ∷ []) (omega arith))
+
+pub numbers-length : (count place : ℕ) (bytes : List ℕ) → length (numbers_at count place bytes) ≡ count
+unfolding numbers_at
+numbers-length zero place bytes = refl
+numbers-length (suc count) place bytes = ap suc (numbers-length count (place + 4) bytes)
+
+pub no_numbers : (place : ℕ) (bytes : List ℕ) → numbers_at 0 place bytes ≡ []
+unfolding numbers_at
+no_numbers place bytes = refl
+
+pub one_more : (count : ℕ) (bytes : List ℕ) → numbers_at (count + 1) 0 bytes ≡ numbers_at count 0 bytes ++ four_at (4 * count) bytes ∷ []
+one_more count bytes =
+    let next : count + 1 ≡ suc count = omega arith in
+    let there : 0 + 4 * count ≡ 4 * count = omega arith in
+    ap (λ n. numbers_at n 0 bytes) next ∙ more count 0 bytes ∙ ap (λ p. numbers_at count 0 bytes ++ four_at p bytes ∷ []) there

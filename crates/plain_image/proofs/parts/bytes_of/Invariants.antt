@@ -1,0 +1,8 @@
+-- the bytes of the numbers up to the index
+use Rattle.std.proofs.Common.{◌≡◌, take}
+use Rattle.disk.specs.Memory.{image_of}
+use Rattle.layout.specs.Decode.{bytes_of}
+use Rattle.plain_image.proofs.parts.bytes_of.Given as goal
+
+abbrev pub invariant-each : goal.invariant-each
+invariant-each l = l.bytes.items ≡ bytes_of (image_of l.disk) (take l.number-index l.numbers)

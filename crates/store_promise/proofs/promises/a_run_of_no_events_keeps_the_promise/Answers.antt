@@ -1,0 +1,98 @@
+-- With nothing in the lists each promise is of nothing, and the prefix is the opening's tree.
+use Rattle.std.proofs.Common.{arith, ◌≡◌, ◌+◌, ◌<◌, ◌≤◌, ◌⊎◌, inl, inr, ℕ, Some, None, [], refl, subst}
+use Rattle.std.proofs.lemmas.Bool.{cases_lt}
+use Rattle.disk.specs.Crash.{Image, IsCrashImage}
+use Rattle.disk.specs.Device.{Device}
+use Rattle.model.specs.Tree.{Tree}
+use Rattle.store_promise.specs.Headline.{HasPrefix}
+use Rattle.store_promise.specs.Openings.{IsOpened, IsLater}
+use Rattle.store_promise.specs.Transcript.{Transcript}
+use Rattle.store_promise.proofs.promises.a_run_of_no_events_keeps_the_promise.Goals as goal
+
+no-some : {A : Type 0} (x : A) → None ≡ Some x → ⊥
+no-some x same = cc
+
+no-less : (k : ℕ) → k < 0 → ⊥
+no-less k less = omega arith
+
+abbrev nothing : ℕ → Transcript
+nothing first = record { boot = first + 1; history = []; answers = []; steps = [] }
+
+itself : (device : Device) → IsLater device device
+itself device = record { size = refl; clock = omega arith; past = λ moment block _. refl }
+
+-- a stop before the opening's end
+before_end : (before later : Device) (tree : Tree) (first position moment : ℕ) (image : Image) → IsOpened before later tree first position
+    → before.clock ≤ moment → moment < later.clock → IsCrashImage later moment image
+    → HasPrefix later.size first tree later.clock (nothing first) moment image
+before_end before later tree first position moment image opened from less crash =
+    let found = opened.keeps moment image from (omega (arith, less)) crash in
+    record {
+      boot = found.boot;
+      boot_is = found.boot_is;
+      raised = λ reached. absurd (no-less 0 (omega (arith, reached, less)));
+      left = tree;
+      good = found.good;
+      count = 0;
+      committed = omega arith;
+      prefix = refl;
+      stable = λ a place given by told. absurd (no-less given.0 given.1);
+      covered = λ a place given by told. absurd (no-less given.0 given.1);
+    }
+
+-- a stop at its end
+at_end : (before later : Device) (tree : Tree) (first position moment : ℕ) (image : Image) → IsOpened before later tree first position
+    → moment ≡ later.clock → IsCrashImage later moment image → HasPrefix later.size first tree later.clock (nothing first) moment image
+at_end before later tree first position moment image opened same crash = record {
+  boot = first + 1;
+  boot_is = inr refl;
+  raised = λ _. refl;
+  left = tree;
+  good = opened.settled image (subst (λ m. IsCrashImage later m image) same crash);
+  count = 0;
+  committed = omega arith;
+  prefix = refl;
+  stable = λ a place given by told. absurd (no-less given.0 given.1);
+  covered = λ a place given by told. absurd (no-less given.0 given.1);
+}
+
+either : (before later : Device) (tree : Tree) (first position moment : ℕ) (image : Image) → IsOpened before later tree first position
+    → before.clock ≤ moment → moment ≤ later.clock → IsCrashImage later moment image → (moment < later.clock) ⊎ (later.clock ≤ moment)
+    → HasPrefix later.size first tree later.clock (nothing first) moment image
+either before later tree first position moment image opened from to crash (inl less) =
+    before_end before later tree first position moment image opened from less crash
+either before later tree first position moment image opened from to crash (inr reached) =
+    at_end before later tree first position moment image opened (omega (arith, to, reached)) crash
+
+pub returns : goal.returns
+returns c = λ before later tree first position workers opened. record {
+  opened = later;
+  position = position;
+  opening = opened;
+  past = itself later;
+  calls = omega arith;
+  failures = omega arith;
+  stops = λ moment image from to crash. either before later tree first position moment image opened from to crash (cases_lt moment later.clock);
+  last = tree;
+  leads = refl;
+  boot = refl;
+  history = record {
+    each = λ index entry same. absurd (no-some entry same);
+    whole = λ at place tail same. absurd (no-some _ same);
+    ordered = λ one other a b same _ _. absurd (no-some a same);
+    numbers = λ one other a b same _ _. absurd (no-some a same);
+  };
+  answers = record {
+    each = λ index a same. absurd (no-some a same);
+    once = λ one other a b first second same _ _. absurd (no-some a same);
+    placed_once = λ one other place a b same _ _ _. absurd (no-some a same);
+    ordered = λ one other a b same _ _. absurd (no-some a same);
+    whole = λ index worker event same _ _ _ _. absurd (no-some event same);
+  };
+  taken = record {
+    fewer = omega arith;
+    own = λ index worker event made same _ _ _. absurd (no-some event same);
+    log = λ index event made same _ _. absurd (no-some event same);
+    others = λ index worker event made same _ _ _. absurd (no-some event same);
+  };
+}

@@ -1,0 +1,10 @@
+pub mod GoodImage
+pub mod Transcript
+pub mod Progress
+pub mod LogTold
+pub mod Openings
+pub mod Schedule
+pub mod History
+pub mod Verdicts
+pub mod Headline
+pub mod Room

@@ -1,0 +1,21 @@
+//! What a run of a store tells, and what it promises: events and steps, answers, the transcript; in `specs/` the good image,
+//! schedules, histories, verdicts and the headline's record.
+#![tactic(auto)]
+
+mod answers;
+mod events;
+mod fault;
+mod fresh;
+mod promises;
+mod transcript;
+
+pub use answers::{Answered, Entry, Verdict};
+pub use events::{Committing, Ending, Event, Step, Wish};
+pub use fault::OpenFault;
+pub use fresh::a_fresh_image_is_good;
+pub use promises::{
+    a_failure_that_is_told_was_counted, a_run_of_no_events_keeps_the_promise, an_entry_was_called,
+    half_a_group_breaks_the_promise, no_stable_answer_bears_place_0,
+    no_stable_answer_comes_with_its_commit, the_log_passes_over_no_event, what_is_stable_is_kept,
+};
+pub use transcript::{Answer, Committed, Run};

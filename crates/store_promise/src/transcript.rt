@@ -1,0 +1,124 @@
+//! What a run tells.
+ghost use Rattle.std.specs.Prelude.{◌≡◌, ◌<◌, [], ◌∷◌, ◌++◌, OnOk, vec_len, vec_capacity};
+
+use crate::answers::{Answered, Entry, Verdict};
+use crate::events::Step;
+use nfs_types::{Call, Ctx, Reply};
+use std::alloc::{AllocError, Global};
+use txn::Seq;
+
+/// A committed procedure: who ran it, with what, and what it replied. The event is the index of the event that
+/// committed it, the moment the count of device calls made since the run began.
+#[derive(Drop)]
+pub struct Committed {
+    pub worker: usize,
+    pub ctx: Ctx,
+    pub call: Call,
+    pub reply: Reply,
+    pub event: usize,
+    pub moment: u64,
+}
+
+/// An answer to a call: who gave it, what it is, and the place of its procedure, if that was committed.
+#[derive(Drop)]
+pub struct Answer {
+    pub worker: usize,
+    pub verdict: Verdict,
+    pub place: Option<Seq>,
+    pub event: usize,
+    pub moment: u64,
+}
+
+/// A run: the boot number, the committed procedures in the order of their places, the answers in their order, and for
+/// each event that was taken the step that it made, if it made one.
+#[derive(Drop)]
+pub struct Run {
+    pub boot: u64,
+    pub history: Vec<Committed>,
+    pub answers: Vec<Answer>,
+    pub steps: Vec<Option<Step>>,
+}
+
+impl Run {
+    ghost use Rattle.store_promise.specs.Room.{HasRoom};
+
+    /// A run in which nothing has happened yet.
+    pub fn new(alloc: Global, boot: u64) -> Run
+        ensures boot { result.boot ≡ boot }
+        ensures empty { (result.history.items ≡ []) × (result.answers.items ≡ []) × (result.steps.items ≡ []) }
+    {
+        Run {
+            boot,
+            history: Vec::new(alloc),
+            answers: Vec::new(alloc),
+            steps: Vec::new(alloc),
+        }
+    }
+
+    /// Makes room to tell of one more event.
+    pub fn make_room(&mut self) -> Result<(), AllocError>
+        ensures room { OnOk result (HasRoom self.new) }
+        ensures boot { self.new.boot ≡ self.old.boot }
+        ensures history { self.new.history.items ≡ self.old.history.items }
+        ensures answers { self.new.answers.items ≡ self.old.answers.items }
+        ensures steps { self.new.steps.items ≡ self.old.steps.items }
+    {
+        self.history.reserve(1)?;
+        self.answers.reserve(1)?;
+        self.steps.reserve(1)
+    }
+
+    /// Tells of a procedure that the event now taken has committed.
+    pub fn note_entry(&mut self, worker: usize, moment: u64, entry: Entry)
+        requires { vec_len self.old.history < vec_capacity self.old.history }
+        ensures steps { self.new.steps ≡ self.old.steps }
+        ensures answers { self.new.answers ≡ self.old.answers }
+    {
+        let committed = Committed {
+            worker,
+            ctx: entry.ctx,
+            call: entry.call,
+            reply: entry.reply,
+            event: self.steps.len(),
+            moment,
+        };
+        push(&mut self.history, committed);
+    }
+
+    /// Tells of an answer that the event now taken has given.
+    pub fn note_answer(&mut self, worker: usize, moment: u64, answered: Answered)
+        requires { vec_len self.old.answers < vec_capacity self.old.answers }
+        ensures steps { self.new.steps ≡ self.old.steps }
+        ensures history { self.new.history ≡ self.old.history }
+    {
+        let answer = Answer {
+            worker,
+            verdict: answered.verdict,
+            place: answered.place,
+            event: self.steps.len(),
+            moment,
+        };
+        push(&mut self.answers, answer);
+    }
+
+    /// Tells of the step of the event now taken.
+    pub fn note_step(&mut self, step: Option<Step>)
+        requires { vec_len self.old.steps < vec_capacity self.old.steps }
+        ensures steps { self.new.steps.items ≡ self.old.steps.items ++ step ∷ [] }
+        ensures history { self.new.history ≡ self.old.history }
+        ensures answers { self.new.answers ≡ self.old.answers }
+    {
+        push(&mut self.steps, step);
+    }
+}
+
+// Adds an item, for which there is room.
+fn push<T: Drop>(items: &mut Vec<T>, item: T)
+    requires { vec_len items.old < vec_capacity items.old }
+    ensures { items.new.items ≡ items.old.items ++ item ∷ [] }
+{
+    match items.push(item) {
+        Ok(()) => {}
+        Err(_) => unreachable!(),
+    }
+}
