@@ -14,13 +14,13 @@ use Rattle.wal.specs.Log.{Log, IsLawful, newest_of, newest as newest_in_log, or_
 use Rattle.wal.specs.Overlay.{content_or}
 use Rattle.wal.specs.Seen.{brought_home}
 use Rattle.wal.specs.Law.{LeavesOnly, IsOutside, IsStartBehind, HomeAgrees, Agrees, after, with_home, IsBoundary}
-use Rattle.wal.specs.Calls.{Pending, idle, out, answered, HasMadeInstCall, IsInstallerAt, Stands}
+use Rattle.wal.specs.Calls.{Pending, idle, out, answered, HasMadeInstCall, IsInstallerAt, AgreesBeside}
 use Rattle.wal.proofs.Newest.{newest_of-append}
 use Rattle.wal.proofs.Boundary.{crash_boundary}
 use Rattle.wal.proofs.Contents.{Keeps, keeps_same, keeps_settled, leaves_kept, leaves_newest, newest_written, one_member}
 use Rattle.wal.proofs.LogCalls.{KeepsOwn, own_kept, log_made_kept}
 use Rattle.wal.proofs.HomeCalls.{on_home}
-use Rattle.wal.proofs.Stands.{logger_as}
+use Rattle.wal.proofs.Beside.{logger_as}
 
 neither : (a b : Option Content) → or_else a b ≡ None → b ≡ None
 neither (Some a) b h = absurd (cc)
@@ -124,7 +124,7 @@ module _ (old new : Device) (base : Image) (log : Log) (block : ℕ) (content : 
   installer_with (answered io (Ok u)) a h = (h.0, h.1, inst_made_with a h.2)
   installer_with (answered io (Err u)) a h = h
 
-  pub stands_with : (p q : Pending) → Stands old base log p q → Stands new base' log p q
+  pub stands_with : (p q : Pending) → AgreesBeside old base log p q → AgreesBeside new base' log p q
   stands_with p q s = record {
     agrees = agrees_with s.agrees;
     logger = logger_as old new log log p refl (λ io h. h) (log_made_kept old new log keeps_own) s.logger;
@@ -133,7 +133,7 @@ module _ (old new : Device) (base : Image) (log : Log) (block : ℕ) (content : 
 
 -- the write and the barrier behind it were made
 pub home_settled : (old middle new : Device) (base : Image) (log : Log) (block : ℕ) (content : Content) (p q : Pending) → IsLawful log → IsOutside log.blocks block → newest_in_log log block ≡ None
-    → HasWritten old block content (Ok tt) middle → HasSettled middle Home (Ok tt) new → Stands old base log p q → Stands new (with_home base block content) log p q
+    → HasWritten old block content (Ok tt) middle → HasSettled middle Home (Ok tt) new → AgreesBeside old base log p q → AgreesBeside new (with_home base block content) log p q
 home_settled old middle new base log block content p q lawful outside none wrote settled s =
     stands_with old new base log block content lawful outside none (settled.later.size ∙ wrote.later.size)
     (λ other differs. both other (keeps_same old middle other (wrote.others other differs)) (keeps_settled middle new Home (Ok tt) other settled))

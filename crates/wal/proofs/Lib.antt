@@ -15,4 +15,4 @@ pub mod Places
 pub mod OnlyRead
 pub mod Opening
 pub mod Seen
-pub mod Stands
+pub mod Beside

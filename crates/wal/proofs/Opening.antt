@@ -20,7 +20,7 @@ use Rattle.wal.specs.Logger.{slot_block}
 use Rattle.wal.specs.Numbers.{number_at}
 use Rattle.wal.specs.Overlay.{start_in, count_in, logged_in, home_at, positions, IsInRange}
 use Rattle.wal.specs.Law.{IsHeaderOf, LogAgrees, HomeAgrees, ShowsLog, IsBoundary}
-use Rattle.wal.specs.Calls.{Stands, idle}
+use Rattle.wal.specs.Calls.{AgreesBeside, idle}
 use Rattle.wal.specs.ReadBack.{IsReadBack, IsLogReadBack}
 use Rattle.wal.proofs.Lists.{slice_get-front}
 use Rattle.wal.proofs.Lawful.{length-changes_of}
@@ -114,7 +114,7 @@ module _ (d : Device) (large : FIRST_HOME_BLOCK ≤ d.size) (rest : IsAtRest d) 
     newest_start = λ end. absurd (omega (arith, end));
   }
 
-  pub stands_found : Stands d (image_of d) (log_found d) idle idle
+  pub stands_found : AgreesBeside d (image_of d) (log_found d) idle idle
   stands_found = record { agrees = record { size = refl; own = own_found; homes = homes_found }; logger = refl; installer = refl }
 
 -- an opening after a crash answers the log

@@ -50,7 +50,7 @@ IsInstallerAt d base log (answered io (Ok _)) = (log.inst_out ≡ true) × IsNex
 IsInstallerAt d base log (answered io (Err _)) = (log.inst_out ≡ true) × IsNextInstCall log io
 
 -- The disk agrees with the log, and the calls that are out are these.
-pub record Stands (d : Device) (base : Image) (log : Log) (logging installing : Pending) : Type 0 where
+pub record AgreesBeside (d : Device) (base : Image) (log : Log) (logging installing : Pending) : Type 0 where
   pub agrees : Agrees d base log
   pub logger : IsLoggerAt d log logging
   pub installer : IsInstallerAt d base log installing

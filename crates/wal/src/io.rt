@@ -4,7 +4,7 @@ ghost use Rattle.disk.specs.Device.{CountsFailure};
 ghost use Rattle.disk.specs.Crash.{Image};
 ghost use Rattle.wal.specs.Io.{Io, IsCallWithin, HasMade, HasMadeCall};
 ghost use Rattle.wal.specs.Log.{Log, IsLawful};
-ghost use Rattle.wal.specs.Calls.{Pending, out, answered, Stands};
+ghost use Rattle.wal.specs.Calls.{Pending, out, answered, AgreesBeside};
 
 use disk::{Block, BlockNo, CrashDisk, Failed, Side};
 use std::marker::Model;
@@ -69,8 +69,8 @@ impl LogIo {
         ensures call { HasMade (D.device disk.old) self.now result (D.device disk.new) }
         ensures failure { CountsFailure (D.device disk.old) (D.device disk.new) result }
         ensures model { D.keeps_model disk.new → D.keeps_model disk.old }
-        ensures law { (base : Image) (log : Log) (installing : Pending) → IsLawful log → Stands (D.device disk.old) base log (out self.now) installing
-            → Stands (D.device disk.new) base log (answered self.now result) installing }
+        ensures law { (base : Image) (log : Log) (installing : Pending) → IsLawful log → AgreesBeside (D.device disk.old) base log (out self.now) installing
+            → AgreesBeside (D.device disk.new) base log (answered self.now result) installing }
     {
         make(disk, self.call, &self.content)
     }
@@ -97,8 +97,8 @@ impl InstIo {
         ensures call { HasMade (D.device disk.old) self.now result (D.device disk.new) }
         ensures failure { CountsFailure (D.device disk.old) (D.device disk.new) result }
         ensures model { D.keeps_model disk.new → D.keeps_model disk.old }
-        ensures law { (base : Image) (log : Log) (logging : Pending) → IsLawful log → Stands (D.device disk.old) base log logging (out self.now)
-            → Stands (D.device disk.new) base log logging (answered self.now result) }
+        ensures law { (base : Image) (log : Log) (logging : Pending) → IsLawful log → AgreesBeside (D.device disk.old) base log logging (out self.now)
+            → AgreesBeside (D.device disk.new) base log logging (answered self.now result) }
     {
         make(disk, self.call, &self.content)
     }

@@ -18,7 +18,7 @@ ghost use Rattle.wal.specs.Installer.{IsNextInstCall, with_inst_out, with_inst_b
 ghost use Rattle.wal.specs.Overlay.{start_in, end_in, logged_in, IsInRange, over};
 ghost use Rattle.wal.specs.Found.{image_of, IsFound, IsLog};
 ghost use Rattle.wal.specs.Law.{Agrees, IsOutside, IsBoundary, after, with_home};
-ghost use Rattle.wal.specs.Calls.{Pending, idle, out, answered, Stands, home_after};
+ghost use Rattle.wal.specs.Calls.{Pending, idle, out, answered, AgreesBeside, home_after};
 ghost use Rattle.wal.specs.ReadBack.{IsReadBack, IsLogReadBack};
 
 /// An image whose log is empty stands for its own blocks.
@@ -43,41 +43,41 @@ pub fn an_opening_reads_whole_groups()
 /// A disk at rest agrees with the log that an opening finds on it, which lies over the homes as the overlay does.
 pub fn an_opening_begins_in_agreement()
     ensures stands { (d : Device) → FIRST_HOME_BLOCK ≤ d.size → IsAtRest d → IsInRange (image_of d)
-        → Stands d (image_of d) (opened d.size (start_in (image_of d)) (logged_in (image_of d))) idle idle }
+        → AgreesBeside d (image_of d) (opened d.size (start_in (image_of d)) (logged_in (image_of d))) idle idle }
     ensures overlay { (d : Device) (block : ℕ) → after (image_of d) (opened d.size (start_in (image_of d)) (logged_in (image_of d))).changes block ≡ over (image_of d) block }
 {}
 
 /// A commit that is appended keeps the agreement.
 pub fn an_append_keeps_agreement()
     ensures { (d : Device) (base : Image) (log : Log) (group : List (BlockNo × Content)) (logging installing : Pending) → IsLawful log
-        → Stands d base log logging installing → Stands d base (with_group log group) logging installing }
+        → AgreesBeside d base log logging installing → AgreesBeside d base (with_group log group) logging installing }
 {}
 
 /// A read keeps the agreement, whatever is out.
 pub fn a_read_keeps_agreement()
     ensures { (old new : Device) (base : Image) (log : Log) (logging installing : Pending) → IsLawful log → HasRead old new
-        → Stands old base log logging installing → Stands new base log logging installing }
+        → AgreesBeside old base log logging installing → AgreesBeside new base log logging installing }
 {}
 
 /// The logger's next call is handed out, made on the disk with any answer, and given back with that answer, each of it
 /// whatever the installer has out: each keeps the agreement.
 pub fn a_call_of_the_logger_keeps_agreement()
     ensures goes_out { (d : Device) (base : Image) (log : Log) (io : Io) (installing : Pending) → IsLawful log → IsNextLogCall (with_log_out log) io
-        → Stands d base log idle installing → Stands d base (with_log_out log) (out io) installing }
+        → AgreesBeside d base log idle installing → AgreesBeside d base (with_log_out log) (out io) installing }
     ensures is_made { (old new : Device) (base : Image) (log : Log) (io : Io) (answer : Result Unit Failed) (installing : Pending) → IsLawful log → HasMade old io answer new
-        → Stands old base log (out io) installing → Stands new base log (answered io answer) installing }
+        → AgreesBeside old base log (out io) installing → AgreesBeside new base log (answered io answer) installing }
     ensures comes_back { (d : Device) (base : Image) (log : Log) (io : Io) (answer : Result Unit Failed) (installing : Pending) → IsLawful log
-        → Stands d base log (answered io answer) installing → Stands d base (with_log_back log (is_ok answer)) idle installing }
+        → AgreesBeside d base log (answered io answer) installing → AgreesBeside d base (with_log_back log (is_ok answer)) idle installing }
 {}
 
 /// The same of the installer's calls. After its last, what it has brought home is what is at home.
 pub fn a_call_of_the_installer_keeps_agreement()
     ensures goes_out { (d : Device) (base : Image) (log : Log) (io : Io) (logging : Pending) → IsLawful log → IsNextInstCall (with_inst_out log) io
-        → Stands d base log logging idle → Stands d base (with_inst_out log) logging (out io) }
+        → AgreesBeside d base log logging idle → AgreesBeside d base (with_inst_out log) logging (out io) }
     ensures is_made { (old new : Device) (base : Image) (log : Log) (io : Io) (answer : Result Unit Failed) (logging : Pending) → IsLawful log → HasMade old io answer new
-        → Stands old base log logging (out io) → Stands new base log logging (answered io answer) }
+        → AgreesBeside old base log logging (out io) → AgreesBeside new base log logging (answered io answer) }
     ensures comes_back { (d : Device) (base : Image) (log : Log) (io : Io) (answer : Result Unit Failed) (logging : Pending) → IsLawful log
-        → Stands d base log logging (answered io answer) → Stands d (home_after base log (is_ok answer)) (with_inst_back log (is_ok answer)) logging idle }
+        → AgreesBeside d base log logging (answered io answer) → AgreesBeside d (home_after base log (is_ok answer)) (with_inst_back log (is_ok answer)) logging idle }
 {}
 
 /// A block of which the log has no change may be written beside it: a crash in the middle leaves a whole group over what
@@ -88,5 +88,5 @@ pub fn a_write_beside_the_log_keeps_agreement()
         → IsBoundary base log image ⊎ IsBoundary (with_home base block content) log image }
     ensures settled { (old middle new : Device) (base : Image) (log : Log) (block : ℕ) (content : Content) (logging installing : Pending) → IsLawful log
         → IsOutside log.blocks block → newest log block ≡ None → HasWritten old block content (Ok tt) middle → HasSettled middle Home (Ok tt) new
-        → Stands old base log logging installing → Stands new (with_home base block content) log logging installing }
+        → AgreesBeside old base log logging installing → AgreesBeside new (with_home base block content) log logging installing }
 {}

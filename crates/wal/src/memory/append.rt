@@ -6,7 +6,7 @@ ghost use Rattle.wal.specs.Room.{HasPlaces, with_group};
 ghost use Rattle.disk.specs.Device.{Device};
 ghost use Rattle.disk.specs.Crash.{Image};
 ghost use Rattle.wal.specs.Seen.{HasAppended};
-ghost use Rattle.wal.specs.Calls.{Pending, Stands};
+ghost use Rattle.wal.specs.Calls.{Pending, AgreesBeside};
 
 use super::Wal;
 use crate::{Append, Change};
@@ -23,8 +23,8 @@ impl Wal {
         ensures refused { result ≢ Append.Appended → self.new ≡ self.old }
         ensures full { result ≡ Append.Full ↔ (LOG_SLOTS < tail_after self.old (blocks_of group.items)) }
         ensures seen { result ≡ Append.Appended → HasAppended self.old group.items self.new }
-        ensures law { (d : Device) (base : Image) (logging installing : Pending) → Stands d base self.old logging installing
-            → Stands d base self.new logging installing }
+        ensures law { (d : Device) (base : Image) (logging installing : Pending) → AgreesBeside d base self.old logging installing
+            → AgreesBeside d base self.new logging installing }
     {
         self.lawful();
         self.add(group)

@@ -3,7 +3,7 @@ ghost use Rattle.std.specs.Prelude.{◌≡◌, ◌<◌, ◌≤◌, length, drop,
 ghost use Rattle.disk.specs.declared.device.Failed.{Failed};
 ghost use Rattle.disk.specs.Device.{Device};
 ghost use Rattle.disk.specs.Crash.{Image};
-ghost use Rattle.wal.specs.Calls.{Pending, idle, out, answered, Stands, home_after};
+ghost use Rattle.wal.specs.Calls.{Pending, idle, out, answered, AgreesBeside, home_after};
 ghost use Rattle.wal.specs.Io.{IsCallWithin};
 ghost use Rattle.wal.specs.Seen.{HasGoneOn};
 ghost use Rattle.wal.specs.Installer.{may_install, with_inst_out, is_inst_out, with_inst_back, with_installed, next_home, IsNextInstCall};
@@ -26,8 +26,8 @@ impl Wal {
         ensures call { IfSome result (IsNextInstCall self.new) }
         ensures within { IfSome result (λ io. IsCallWithin self.new.blocks io.call) }
         ensures seen { HasGoneOn self.old self.new }
-        ensures law { (d : Device) (base : Image) (logging : Pending) → Stands d base self.old logging idle
-            → IfSome result (λ io. Stands d base self.new logging (out io)) }
+        ensures law { (d : Device) (base : Image) (logging : Pending) → AgreesBeside d base self.old logging idle
+            → IfSome result (λ io. AgreesBeside d base self.new logging (out io)) }
     {
         self.lawful();
         self.next_inst_io()
@@ -39,7 +39,7 @@ impl Wal {
         ensures log { self.new ≡ (if is_inst_out self.old io then with_inst_back self.old ok else self.old) }
         ensures seen { HasGoneOn self.old self.new }
         ensures law { (d : Device) (base : Image) (answer : Result Unit Failed) (logging : Pending) → is_ok answer ≡ ok
-            → Stands d base self.old logging (answered io answer) → Stands d (home_after base self.old ok) self.new logging idle }
+            → AgreesBeside d base self.old logging (answered io answer) → AgreesBeside d (home_after base self.old ok) self.new logging idle }
     {
         self.lawful();
         self.take_inst_io(io, ok);

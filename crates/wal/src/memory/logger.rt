@@ -3,7 +3,7 @@ ghost use Rattle.std.specs.Prelude.{◌≡◌, ◌<◌, IfSome, IsNone, IsSome, 
 ghost use Rattle.disk.specs.declared.device.Failed.{Failed};
 ghost use Rattle.disk.specs.Device.{Device};
 ghost use Rattle.disk.specs.Crash.{Image};
-ghost use Rattle.wal.specs.Calls.{Pending, idle, out, answered, Stands};
+ghost use Rattle.wal.specs.Calls.{Pending, idle, out, answered, AgreesBeside};
 ghost use Rattle.wal.specs.Io.{IsCallWithin};
 ghost use Rattle.wal.specs.Seen.{HasGoneOn};
 ghost use Rattle.wal.specs.Logger.{may_log, has_group, group_size, with_log_out, is_log_out, with_log_back, IsNextLogCall};
@@ -24,8 +24,8 @@ impl Wal {
         ensures call { IfSome result (IsNextLogCall self.new) }
         ensures within { IfSome result (λ io. IsCallWithin self.new.blocks io.call) }
         ensures seen { HasGoneOn self.old self.new }
-        ensures law { (d : Device) (base : Image) (installing : Pending) → Stands d base self.old idle installing
-            → IfSome result (λ io. Stands d base self.new (out io) installing) }
+        ensures law { (d : Device) (base : Image) (installing : Pending) → AgreesBeside d base self.old idle installing
+            → IfSome result (λ io. AgreesBeside d base self.new (out io) installing) }
     {
         self.lawful();
         self.next_log_io()
@@ -37,7 +37,7 @@ impl Wal {
         ensures log { self.new ≡ (if is_log_out self.old io then with_log_back self.old ok else self.old) }
         ensures seen { HasGoneOn self.old self.new }
         ensures law { (d : Device) (base : Image) (answer : Result Unit Failed) (installing : Pending) → is_ok answer ≡ ok
-            → Stands d base self.old (answered io answer) installing → Stands d base self.new idle installing }
+            → AgreesBeside d base self.old (answered io answer) installing → AgreesBeside d base self.new idle installing }
     {
         self.lawful();
         self.take_log_io(io, ok);

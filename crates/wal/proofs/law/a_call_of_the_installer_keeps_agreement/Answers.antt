@@ -1,4 +1,4 @@
-use Rattle.wal.proofs.Stands.{stands_inst_out, stands_inst_made, stands_inst_back}
+use Rattle.wal.proofs.Beside.{stands_inst_out, stands_inst_made, stands_inst_back}
 use Rattle.wal.proofs.law.a_call_of_the_installer_keeps_agreement.Goals as goal
 
 pub returns-clause-goes_out : goal.returns-clause-goes_out

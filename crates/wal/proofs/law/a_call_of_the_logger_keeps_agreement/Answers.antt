@@ -1,4 +1,4 @@
-use Rattle.wal.proofs.Stands.{stands_log_out, stands_log_made, stands_log_back}
+use Rattle.wal.proofs.Beside.{stands_log_out, stands_log_made, stands_log_back}
 use Rattle.wal.proofs.law.a_call_of_the_logger_keeps_agreement.Goals as goal
 
 pub returns-clause-goes_out : goal.returns-clause-goes_out

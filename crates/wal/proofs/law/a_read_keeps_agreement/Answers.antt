@@ -1,4 +1,4 @@
-use Rattle.wal.proofs.Stands.{stands_read}
+use Rattle.wal.proofs.Beside.{stands_read}
 use Rattle.wal.proofs.law.a_read_keeps_agreement.Goals as goal
 
 pub returns : goal.returns

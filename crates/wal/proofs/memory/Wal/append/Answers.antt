@@ -2,7 +2,7 @@ use Rattle.std.proofs.Common.{sym, subst}
 use Rattle.wal.specs.Log.{Log}
 use Rattle.wal.specs.Seen.{HasAppended}
 use Rattle.wal.proofs.Seen.{seen_append}
-use Rattle.wal.proofs.Stands.{append_stands}
+use Rattle.wal.proofs.Beside.{append_stands}
 use Rattle.wal.proofs.memory.Wal.append.Goals as goal
 
 pub returns-clause-seen : goal.returns-clause-seen

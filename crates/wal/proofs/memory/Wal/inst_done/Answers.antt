@@ -3,7 +3,7 @@ use Rattle.wal.specs.Log.{Log}
 use Rattle.wal.specs.Installer.{is_inst_out}
 use Rattle.wal.specs.Seen.{HasGoneOn}
 use Rattle.wal.proofs.Seen.{seen_inst_done}
-use Rattle.wal.proofs.Stands.{done_inst_stands}
+use Rattle.wal.proofs.Beside.{done_inst_stands}
 use Rattle.wal.proofs.memory.Wal.inst_done.Goals as goal
 
 pub returns-clause-seen : goal.returns-clause-seen

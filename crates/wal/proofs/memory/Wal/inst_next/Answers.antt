@@ -1,6 +1,6 @@
 use Rattle.wal.specs.Installer.{with_inst_out}
 use Rattle.wal.proofs.Seen.{seen_next, seen_inst_out}
-use Rattle.wal.proofs.Stands.{next_inst_stands}
+use Rattle.wal.proofs.Beside.{next_inst_stands}
 use Rattle.wal.proofs.memory.Wal.inst_next.Goals as goal
 
 pub returns-clause-seen : goal.returns-clause-seen

@@ -3,7 +3,7 @@ use Rattle.wal.specs.Log.{Log}
 use Rattle.wal.specs.Logger.{is_log_out}
 use Rattle.wal.specs.Seen.{HasGoneOn}
 use Rattle.wal.proofs.Seen.{seen_log_done}
-use Rattle.wal.proofs.Stands.{done_log_stands}
+use Rattle.wal.proofs.Beside.{done_log_stands}
 use Rattle.wal.proofs.memory.Wal.log_done.Goals as goal
 
 pub returns-clause-seen : goal.returns-clause-seen

@@ -1,6 +1,6 @@
 use Rattle.wal.specs.Logger.{with_log_out}
 use Rattle.wal.proofs.Seen.{seen_next, seen_log_out}
-use Rattle.wal.proofs.Stands.{next_log_stands}
+use Rattle.wal.proofs.Beside.{next_log_stands}
 use Rattle.wal.proofs.memory.Wal.log_next.Goals as goal
 
 pub returns-clause-seen : goal.returns-clause-seen

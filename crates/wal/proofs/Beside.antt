@@ -17,7 +17,7 @@ use Rattle.wal.specs.Room.{with_group}
 use Rattle.wal.specs.Logger.{IsNextLogCall, group_size, is_log_out, with_log_out, with_log_made, with_log_back}
 use Rattle.wal.specs.Installer.{IsNextInstCall, next_home, is_inst_out, with_inst_out, with_inst_made, with_inst_back, with_installed}
 use Rattle.wal.specs.Law.{LogAgrees, HomeAgrees, Agrees}
-use Rattle.wal.specs.Calls.{Pending, idle, out, answered, HasMadeLogCall, HasMadeInstCall, IsLoggerAt, IsInstallerAt, Stands, home_after}
+use Rattle.wal.specs.Calls.{Pending, idle, out, answered, HasMadeLogCall, HasMadeInstCall, IsLoggerAt, IsInstallerAt, AgreesBeside, home_after}
 use Rattle.wal.proofs.Contents.{keeps_read}
 use Rattle.wal.proofs.LogCalls.{own_kept, log_made_kept, own_called, log_made, homes_spared}
 use Rattle.wal.proofs.LogMoves.{beside, own_beside, log_made_beside, next_log_beside, own_out, own_made, own_appended, log_made_appended, next_log_appended, own_installed, log_made_installed, next_log_installed}
@@ -81,7 +81,7 @@ installer_aside d base log p logged taken log_step log_out broken =
 
 -- a call of the logger is handed out
 pub stands_log_out : (d : Device) (base : Image) (log : Log) (io : Io) (p : Pending) → IsLawful log → IsNextLogCall (with_log_out log) io
-    → Stands d base log idle p → Stands d base (with_log_out log) (out io) p
+    → AgreesBeside d base log idle p → AgreesBeside d base (with_log_out log) (out io) p
 stands_log_out d base log io p lawful next s = record {
   agrees = record {
     size = s.agrees.size;
@@ -105,7 +105,7 @@ logger_made old new log io (Ok u) lawful made h at = (at.0, at.1, log_made old n
 logger_made old new log io (Err u) lawful made h at = at
 
 pub stands_log_made : (old new : Device) (base : Image) (log : Log) (io : Io) (r : Result Unit Failed) (p : Pending) → IsLawful log → HasMade old io r new
-    → Stands old base log (out io) p → Stands new base log (answered io r) p
+    → AgreesBeside old base log (out io) p → AgreesBeside new base log (answered io r) p
 stands_log_made old new base log io r p lawful made s =
     let next = s.logger.1 in
     let spared = homes_spared old new log io r lawful next made in
@@ -121,7 +121,7 @@ stands_log_made old new base log io r p lawful made s =
 
 -- it is given back
 log_back_made : (d : Device) (base : Image) (log : Log) (p : Pending) → IsLawful log → HasMadeLogCall d log → Agrees d base log → IsInstallerAt d base log p
-    → Stands d base (with_log_made log) idle p
+    → AgreesBeside d base (with_log_made log) idle p
 log_back_made d base log p lawful made a at = record {
   agrees = record {
     size = for_log_made (λ (l : Log). d.size ≡ l.blocks) log a.size a.size;
@@ -137,7 +137,7 @@ log_back_made d base log p lawful made a at = record {
 }
 
 pub stands_log_back : (d : Device) (base : Image) (log : Log) (io : Io) (r : Result Unit Failed) (p : Pending) → IsLawful log
-    → Stands d base log (answered io r) p → Stands d base (with_log_back log (is_ok r)) idle p
+    → AgreesBeside d base log (answered io r) p → AgreesBeside d base (with_log_back log (is_ok r)) idle p
 stands_log_back d base log io (Ok u) p lawful s = log_back_made d base log p lawful s.logger.2 s.agrees s.installer
 stands_log_back d base log io (Err u) p lawful s = record {
   agrees = record {
@@ -151,7 +151,7 @@ stands_log_back d base log io (Err u) p lawful s = record {
 
 -- a call of the installer is handed out
 pub stands_inst_out : (d : Device) (base : Image) (log : Log) (io : Io) (p : Pending) → IsLawful log → IsNextInstCall (with_inst_out log) io
-    → Stands d base log p idle → Stands d base (with_inst_out log) p (out io)
+    → AgreesBeside d base log p idle → AgreesBeside d base (with_inst_out log) p (out io)
 stands_inst_out d base log io p lawful next s = record {
   agrees = record {
     size = for_inst_out (λ (l : Log). d.size ≡ l.blocks) log s.agrees.size s.agrees.size;
@@ -173,7 +173,7 @@ installer_made old new base log io (Ok u) lawful made h at = (at.0, at.1, inst_m
 installer_made old new base log io (Err u) lawful made h at = at
 
 pub stands_inst_made : (old new : Device) (base : Image) (log : Log) (io : Io) (r : Result Unit Failed) (p : Pending) → IsLawful log → HasMade old io r new
-    → Stands old base log p (out io) → Stands new base log p (answered io r)
+    → AgreesBeside old base log p (out io) → AgreesBeside new base log p (answered io r)
 stands_inst_made old new base log io r p lawful made s =
     let next = s.installer.1 in
     let spared = own_spared old new log io r lawful next made in
@@ -189,7 +189,7 @@ stands_inst_made old new base log io r p lawful made s =
 
 -- it is given back
 inst_back_made : (d : Device) (base : Image) (log : Log) (p : Pending) → IsLawful log → HasMadeInstCall d base log → Agrees d base log → IsLoggerAt d log p
-    → Stands d (home_after base log true) (with_inst_made log) p idle
+    → AgreesBeside d (home_after base log true) (with_inst_made log) p idle
 inst_back_made d base log p lawful made a at = record {
   agrees = record {
     size = for_inst_made (λ (l : Log). d.size ≡ l.blocks) log a.size a.size a.size;
@@ -207,7 +207,7 @@ inst_back_made d base log p lawful made a at = record {
 }
 
 pub stands_inst_back : (d : Device) (base : Image) (log : Log) (io : Io) (r : Result Unit Failed) (p : Pending) → IsLawful log
-    → Stands d base log p (answered io r) → Stands d (home_after base log (is_ok r)) (with_inst_back log (is_ok r)) p idle
+    → AgreesBeside d base log p (answered io r) → AgreesBeside d (home_after base log (is_ok r)) (with_inst_back log (is_ok r)) p idle
 stands_inst_back d base log io (Ok u) p lawful s = inst_back_made d base log p lawful s.installer.2 s.agrees s.logger
 stands_inst_back d base log io (Err u) p lawful s = record {
   agrees = record {
@@ -221,7 +221,7 @@ stands_inst_back d base log io (Err u) p lawful s = record {
 
 -- a commit is appended
 pub stands_appended : (d : Device) (base : Image) (log : Log) (group : List (BlockNo × Content)) (p q : Pending) → IsLawful log
-    → Stands d base log p q → Stands d base (with_group log group) p q
+    → AgreesBeside d base log p q → AgreesBeside d base (with_group log group) p q
 stands_appended d base log group p q lawful s = record {
   agrees = record {
     size = s.agrees.size;
@@ -233,7 +233,7 @@ stands_appended d base log group p q lawful s = record {
 }
 
 -- a block is read
-pub stands_read : (old new : Device) (base : Image) (log : Log) (p q : Pending) → IsLawful log → HasRead old new → Stands old base log p q → Stands new base log p q
+pub stands_read : (old new : Device) (base : Image) (log : Log) (p q : Pending) → IsLawful log → HasRead old new → AgreesBeside old base log p q → AgreesBeside new base log p q
 stands_read old new base log p q lawful read s =
     let keeps = λ (block : ℕ). keeps_read old new block read in
     record {
@@ -259,19 +259,19 @@ inst_call_out log io at next =
 
 -- what the methods of the log do
 pub next_log_stands : (io : Option Io) (old new : Log) → IsLawful old → (IsSome io → new ≡ with_log_out old) → IfSome io (λ x. IsNextLogCall new x)
-    → (d : Device) (base : Image) (p : Pending) → Stands d base old idle p → IfSome io (λ x. Stands d base new (out x) p)
+    → (d : Device) (base : Image) (p : Pending) → AgreesBeside d base old idle p → IfSome io (λ x. AgreesBeside d base new (out x) p)
 next_log_stands None old new lawful some next d base p s = tt
 next_log_stands (Some io) old new lawful some next d base p s =
     let same = some refl in
-    subst (λ (log : Log). Stands d base log (out io) p) (sym same)
+    subst (λ (log : Log). AgreesBeside d base log (out io) p) (sym same)
     (stands_log_out d base old io p lawful (subst (λ (log : Log). IsNextLogCall log io) same next) s)
 
 pub next_inst_stands : (io : Option Io) (old new : Log) → IsLawful old → (IsSome io → new ≡ with_inst_out old) → IfSome io (λ x. IsNextInstCall new x)
-    → (d : Device) (base : Image) (p : Pending) → Stands d base old p idle → IfSome io (λ x. Stands d base new p (out x))
+    → (d : Device) (base : Image) (p : Pending) → AgreesBeside d base old p idle → IfSome io (λ x. AgreesBeside d base new p (out x))
 next_inst_stands None old new lawful some next d base p s = tt
 next_inst_stands (Some io) old new lawful some next d base p s =
     let same = some refl in
-    subst (λ (log : Log). Stands d base log p (out io)) (sym same)
+    subst (λ (log : Log). AgreesBeside d base log p (out io)) (sym same)
     (stands_inst_out d base old io p lawful (subst (λ (log : Log). IsNextInstCall log io) same next) s)
 
 answered_log_out : (d : Device) (log : Log) (io : Io) (r : Result Unit Failed) → IsLoggerAt d log (answered io r) → is_log_out log io ≡ true
@@ -279,26 +279,26 @@ answered_log_out d log io (Ok u) h = log_call_out log io h.0 h.1
 answered_log_out d log io (Err u) h = log_call_out log io h.0 h.1
 
 pub done_log_stands : (old new : Log) (io : Io) (ok : Bool) → IsLawful old → new ≡ (if is_log_out old io then with_log_back old ok else old)
-    → (d : Device) (base : Image) (r : Result Unit Failed) (p : Pending) → is_ok r ≡ ok → Stands d base old (answered io r) p → Stands d base new idle p
+    → (d : Device) (base : Image) (r : Result Unit Failed) (p : Pending) → is_ok r ≡ ok → AgreesBeside d base old (answered io r) p → AgreesBeside d base new idle p
 done_log_stands old new io ok lawful is d base r p same s =
     let e : new ≡ with_log_back old (is_ok r) =
     is ∙ ap (λ (t : Bool). if t then with_log_back old ok else old) (answered_log_out d old io r s.logger) ∙ ap (with_log_back old) (sym same) in
-    subst (λ (log : Log). Stands d base log idle p) (sym e) (stands_log_back d base old io r p lawful s)
+    subst (λ (log : Log). AgreesBeside d base log idle p) (sym e) (stands_log_back d base old io r p lawful s)
 
 answered_inst_out : (d : Device) (base : Image) (log : Log) (io : Io) (r : Result Unit Failed) → IsInstallerAt d base log (answered io r) → is_inst_out log io ≡ true
 answered_inst_out d base log io (Ok u) h = inst_call_out log io h.0 h.1
 answered_inst_out d base log io (Err u) h = inst_call_out log io h.0 h.1
 
 pub done_inst_stands : (old new : Log) (io : Io) (ok : Bool) → IsLawful old → new ≡ (if is_inst_out old io then with_inst_back old ok else old)
-    → (d : Device) (base : Image) (r : Result Unit Failed) (p : Pending) → is_ok r ≡ ok → Stands d base old p (answered io r) → Stands d (home_after base old ok) new p idle
+    → (d : Device) (base : Image) (r : Result Unit Failed) (p : Pending) → is_ok r ≡ ok → AgreesBeside d base old p (answered io r) → AgreesBeside d (home_after base old ok) new p idle
 done_inst_stands old new io ok lawful is d base r p same s =
     let e : new ≡ with_inst_back old (is_ok r) =
     is ∙ ap (λ (t : Bool). if t then with_inst_back old ok else old) (answered_inst_out d base old io r s.installer) ∙ ap (with_inst_back old) (sym same) in
-    subst (λ (log : Log). Stands d (home_after base old ok) log p idle) (sym e)
-    (subst (λ (t : Bool). Stands d (home_after base old t) (with_inst_back old (is_ok r)) p idle) same (stands_inst_back d base old io r p lawful s))
+    subst (λ (log : Log). AgreesBeside d (home_after base old ok) log p idle) (sym e)
+    (subst (λ (t : Bool). AgreesBeside d (home_after base old t) (with_inst_back old (is_ok r)) p idle) same (stands_inst_back d base old io r p lawful s))
 
 pub append_stands : (result : Append) (old new : Log) (group : List (BlockNo × Content)) → IsLawful old → (result ≡ Appended → new ≡ with_group old group) → (result ≢ Appended → new ≡ old)
-    → (d : Device) (base : Image) (p q : Pending) → Stands d base old p q → Stands d base new p q
-append_stands Appended old new group lawful appended refused d base p q s = subst (λ (log : Log). Stands d base log p q) (sym (appended refl)) (stands_appended d base old group p q lawful s)
-append_stands Full old new group lawful appended refused d base p q s = subst (λ (log : Log). Stands d base log p q) (sym (refused (λ e. cc))) s
-append_stands NoMemory old new group lawful appended refused d base p q s = subst (λ (log : Log). Stands d base log p q) (sym (refused (λ e. cc))) s
+    → (d : Device) (base : Image) (p q : Pending) → AgreesBeside d base old p q → AgreesBeside d base new p q
+append_stands Appended old new group lawful appended refused d base p q s = subst (λ (log : Log). AgreesBeside d base log p q) (sym (appended refl)) (stands_appended d base old group p q lawful s)
+append_stands Full old new group lawful appended refused d base p q s = subst (λ (log : Log). AgreesBeside d base log p q) (sym (refused (λ e. cc))) s
+append_stands NoMemory old new group lawful appended refused d base p q s = subst (λ (log : Log). AgreesBeside d base log p q) (sym (refused (λ e. cc))) s
