@@ -1,0 +1,5 @@
+//! Worked messages, byte by byte.
+
+mod calls;
+mod messages;
+mod wire;
