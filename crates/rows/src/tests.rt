@@ -1,5 +1,11 @@
-//! Worked messages, byte by byte.
+//! Tests that go through several layers.
 
 mod calls;
+mod compared;
+mod first_path;
 mod messages;
+mod plain;
+mod runs;
+mod served;
+mod stops;
 mod wire;

@@ -1,0 +1,50 @@
+//! A fresh image, and the calls that are served so far, through both bodies.
+
+use crate::tests::calls::{GETATTR, GETATTR_REPLY, SETATTR, SETATTR_REPLY, record};
+use crate::tests::compared::{is_same_reply, is_tree_of};
+use crate::tests::plain::{DATA_BLOCKS, fresh, reply_in, reply_to};
+use crate::tests::served::{Host, INODES, MADE, formatted, serve_one};
+use disk::MemDisk;
+use limits::LEAST_BLOCKS;
+use plain_image::read_image;
+use session_wire::nfs_codec::Procedure;
+use std::test::Fail;
+
+#[test]
+fn a_fresh_image(rt: HostRuntime) -> Result<(), Fail> {
+    let alloc = rt.alloc();
+    let mut disk = MemDisk::new(alloc, LEAST_BLOCKS)?;
+    assert_eq!(rt; store::format(alloc, &mut disk, INODES, MADE)?, DATA_BLOCKS);
+    let image = read_image(alloc, &disk)?;
+    assert_eq!(rt; image.boot, 0);
+    assert_eq!(rt; image.files.len(), 1);
+    assert!(rt; is_tree_of(&image, &fresh(alloc)?));
+    Ok(())
+}
+
+// Serves a call through both bodies, which have to agree, and with the reply of these words.
+fn agrees(rt: &impl Host, procedure: Procedure, call: &[u32], reply: &[u32]) -> Result<(), Fail> {
+    let alloc = rt.alloc();
+    let served = serve_one(alloc, formatted(alloc)?, call)?;
+    let wanted = record(alloc, reply)?;
+    assert!(rt; served.output.as_slice() == wanted.as_slice());
+    let mut tree = fresh(alloc)?;
+    let plain = reply_to(alloc, &mut tree, served.boot, call)?;
+    let (xid, told) = reply_in(procedure, &served.output)?;
+    assert_eq!(rt; Some(&xid), call.first());
+    assert!(rt; is_same_reply(&plain, &told));
+    let image = read_image(alloc, &served.disk)?;
+    assert_eq!(rt; image.boot, 1);
+    assert!(rt; is_tree_of(&image, &tree));
+    Ok(())
+}
+
+#[test]
+fn getattr_of_the_root(rt: HostRuntime) -> Result<(), Fail> {
+    agrees(&rt, Procedure::GetAttr, &GETATTR, &GETATTR_REPLY)
+}
+
+#[test]
+fn setattr_of_the_roots_mode(rt: HostRuntime) -> Result<(), Fail> {
+    agrees(&rt, Procedure::SetAttr, &SETATTR, &SETATTR_REPLY)
+}

@@ -1,0 +1,65 @@
+//! The same by the plain programs: a call's bytes are read as a value, which is served over a tree.
+
+use crate::tests::calls::bytes;
+use crate::tests::served::{INODES, MADE, NOW};
+use nfs_types::{Call, Credential, Ctx, Numbers, Reply};
+use plain_server::PlainTree;
+use plain_wire::{read_call, read_reply};
+use session_wire::nfs_codec::Procedure;
+use session_wire::{MessageCredential, ReplyBody};
+use std::alloc::{AllocError, Global};
+use std::test::Fail;
+
+/// The data blocks of an image of 1,024 blocks and 64 inodes.
+pub const DATA_BLOCKS: u32 = 506;
+
+/// The tree of a fresh image.
+pub fn fresh(alloc: Global) -> Result<PlainTree, AllocError> {
+    PlainTree::formatted(alloc, DATA_BLOCKS, INODES, MADE)
+}
+
+// Whom a credential names; one without a name is the user and the group 65534.
+fn caller(alloc: Global, credential: MessageCredential) -> Credential {
+    match credential {
+        MessageCredential::Nobody => Credential {
+            uid: 65_534,
+            gid: 65_534,
+            gids: Numbers::new(Vec::new(alloc)),
+        },
+        MessageCredential::Caller { caller, .. } => caller,
+    }
+}
+
+/// Who asks for what by these words.
+pub fn asked(alloc: Global, words: &[u32]) -> Result<(Credential, Call), Fail> {
+    let message = read_call(alloc, &bytes(alloc, words)?)?.ok_or("a call")?;
+    Ok((caller(alloc, message.credential), message.call))
+}
+
+/// The reply to a call of these words, with which the tree goes on.
+pub fn reply_to(
+    alloc: Global,
+    tree: &mut PlainTree,
+    boot: u64,
+    words: &[u32],
+) -> Result<Reply, Fail> {
+    let (credential, call) = asked(alloc, words)?;
+    let ctx = Ctx {
+        credential,
+        moment: NOW,
+        boot,
+        transaction: 1,
+    };
+    Ok(plain_server::serve(tree, &ctx, &call)?)
+}
+
+/// The number and the reply that these bytes spell behind their mark.
+pub fn reply_in(procedure: Procedure, output: &[u8]) -> Result<(u32, Reply), Fail> {
+    let content = output.get(4..).ok_or("a mark")?;
+    let message = read_reply(procedure, content).ok_or("a reply")?;
+    let xid = message.xid;
+    match message.body {
+        ReplyBody::Done(reply) => Ok((xid, reply)),
+        ReplyBody::Refused(_) => Err(Fail::from("refused")),
+    }
+}
