@@ -5,7 +5,6 @@ use Rattle.nfs_types.specs.declared.attributes.SetTime.{SetTime}
 use Rattle.nfs_types.specs.declared.attributes.SetTime.TheVariants.{Keep, Server, Client}
 use Rattle.nfs_types.specs.declared.ctx.Ctx.{Ctx}
 use Rattle.nfs_types.specs.declared.ctx.Moment.{Moment}
-use Rattle.nfs_types.specs.declared.status.Status.{Status}
 use Rattle.nfs_types.specs.declared.status.Status.TheVariants as status
 use Rattle.model.specs.Calls.{sets_only_mode, is_kept}
 use Rattle.model.specs.Node.{Node}

@@ -4,13 +4,10 @@ use Rattle.std.specs.List.{zip, list_any}
 use Rattle.limits.specs.declared.TheConstants.{CHANGED_BLOCKS, LOG_SLOTS}
 use Rattle.disk.specs.declared.block.BlockNo.{BlockNo}
 use Rattle.objects.specs.declared.addr.Addr.{Addr}
-use Rattle.nfs_types.specs.declared.call.Call.{Call}
 use Rattle.model.specs.Calls.{has_rules}
 use Rattle.model.specs.Sound.{SoundTime}
 use Rattle.procs.specs.Seen.{is_claimed, same_addr}
-use Rattle.txn.specs.declared.answers.BeginFault.{BeginFault}
 use Rattle.txn.specs.declared.answers.BeginFault.TheVariants as fault
-use Rattle.wal.specs.declared.answers.Seq.{Seq}
 use Rattle.store_promise.specs.declared.events.Committing.{Committing}
 use Rattle.store_promise.specs.declared.events.Committing.TheVariants as committing
 use Rattle.store_promise.specs.declared.events.Ending.TheVariants as ending

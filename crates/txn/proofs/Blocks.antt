@@ -1,5 +1,5 @@
 -- The blocks of objects only grow in number.
-use Rattle.std.proofs.Common.{◌≡◌, ◌≤◌, ◌<◌, ◌+◌, ℕ, Bool, true, false, cond, List, [], ◌∷◌, ◌++◌, length, arith, length-append, subst, sym}
+use Rattle.std.proofs.Common.{◌≡◌, ◌≤◌, ◌<◌, Bool, true, false, cond, List, [], ◌∷◌, ◌++◌, length, arith, length-append, subst, sym}
 use Rattle.disk.specs.declared.block.BlockNo.{BlockNo}
 use Rattle.txn.specs.Object.{ObjectBytes}
 use Rattle.txn.specs.Group.{is_among, blocks_after}

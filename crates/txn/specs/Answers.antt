@@ -1,8 +1,6 @@
 -- What the core's answers say.
-use Rattle.std.specs.Prelude.{◌≡◌, ℕ, ◌+◌, ◌<◌, Option, length}
-use Rattle.wal.specs.Log.{Log}
+use Rattle.std.specs.Prelude.{◌≡◌, ℕ, ◌+◌, ◌<◌, length}
 use Rattle.txn.specs.Core.{CoreState, without}
-use Rattle.txn.specs.Fetch.{Fetch}
 use Rattle.txn.specs.declared.answers.Want.{Want}
 use Rattle.txn.specs.declared.answers.Want.TheVariants as want
 use Rattle.txn.specs.declared.answers.Claim.{Claim}

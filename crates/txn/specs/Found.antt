@@ -1,6 +1,5 @@
 -- What a look for an object finds.
 use Rattle.std.specs.Prelude.{◌≡◌, ℕ, ◌<◌, length}
-use Rattle.txn.specs.Fetch.{Fetch}
 use Rattle.txn.specs.declared.want.Found.{Found}
 use Rattle.txn.specs.declared.want.Found.TheVariants as found
 

@@ -1,5 +1,5 @@
 -- The blocks that objects lie in.
-use Rattle.std.specs.Prelude.{ℕ, Bool, if◌then◌else◌, cond, List, [], ◌∷◌, ◌++◌, nat_eq}
+use Rattle.std.specs.Prelude.{Bool, if◌then◌else◌, List, [], ◌∷◌, ◌++◌, nat_eq}
 use Rattle.std.specs.List.{list_any}
 use Rattle.disk.specs.declared.block.BlockNo.{BlockNo}
 use Rattle.txn.specs.Object.{ObjectBytes}

@@ -3,7 +3,6 @@ use Rattle.std.proofs.Common.{◌≡◌, ℕ, ◌≤◌, Some, refl, sym, ap, �
 use Rattle.disk.specs.Crash.{Image}
 use Rattle.layout.specs.declared.geometry.Geometry.{Geometry}
 use Rattle.layout.specs.Fresh.{IsFresh}
-use Rattle.layout.specs.Places.{IsLawful}
 use Rattle.layout.specs.Stands.{Stands, geometry_of}
 use Rattle.layout.specs.SuperForm.{IsSuper}
 use Rattle.limits.specs.declared.TheConstants.{ROOT}
@@ -13,7 +12,7 @@ use Rattle.model.specs.Tree.{node_at}
 use Rattle.model.proofs.Maps.{only_one}
 use Rattle.nfs_types.specs.declared.ctx.Moment.{Moment}
 use Rattle.wal.specs.Numbers.{number_at}
-use Rattle.wal.specs.Overlay.{start_in, end_in, count_in, over}
+use Rattle.wal.specs.Overlay.{start_in, end_in, over}
 use Rattle.store_promise.proofs.fresh.a_fresh_image_is_good.Goals as goal
 
 module _ (g : Geometry) (moment : Moment) (image : Image) (fresh : IsFresh g moment image) where

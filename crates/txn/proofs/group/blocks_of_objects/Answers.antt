@@ -1,4 +1,4 @@
-use Rattle.std.proofs.Common.{◌≡◌, ◌<◌, ◌+◌, ◌∷◌, ◌∙◌, ap, sym, length, drop, drop-cons, add-one, false, refl, arith, lit<}
+use Rattle.std.proofs.Common.{◌≡◌, ◌<◌, ◌+◌, ◌∷◌, ap, length, drop, drop-cons, add-one, false, refl, arith, lit<}
 use Rattle.txn.specs.Group.{is_among}
 use Rattle.txn.proofs.Blocks.{room_left}
 use Rattle.txn.proofs.group.blocks_of_objects.Goals as goal
