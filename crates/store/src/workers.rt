@@ -61,9 +61,9 @@ pub struct Worker {
 }
 
 impl Worker {
-    ghost use Rattle.std.specs.Prelude.{◌≡◌, ◌↔◌, IsTrue, IsSome, None, is_some};
+    ghost use Rattle.std.specs.Prelude.{◌≡◌, ◌↔◌, IsTrue, IsSome, None, true, is_some};
     ghost use Rattle.txn.specs.Core.{CoreState};
-    ghost use Rattle.store.specs.declared.workers.Phase.TheVariants.{Idle, Reading};
+    ghost use Rattle.store.specs.declared.workers.Phase.TheVariants.{Idle, Called, Reading};
     ghost use Rattle.store.specs.Counts.{SameCounts};
     ghost use Rattle.store.specs.Worker.{Fits, ReadsWithin, has_fetch};
 
@@ -116,9 +116,18 @@ impl Worker {
             boot: self.boot,
             transaction: 0,
         };
+        self.take_call(ctx, call);
+        true
+    }
+
+    // Takes a call, which begins with the next step.
+    fn take_call(&mut self, ctx: Ctx, call: Call)
+        ensures phase { self.new.phase ≡ Called }
+        ensures job { is_some self.new.job ≡ true }
+        ensures rest { self.new ≡ record self.old { job = self.new.job; phase = self.new.phase } }
+    {
         self.job = Some(Job { ctx, call });
         self.phase = Phase::Called;
-        true
     }
 
     /// Reads the block that is due, and keeps the answer for the next step. It answers the step, or None where no

@@ -1,7 +1,10 @@
 pub mod Object
 pub mod Group
+pub mod Holds
+pub mod Present
 pub mod Core
 pub mod Fetch
 pub mod Answers
 pub mod Found
 pub mod Window
+pub mod Records

@@ -1,11 +1,12 @@
 -- When the commits that aren't installed agree with the log and with what is in memory.
-use Rattle.std.specs.Prelude.{◌≡◌, ℕ, ◌+◌, ◌-◌, if◌then◌else◌, nat_eq, List, [], ◌∷◌, ◌++◌, length, take, drop, slice_get, Some, Contains}
+use Rattle.std.specs.Prelude.{◌≡◌, ℕ, ◌+◌, ◌-◌, if◌then◌else◌, nat_eq, List, [], ◌∷◌, length, take, drop, slice_get, Some, Contains}
 use Rattle.std.specs.List.{AllByRecursion}
 use Rattle.disk.specs.Device.{Content}
 use Rattle.disk.specs.Crash.{Image}
 use Rattle.objects.specs.declared.addr.Addr.{Addr}
 use Rattle.wal.specs.Law.{after}
 use Rattle.wal.specs.Log.{Log, installed_place, newest, place_before}
+use Rattle.txn.specs.Group.{spliced}
 use Rattle.txn.specs.Object.{ObjectBytes}
 
 -- what a commit read, and what it wrote
@@ -14,13 +15,13 @@ pub record Footprint : Type 0 where
   pub read : List ObjectBytes
   pub written : List ObjectBytes
 
+-- the bytes of a block at an address
+abbrev pub part : Content → Addr → List ℕ
+part content addr = take addr.len (drop addr.offset content)
+
 -- the bytes at an address
 abbrev pub object_at : Image → Addr → List ℕ
-object_at blocks addr = take addr.len (drop addr.offset (blocks addr.block.0))
-
--- a block with these bytes at an offset
-abbrev pub spliced : Content → ℕ → List ℕ → Content
-spliced content offset bytes = take offset content ++ bytes ++ drop (offset + length bytes) content
+object_at blocks addr = part (blocks addr.block.0) addr
 
 -- the blocks with an object laid over them
 abbrev pub with_object : Image → ObjectBytes → Image

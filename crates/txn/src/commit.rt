@@ -1,21 +1,20 @@
 //! Committing a change.
-ghost use Rattle.std.specs.Prelude.{◌≡◌, ◌≤◌, ◌<◌, ◌↔◌, length, All, IsTrue};
-ghost use Rattle.std.specs.VecDeque.{deque_len, deque_capacity};
+ghost use Rattle.std.specs.Prelude.{◌≡◌, ◌≤◌, ◌<◌, ◌↔◌, length, All, IsTrue, true};
 ghost use Rattle.wal.specs.Log.{IsHomeOn};
 ghost use Rattle.limits.specs.declared.TheConstants.{CHANGED_BLOCKS};
-ghost use Rattle.txn.specs.Answers.{IsCommit};
+ghost use Rattle.txn.specs.Answers.{IsCommit, IsOwn, IsReadBy, HasBytes};
+ghost use Rattle.txn.specs.Holds.{hold_of, is_written};
 ghost use Rattle.txn.specs.Group.{blocks_of};
 
 use crate::answers::Commit;
 use crate::group::{blocks_of_objects, group_of};
 use crate::holds::{is_read_by, is_written_by};
 use crate::present::{Present, content_of};
-use crate::records::Record;
+use crate::records::keep;
 use crate::{Change, Core, Object, Tx};
 use disk::BlockNo;
 use std::alloc::Global;
-use std::collections::VecDeque;
-use wal::{Append, Room, Seq, Wal};
+use wal::{Append, Room, Wal};
 
 impl<C: Change> Core<C> {
     /// Commits a change at the next place, and ends its transaction. Broken: a write or a barrier has failed. Foreign:
@@ -24,13 +23,13 @@ impl<C: Change> Core<C> {
     /// Full: the open group and this change pass the log. These and NoMemory change nothing.
     pub fn commit(&mut self, alloc: Global, tx: Tx, change: C) -> Commit<C>
         requires { length (blocks_of (C.objects_written change)) ≤ CHANGED_BLOCKS }
-        ensures { IsCommit self.old tx change result self.new }
+        ensures { IsCommit self.old tx (record { read = C.objects_read change; written = C.objects_written change; blocks = C.planned_blocks change; inodes = C.planned_inodes change }) change result self.new }
     {
         if self.wal.broken() {
             return Commit::Broken(tx, change);
         }
         let blocks = blocks_of_objects(change.written());
-        if self.is_foreign(tx.number, &change) || !self.are_homes(blocks.as_slice()) {
+        if !self.is_own(tx.number, &change, blocks.as_slice()) {
             return Commit::Foreign(tx, change);
         }
         match self.wal.room(blocks.as_slice()) {
@@ -65,39 +64,45 @@ impl<C: Change> Core<C> {
         }
     }
 
-    // Whether the transaction or the change isn't this core's.
-    fn is_foreign(&self, transaction: u64, change: &C) -> bool {
-        self.out != Some(transaction)
-            || change.blocks() != self.wal.blocks()
-            || change.inodes() != self.inodes
-            || !self.has_read(transaction, change.read())
-            || !self.may_write(transaction, change.written())
+    // Whether the transaction is out, and the change was planned for this core on what the transaction holds.
+    fn is_own(&self, transaction: u64, change: &C, blocks: &[BlockNo]) -> bool
+        requires { blocks.now ≡ blocks_of (C.objects_written change.now) }
+        ensures { IsTrue result ↔ IsOwn self.now transaction (record { read = C.objects_read change.now; written = C.objects_written change.now; blocks = C.planned_blocks change.now; inodes = C.planned_inodes change.now }) }
+    {
+        self.out == Some(transaction)
+            && change.blocks() == self.wal.blocks()
+            && change.inodes() == self.inodes
+            && self.has_read(transaction, change.read())
+            && self.may_write(transaction, change.written())
+            && self.are_homes(blocks)
     }
 
     // Whether the transaction holds these objects for reading, and they are as they were read.
-    fn has_read(&self, transaction: u64, objects: &[Object]) -> bool {
-        for object in objects {
-            let addr = object.addr();
-            let Some(content) = content_of(&self.present, addr.block) else {
-                return false;
-            };
-            if !is_read_by(&self.holds, transaction, addr)
-                || &content.as_slice()[addr.offset..addr.offset + addr.len] != object.bytes()
-            {
-                return false;
+    fn has_read(&self, transaction: u64, objects: &[Object]) -> bool
+        ensures { IsTrue result ↔ All (IsReadBy self.now transaction) objects.now }
+    {
+        objects.iter().all(|object| is_read_by(&self.holds, transaction, object.addr())
+            && self.has_bytes(object))
+    }
+
+    // Whether the object's block is in memory, and has its bytes.
+    fn has_bytes(&self, object: &Object) -> bool
+        ensures { IsTrue result ↔ HasBytes self.now object.now }
+    {
+        let addr = object.addr();
+        match content_of(&self.present, addr.block) {
+            Some(content) => {
+                &content.as_slice()[addr.offset..addr.offset + addr.len] == object.bytes()
             }
+            None => false,
         }
-        true
     }
 
     // Whether the transaction holds these objects for writing.
-    fn may_write(&self, transaction: u64, objects: &[Object]) -> bool {
-        for object in objects {
-            if !is_written_by(&self.holds, transaction, object.addr()) {
-                return false;
-            }
-        }
-        true
+    fn may_write(&self, transaction: u64, objects: &[Object]) -> bool
+        ensures { IsTrue result ↔ All (λ object. is_written (hold_of self.now.holds transaction object.addr) ≡ true) objects.now }
+    {
+        objects.iter().all(|object| is_written_by(&self.holds, transaction, object.addr()))
     }
 
     // Whether a change may write these blocks.
@@ -105,15 +110,6 @@ impl<C: Change> Core<C> {
         ensures { IsTrue result ↔ All (IsHomeOn self.now.log.blocks) blocks.now }
     {
         blocks.iter().all(|block| self.is_inside(*block))
-    }
-}
-
-// Keeps the record of a commit, for which there is room, until it is installed.
-fn keep<C: Change>(records: &mut VecDeque<Record<C>>, place: Seq, change: C, installed: Seq)
-    requires { deque_len records.old < deque_capacity records.old }
-{
-    if place > installed {
-        records.push_back_reserved(Record { place, change });
     }
 }
 

@@ -1,8 +1,10 @@
 //! The blocks that a change writes, with the bytes that they get.
-ghost use Rattle.std.specs.Prelude.{◌≡◌, ◌≤◌, length, IfOk};
+ghost use Rattle.std.specs.Prelude.{◌≡◌, ◌≤◌, length, IfOk, All};
 ghost use Rattle.limits.specs.declared.TheConstants.{CHANGED_BLOCKS};
 ghost use Rattle.wal.specs.Log.{blocks_of as group_blocks};
-ghost use Rattle.txn.specs.Group.{blocks_of, is_among};
+ghost use Rattle.wal.specs.Log.{newest};
+ghost use Rattle.txn.specs.Group.{blocks_of, is_among, base_in, laid, IsLaid};
+ghost use Rattle.txn.specs.Present.{entry_of, content_in};
 
 use crate::Object;
 use crate::present::{Present, content_of};
@@ -43,7 +45,9 @@ fn base_of(
     present: &[Present],
     wal: &Wal,
     block: BlockNo,
-) -> Result<Block, AllocError> {
+) -> Result<Block, AllocError>
+    ensures { IfOk result (λ base. base ≡ base_in (content_in (entry_of present.now block)) (newest wal.now block.0)) }
+{
     let mut base = Block::zeros(alloc)?;
     if let Some(content) = content_of(present, block) {
         base.copy_from(content);
@@ -54,7 +58,9 @@ fn base_of(
 }
 
 // Lays those of the objects that lie in the block over its content.
-fn lay(content: &mut Block, objects: &[Object], block: BlockNo) {
+fn lay(content: &mut Block, objects: &[Object], block: BlockNo)
+    ensures { content.new ≡ laid content.old objects.now block }
+{
     for object in objects {
         let addr = object.addr();
         if addr.block == block {
@@ -71,7 +77,8 @@ pub(crate) fn group_of(
     blocks: &[BlockNo],
     objects: &[Object],
 ) -> Result<Vec<(BlockNo, Block)>, AllocError>
-    ensures { IfOk result (λ group. group_blocks group.items ≡ blocks.now) }
+    ensures blocks { IfOk result (λ group. group_blocks group.items ≡ blocks.now) }
+    ensures contents { IfOk result (λ group. All (IsLaid present.now wal.now objects.now) group.items) }
 {
     let mut group = Vec::with_capacity(alloc, blocks.len())?;
     for block in blocks {

@@ -1,5 +1,6 @@
 //! Who holds what.
-ghost use Rattle.std.specs.Prelude.{◌<◌, length, IfSome, vec_len, vec_capacity};
+ghost use Rattle.std.specs.Prelude.{◌≡◌, ◌<◌, ◌≤◌, ◌↔◌, IsTrue, vec_len, vec_capacity};
+ghost use Rattle.txn.specs.Holds.{IsFree, is_taken, hold_of, is_read, is_written, joined, without_hold, with_hold, released};
 
 use disk::BlockNo;
 use objects::Addr;
@@ -14,67 +15,91 @@ pub(crate) struct Hold {
     pub(crate) is_claimed: bool,
 }
 
-/// Whether another transaction has taken a byte of the address, or this one has taken a byte of it by another address.
-pub(crate) fn is_busy(holds: &[Hold], transaction: u64, addr: Addr) -> bool {
-    for hold in holds {
-        if hold.addr.overlaps(addr) && (hold.transaction != transaction || hold.addr != addr) {
-            return true;
-        }
-    }
-    false
+/// Whether nobody has taken a byte of the address, but this transaction by this address.
+pub(crate) fn is_free(holds: &[Hold], transaction: u64, addr: Addr) -> bool
+    ensures { IsTrue result ↔ IsFree holds.now transaction addr }
+{
+    holds.iter().all(|hold| {
+        !hold.addr.overlaps(addr) || hold.transaction == transaction && hold.addr == addr
+    })
 }
 
-/// Where the transaction's hold of the address stands, if it has one.
-pub(crate) fn index_of(holds: &[Hold], transaction: u64, addr: Addr) -> Option<usize>
-    ensures { IfSome result (λ i. i < length holds.now) }
+/// The transaction's hold of the address, if it has one.
+pub(crate) fn hold_of(holds: &[Hold], transaction: u64, addr: Addr) -> Option<Hold>
+    ensures { result ≡ hold_of holds.now transaction addr }
 {
-    for (i, hold) in holds.iter().enumerate() {
-        if hold.transaction == transaction && hold.addr == addr {
-            return Some(i);
-        }
-    }
-    None
+    holds
+        .iter()
+        .find(|hold| hold.transaction == transaction && hold.addr == addr)
+        .copied()
 }
 
 /// Whether the transaction holds the address for reading.
-pub(crate) fn is_read_by(holds: &[Hold], transaction: u64, addr: Addr) -> bool {
-    match index_of(holds, transaction, addr) {
-        Some(i) => holds[i].is_read,
+pub(crate) fn is_read_by(holds: &[Hold], transaction: u64, addr: Addr) -> bool
+    ensures { result ≡ is_read (hold_of holds.now transaction addr) }
+{
+    match hold_of(holds, transaction, addr) {
+        Some(hold) => hold.is_read,
         None => false,
     }
 }
 
 /// Whether the transaction holds the address for writing.
-pub(crate) fn is_written_by(holds: &[Hold], transaction: u64, addr: Addr) -> bool {
-    match index_of(holds, transaction, addr) {
-        Some(i) => holds[i].is_read || holds[i].is_claimed,
+pub(crate) fn is_written_by(holds: &[Hold], transaction: u64, addr: Addr) -> bool
+    ensures { result ≡ is_written (hold_of holds.now transaction addr) }
+{
+    match hold_of(holds, transaction, addr) {
+        Some(hold) => hold.is_read || hold.is_claimed,
         None => false,
     }
 }
 
 /// Whether anyone has taken a part of the block.
-pub(crate) fn is_taken(holds: &[Hold], block: BlockNo) -> bool {
+pub(crate) fn is_taken(holds: &[Hold], block: BlockNo) -> bool
+    ensures { result ≡ is_taken holds.now block }
+{
     holds.iter().any(|hold| hold.addr.block == block)
 }
 
 /// Notes that the transaction takes the address, for reading, for writing, or with its block still to be fetched.
 pub(crate) fn take(holds: &mut Vec<Hold>, hold: Hold)
     requires { vec_len holds.old < vec_capacity holds.old }
+    ensures { holds.new.items ≡ with_hold holds.old.items hold }
 {
-    match index_of(holds, hold.transaction, hold.addr) {
-        Some(i) => {
-            let had = &mut holds[i];
-            had.is_read = had.is_read || hold.is_read;
-            had.is_claimed = had.is_claimed || hold.is_claimed;
-        }
-        None => match holds.push(hold) {
-            Ok(()) => {}
-            Err(_) => unreachable!(),
+    let joined = joined(hold_of(holds, hold.transaction, hold.addr), hold);
+    let_go(holds, hold.transaction, hold.addr);
+    match holds.push(joined) {
+        Ok(()) => {}
+        Err(_) => unreachable!(),
+    }
+}
+
+// Lets go of the transaction's hold of the address.
+fn let_go(holds: &mut Vec<Hold>, transaction: u64, addr: Addr)
+    ensures items { holds.new.items ≡ without_hold holds.old.items transaction addr }
+    ensures len { vec_len holds.new ≤ vec_len holds.old }
+    ensures capacity { vec_capacity holds.new ≡ vec_capacity holds.old }
+{
+    holds.retain(|hold| hold.transaction != transaction || hold.addr != addr);
+}
+
+// What is held by a new hold beside one that there was.
+fn joined(had: Option<Hold>, hold: Hold) -> Hold
+    ensures { result ≡ joined had hold }
+{
+    match had {
+        Some(had) => Hold {
+            is_read: had.is_read || hold.is_read,
+            is_claimed: had.is_claimed || hold.is_claimed,
+            ..hold
         },
+        None => hold,
     }
 }
 
 /// Lets go of all that the transaction has taken.
-pub(crate) fn release(holds: &mut Vec<Hold>, transaction: u64) {
+pub(crate) fn release(holds: &mut Vec<Hold>, transaction: u64)
+    ensures { holds.new.items ≡ released holds.old.items transaction }
+{
     holds.retain(|hold| hold.transaction != transaction);
 }

@@ -10,8 +10,6 @@ mod object;
 mod present;
 mod records;
 mod state;
-#[cfg(test)]
-mod tests;
 mod tx;
 mod want;
 mod window;

@@ -1,5 +1,6 @@
 //! The blocks that are in memory besides the log's.
-ghost use Rattle.std.specs.Prelude.{◌≡◌, ◌<◌, length, vec_len, vec_capacity, IfSome};
+ghost use Rattle.std.specs.Prelude.{◌≡◌, ◌<◌, ◌++◌, ◌∷◌, [], length, option_map, vec_len, vec_capacity, IfSome};
+ghost use Rattle.txn.specs.Present.{entry_of, content_in, is_pending};
 
 use disk::{Block, BlockNo};
 
@@ -22,18 +23,29 @@ pub(crate) fn index_of(present: &[Present], block: BlockNo) -> Option<usize>
     None
 }
 
+/// The block's entry, if it has one.
+pub(crate) fn entry_of(present: &[Present], block: BlockNo) -> Option<&Present>
+    ensures { option_map (λ entry. entry.now) result ≡ entry_of present.now block }
+{
+    present.iter().find(|entry| entry.block == block)
+}
+
 /// The block's content, if it is there and not pending.
-pub(crate) fn content_of(present: &[Present], block: BlockNo) -> Option<&Block> {
-    match index_of(present, block) {
-        Some(i) => present[i].content.as_ref(),
+pub(crate) fn content_of(present: &[Present], block: BlockNo) -> Option<&Block>
+    ensures { option_map (λ content. content.now) result ≡ content_in (entry_of present.now block) }
+{
+    match entry_of(present, block) {
+        Some(entry) => entry.content.as_ref(),
         None => None,
     }
 }
 
 /// Whether a fetch of the block is pending.
-pub(crate) fn is_pending(present: &[Present], block: BlockNo) -> bool {
-    match index_of(present, block) {
-        Some(i) => present[i].content.is_none(),
+pub(crate) fn is_pending(present: &[Present], block: BlockNo) -> bool
+    ensures { result ≡ is_pending (entry_of present.now block) }
+{
+    match entry_of(present, block) {
+        Some(entry) => entry.content.is_none(),
         None => false,
     }
 }
@@ -41,6 +53,7 @@ pub(crate) fn is_pending(present: &[Present], block: BlockNo) -> bool {
 /// Adds a block, for which there is room.
 pub(crate) fn add(present: &mut Vec<Present>, block: BlockNo, content: Option<Block>)
     requires { vec_len present.old < vec_capacity present.old }
+    ensures { present.new.items ≡ present.old.items ++ record { block = block; content = content } ∷ [] }
 {
     match present.push(Present { block, content }) {
         Ok(()) => {}

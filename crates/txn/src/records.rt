@@ -1,6 +1,13 @@
 //! The commits that aren't installed.
+ghost use Rattle.std.specs.Prelude.{◌≡◌, ◌<◌, ◌++◌, ◌∷◌, [], ◌||◌, if◌then◌else◌, is_none, nat_lt};
+ghost use Rattle.std.specs.List.{filter, list_any};
+ghost use Rattle.txn.specs.Holds.{is_taken};
+ghost use Rattle.txn.specs.Records.{lies_in};
+ghost use Rattle.std.specs.VecDeque.{deque_len, deque_capacity};
 
-use crate::Change;
+use crate::holds::{Hold, is_taken};
+use crate::present::Present;
+use crate::{Change, Object};
 use disk::BlockNo;
 use std::collections::VecDeque;
 use wal::Seq;
@@ -12,32 +19,53 @@ pub(crate) struct Record<C: Change> {
     pub(crate) change: C,
 }
 
-/// Whether the change read a part of the block.
-pub(crate) fn has_read<C: Change>(change: &C, block: BlockNo) -> bool {
-    for object in change.read() {
-        if object.addr().block == block {
-            return true;
-        }
-    }
-    false
+// Whether one of the objects lies in the block.
+fn lies_in(objects: &[Object], block: BlockNo) -> bool
+    ensures { result ≡ lies_in objects.now block }
+{
+    objects.iter().any(|object| object.addr().block == block)
 }
 
 /// Whether a kept record read a part of the block.
-pub(crate) fn is_kept<C: Change>(records: &VecDeque<Record<C>>, block: BlockNo) -> bool {
-    for record in records.iter() {
-        if has_read(&record.change, block) {
-            return true;
-        }
+pub(crate) fn is_kept<C: Change>(records: &VecDeque<Record<C>>, block: BlockNo) -> bool
+    ensures { result ≡ list_any (λ kept. lies_in (C.objects_read kept.change) block) records.now.items }
+{
+    records
+        .iter()
+        .any(|record| lies_in(record.change.read(), block))
+}
+
+/// Keeps the record of a commit, for which there is room, until it is installed.
+pub(crate) fn keep<C: Change>(
+    records: &mut VecDeque<Record<C>>,
+    place: Seq,
+    change: C,
+    installed: Seq,
+)
+    requires { deque_len records.old < deque_capacity records.old }
+    ensures { records.new.items ≡ (if nat_lt installed.0 place.0 then records.old.items ++ record { place = place; change = change } ∷ [] else records.old.items) }
+{
+    if place > installed {
+        records.push_back_reserved(Record { place, change });
     }
-    false
 }
 
 /// Lets go of the records up to a place.
-pub(crate) fn forget<C: Change>(records: &mut VecDeque<Record<C>>, installed: Seq) {
-    while let Some(first) = records.front() {
-        if first.place > installed {
-            break;
-        }
-        let _ = records.pop_front();
-    }
+pub(crate) fn forget<C: Change>(records: &mut VecDeque<Record<C>>, installed: Seq)
+    ensures { records.new.items ≡ filter (λ kept. nat_lt installed.0 kept.place.0) records.old.items }
+{
+    records.retain(|record| record.place > installed);
+}
+
+/// Lets go of the blocks that nobody has taken, no kept record read and no fetch is pending of.
+pub(crate) fn sweep<C: Change>(
+    present: &mut Vec<Present>,
+    holds: &[Hold],
+    records: &VecDeque<Record<C>>,
+)
+    ensures { present.new.items ≡ filter (λ entry. is_none entry.content || is_taken holds.now entry.block || list_any (λ kept. lies_in (C.objects_read kept.change) entry.block) records.now.items) present.old.items }
+{
+    present.retain(|entry| {
+        entry.content.is_none() || is_taken(holds, entry.block) || is_kept(records, entry.block)
+    });
 }

@@ -1,15 +1,16 @@
 //! The core: who holds what, what is in memory, and the commits that aren't installed.
-ghost use Rattle.std.specs.Prelude.{◌≡◌, ◌≤◌, ◌+◌, ◌^◌, ◌↔◌, IsTrue, IsSome, IsNone, IfSome, IsErrOf, OnErr, IfOk, Some, None, true, is_some, if◌then◌else◌};
-ghost use Rattle.wal.specs.Log.{settled_place, tail_count, IsHomeOn};
+ghost use Rattle.std.specs.Prelude.{◌≡◌, ◌≤◌, ◌+◌, ◌^◌, ◌↔◌, IsTrue, IsSome, IsNone, IfSome, IsErrOf, OnErr, IfOk, Some, None, true, false, is_some, if◌then◌else◌, []};
+ghost use Rattle.wal.specs.Log.{settled_place, installed_place, tail_count, IsHomeOn};
 ghost use Rattle.wal.specs.Io.{IsCallWithin};
 ghost use Rattle.wal.specs.Logger.{may_log, with_log_out, is_log_out, with_log_back};
 ghost use Rattle.wal.specs.Installer.{may_install, with_inst_out, is_inst_out, with_inst_back};
-ghost use Rattle.txn.specs.Core.{without};
+ghost use Rattle.txn.specs.Core.{without, ended, past, installed};
+ghost use Rattle.txn.specs.Records.{swept};
 
 use crate::answers::BeginFault;
-use crate::holds::{Hold, is_taken, release};
+use crate::holds::{Hold, release};
 use crate::present::Present;
-use crate::records::{Record, forget, is_kept};
+use crate::records::{Record, forget, sweep};
 use crate::{Change, Stable, Tx};
 use disk::BlockNo;
 use limits::FIRST_HOME_BLOCK;
@@ -35,17 +36,26 @@ pub struct Core<C: Change> {
 }
 
 impl<C: Change> Model for Core<C> {
+    ghost use Rattle.std.specs.Prelude.{map};
     ghost use Rattle.txn.specs.Core.{CoreState};
 
     ghost Value = { CoreState };
 
-    ghost view = { λ c. record { log = c.wal; inodes = c.inodes; begun = c.begun; out = c.out } };
+    ghost view = { λ c. record {
+      log = c.wal;
+      inodes = c.inodes;
+      begun = c.begun;
+      out = c.out;
+      holds = c.holds.items;
+      present = c.present.items;
+      records = map (λ r. record { place = r.place.0; read = C.objects_read r.change; written = C.objects_written r.change }) c.records.items;
+    } };
 }
 
 impl<C: Change> Core<C> {
     /// A core over a log, for an image with the log's blocks and this count of inodes.
     pub fn new(alloc: Global, wal: Wal, inodes: u32) -> Core<C>
-        ensures { result ≡ record { log = wal; inodes = inodes; begun = 0; out = None } }
+        ensures { result ≡ record { log = wal; inodes = inodes; begun = 0; out = None; holds = []; present = []; records = [] } }
     {
         Core {
             wal,
@@ -72,7 +82,7 @@ impl<C: Change> Core<C> {
             × (self.new ≡ record self.old { begun = self.old.begun + 1; out = Some (self.old.begun + 1) })) }
         ensures refused { OnErr result (self.new ≡ self.old) }
         ensures broken { IsErrOf result BeginFault.Broken ↔ (self.old.log.broken ≡ true) }
-        ensures spent { IsErrOf result BeginFault.Spent → self.old.begun + 1 ≡ 2 ^ 64 }
+        ensures spent { IsErrOf result BeginFault.Spent ↔ ((self.old.log.broken ≡ false) × (self.old.begun + 1 ≡ 2 ^ 64)) }
         ensures no_memory { IsErrOf result BeginFault.NoMemory → ⊥ }
     {
         if self.wal.broken() {
@@ -88,8 +98,7 @@ impl<C: Change> Core<C> {
 
     /// Ends a transaction without a change, and lets go of what it has taken.
     pub fn abort(&mut self, tx: Tx)
-        ensures books { (self.new.log ≡ self.old.log) × (self.new.inodes ≡ self.old.inodes) × (self.new.begun ≡ self.old.begun) }
-        ensures out { self.new.out ≡ without tx self.old.out }
+        ensures { self.new ≡ ended self.old tx }
     {
         let Tx { number } = tx;
         self.close(number);
@@ -97,25 +106,25 @@ impl<C: Change> Core<C> {
 
     // Lets go of what a transaction has taken, and of the blocks that nobody needs any more.
     pub(crate) fn close(&mut self, transaction: u64)
-        ensures books { (self.new.log ≡ self.old.log) × (self.new.inodes ≡ self.old.inodes) × (self.new.begun ≡ self.old.begun) }
-        ensures out { self.new.out ≡ without transaction self.old.out }
+        ensures { self.new ≡ ended self.old transaction }
     {
-        if self.out == Some(transaction) {
-            self.out = None;
-        }
+        self.out = without(transaction, self.out);
         release(&mut self.holds, transaction);
         self.sweep();
     }
 
+    // Lets go of the records of the commits that are installed.
+    fn forget(&mut self)
+        ensures { self.new ≡ record self.old { records = past (installed_place self.old.log) self.old.records } }
+    {
+        forget(&mut self.records, self.wal.installed());
+    }
+
     // Lets go of the blocks that nobody has taken, no kept record read and no fetch is pending of.
     pub(crate) fn sweep(&mut self)
-        ensures { self.new ≡ self.old }
+        ensures { self.new ≡ record self.old { present = swept self.old.holds self.old.records self.old.present } }
     {
-        let holds = &self.holds;
-        let records = &self.records;
-        self.present.retain(|entry| {
-            entry.content.is_none() || is_taken(holds, entry.block) || is_kept(records, entry.block)
-        });
+        sweep(&mut self.present, &self.holds, &self.records);
     }
 
     // Whether a change may write the block.
@@ -165,7 +174,7 @@ impl<C: Change> Core<C> {
     pub fn log_done(&mut self, io: LogIo, ok: bool)
         ensures log { self.new.log ≡ (if is_log_out self.old.log io then with_log_back self.old.log ok else self.old.log) }
         ensures blocks { self.new.log.blocks ≡ self.old.log.blocks }
-        ensures others { (self.new.inodes ≡ self.old.inodes) × (self.new.begun ≡ self.old.begun) × (self.new.out ≡ self.old.out) }
+        ensures others { self.new ≡ record self.old { log = self.new.log } }
     {
         self.wal.log_done(io, ok);
     }
@@ -184,10 +193,20 @@ impl<C: Change> Core<C> {
     pub fn inst_done(&mut self, io: InstIo, ok: bool)
         ensures log { self.new.log ≡ (if is_inst_out self.old.log io then with_inst_back self.old.log ok else self.old.log) }
         ensures blocks { self.new.log.blocks ≡ self.old.log.blocks }
-        ensures others { (self.new.inodes ≡ self.old.inodes) × (self.new.begun ≡ self.old.begun) × (self.new.out ≡ self.old.out) }
+        ensures others { self.new ≡ installed self.old self.new.log }
     {
         self.wal.inst_done(io, ok);
-        forget(&mut self.records, self.wal.installed());
+        self.forget();
         self.sweep();
+    }
+}
+
+// Which transaction is out once this one has ended.
+fn without(transaction: u64, out: Option<u64>) -> Option<u64>
+    ensures { result ≡ without transaction out }
+{
+    match out {
+        Some(number) if number == transaction => None,
+        _ => out,
     }
 }

@@ -1,11 +1,13 @@
 //! Reading and claiming what a transaction works on.
-ghost use Rattle.std.specs.Prelude.{◌≡◌, ◌<◌, length, IfOk};
-ghost use Rattle.wal.specs.Log.{IsHomeOn};
-ghost use Rattle.txn.specs.Answers.{SameBooks, IsWanted, IsClaimed};
-ghost use Rattle.txn.specs.Found.{IsFound};
+ghost use Rattle.std.specs.Prelude.{◌≡◌, IfOk, OnErr, true, false, length};
+ghost use Rattle.objects.specs.declared.addr.Addr.{Addr};
+ghost use Rattle.txn.specs.Answers.{IsWanted, IsWithin, IsWhole, IsClaimed};
+ghost use Rattle.txn.specs.Present.{entry_of, is_pending};
+ghost use Rattle.txn.specs.Window.{part};
+ghost use Rattle.txn.specs.Found.{IsFound, IsFoundWithin};
 
 use crate::answers::{Claim, Want};
-use crate::holds::{Hold, is_busy, take};
+use crate::holds::{Hold, is_free, take};
 use crate::present::{add, content_of, index_of, is_pending};
 use crate::{Change, Core, FetchIo, Tx};
 use disk::{Block, BlockNo};
@@ -24,13 +26,13 @@ impl<C: Change> Core<C> {
     /// is taken. Fetch: the block has to be read from home; the object is taken, and the same want after `fetched`
     /// answers Held or NoMemory. NoMemory: nothing has changed.
     pub fn want(&mut self, alloc: Global, tx: Tx, addr: Addr) -> Want
-        ensures books { SameBooks self.old self.new }
-        ensures answer { IsWanted self.old.log.blocks addr.len tx result }
+        ensures answer { IsWanted self.old tx addr result self.new }
+        ensures within { IsWithin self.old.log.blocks addr.len result }
     {
         if !self.is_inside(addr.block) {
             return Want::Outside(tx);
         }
-        if is_busy(&self.holds, tx.number, addr) {
+        if !is_free(&self.holds, tx.number, addr) {
             return Want::Busy(tx);
         }
         if is_pending(&self.present, addr.block) {
@@ -45,17 +47,22 @@ impl<C: Change> Core<C> {
 
     /// Takes a whole block for writing, whose bytes don't matter. It answers as `want` does, and never Fetch.
     pub fn claim(&mut self, tx: Tx, block: BlockNo) -> Claim
-        ensures books { SameBooks self.old self.new }
-        ensures answer { IsClaimed tx result }
+        ensures { (addr : Addr) × IsWhole block addr × IsClaimed self.old tx addr result self.new }
     {
-        let addr = Addr::whole(block);
-        if !self.is_inside(block) {
+        self.claim_at(tx, Addr::whole(block))
+    }
+
+    // Takes an object for writing.
+    fn claim_at(&mut self, tx: Tx, addr: Addr) -> Claim
+        ensures { IsClaimed self.old tx addr result self.new }
+    {
+        if !self.is_inside(addr.block) {
             return Claim::Outside(tx);
         }
-        if is_busy(&self.holds, tx.number, addr) {
+        if !is_free(&self.holds, tx.number, addr) {
             return Claim::Busy(tx);
         }
-        if is_pending(&self.present, block) {
+        if is_pending(&self.present, addr.block) {
             return Claim::Loading(tx);
         }
         if self.holds.reserve(1).is_err() {
@@ -80,14 +87,15 @@ impl<C: Change> Core<C> {
         transaction: u64,
         addr: Addr,
     ) -> Result<Found, AllocError>
-        requires { IsHomeOn self.old.log.blocks addr.block }
-        ensures books { SameBooks self.old self.new }
-        ensures found { IfOk result (IsFound self.old.log.blocks addr.len) }
+        requires { is_pending (entry_of self.old.present addr.block) ≡ false }
+        ensures found { IfOk result (λ found. IsFound self.old transaction addr found self.new) }
+        ensures within { IfOk result (IsFoundWithin addr.len) }
+        ensures refused { OnErr result (self.new ≡ self.old) }
     {
         self.holds.reserve(1)?;
         if let Some(content) = content_of(&self.present, addr.block) {
             let bytes = part_of(alloc, content, addr)?;
-            take(&mut self.holds, read_hold(transaction, addr));
+            take(&mut self.holds, hold(transaction, addr, true));
             return Ok(Found::Bytes(bytes));
         }
         self.present.reserve(1)?;
@@ -96,11 +104,11 @@ impl<C: Change> Core<C> {
             content.copy_from(newest);
             let bytes = part_of(alloc, &content, addr)?;
             add(&mut self.present, addr.block, Some(content));
-            take(&mut self.holds, read_hold(transaction, addr));
+            take(&mut self.holds, hold(transaction, addr, true));
             return Ok(Found::Bytes(bytes));
         }
         add(&mut self.present, addr.block, None);
-        take(&mut self.holds, fetch_hold(transaction, addr));
+        take(&mut self.holds, hold(transaction, addr, false));
         Ok(Found::Fetch(FetchIo {
             block: addr.block,
             buffer: content,
@@ -109,7 +117,7 @@ impl<C: Change> Core<C> {
 
     /// Gives a fetch back with what was read. The block stays in memory while anyone has taken a part of it.
     pub fn fetched(&mut self, io: FetchIo)
-        ensures { SameBooks self.old self.new }
+        ensures { self.new ≡ record self.old { present = self.new.present } }
     {
         let FetchIo { block, buffer } = io;
         if let Some(i) = index_of(&self.present, block) {
@@ -123,7 +131,7 @@ impl<C: Change> Core<C> {
 
     /// Gives a fetch back that failed. The next want of the block asks for it again.
     pub fn fetch_failed(&mut self, io: FetchIo)
-        ensures { SameBooks self.old self.new }
+        ensures { self.new ≡ record self.old { present = self.new.present } }
     {
         let FetchIo { block, buffer: _ } = io;
         self.present
@@ -133,27 +141,20 @@ impl<C: Change> Core<C> {
 
 // The bytes of a block that an object has.
 fn part_of(alloc: Global, content: &Block, addr: Addr) -> Result<Vec<u8>, AllocError>
-    ensures { IfOk result (λ bytes. length bytes.items ≡ addr.len) }
+    ensures bytes { IfOk result (λ bytes. bytes.items ≡ part content.now addr) }
+    ensures len { IfOk result (λ bytes. length bytes.items ≡ addr.len) }
 {
     content.as_slice()[addr.offset..addr.offset + addr.len].to_vec(alloc)
 }
 
-// The hold of an object that was read.
-fn read_hold(transaction: u64, addr: Addr) -> Hold {
+// The hold of an object that was read, or whose block is being fetched.
+fn hold(transaction: u64, addr: Addr, is_read: bool) -> Hold
+    ensures { result ≡ record { transaction = transaction; addr = addr; is_read = is_read; is_claimed = false } }
+{
     Hold {
         transaction,
         addr,
-        is_read: true,
-        is_claimed: false,
-    }
-}
-
-// The hold of an object whose block is being fetched.
-fn fetch_hold(transaction: u64, addr: Addr) -> Hold {
-    Hold {
-        transaction,
-        addr,
-        is_read: false,
+        is_read,
         is_claimed: false,
     }
 }

@@ -12,9 +12,9 @@ use store_promise::{Committing, Ending, Entry, Step, Verdict, Wish};
 use txn::{Claim, Commit, Core, Seq, Tx, Want};
 
 impl Worker {
-    ghost use Rattle.store.specs.declared.workers.Phase.TheVariants.{Planning};
+    ghost use Rattle.store.specs.declared.workers.Phase.TheVariants.{Planning, Waiting};
     ghost use Rattle.store.specs.Counts.{SameCounts};
-    ghost use Rattle.store.specs.Worker.{Fits, HasRoom, IsHeld, IsPlanned, IsStillPlanned, IsTold, IsWithout};
+    ghost use Rattle.store.specs.Worker.{Fits, HasRoom, IsHeld, IsPlanned, IsReplied, IsStillPlanned, IsTold, IsWithout};
 
     // Makes the step that the plan asks for. Where the plan finds no memory the transaction is ended.
     pub(super) fn go_by_plan(&mut self, alloc: Global, core: &mut Core<Done>) -> Step
@@ -201,20 +201,33 @@ impl Worker {
         ensures out { (self.new.tx ≡ None) × (self.new.io ≡ None) }
         ensures ready { IsWithout self.new }
     {
-        let Some(Job { ctx, call }) = self.job.take() else {
+        let Some(job) = self.job.take() else {
             unreachable!();
         };
-        if is_answered_stable(&call) {
-            self.told = Some(told);
-            self.broken = Some(refused_reply(&call, Status::Io));
-            self.phase = Phase::Waiting(place);
+        if is_answered_stable(&job.call) {
+            self.wait_for(place, told, refused_reply(&job.call, Status::Io));
         } else {
             self.give(Verdict::Reply(told), Some(place));
         }
-        self.entry = Some(Entry {
-            ctx,
-            call,
-            reply: kept,
-        });
+        self.note_entry(job, kept);
+    }
+
+    // The procedure is answered once its place is settled: so, or, if the store breaks before, by the other reply.
+    fn wait_for(&mut self, place: Seq, told: Reply, broken: Reply)
+        ensures phase { self.new.phase ≡ Waiting place }
+        ensures replied { IsReplied self.new }
+        ensures rest { (self.new.tx ≡ self.old.tx) × (self.new.io ≡ self.old.io) }
+    {
+        self.told = Some(told);
+        self.broken = Some(broken);
+        self.phase = Phase::Waiting(place);
+    }
+
+    // The entry of a committed procedure lies ready to be taken.
+    fn note_entry(&mut self, job: Job, reply: Reply)
+        ensures { self.new ≡ record self.old { entry = self.new.entry } }
+    {
+        let Job { ctx, call } = job;
+        self.entry = Some(Entry { ctx, call, reply });
     }
 }

@@ -76,7 +76,8 @@ pub fn recover<D: CrashDisk>(alloc: Global, disk: &mut D) -> Result<Recovered, L
         → IsFound (D.device disk.old).size (image_of (D.device disk.old)) result }
 {
     let mut header = zeros(alloc)?;
-    let start = read_headers(alloc, disk, &mut header)?;
+    read_block(disk, BlockNo(LOG_HEADER_BLOCK), &mut header)?;
+    let start = read_start(alloc, disk)?;
     let end = end_of(&header);
     if start > end || end - start > LOG_SLOTS {
         return Err(LogFault::Range);
@@ -90,24 +91,17 @@ pub fn recover<D: CrashDisk>(alloc: Global, disk: &mut D) -> Result<Recovered, L
     Ok(Recovered { start, logged })
 }
 
-// Reads the header of the log, and the start, which it answers.
-fn read_headers<D: CrashDisk>(
-    alloc: Global,
-    disk: &mut D,
-    header: &mut Block,
-) -> Result<u64, LogFault>
+// Reads where the log begins.
+fn read_start<D: CrashDisk>(alloc: Global, disk: &mut D) -> Result<u64, LogFault>
     requires { FIRST_HOME_BLOCK ≤ (D.device disk.old).size }
     ensures reads { HasOnlyRead (D.device disk.old) (D.device disk.new) }
     ensures failure { CountsFault (D.device disk.old) (D.device disk.new) result }
     ensures model { D.keeps_model disk.new → D.keeps_model disk.old }
-    ensures header { D.keeps_model disk.new → IsUnspoiled (D.device disk.old)
-        → OnOk result (header.new ≡ image_of (D.device disk.old) LOG_HEADER_BLOCK) }
     ensures start { D.keeps_model disk.new → IsUnspoiled (D.device disk.old)
         → IfOk result (λ start. start ≡ start_in (image_of (D.device disk.old))) }
     ensures other { OnErr result (IsErrOf result LogFault.Device ⊎ IsErrOf result LogFault.NoMemory) }
 {
     let mut block = zeros(alloc)?;
-    read_block(disk, BlockNo(LOG_HEADER_BLOCK), header)?;
     read_block(disk, BlockNo(START_BLOCK), &mut block)?;
     Ok(start_of(&block))
 }

@@ -1,15 +1,15 @@
 //! A toy change over a device in memory: what no contract says of reading, committing, settling and refusing.
-ghost use Rattle.std.specs.Prelude.{◌≡◌, ◌≤◌, length, IfOk, None, Some};
-ghost use Rattle.limits.specs.declared.TheConstants.{CHANGED_BLOCKS};
+ghost use Rattle.std.specs.Prelude.{◌≡◌, ◌≤◌, ◌+◌, length, IfOk, None, Some};
+ghost use Rattle.limits.specs.declared.TheConstants.{BLOCK_BYTES, CHANGED_BLOCKS};
 ghost use Rattle.txn.specs.Group.{blocks_of};
-ghost use Rattle.txn.specs.declared.tests.TheConstants.{BLOCKS, INODES};
+ghost use Rattle.txn_by_hand.specs.declared.tests.TheConstants.{BLOCKS, INODES};
 
-use crate::*;
 use disk::{Block, BlockNo, CrashDisk, MemDisk};
 use limits::FIRST_HOME_BLOCK;
 use objects::Addr;
 use std::alloc::Global;
 use std::test::Fail;
+use txn::*;
 use wal::circ::Recovered;
 use wal::{Seq, Wal};
 
@@ -71,13 +71,12 @@ fn core(alloc: Global, start: u64) -> Result<Core<Toy>, Fail>
 
 // The 8 bytes of the first block from an offset on.
 fn eight(offset: usize) -> Addr
-    requires { offset ≤ 4088 }
+    requires { offset + 8 ≤ BLOCK_BYTES }
     ensures { result.len ≡ 8 }
 {
-    Addr {
-        block: HOME,
-        offset,
-        len: 8,
+    match Addr::new(HOME, offset, 8) {
+        Some(addr) => addr,
+        None => unreachable!(),
     }
 }
 
@@ -424,11 +423,4 @@ fn begin_refused(core: &mut Core<Toy>, cause: BeginFault) -> Result<(), Fail>
         Err(fault) if fault == cause => Ok(()),
         Err(_) => Err("another cause")?,
     }
-}
-
-#[test]
-fn the_last_transaction_number_is_spent(rt: HostRuntime) -> Result<(), Fail> {
-    let mut core = core(rt.alloc(), 0)?;
-    core.begun = u64::MAX;
-    begin_refused(&mut core, BeginFault::Spent)
 }

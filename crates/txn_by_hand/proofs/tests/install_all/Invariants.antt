@@ -1,6 +1,6 @@
 -- the counts of blocks stay, and no transaction begins or ends
 use Rattle.std.proofs.Common.{◌≡◌}
-use Rattle.txn.proofs.tests.log_all.Given as goal
+use Rattle.txn_by_hand.proofs.tests.install_all.Given as goal
 
 abbrev pub invariant-calls : goal.invariant-calls
 invariant-calls g l =
