@@ -38,15 +38,17 @@ pub const LEAST_DATA_BLOCKS: u32 = 64;
 pub const INODE_BYTES: usize = 128;
 /// The bits of a block of a bitmap.
 pub const BITS_PER_BLOCK: u32 = 32_768;
-/// The bytes of the part of a bitmap that a transaction takes at once.
-pub const BITMAP_PART_BYTES: usize = 512;
 /// The version of the format.
 pub const FORMAT_VERSION: u32 = 1;
 
 // The sizes of files.
 
+/// The number of the one file system that is exported.
+pub const FILE_SYSTEM: u64 = 1;
 /// The number of the root.
 pub const ROOT: u32 = 1;
+/// The mode of a fresh root: read, write and search for its owner, read and search for everybody else.
+pub const ROOT_MODE: u32 = 0o755;
 /// The indexes of a file that its inode names directly.
 pub const DIRECT_INDEXES: usize = 8;
 /// The indexes that an indirect block names.
@@ -65,13 +67,21 @@ pub const TARGET_BYTES: usize = 1024;
 pub const MOST_LINKS: u32 = 32_000;
 /// The bits of a mode that a file keeps.
 pub const MODE_BITS: u32 = 4095;
+/// The bit of a mode that lets others read.
+pub const READ_RIGHT: u32 = 4;
+/// The bit of a mode that lets others write.
+pub const WRITE_RIGHT: u32 = 2;
+/// The bit of a mode that lets others execute a file or search a directory.
+pub const EXECUTE_RIGHT: u32 = 1;
+/// By what the bits of others are multiplied to have those of the group.
+pub const GROUP_CLASS: u32 = 8;
+/// By what the bits of others are multiplied to have those of the owner.
+pub const OWNER_CLASS: u32 = 64;
 /// Nanoseconds of a second: those of a time lie below.
 pub const NANOSECONDS: u32 = 1_000_000_000;
 
 // The sizes of calls.
 
-/// The most bytes of one READ or WRITE.
-pub const TRANSFER_BYTES: u32 = 32_768;
 /// The most bytes of a record.
 pub const RECORD_BYTES: usize = 40_960;
 /// The bytes of a handle of this server.
@@ -84,17 +94,20 @@ pub const MOST_AUTH_BYTES: usize = 400;
 pub const MACHINE_NAME_BYTES: usize = 255;
 /// The most further groups of a credential.
 pub const MOST_GIDS: usize = 16;
-/// The most bytes of a path to mount.
-pub const MOUNT_PATH_BYTES: usize = 1024;
 /// The user and the group of a call without credential.
 pub const NOBODY: u32 = 65_534;
+
+// The sizes of sessions.
+
+/// The most reads of one session.
+pub const MOST_READS: u64 = 1 << 48;
+/// The bytes that a session reads at once.
+pub const PIECE_BYTES: usize = 4096;
 
 // The sizes of transactions and runs.
 
 /// The most blocks that a transaction changes.
 pub const CHANGED_BLOCKS: usize = 64;
-/// The most workers of a run.
-pub const MOST_WORKERS: usize = 64;
 
 const _: () = prove!(FILE_INDEXES == DIRECT_INDEXES + INDIRECT_INDEXES);
 

@@ -1,6 +1,6 @@
 -- What a reply tells of a file (RFC 1813, section 2.6).
 use Rattle.std.specs.Prelude.{ℕ, ◌*◌, Some, None, length}
-use Rattle.limits.specs.declared.TheConstants.{BLOCK_BYTES}
+use Rattle.limits.specs.declared.TheConstants.{BLOCK_BYTES, FILE_SYSTEM}
 use Rattle.nfs_types.specs.declared.attributes.Attributes.{Attributes}
 use Rattle.nfs_types.specs.declared.attributes.FileKind.{FileKind}
 use Rattle.nfs_types.specs.declared.attributes.FileKind.TheVariants as kinds
@@ -20,10 +20,6 @@ abbrev pub size_of : Body → ℕ
 size_of (Regular bytes kept) = length bytes
 size_of (Directory entries span parent) = BLOCK_BYTES * span
 size_of (Link target) = length target
-
--- the number of the one file system that is exported
-abbrev pub FILE_SYSTEM : ℕ
-FILE_SYSTEM = 1
 
 -- the attributes of a file with this number: no file is a device
 abbrev pub attributes_of : ℕ → Node → Attributes

@@ -21,11 +21,55 @@ abbrev pub sets_only_mode : NewAttributes → Bool
 sets_only_mode wanted =
     is_none wanted.uid && is_none wanted.gid && is_none wanted.size && is_kept wanted.atime && is_kept wanted.mtime
 
--- the calls that have rules so far: each begins a transaction of its own; NULL has none, as it does nothing
+-- the calls that the sequential server has a step for so far
+abbrev pub has_step : Call → Bool
+has_step (call.GetAttr _) = true
+has_step (call.SetAttr _ _ _) = true
+has_step call.Null = false
+has_step (call.Lookup _) = false
+has_step (call.Access _ _) = false
+has_step (call.ReadLink _) = false
+has_step (call.Read _ _ _) = false
+has_step (call.Write _ _ _ _ _) = false
+has_step (call.Create _ _) = false
+has_step (call.MkDir _ _) = false
+has_step (call.SymLink _ _ _) = false
+has_step (call.MkNod _ _) = false
+has_step (call.Remove _) = false
+has_step (call.RmDir _) = false
+has_step (call.Rename _ _) = false
+has_step (call.Link _ _) = false
+has_step (call.ReadDir _ _ _ _) = false
+has_step (call.ReadDirPlus _ _ _ _ _) = false
+has_step (call.FsStat _) = false
+has_step (call.FsInfo _) = false
+has_step (call.PathConf _) = false
+has_step (call.Commit _ _ _) = false
+
+-- The calls that are served so far: each begins a transaction of its own. NULL has no rules, as it does nothing.
 abbrev pub has_rules : Call → Bool
-has_rules (call.GetAttr object) = true
-has_rules (call.SetAttr object attributes guard) = sets_only_mode attributes
-has_rules _ = false
+has_rules (call.GetAttr _) = true
+has_rules (call.SetAttr _ attributes _) = sets_only_mode attributes
+has_rules call.Null = false
+has_rules (call.Lookup _) = false
+has_rules (call.Access _ _) = false
+has_rules (call.ReadLink _) = false
+has_rules (call.Read _ _ _) = false
+has_rules (call.Write _ _ _ _ _) = false
+has_rules (call.Create _ _) = false
+has_rules (call.MkDir _ _) = false
+has_rules (call.SymLink _ _ _) = false
+has_rules (call.MkNod _ _) = false
+has_rules (call.Remove _) = false
+has_rules (call.RmDir _) = false
+has_rules (call.Rename _ _) = false
+has_rules (call.Link _ _) = false
+has_rules (call.ReadDir _ _ _ _) = false
+has_rules (call.ReadDirPlus _ _ _ _ _) = false
+has_rules (call.FsStat _) = false
+has_rules (call.FsInfo _) = false
+has_rules (call.PathConf _) = false
+has_rules (call.Commit _ _ _) = false
 
 -- The reply to a call that isn't served: NOTSUPP, with nothing told of any file. NULL is never refused.
 abbrev pub unsupported : Call → Reply
@@ -49,4 +93,14 @@ is_answered_stable (call.RmDir _) = true
 is_answered_stable (call.Rename _ _) = true
 is_answered_stable (call.Link _ _) = true
 is_answered_stable (call.Commit _ _ _) = true
-is_answered_stable _ = false
+is_answered_stable call.Null = false
+is_answered_stable (call.GetAttr _) = false
+is_answered_stable (call.Lookup _) = false
+is_answered_stable (call.Access _ _) = false
+is_answered_stable (call.ReadLink _) = false
+is_answered_stable (call.Read _ _ _) = false
+is_answered_stable (call.ReadDir _ _ _ _) = false
+is_answered_stable (call.ReadDirPlus _ _ _ _ _) = false
+is_answered_stable (call.FsStat _) = false
+is_answered_stable (call.FsInfo _) = false
+is_answered_stable (call.PathConf _) = false

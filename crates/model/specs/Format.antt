@@ -1,14 +1,10 @@
 -- The tree that a fresh image has.
 use Rattle.std.specs.Prelude.{ℕ, None}
 use Rattle.std.specs.FinMap.{empty, insert}
-use Rattle.limits.specs.declared.TheConstants.{ROOT}
+use Rattle.limits.specs.declared.TheConstants.{ROOT, ROOT_MODE}
 use Rattle.nfs_types.specs.declared.ctx.Moment.{Moment}
 use Rattle.model.specs.Node.{Node, Directory}
 use Rattle.model.specs.Tree.{Geometry, Tree}
-
--- read, write and search for the owner, and the first and the last for everybody
-abbrev pub ROOT_MODE : ℕ
-ROOT_MODE = 493
 
 -- an empty directory that is its own parent, made at the moment by no transaction
 abbrev pub format_root : Moment → Node

@@ -1,25 +1,9 @@
 -- What a caller may do with a file (RFC 1813, sections 2.6 and 4.4).
 use Rattle.std.specs.Prelude.{ℕ, ◌*◌, Bool, cond, not, ◌||◌, nat_eq, bit_and}
 use Rattle.std.specs.List.{list_any}
+use Rattle.limits.specs.declared.TheConstants.{WRITE_RIGHT, GROUP_CLASS, OWNER_CLASS}
 use Rattle.nfs_types.specs.declared.ctx.Credential.{Credential}
 use Rattle.model.specs.Node.{Node}
-
--- the bits of the rights in a mode, as they stand for others
-abbrev pub READ : ℕ
-READ = 4
-
-abbrev pub WRITE : ℕ
-WRITE = 2
-
-abbrev pub EXECUTE : ℕ
-EXECUTE = 1
-
--- by what the bits of others are multiplied to have those of the group and of the owner
-abbrev pub GROUP : ℕ
-GROUP = 8
-
-abbrev pub OWNER : ℕ
-OWNER = 64
 
 abbrev pub is_superuser : Credential → Bool
 is_superuser caller = nat_eq caller.uid 0
@@ -30,7 +14,7 @@ is_own_group caller gid = nat_eq caller.gid gid || list_any (λ own. nat_eq own 
 
 -- the one class whose bits count: the owner's, else the group's, else that of others
 abbrev pub class_of : Credential → Node → ℕ
-class_of caller node = cond (nat_eq caller.uid node.uid) OWNER (cond (is_own_group caller node.gid) GROUP 1)
+class_of caller node = cond (nat_eq caller.uid node.uid) OWNER_CLASS (cond (is_own_group caller node.gid) GROUP_CLASS 1)
 
 -- whether the caller has the right: uid 0 has each
 abbrev pub has_right : ℕ → Credential → Node → Bool
@@ -43,4 +27,4 @@ acts_as_owner caller node = is_superuser caller || nat_eq caller.uid node.uid
 -- Of a regular file: its owner may write it and set its size whatever its mode says, so that a file that was made
 -- and opened can be written (RFC 1813, section 4.4).
 abbrev pub may_write_file : Credential → Node → Bool
-may_write_file caller node = has_right WRITE caller node || nat_eq caller.uid node.uid
+may_write_file caller node = has_right WRITE_RIGHT caller node || nat_eq caller.uid node.uid

@@ -2,7 +2,7 @@
 use Rattle.std.specs.Prelude.{◌≡◌, ℕ, ◌-◌, ◌*◌, Bool, true, false, cond, not, ◌&&◌, ◌||◌, List, [], ◌∷◌, ◌++◌, length, take, replicate, nat_eq, nat_le, nat_lt, is_some, bit_and, Option, Some, None, unwrap_or, Result, Ok, Err}
 use Rattle.std.specs.Ordering.{nat_cmp}
 use Rattle.std.specs.FinSet.{FinSet, retain}
-use Rattle.limits.specs.declared.TheConstants.{BLOCK_BYTES, LARGEST_FILE, MODE_BITS, NANOSECONDS}
+use Rattle.limits.specs.declared.TheConstants.{BLOCK_BYTES, LARGEST_FILE, MODE_BITS, NANOSECONDS, WRITE_RIGHT}
 use Rattle.nfs_types.specs.declared.attributes.NewAttributes.{NewAttributes}
 use Rattle.nfs_types.specs.declared.attributes.SetTime.{SetTime}
 use Rattle.nfs_types.specs.declared.attributes.SetTime.TheVariants.{Keep, Server, Client}
@@ -16,7 +16,7 @@ use Rattle.model.specs.Node.{Node, Body, Regular, Directory, Link}
 use Rattle.model.specs.Tree.{Tree, with_node}
 use Rattle.model.specs.Attributes.{change_of, untold}
 use Rattle.model.specs.Find.{find_file}
-use Rattle.model.specs.Permissions.{is_superuser, is_own_group, has_right, acts_as_owner, may_write_file, WRITE}
+use Rattle.model.specs.Permissions.{is_superuser, is_own_group, has_right, acts_as_owner, may_write_file}
 
 -- a value is given, and it passes the test
 abbrev pub given : {A : Type 0} → Option A → (A → Bool) → Bool
@@ -75,7 +75,7 @@ is_not_permitted caller wanted node =
 -- times of the server's are set by the owner or who may write, a size by who may write the file
 abbrev pub is_no_access : Credential → NewAttributes → Node → Bool
 is_no_access caller wanted node =
-    (is_server wanted.atime || is_server wanted.mtime) && not (acts_as_owner caller node || has_right WRITE caller node)
+    (is_server wanted.atime || is_server wanted.mtime) && not (acts_as_owner caller node || has_right WRITE_RIGHT caller node)
     || is_some wanted.size && not (may_write_file caller node)
 
 -- the status of the first test that says yes

@@ -1,6 +1,6 @@
 //! Laws on single rules: what comes first, what is set, and whose bits count.
 ghost use Rattle.std.specs.Prelude.{◌≡◌, ◌≢◌, ℕ, ◌<◌, ◌^◌, true, not, nat_eq, bit_and, Some, None};
-ghost use Rattle.limits.specs.declared.TheConstants.{MODE_BITS};
+ghost use Rattle.limits.specs.declared.TheConstants.{MODE_BITS, WRITE_RIGHT};
 ghost use Rattle.nfs_types.specs.Handle.{handle_bytes};
 ghost use Rattle.nfs_types.specs.declared.attributes.NewAttributes.{NewAttributes};
 ghost use Rattle.nfs_types.specs.declared.attributes.SetTime.TheVariants.{Keep};
@@ -16,7 +16,7 @@ ghost use Rattle.nfs_types.specs.declared.status.Status.TheVariants as status;
 ghost use Rattle.model.specs.Attributes.{change_of};
 ghost use Rattle.model.specs.Find.{find_file};
 ghost use Rattle.model.specs.Node.{Node};
-ghost use Rattle.model.specs.Permissions.{WRITE, acts_as_owner, has_right};
+ghost use Rattle.model.specs.Permissions.{acts_as_owner, has_right};
 ghost use Rattle.model.specs.Step.{step};
 ghost use Rattle.model.specs.Tree.{Tree, node_at, with_node};
 
@@ -49,5 +49,5 @@ pub fn a_mode_alone_is_set()
 /// For an owner who isn't uid 0 the owner's bits count, and no others: here the right to write.
 pub fn the_owners_bits_count_alone()
     ensures { (caller : Credential) (node : Node) → caller.uid ≢ 0 → caller.uid ≡ node.uid
-        → has_right WRITE caller node ≡ not (nat_eq (bit_and node.mode 128) 0) }
+        → has_right WRITE_RIGHT caller node ≡ not (nat_eq (bit_and node.mode 128) 0) }
 {}

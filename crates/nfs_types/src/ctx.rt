@@ -1,8 +1,5 @@
 //! Who calls, and when: what a procedure knows besides its arguments.
-ghost use Rattle.std.specs.Prelude.{◌≡◌, IfOk};
-
 use crate::Numbers;
-use std::alloc::{AllocError, Global};
 
 /// A time: seconds since 1970 and nanoseconds below 1,000,000,000 (RFC 1813, section 2.5, `nfstime3`).
 /// A client may send more nanoseconds, so the type takes any.
@@ -14,46 +11,19 @@ pub struct Moment {
 
 /// Whom the call is made for (RFC 5531, section 8.2 and appendix A): a user, the user's group, further
 /// groups.
-#[derive(Drop)]
+#[derive(Clone, Drop)]
 pub struct Credential {
     pub uid: u32,
     pub gid: u32,
     pub gids: Numbers,
 }
 
-impl Credential {
-    /// The same caller again.
-    pub fn again(&self, alloc: Global) -> Result<Credential, AllocError>
-        ensures { IfOk result (λ c. c ≡ self.now) }
-    {
-        Ok(Credential {
-            uid: self.uid,
-            gid: self.gid,
-            gids: self.gids.again(alloc)?,
-        })
-    }
-}
-
 /// What a procedure is run with: the caller, the moment of the call, the boot number of the store and the
 /// number of the call's transaction in that boot.
-#[derive(Drop)]
+#[derive(Clone, Drop)]
 pub struct Ctx {
     pub credential: Credential,
     pub moment: Moment,
     pub boot: u64,
     pub transaction: u64,
-}
-
-impl Ctx {
-    /// The same context again.
-    pub fn again(&self, alloc: Global) -> Result<Ctx, AllocError>
-        ensures { IfOk result (λ c. c ≡ self.now) }
-    {
-        Ok(Ctx {
-            credential: self.credential.again(alloc)?,
-            moment: self.moment,
-            boot: self.boot,
-            transaction: self.transaction,
-        })
-    }
 }

@@ -17,7 +17,7 @@ pub struct Stamp {
 
 /// A handle as it stands on the wire: at most 64 bytes there. Only those of 20 bytes can name a file: its
 /// number in 4 bytes, then its stamp in twice 8, each with the greatest byte first.
-#[derive(Drop)]
+#[derive(Clone, Drop)]
 pub struct Handle {
     pub bytes: Octets,
 }
@@ -51,15 +51,6 @@ impl Handle {
         let boot = number_of_eight(boot);
         let transaction = number_of_eight(transaction);
         Some((number, Stamp { boot, transaction }))
-    }
-
-    /// The same handle again.
-    pub fn again(&self, alloc: Global) -> Result<Handle, AllocError>
-        ensures { IfOk result (λ h. h ≡ self.now) }
-    {
-        Ok(Handle {
-            bytes: self.bytes.again(alloc)?,
-        })
     }
 }
 

@@ -5,7 +5,7 @@ use std::alloc::{AllocError, Global};
 use std::marker::Model;
 
 /// A string of bytes: a name, a link's target, a file's data, a handle.
-#[derive(Drop)]
+#[derive(Clone, Drop)]
 pub struct Octets {
     bytes: Vec<u8>,
 }
@@ -45,17 +45,10 @@ impl Octets {
     {
         self.bytes
     }
-
-    /// The same bytes again.
-    pub fn again(&self, alloc: Global) -> Result<Octets, AllocError>
-        ensures { IfOk result (λ o. o ≡ self.now) }
-    {
-        Octets::copied(alloc, &self.bytes)
-    }
 }
 
 /// A list of numbers of 32 bits: further groups of a caller, or flavors of authentication.
-#[derive(Drop)]
+#[derive(Clone, Drop)]
 pub struct Numbers {
     numbers: Vec<u32>,
 }
@@ -79,14 +72,5 @@ impl Numbers {
         ensures { result.now ≡ self.now }
     {
         &self.numbers
-    }
-
-    /// The same numbers again.
-    pub fn again(&self, alloc: Global) -> Result<Numbers, AllocError>
-        ensures { IfOk result (λ n. n ≡ self.now) }
-    {
-        Ok(Numbers {
-            numbers: self.numbers.to_vec(alloc)?,
-        })
     }
 }

@@ -1,51 +1,26 @@
 //! The replies of NFS version 3 (RFC 1813, section 3.3). Each has an outcome, and the parts that come with a
 //! refusal too.
 
-ghost use Rattle.std.specs.Prelude.{◌≡◌, IfOk};
+ghost use Rattle.std.specs.Prelude.{◌≡◌};
 
 use crate::{
     Attributes, Entries, EntriesPlus, Handle, Moment, Octets, Stability, Status, WeakCacheData,
 };
-use std::alloc::{AllocError, Global};
+use std::alloc::AllocError;
 
 /// What LOOKUP found.
-#[derive(Drop)]
+#[derive(Clone, Drop)]
 pub struct Looked {
     pub object: Handle,
     pub attributes: Option<Attributes>,
 }
 
-impl Looked {
-    /// The same again.
-    pub fn again(&self, alloc: Global) -> Result<Looked, AllocError>
-        ensures { IfOk result (λ x. x ≡ self.now) }
-    {
-        Ok(Looked {
-            object: self.object.again(alloc)?,
-            attributes: self.attributes,
-        })
-    }
-}
-
 /// What READ gives: the count of its bytes, and whether the file ends behind them.
-#[derive(Drop)]
+#[derive(Clone, Drop)]
 pub struct ReadBytes {
     pub count: u32,
     pub eof: bool,
     pub bytes: Octets,
-}
-
-impl ReadBytes {
-    /// The same again.
-    pub fn again(&self, alloc: Global) -> Result<ReadBytes, AllocError>
-        ensures { IfOk result (λ x. x ≡ self.now) }
-    {
-        Ok(ReadBytes {
-            count: self.count,
-            eof: self.eof,
-            bytes: self.bytes.again(alloc)?,
-        })
-    }
 }
 
 /// What WRITE did: how many bytes, how they are kept, and the verifier of this boot.
@@ -57,67 +32,26 @@ pub struct Written {
 }
 
 /// What CREATE, MKDIR, SYMLINK or MKNOD made.
-#[derive(Drop)]
+#[derive(Clone, Drop)]
 pub struct Created {
     pub object: Option<Handle>,
     pub attributes: Option<Attributes>,
 }
 
-impl Created {
-    /// The same again.
-    pub fn again(&self, alloc: Global) -> Result<Created, AllocError>
-        ensures { IfOk result (λ x. x ≡ self.now) }
-    {
-        Ok(Created {
-            object: match &self.object {
-                Some(object) => Some(object.again(alloc)?),
-                None => None,
-            },
-            attributes: self.attributes,
-        })
-    }
-}
-
 /// What READDIR lists.
-#[derive(Drop)]
+#[derive(Clone, Drop)]
 pub struct Listed {
     pub verifier: u64,
     pub entries: Entries,
     pub eof: bool,
 }
 
-impl Listed {
-    /// The same again.
-    pub fn again(&self, alloc: Global) -> Result<Listed, AllocError>
-        ensures { IfOk result (λ x. x ≡ self.now) }
-    {
-        Ok(Listed {
-            verifier: self.verifier,
-            entries: self.entries.again(alloc)?,
-            eof: self.eof,
-        })
-    }
-}
-
 /// What READDIRPLUS lists.
-#[derive(Drop)]
+#[derive(Clone, Drop)]
 pub struct ListedPlus {
     pub verifier: u64,
     pub entries: EntriesPlus,
     pub eof: bool,
-}
-
-impl ListedPlus {
-    /// The same again.
-    pub fn again(&self, alloc: Global) -> Result<ListedPlus, AllocError>
-        ensures { IfOk result (λ x. x ≡ self.now) }
-    {
-        Ok(ListedPlus {
-            verifier: self.verifier,
-            entries: self.entries.again(alloc)?,
-            eof: self.eof,
-        })
-    }
 }
 
 /// What FSSTAT tells: bytes and files in all, free, and free to the caller; for how many seconds it stays.
@@ -250,131 +184,103 @@ pub enum Reply {
     },
 }
 
-impl Reply {
-    /// The same reply again.
-    pub fn again(&self, alloc: Global) -> Result<Reply, AllocError>
-        ensures { IfOk result (λ reply. reply ≡ self.now) }
-    {
-        Ok(match self {
-            Reply::Null => Reply::Null,
-            Reply::GetAttr { outcome } => Reply::GetAttr { outcome: *outcome },
-            Reply::SetAttr { outcome, object } => Reply::SetAttr {
+impl Clone for Reply {
+    ghost is_clone = { λ reply copy. copy ≡ reply };
+
+    fn clone(&self) -> Result<Reply, AllocError> {
+        match self {
+            Reply::Null => Ok(Reply::Null),
+            Reply::GetAttr { outcome } => Ok(Reply::GetAttr { outcome: *outcome }),
+            Reply::SetAttr { outcome, object } => Ok(Reply::SetAttr {
                 outcome: *outcome,
                 object: *object,
-            },
-            Reply::Access { outcome, object } => Reply::Access {
+            }),
+            Reply::Lookup { outcome, directory } => Ok(Reply::Lookup {
+                outcome: outcome.clone()?,
+                directory: *directory,
+            }),
+            Reply::Access { outcome, object } => Ok(Reply::Access {
                 outcome: *outcome,
                 object: *object,
-            },
-            Reply::Write { outcome, file } => Reply::Write {
+            }),
+            Reply::ReadLink { outcome, link } => Ok(Reply::ReadLink {
+                outcome: outcome.clone()?,
+                link: *link,
+            }),
+            Reply::Read { outcome, file } => Ok(Reply::Read {
+                outcome: outcome.clone()?,
+                file: *file,
+            }),
+            Reply::Write { outcome, file } => Ok(Reply::Write {
                 outcome: *outcome,
                 file: *file,
-            },
-            Reply::Remove { outcome, directory } => Reply::Remove {
+            }),
+            Reply::Create { outcome, directory } => Ok(Reply::Create {
+                outcome: outcome.clone()?,
+                directory: *directory,
+            }),
+            Reply::MkDir { outcome, directory } => Ok(Reply::MkDir {
+                outcome: outcome.clone()?,
+                directory: *directory,
+            }),
+            Reply::SymLink { outcome, directory } => Ok(Reply::SymLink {
+                outcome: outcome.clone()?,
+                directory: *directory,
+            }),
+            Reply::MkNod { outcome, directory } => Ok(Reply::MkNod {
+                outcome: outcome.clone()?,
+                directory: *directory,
+            }),
+            Reply::Remove { outcome, directory } => Ok(Reply::Remove {
                 outcome: *outcome,
                 directory: *directory,
-            },
-            Reply::RmDir { outcome, directory } => Reply::RmDir {
+            }),
+            Reply::RmDir { outcome, directory } => Ok(Reply::RmDir {
                 outcome: *outcome,
                 directory: *directory,
-            },
+            }),
             Reply::Rename {
                 outcome,
                 source,
                 target,
-            } => Reply::Rename {
+            } => Ok(Reply::Rename {
                 outcome: *outcome,
                 source: *source,
                 target: *target,
-            },
+            }),
             Reply::Link {
                 outcome,
                 file,
                 directory,
-            } => Reply::Link {
+            } => Ok(Reply::Link {
                 outcome: *outcome,
                 file: *file,
                 directory: *directory,
-            },
-            Reply::FsStat { outcome, object } => Reply::FsStat {
+            }),
+            Reply::ReadDir { outcome, directory } => Ok(Reply::ReadDir {
+                outcome: outcome.clone()?,
+                directory: *directory,
+            }),
+            Reply::ReadDirPlus { outcome, directory } => Ok(Reply::ReadDirPlus {
+                outcome: outcome.clone()?,
+                directory: *directory,
+            }),
+            Reply::FsStat { outcome, object } => Ok(Reply::FsStat {
                 outcome: *outcome,
                 object: *object,
-            },
-            Reply::FsInfo { outcome, object } => Reply::FsInfo {
+            }),
+            Reply::FsInfo { outcome, object } => Ok(Reply::FsInfo {
                 outcome: *outcome,
                 object: *object,
-            },
-            Reply::PathConf { outcome, object } => Reply::PathConf {
+            }),
+            Reply::PathConf { outcome, object } => Ok(Reply::PathConf {
                 outcome: *outcome,
                 object: *object,
-            },
-            Reply::Commit { outcome, file } => Reply::Commit {
+            }),
+            Reply::Commit { outcome, file } => Ok(Reply::Commit {
                 outcome: *outcome,
                 file: *file,
-            },
-            Reply::Lookup { outcome, directory } => Reply::Lookup {
-                outcome: match outcome {
-                    Ok(told) => Ok(told.again(alloc)?),
-                    Err(status) => Err(*status),
-                },
-                directory: *directory,
-            },
-            Reply::ReadLink { outcome, link } => Reply::ReadLink {
-                outcome: match outcome {
-                    Ok(told) => Ok(told.again(alloc)?),
-                    Err(status) => Err(*status),
-                },
-                link: *link,
-            },
-            Reply::Read { outcome, file } => Reply::Read {
-                outcome: match outcome {
-                    Ok(told) => Ok(told.again(alloc)?),
-                    Err(status) => Err(*status),
-                },
-                file: *file,
-            },
-            Reply::Create { outcome, directory } => Reply::Create {
-                outcome: match outcome {
-                    Ok(told) => Ok(told.again(alloc)?),
-                    Err(status) => Err(*status),
-                },
-                directory: *directory,
-            },
-            Reply::MkDir { outcome, directory } => Reply::MkDir {
-                outcome: match outcome {
-                    Ok(told) => Ok(told.again(alloc)?),
-                    Err(status) => Err(*status),
-                },
-                directory: *directory,
-            },
-            Reply::SymLink { outcome, directory } => Reply::SymLink {
-                outcome: match outcome {
-                    Ok(told) => Ok(told.again(alloc)?),
-                    Err(status) => Err(*status),
-                },
-                directory: *directory,
-            },
-            Reply::MkNod { outcome, directory } => Reply::MkNod {
-                outcome: match outcome {
-                    Ok(told) => Ok(told.again(alloc)?),
-                    Err(status) => Err(*status),
-                },
-                directory: *directory,
-            },
-            Reply::ReadDir { outcome, directory } => Reply::ReadDir {
-                outcome: match outcome {
-                    Ok(told) => Ok(told.again(alloc)?),
-                    Err(status) => Err(*status),
-                },
-                directory: *directory,
-            },
-            Reply::ReadDirPlus { outcome, directory } => Reply::ReadDirPlus {
-                outcome: match outcome {
-                    Ok(told) => Ok(told.again(alloc)?),
-                    Err(status) => Err(*status),
-                },
-                directory: *directory,
-            },
-        })
+            }),
+        }
     }
 }

@@ -45,12 +45,6 @@ tree_of tree = record {
   nodes = from_entries (map numbered tree.nodes.items);
 }
 
--- the calls that the plain server serves: GETATTR, and SETATTR with any parts
-abbrev pub is_served : Call → Bool
-is_served (call.GetAttr _) = true
-is_served (call.SetAttr _ _ _) = true
-is_served _ = false
-
 -- what stands at a place of the list is what was found
 pub record StandsAt (nodes : List NumberedNode) (place : ℕ) (found : Result (ℕ × Node) Status) : Type 0 where
   pub file : NumberedNode

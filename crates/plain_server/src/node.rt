@@ -5,11 +5,8 @@ ghost use Rattle.model.specs.Cost.{cost};
 ghost use Rattle.plain_server.specs.Plain.{body_of, node_of};
 
 use crate::Kept;
-use limits::{BLOCK_BYTES, DIRECT_INDEXES};
+use limits::{BLOCK_BYTES, DIRECT_INDEXES, FILE_SYSTEM};
 use nfs_types::{Attributes, DeviceNumber, FileKind, Moment, Octets, Stamp, WeakCacheAttributes};
-
-// The number of the one file system that is exported.
-const FILE_SYSTEM: u64 = 1;
 
 /// A name in a directory, with the file that it leads to and the slot in which it lies.
 #[derive(Drop)]

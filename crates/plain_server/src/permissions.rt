@@ -1,16 +1,12 @@
 //! What a caller may do with a file (RFC 1813, sections 2.6 and 4.4).
 ghost use Rattle.std.specs.Prelude.{◌≡◌, ◌≤◌};
-ghost use Rattle.model.specs.Permissions.{acts_as_owner, class_of, has_right, is_own_group, is_superuser, may_write_file, WRITE};
+ghost use Rattle.model.specs.Permissions.{acts_as_owner, class_of, has_right, is_own_group, is_superuser, may_write_file};
+ghost use Rattle.limits.specs.declared.TheConstants.{WRITE_RIGHT};
 ghost use Rattle.plain_server.specs.Plain.{node_of};
 
 use crate::PlainNode;
+use limits::{GROUP_CLASS, OWNER_CLASS, WRITE_RIGHT};
 use nfs_types::Credential;
-
-const WRITE_RIGHT: u32 = 2;
-
-const GROUP_CLASS: u32 = 8;
-
-const OWNER_CLASS: u32 = 64;
 
 pub(crate) fn is_superuser(caller: &Credential) -> bool
     ensures { result ≡ is_superuser caller.now }
@@ -40,7 +36,7 @@ fn class_of(caller: &Credential, node: &PlainNode) -> u32
 
 /// Whether the caller's class may write, or the caller is uid 0.
 pub(crate) fn has_write(caller: &Credential, node: &PlainNode) -> bool
-    ensures { result ≡ has_right WRITE caller.now (node_of node.now) }
+    ensures { result ≡ has_right WRITE_RIGHT caller.now (node_of node.now) }
 {
     is_superuser(caller) || node.mode & (WRITE_RIGHT * class_of(caller, node)) != 0
 }

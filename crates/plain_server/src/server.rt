@@ -1,10 +1,11 @@
 //! One call after another.
 ghost use Rattle.std.specs.Prelude.{◌≡◌, ◌↔◌, false, IfOk, OnErr, IsErrOf};
+ghost use Rattle.model.specs.Calls.{has_step};
 ghost use Rattle.model.specs.Find.{find_file};
 ghost use Rattle.model.specs.GetAttr.{attributes_found};
 ghost use Rattle.model.specs.SetAttr.{SetAttrStep};
 ghost use Rattle.model.specs.Step.{step};
-ghost use Rattle.plain_server.specs.Plain.{is_served, tree_of};
+ghost use Rattle.plain_server.specs.Plain.{tree_of};
 
 use crate::PlainTree;
 use crate::attributes::set_attributes;
@@ -35,7 +36,7 @@ struct SetReply {
 pub fn serve(tree: &mut PlainTree, ctx: &Ctx, call: &Call) -> Result<Reply, PlainFault>
     ensures step { IfOk result (λ reply. step (tree_of tree.old) ctx.now call.now reply (tree_of tree.new)) }
     ensures err { OnErr result (tree_of tree.new ≡ tree_of tree.old) }
-    ensures unserved { IsErrOf result PlainFault.NoRules ↔ (is_served call.now ≡ false) }
+    ensures unserved { IsErrOf result PlainFault.NoRules ↔ (has_step call.now ≡ false) }
 {
     match call {
         Call::GetAttr { object } => Ok(Reply::GetAttr {
@@ -52,7 +53,26 @@ pub fn serve(tree: &mut PlainTree, ctx: &Ctx, call: &Call) -> Result<Reply, Plai
             }),
             Err(_) => Err(PlainFault::NoMemory),
         },
-        _ => Err(PlainFault::NoRules),
+        Call::Null
+        | Call::Lookup { .. }
+        | Call::Access { .. }
+        | Call::ReadLink { .. }
+        | Call::Read { .. }
+        | Call::Write { .. }
+        | Call::Create { .. }
+        | Call::MkDir { .. }
+        | Call::SymLink { .. }
+        | Call::MkNod { .. }
+        | Call::Remove { .. }
+        | Call::RmDir { .. }
+        | Call::Rename { .. }
+        | Call::Link { .. }
+        | Call::ReadDir { .. }
+        | Call::ReadDirPlus { .. }
+        | Call::FsStat { .. }
+        | Call::FsInfo { .. }
+        | Call::PathConf { .. }
+        | Call::Commit { .. } => Err(PlainFault::NoRules),
     }
 }
 

@@ -6,11 +6,9 @@ ghost use Rattle.model.specs.Format.{format_tree};
 ghost use Rattle.plain_server.specs.Plain.{Locates, tree_of};
 
 use crate::{PlainBody, PlainNode};
-use limits::ROOT;
+use limits::{ROOT, ROOT_MODE};
 use nfs_types::{Handle, Moment, Stamp, Status};
 use std::alloc::{AllocError, Global};
-
-const ROOT_MODE: u32 = 493;
 
 /// A file and its number.
 #[derive(Drop)]

@@ -6,7 +6,7 @@ ghost use Rattle.layout.specs.Decode.{node_with};
 ghost use Rattle.procs.specs.Told.{file_kind, IsBodyOf};
 
 use layout::{Inode, InodeKind};
-use limits::BLOCK_BYTES;
+use limits::{BLOCK_BYTES, FILE_SYSTEM};
 use nfs_types::{Attributes, DeviceNumber, FileKind, WeakCacheAttributes, WeakCacheData};
 
 /// A file that was found: its number, its inode, and how many blocks it holds.
@@ -16,9 +16,6 @@ pub(crate) struct Found {
     pub(crate) inode: Inode,
     pub(crate) held: u32,
 }
-
-/// The number of the one file system.
-const FILE_SYSTEM: u64 = 1;
 
 fn file_kind(kind: InodeKind) -> FileKind
     ensures { result ≡ file_kind kind }

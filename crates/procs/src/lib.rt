@@ -14,7 +14,7 @@ mod work;
 
 pub use done::Done;
 pub use next::Plan;
-pub use refused::{refused_reply, unsupported_reply};
+pub use refused::refused_reply;
 pub use rules::{has_rules, is_answered_stable};
 pub use snap::Snap;
 pub use work::plan;

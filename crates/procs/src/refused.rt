@@ -1,7 +1,6 @@
 //! Replies that tell nothing but why a call was refused.
 ghost use Rattle.std.specs.Prelude.{◌≡◌};
 ghost use Rattle.model.specs.Attributes.{untold};
-ghost use Rattle.model.specs.Calls.{unsupported};
 ghost use Rattle.model.specs.Refused.{refused};
 
 use nfs_types::{Call, Reply, Status, WeakCacheData};
@@ -104,11 +103,4 @@ pub fn refused_reply(call: &Call, status: Status) -> Reply
             file: UNTOLD,
         },
     }
-}
-
-/// The reply to a call that isn't served.
-pub fn unsupported_reply(call: &Call) -> Reply
-    ensures { result ≡ unsupported call.now }
-{
-    refused_reply(call, Status::NotSupp)
 }

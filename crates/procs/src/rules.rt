@@ -30,7 +30,26 @@ pub fn has_rules(call: &Call) -> bool
     match call {
         Call::GetAttr { .. } => true,
         Call::SetAttr { attributes, .. } => sets_only_mode(attributes),
-        _ => false,
+        Call::Null
+        | Call::Lookup { .. }
+        | Call::Access { .. }
+        | Call::ReadLink { .. }
+        | Call::Read { .. }
+        | Call::Write { .. }
+        | Call::Create { .. }
+        | Call::MkDir { .. }
+        | Call::SymLink { .. }
+        | Call::MkNod { .. }
+        | Call::Remove { .. }
+        | Call::RmDir { .. }
+        | Call::Rename { .. }
+        | Call::Link { .. }
+        | Call::ReadDir { .. }
+        | Call::ReadDirPlus { .. }
+        | Call::FsStat { .. }
+        | Call::FsInfo { .. }
+        | Call::PathConf { .. }
+        | Call::Commit { .. } => false,
     }
 }
 
@@ -59,6 +78,16 @@ pub fn is_answered_stable(call: &Call) -> bool
         | Call::Rename { .. }
         | Call::Link { .. }
         | Call::Commit { .. } => true,
-        _ => false,
+        Call::Null
+        | Call::GetAttr { .. }
+        | Call::Lookup { .. }
+        | Call::Access { .. }
+        | Call::ReadLink { .. }
+        | Call::Read { .. }
+        | Call::ReadDir { .. }
+        | Call::ReadDirPlus { .. }
+        | Call::FsStat { .. }
+        | Call::FsInfo { .. }
+        | Call::PathConf { .. } => false,
     }
 }

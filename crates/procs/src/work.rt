@@ -108,7 +108,26 @@ fn work(alloc: Global, ctx: &Ctx, call: &Call, snap: &Snap) -> Result<Done, Stop
             attributes,
             guard,
         } => set_attr(alloc, ctx, snap, object, attributes, guard),
-        _ => Err(Stop::Io),
+        Call::Null
+        | Call::Lookup { .. }
+        | Call::Access { .. }
+        | Call::ReadLink { .. }
+        | Call::Read { .. }
+        | Call::Write { .. }
+        | Call::Create { .. }
+        | Call::MkDir { .. }
+        | Call::SymLink { .. }
+        | Call::MkNod { .. }
+        | Call::Remove { .. }
+        | Call::RmDir { .. }
+        | Call::Rename { .. }
+        | Call::Link { .. }
+        | Call::ReadDir { .. }
+        | Call::ReadDirPlus { .. }
+        | Call::FsStat { .. }
+        | Call::FsInfo { .. }
+        | Call::PathConf { .. }
+        | Call::Commit { .. } => unreachable!(),
     }
 }
 

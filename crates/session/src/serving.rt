@@ -5,6 +5,7 @@ ghost use Rattle.session_wire.specs.Results.{IsServed};
 
 use bytes::Bytes;
 use disk::CrashDisk;
+use limits::{MOST_READS, PIECE_BYTES};
 use nfs_types::{Moment, Reply};
 use session_wire::rpc::{Records, Refusal, RpcFault};
 use session_wire::{Answer, Judged, judge, reply_bytes};
@@ -35,19 +36,6 @@ pub enum SessionFault {
     #[error("Device")]
     Device = 6,
 }
-
-impl SessionFault {
-    /// Its number.
-    pub fn number(self) -> u8 {
-        self as u8
-    }
-}
-
-/// How many reads there may be.
-const MOST_READS: u64 = 1 << 48;
-
-/// The bytes of one read.
-const PIECE_BYTES: usize = 4096;
 
 /// Answers the records of a stream in their order, each call at the moment, and gives the count of the replies. At the
 /// end of the input everything is settled. The records before a fault are answered, and then, but after Output, what
@@ -172,7 +160,7 @@ pub fn answer_to(verdict: &Verdict) -> Answer<'_>
 {
     match verdict {
         Verdict::Reply(reply) if is_served(reply) => Answer::Done(reply),
-        _ => Answer::Refused(Refusal::SystemError),
+        Verdict::Reply(_) | Verdict::NoMemory => Answer::Refused(Refusal::SystemError),
     }
 }
 
@@ -195,8 +183,26 @@ fn put<W: Write>(
 fn is_served(reply: &Reply) -> bool
     ensures { IsTrue result ↔ IsServed reply.now }
 {
-    matches!(
-        reply,
-        Reply::Null | Reply::GetAttr { .. } | Reply::SetAttr { .. }
-    )
+    match reply {
+        Reply::Null | Reply::GetAttr { .. } | Reply::SetAttr { .. } => true,
+        Reply::Lookup { .. }
+        | Reply::Access { .. }
+        | Reply::ReadLink { .. }
+        | Reply::Read { .. }
+        | Reply::Write { .. }
+        | Reply::Create { .. }
+        | Reply::MkDir { .. }
+        | Reply::SymLink { .. }
+        | Reply::MkNod { .. }
+        | Reply::Remove { .. }
+        | Reply::RmDir { .. }
+        | Reply::Rename { .. }
+        | Reply::Link { .. }
+        | Reply::ReadDir { .. }
+        | Reply::ReadDirPlus { .. }
+        | Reply::FsStat { .. }
+        | Reply::FsInfo { .. }
+        | Reply::PathConf { .. }
+        | Reply::Commit { .. } => false,
+    }
 }

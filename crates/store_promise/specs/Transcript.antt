@@ -61,6 +61,3 @@ device_calls t event = count_by calls_device (take event t.steps)
 abbrev pub commits_by : ℕ → Transcript → ℕ → ℕ
 commits_by began t moment = count_by (λ c. nat_le (began + c.moment) moment) t.history
 
--- the answers that were given before or at a moment
-abbrev pub answers_by : ℕ → Transcript → ℕ → ℕ
-answers_by began t moment = count_by (λ a. nat_le (began + a.moment) moment) t.answers

@@ -18,10 +18,3 @@ pub enum OpenFault {
     #[error("NoMemory")]
     NoMemory = 6,
 }
-
-impl OpenFault {
-    /// Its number.
-    pub fn number(self) -> u8 {
-        self as u8
-    }
-}

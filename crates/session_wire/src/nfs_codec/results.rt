@@ -20,7 +20,25 @@ pub fn encode_reply(out: &mut Writer, reply: &Reply) -> Result<(), AllocError>
             put_status(out, outcome)?;
             put_weak_cache(out, object)
         }
-        _ => unreachable!(),
+        Reply::Lookup { .. }
+        | Reply::Access { .. }
+        | Reply::ReadLink { .. }
+        | Reply::Read { .. }
+        | Reply::Write { .. }
+        | Reply::Create { .. }
+        | Reply::MkDir { .. }
+        | Reply::SymLink { .. }
+        | Reply::MkNod { .. }
+        | Reply::Remove { .. }
+        | Reply::RmDir { .. }
+        | Reply::Rename { .. }
+        | Reply::Link { .. }
+        | Reply::ReadDir { .. }
+        | Reply::ReadDirPlus { .. }
+        | Reply::FsStat { .. }
+        | Reply::FsInfo { .. }
+        | Reply::PathConf { .. }
+        | Reply::Commit { .. } => unreachable!(),
     }
 }
 
