@@ -1,6 +1,6 @@
 use Rattle.std.proofs.Common.{arith}
 use Rattle.wal_law.proofs.Lawful.{home_more}
-use Rattle.wal.proofs.tests.group.Goals as goal
+use Rattle.wal_tests.proofs.tests.group.Goals as goal
 
 pub loop-i-preserved : goal.loop-i-preserved
 loop-i-preserved c =
