@@ -9,8 +9,6 @@ mod history;
 mod laws;
 mod mem_disk;
 mod noted;
-#[cfg(test)]
-mod tests;
 
 pub use block::{Block, BlockNo, Side};
 pub use device::{CrashDisk, Failed};

@@ -3,8 +3,8 @@ use Rattle.std.specs.Prelude.{◌≡◌, Result}
 use Rattle.disk.specs.Device.{Content, Device}
 use Rattle.disk.specs.declared.device.Failed.{Failed}
 use Rattle.wal.specs.Io.{Io, HasMade, HasMadeCall}
-use Rattle.wal.specs.declared.io.IoCall.{IoCall}
-use Rattle.wal.specs.declared.io.IoCall.TheVariants.{Write, Barrier}
+use Rattle.wal_law.specs.declared.calls.IoCall.{IoCall}
+use Rattle.wal_law.specs.declared.calls.IoCall.TheVariants.{Write, Barrier}
 
 call_size : (old : Device) (call : IoCall) (content : Content) (result : Result Unit Failed) (new : Device) → HasMadeCall old call content result new → new.size ≡ old.size
 call_size old (Write block) content result new made = made.later.size

@@ -1,8 +1,8 @@
 -- How far the log and the installer are, told from the steps alone.
 use Rattle.std.specs.Prelude.{ℕ, ◌+◌, ◌-◌, Bool, true, false, not, ◌&&◌, ◌||◌, if◌then◌else◌, nat_eq, nat_lt, nat_le}
 use Rattle.limits.specs.declared.TheConstants.{LOG_SLOTS, START_BLOCK}
-use Rattle.wal.specs.declared.io.IoCall.{IoCall}
-use Rattle.wal.specs.declared.io.IoCall.TheVariants.{Write, Barrier}
+use Rattle.wal_law.specs.declared.calls.IoCall.{IoCall}
+use Rattle.wal_law.specs.declared.calls.IoCall.TheVariants.{Write, Barrier}
 use Rattle.store_promise.specs.declared.events.Committing.TheVariants as committing
 use Rattle.store_promise.specs.declared.events.Step.{Step}
 use Rattle.store_promise.specs.declared.events.Step.TheVariants as step

@@ -7,8 +7,8 @@ use Rattle.objects.specs.declared.addr.Addr.{Addr}
 use Rattle.wal.specs.Log.{IsHomeOn, newest, or_else, installed_place, Log, blocks_of as group_blocks}
 use Rattle.wal.specs.Room.{IsRoom}
 use Rattle.wal.specs.Seen.{HasAppended}
-use Rattle.wal.specs.declared.answers.Room.{Room}
-use Rattle.wal.specs.declared.answers.Room.TheVariants as room
+use Rattle.wal_law.specs.declared.answers.Room.{Room}
+use Rattle.wal_law.specs.declared.answers.Room.TheVariants as room
 use Rattle.txn.specs.Core.{CoreState, ended}
 use Rattle.txn.specs.Fetch.{Fetch}
 use Rattle.txn.specs.Group.{blocks_of, IsLaid}

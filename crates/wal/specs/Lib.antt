@@ -1,13 +1,15 @@
-pub mod Io
-pub mod Log
-pub mod Room
 pub mod View
-pub mod Numbers
-pub mod Logger
-pub mod Installer
-pub mod Seen
-pub mod Overlay
-pub mod Found
-pub mod Law
-pub mod Calls
-pub mod ReadBack
+
+-- What the contracts here cite, for the crates above.
+pub use Rattle.wal_law.specs.Io
+pub use Rattle.wal_law.specs.Log
+pub use Rattle.wal_law.specs.Room
+pub use Rattle.wal_law.specs.Numbers
+pub use Rattle.wal_law.specs.Logger
+pub use Rattle.wal_law.specs.Installer
+pub use Rattle.wal_law.specs.Seen
+pub use Rattle.wal_law.specs.Overlay
+pub use Rattle.wal_law.specs.Found
+pub use Rattle.wal_law.specs.Law
+pub use Rattle.wal_law.specs.Calls
+pub use Rattle.wal_law.specs.ReadBack

@@ -1,7 +1,7 @@
 -- What the fields of the memory log stand for.
 use Rattle.std.specs.Prelude.{is_none}
 use Rattle.wal.specs.declared.memory.Wal.TheInside.{Inside}
-use Rattle.wal.specs.Log.{Log, IsLawful}
+use Rattle.wal_law.specs.Log.{Log, IsLawful}
 
 abbrev pub log_of : Inside → Log
 log_of w =

@@ -3,5 +3,6 @@
 mod found;
 mod header;
 
-pub use found::{LogFault, Recovered, read_log, recover};
+pub use found::{read_log, recover};
 pub use header::{address_at, end_of, put_address, put_end, put_start, start_of};
+pub use wal_law::{LogFault, Recovered};

@@ -1,20 +1,12 @@
 //! The device calls that the memory log hands out.
 ghost use Rattle.std.specs.Prelude.{◌≡◌, OnOk};
 ghost use Rattle.disk.specs.Device.{CountsFailure};
-ghost use Rattle.disk.specs.Crash.{Image};
-ghost use Rattle.wal.specs.Io.{Io, IsCallWithin, HasMade, HasMadeCall};
-ghost use Rattle.wal.specs.Log.{Log, IsLawful};
-ghost use Rattle.wal.specs.Calls.{Pending, out, answered, AgreesBeside};
+ghost use Rattle.wal_law.specs.Io.{Io, IsCallWithin, HasMade, HasMadeCall};
+ghost use Rattle.wal_law.specs.Calls.{LogCallIsMade, InstCallIsMade};
 
-use disk::{Block, BlockNo, CrashDisk, Failed, Side};
+use disk::{Block, CrashDisk, Failed};
 use std::marker::Model;
-
-/// A device call of the logger or the installer.
-#[derive(Clone, Copy, Debug, PartialEq, Eq)]
-pub enum IoCall {
-    Write(BlockNo),
-    Barrier(Side),
-}
+use wal_law::IoCall;
 
 /// A device call of the logger. It must be made and given back to the log that handed it out.
 pub struct LogIo {
@@ -33,7 +25,7 @@ pub struct InstIo {
 }
 
 impl Model for LogIo {
-    ghost use Rattle.wal.specs.Io.{Io};
+    ghost use Rattle.wal_law.specs.Io.{Io};
 
     ghost Value = { Io };
 
@@ -41,7 +33,7 @@ impl Model for LogIo {
 }
 
 impl Model for InstIo {
-    ghost use Rattle.wal.specs.Io.{Io};
+    ghost use Rattle.wal_law.specs.Io.{Io};
 
     ghost Value = { Io };
 
@@ -69,8 +61,7 @@ impl LogIo {
         ensures call { HasMade (D.device disk.old) self.now result (D.device disk.new) }
         ensures failure { CountsFailure (D.device disk.old) (D.device disk.new) result }
         ensures model { D.keeps_model disk.new → D.keeps_model disk.old }
-        ensures law { (base : Image) (log : Log) (installing : Pending) → IsLawful log → AgreesBeside (D.device disk.old) base log (out self.now) installing
-            → AgreesBeside (D.device disk.new) base log (answered self.now result) installing }
+        ensures law { LogCallIsMade (D.device disk.old) self.now result (D.device disk.new) }
     {
         make(disk, self.call, &self.content)
     }
@@ -97,8 +88,7 @@ impl InstIo {
         ensures call { HasMade (D.device disk.old) self.now result (D.device disk.new) }
         ensures failure { CountsFailure (D.device disk.old) (D.device disk.new) result }
         ensures model { D.keeps_model disk.new → D.keeps_model disk.old }
-        ensures law { (base : Image) (log : Log) (logging : Pending) → IsLawful log → AgreesBeside (D.device disk.old) base log logging (out self.now)
-            → AgreesBeside (D.device disk.new) base log logging (answered self.now result) }
+        ensures law { InstCallIsMade (D.device disk.old) self.now result (D.device disk.new) }
     {
         make(disk, self.call, &self.content)
     }

@@ -3,16 +3,11 @@
 //! came of it.
 #![tactic(auto)]
 
-mod answers;
-mod change;
 pub mod circ;
 mod io;
-pub mod law;
 mod memory;
-#[cfg(test)]
-mod tests;
 
-pub use answers::{Append, Room, Seq};
-pub use change::Change;
-pub use io::{InstIo, IoCall, LogIo};
+pub use io::{InstIo, LogIo};
 pub use memory::Wal;
+pub use wal_law::law;
+pub use wal_law::{Append, Change, IoCall, Room, Seq};

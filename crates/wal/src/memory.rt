@@ -1,8 +1,8 @@
 //! The memory log.
 ghost use Rattle.std.specs.Prelude.{◌≡◌, ◌≤◌, ◌<◌, ◌^◌, ◌+◌, length, IfOk, MatchOption, Some, None, All, map};
 ghost use Rattle.limits.specs.declared.TheConstants.{LOG_SLOTS, FIRST_HOME_BLOCK};
-ghost use Rattle.wal.specs.Log.{newest, settled_place, installed_place, tail_count, opened, IsHomeOn, blocks_of, IsLawful};
-ghost use Rattle.wal.specs.Room.{IsRoom};
+ghost use Rattle.wal_law.specs.Log.{newest, settled_place, installed_place, tail_count, opened, IsHomeOn, blocks_of};
+ghost use Rattle.wal_law.specs.Room.{IsRoom};
 
 mod append;
 mod header;
@@ -36,7 +36,7 @@ pub struct Wal {
 }
 
 impl Model for Wal {
-    ghost use Rattle.wal.specs.Log.{Log};
+    ghost use Rattle.wal_law.specs.Log.{Log};
 
     ghost Value = { Log };
 
@@ -76,13 +76,6 @@ impl Wal {
             places: 0,
             broken: false,
         })
-    }
-
-    /// What is true of every log.
-    pub fn lawful(&self)
-        ensures { IsLawful self.now }
-    {
-        let _ = &self.start;
     }
 
     /// The newest content of a block. One that the log doesn't have is home.

@@ -1,51 +1,15 @@
 //! What an opening finds in the log.
 ghost use Rattle.std.specs.Prelude.{◌≡◌, ◌≤◌, ◌<◌, ◌+◌, ◌*◌, ◌%◌, ◌^◌, ◌⊎◌, ℕ, length, IfOk, OnOk, OnErr, IsErrOf, All, true, false};
 ghost use Rattle.limits.specs.declared.TheConstants.{FIRST_HOME_BLOCK, LOG_SLOTS, LOG_HEADER_BLOCK};
-ghost use Rattle.wal.specs.Log.{IsHomeOn, blocks_of};
-ghost use Rattle.wal.specs.Overlay.{start_in, home_at, positions};
-ghost use Rattle.wal.specs.Found.{number_of, HasOnlyRead, CountsFault, IsUnspoiled, image_of, IsFound, IsLog};
+ghost use Rattle.wal_law.specs.Log.{IsHomeOn, blocks_of};
+ghost use Rattle.wal_law.specs.Overlay.{start_in, home_at, positions};
+ghost use Rattle.wal_law.specs.Found.{HasOnlyRead, CountsFault, IsUnspoiled, image_of, IsFound, IsLog};
 
 use super::header::{address_at, end_of, start_of};
 use disk::{Block, BlockNo, CrashDisk};
 use limits::{FIRST_HOME_BLOCK, FIRST_SLOT_BLOCK, LOG_HEADER_BLOCK, LOG_SLOTS, START_BLOCK};
 use std::alloc::Global;
-use thiserror::Error;
-
-/// The log as an opening finds it.
-#[derive(Drop)]
-pub struct Recovered {
-    /// The log position of the first block.
-    pub start: u64,
-    /// The logged blocks with their home addresses, in log order.
-    pub logged: Vec<(BlockNo, Block)>,
-}
-
-/// Why a log isn't read.
-#[derive(Clone, Copy, Debug, PartialEq, Eq, Error)]
-pub enum LogFault {
-    #[error("the log's start and end don't belong together")]
-    Range,
-    #[error("a logged block's address is no home of this disk")]
-    Address,
-    #[error("the device failed")]
-    Device,
-    #[error("out of memory")]
-    NoMemory,
-}
-
-impl LogFault {
-    /// The number of the fault.
-    pub fn number(self) -> u8
-        ensures { result ≡ number_of self }
-    {
-        match self {
-            LogFault::Range => 1,
-            LogFault::Address => 2,
-            LogFault::Device => 3,
-            LogFault::NoMemory => 4,
-        }
-    }
-}
+use wal_law::{LogFault, Recovered};
 
 /// Reads the log of a disk: its blocks with their home addresses, in log order.
 pub fn read_log<D: CrashDisk>(

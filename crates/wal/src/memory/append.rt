@@ -1,12 +1,10 @@
 //! Adding a commit's changes to the tail.
 ghost use Rattle.std.specs.Prelude.{◌≡◌, ◌≢◌, ◌≤◌, ◌<◌, ◌+◌, ◌++◌, ◌↔◌, length, All};
 ghost use Rattle.std.specs.VecDeque.{deque_capacity};
-ghost use Rattle.wal.specs.Log.{changes_of, blocks_of, tail_after, IsHomeOn};
-ghost use Rattle.wal.specs.Room.{HasPlaces, with_group};
-ghost use Rattle.disk.specs.Device.{Device};
-ghost use Rattle.disk.specs.Crash.{Image};
-ghost use Rattle.wal.specs.Seen.{HasAppended};
-ghost use Rattle.wal.specs.Calls.{Pending, AgreesBeside};
+ghost use Rattle.wal_law.specs.Log.{changes_of, blocks_of, tail_after, IsHomeOn, IsLawful};
+ghost use Rattle.wal_law.specs.Room.{HasPlaces, with_group};
+ghost use Rattle.wal_law.specs.Seen.{HasAppended};
+ghost use Rattle.wal_law.specs.Calls.{KeepsAgreement};
 
 use super::Wal;
 use crate::{Append, Change};
@@ -23,10 +21,8 @@ impl Wal {
         ensures refused { result ≢ Append.Appended → self.new ≡ self.old }
         ensures full { result ≡ Append.Full ↔ (LOG_SLOTS < tail_after self.old (blocks_of group.items)) }
         ensures seen { result ≡ Append.Appended → HasAppended self.old group.items self.new }
-        ensures law { (d : Device) (base : Image) (logging installing : Pending) → AgreesBeside d base self.old logging installing
-            → AgreesBeside d base self.new logging installing }
+        ensures law { KeepsAgreement self.old self.new }
     {
-        self.lawful();
         self.add(group)
     }
 
@@ -34,6 +30,7 @@ impl Wal {
     fn add(&mut self, group: Vec<(BlockNo, Block)>) -> Append
         requires places { HasPlaces self.old (blocks_of group.items) }
         requires homes { All (IsHomeOn self.old.blocks) (blocks_of group.items) }
+        ensures lawful { IsLawful self.old }
         ensures appended { result ≡ Append.Appended → self.new ≡ with_group self.old group.items }
         ensures refused { result ≢ Append.Appended → self.new ≡ self.old }
         ensures full { result ≡ Append.Full ↔ (LOG_SLOTS < tail_after self.old (blocks_of group.items)) }

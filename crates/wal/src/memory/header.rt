@@ -1,7 +1,7 @@
 //! The header of the log, as the memory log knows it.
 ghost use Rattle.std.specs.Prelude.{◌≡◌, ◌≤◌, ◌<◌, ◌+◌, ◌^◌, length, take};
 ghost use Rattle.limits.specs.declared.TheConstants.{LOG_SLOTS};
-ghost use Rattle.wal.specs.Logger.{IsHeader};
+ghost use Rattle.wal_law.specs.Logger.{IsHeader};
 
 use crate::Change;
 use crate::circ::{put_address, put_end};

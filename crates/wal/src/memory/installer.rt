@@ -1,12 +1,10 @@
 //! The installer: it brings logged changes home, and then raises the start of the log.
-ghost use Rattle.std.specs.Prelude.{◌≡◌, ◌<◌, ◌≤◌, length, drop, IfSome, IsNone, IsSome, is_some, if◌then◌else◌, true, false, nat_lt, ◌||◌, Result, is_ok};
-ghost use Rattle.disk.specs.declared.device.Failed.{Failed};
-ghost use Rattle.disk.specs.Device.{Device};
-ghost use Rattle.disk.specs.Crash.{Image};
-ghost use Rattle.wal.specs.Calls.{Pending, idle, out, answered, AgreesBeside, home_after};
-ghost use Rattle.wal.specs.Io.{IsCallWithin};
-ghost use Rattle.wal.specs.Seen.{HasGoneOn};
-ghost use Rattle.wal.specs.Installer.{may_install, with_inst_out, is_inst_out, with_inst_back, with_installed, next_home, IsNextInstCall};
+ghost use Rattle.std.specs.Prelude.{◌≡◌, ◌<◌, ◌≤◌, length, drop, IfSome, IsNone, IsSome, is_some, if◌then◌else◌, true, false, nat_lt, ◌||◌};
+ghost use Rattle.wal_law.specs.Calls.{InstCallGoesOut, InstCallComesBack};
+ghost use Rattle.wal_law.specs.Io.{IsCallWithin};
+ghost use Rattle.wal_law.specs.Log.{IsLawful};
+ghost use Rattle.wal_law.specs.Seen.{HasGoneOn};
+ghost use Rattle.wal_law.specs.Installer.{may_install, with_inst_out, is_inst_out, with_inst_back, with_installed, next_home, IsNextInstCall};
 
 use super::Wal;
 use super::search::next_newest;
@@ -26,10 +24,8 @@ impl Wal {
         ensures call { IfSome result (IsNextInstCall self.new) }
         ensures within { IfSome result (λ io. IsCallWithin self.new.blocks io.call) }
         ensures seen { HasGoneOn self.old self.new }
-        ensures law { (d : Device) (base : Image) (logging : Pending) → AgreesBeside d base self.old logging idle
-            → IfSome result (λ io. AgreesBeside d base self.new logging (out io)) }
+        ensures law { IfSome result (λ io. InstCallGoesOut self.old io self.new) }
     {
-        self.lawful();
         self.next_inst_io()
     }
 
@@ -38,15 +34,14 @@ impl Wal {
     pub fn inst_done(&mut self, io: InstIo, ok: bool)
         ensures log { self.new ≡ (if is_inst_out self.old io then with_inst_back self.old ok else self.old) }
         ensures seen { HasGoneOn self.old self.new }
-        ensures law { (d : Device) (base : Image) (answer : Result Unit Failed) (logging : Pending) → is_ok answer ≡ ok
-            → AgreesBeside d base self.old logging (answered io answer) → AgreesBeside d (home_after base self.old ok) self.new logging idle }
+        ensures law { InstCallComesBack self.old io ok self.new }
     {
-        self.lawful();
         self.take_inst_io(io, ok);
     }
 
     // Hands the installation's next call out.
     fn next_inst_io(&mut self) -> Option<InstIo>
+        ensures lawful { IsLawful self.old }
         ensures causes { is_some result ≡ may_install self.old }
         ensures none { IsNone result → self.new ≡ self.old }
         ensures some { IsSome result → self.new ≡ with_inst_out self.old }
@@ -62,7 +57,8 @@ impl Wal {
 
     // Takes a call back.
     fn take_inst_io(&mut self, io: InstIo, ok: bool)
-        ensures { self.new ≡ (if is_inst_out self.old io then with_inst_back self.old ok else self.old) }
+        ensures lawful { IsLawful self.old }
+        ensures log { self.new ≡ (if is_inst_out self.old io then with_inst_back self.old ok else self.old) }
     {
         let InstIo {
             beginning,

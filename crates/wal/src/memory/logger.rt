@@ -1,12 +1,10 @@
 //! The logger: it takes the tail as a group, and makes it safe in the slots of the log.
-ghost use Rattle.std.specs.Prelude.{◌≡◌, ◌<◌, IfSome, IsNone, IsSome, is_some, ◌+◌, ◌%◌, if◌then◌else◌, true, false, Result, is_ok};
-ghost use Rattle.disk.specs.declared.device.Failed.{Failed};
-ghost use Rattle.disk.specs.Device.{Device};
-ghost use Rattle.disk.specs.Crash.{Image};
-ghost use Rattle.wal.specs.Calls.{Pending, idle, out, answered, AgreesBeside};
-ghost use Rattle.wal.specs.Io.{IsCallWithin};
-ghost use Rattle.wal.specs.Seen.{HasGoneOn};
-ghost use Rattle.wal.specs.Logger.{may_log, has_group, group_size, with_log_out, is_log_out, with_log_back, IsNextLogCall};
+ghost use Rattle.std.specs.Prelude.{◌≡◌, ◌<◌, IfSome, IsNone, IsSome, is_some, ◌+◌, ◌%◌, if◌then◌else◌, true, false};
+ghost use Rattle.wal_law.specs.Calls.{LogCallGoesOut, LogCallComesBack};
+ghost use Rattle.wal_law.specs.Io.{IsCallWithin};
+ghost use Rattle.wal_law.specs.Log.{IsLawful};
+ghost use Rattle.wal_law.specs.Seen.{HasGoneOn};
+ghost use Rattle.wal_law.specs.Logger.{may_log, has_group, group_size, with_log_out, is_log_out, with_log_back, IsNextLogCall};
 
 use super::Wal;
 use super::header::put_header;
@@ -24,10 +22,8 @@ impl Wal {
         ensures call { IfSome result (IsNextLogCall self.new) }
         ensures within { IfSome result (λ io. IsCallWithin self.new.blocks io.call) }
         ensures seen { HasGoneOn self.old self.new }
-        ensures law { (d : Device) (base : Image) (installing : Pending) → AgreesBeside d base self.old idle installing
-            → IfSome result (λ io. AgreesBeside d base self.new (out io) installing) }
+        ensures law { IfSome result (λ io. LogCallGoesOut self.old io self.new) }
     {
-        self.lawful();
         self.next_log_io()
     }
 
@@ -36,15 +32,14 @@ impl Wal {
     pub fn log_done(&mut self, io: LogIo, ok: bool)
         ensures log { self.new ≡ (if is_log_out self.old io then with_log_back self.old ok else self.old) }
         ensures seen { HasGoneOn self.old self.new }
-        ensures law { (d : Device) (base : Image) (answer : Result Unit Failed) (installing : Pending) → is_ok answer ≡ ok
-            → AgreesBeside d base self.old (answered io answer) installing → AgreesBeside d base self.new idle installing }
+        ensures law { LogCallComesBack self.old io ok self.new }
     {
-        self.lawful();
         self.take_log_io(io, ok);
     }
 
     // Hands the group's next call out.
     fn next_log_io(&mut self) -> Option<LogIo>
+        ensures lawful { IsLawful self.old }
         ensures causes { is_some result ≡ may_log self.old }
         ensures none { IsNone result → self.new ≡ self.old }
         ensures some { IsSome result → self.new ≡ with_log_out self.old }
@@ -60,7 +55,8 @@ impl Wal {
 
     // Takes a call back.
     fn take_log_io(&mut self, io: LogIo, ok: bool)
-        ensures { self.new ≡ (if is_log_out self.old io then with_log_back self.old ok else self.old) }
+        ensures lawful { IsLawful self.old }
+        ensures log { self.new ≡ (if is_log_out self.old io then with_log_back self.old ok else self.old) }
     {
         let LogIo {
             beginning,

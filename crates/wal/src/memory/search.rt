@@ -1,7 +1,7 @@
 //! Searches among changes.
 ghost use Rattle.std.specs.Prelude.{◌≡◌, ◌≤◌, ◌+◌, length, MatchOption, Some, None, take, drop};
-ghost use Rattle.wal.specs.Log.{newest_of, place_before};
-ghost use Rattle.wal.specs.Installer.{passed_over};
+ghost use Rattle.wal_law.specs.Log.{newest_of, place_before};
+ghost use Rattle.wal_law.specs.Installer.{passed_over};
 
 use crate::{Change, Seq};
 use disk::{Block, BlockNo};

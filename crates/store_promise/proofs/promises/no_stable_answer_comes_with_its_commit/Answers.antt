@@ -6,7 +6,7 @@ use Rattle.store_promise.specs.declared.events.Committing.TheVariants as committ
 use Rattle.store_promise.specs.declared.events.Step.TheVariants as step
 use Rattle.store_promise.specs.declared.transcript.Answer.{Answer}
 use Rattle.store_promise.specs.declared.transcript.Committed.{Committed}
-use Rattle.wal.specs.declared.answers.Seq.{Seq}
+use Rattle.wal_law.specs.declared.answers.Seq.{Seq}
 use Rattle.store_promise.specs.Schedule.{Schedule}
 use Rattle.store_promise.specs.Transcript.{Transcript, step_at, committed_at}
 use Rattle.store_promise.specs.Verdicts.{IsStableAnswer, IsVerdict, AtOnce, Stable, Unsettled, FailedRead, Broken, NoMemory, Spent, Untaken}

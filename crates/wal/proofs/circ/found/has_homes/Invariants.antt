@@ -1,6 +1,6 @@
 use Rattle.std.proofs.Common.{ℕ, ◌+◌, ◌<◌}
-use Rattle.wal.specs.Log.{IsHomeOn}
-use Rattle.wal.specs.Overlay.{home_at}
+use Rattle.wal_law.specs.Log.{IsHomeOn}
+use Rattle.wal_law.specs.Overlay.{home_at}
 use Rattle.wal.proofs.circ.found.has_homes.Given as goal
 
 abbrev pub invariant-loop-i : goal.invariant-loop-i

@@ -1,9 +1,9 @@
 use Rattle.std.proofs.Common.{◌+◌, ◌∙◌, arith, refl}
 use Rattle.disk.specs.Device.{Device}
-use Rattle.wal.specs.Logger.{slot_block}
-use Rattle.wal.specs.Found.{image_of}
-use Rattle.wal.proofs.Lawful.{home_more}
-use Rattle.wal.proofs.OnlyRead.{reads_then, image_then, unspoiled_then, positions_more}
+use Rattle.wal_law.specs.Logger.{slot_block}
+use Rattle.wal_law.specs.Found.{image_of}
+use Rattle.wal_law.proofs.Lawful.{home_more}
+use Rattle.wal_law.proofs.OnlyRead.{reads_then, image_then, unspoiled_then, positions_more}
 use Rattle.disk.specs.declared.block.BlockNo.{BlockNo}
 use Rattle.wal.proofs.circ.found.read_slots.Goals as goal
 

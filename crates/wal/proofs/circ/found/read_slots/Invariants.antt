@@ -1,8 +1,8 @@
 use Rattle.std.proofs.Common.{◌≡◌, ◌≤◌, length, All}
 use Rattle.std.specs.Vec.{vec_capacity}
-use Rattle.wal.specs.Log.{IsHomeOn, blocks_of}
-use Rattle.wal.specs.Overlay.{positions}
-use Rattle.wal.specs.Found.{HasOnlyRead, IsUnspoiled, image_of}
+use Rattle.wal_law.specs.Log.{IsHomeOn, blocks_of}
+use Rattle.wal_law.specs.Overlay.{positions}
+use Rattle.wal_law.specs.Found.{HasOnlyRead, IsUnspoiled, image_of}
 use Rattle.wal.proofs.circ.found.read_slots.Given as goal
 
 abbrev pub invariant-loop-i : goal.invariant-loop-i

@@ -1,6 +1,6 @@
 use Rattle.std.proofs.Common.{subst}
-use Rattle.wal.specs.Io.{Io, HasMade}
-use Rattle.wal.proofs.Beside.{stands_inst_made}
+use Rattle.wal_law.specs.Io.{Io, HasMade}
+use Rattle.wal_law.proofs.Beside.{stands_inst_made}
 use Rattle.wal.proofs.io.InstIo.perform.Goals as goal
 
 pub returns-clause-law : goal.returns-clause-law

@@ -1,9 +1,9 @@
 use Rattle.std.proofs.Common.{◌≤◌, arith, subst, sym, All}
 use Rattle.limits.specs.declared.TheConstants.{LOG_SLOTS}
-use Rattle.wal.specs.Log.{Log, blocks_of, tail_after, IsHomeOn}
-use Rattle.wal.specs.Room.{HasPlaces}
+use Rattle.wal_law.specs.Log.{Log, blocks_of, tail_after, IsHomeOn}
+use Rattle.wal_law.specs.Room.{HasPlaces}
 use Rattle.wal.specs.View.{log_of}
-use Rattle.wal.proofs.Lawful.{lawful_with_group, length-blocks_of}
+use Rattle.wal_law.proofs.Lawful.{lawful_with_group, length-blocks_of}
 use Rattle.wal.proofs.memory.Wal.add.Goals as goal
 
 pub invariant_of-self-2 : goal.invariant_of-self-2

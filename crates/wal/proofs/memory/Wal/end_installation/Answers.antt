@@ -1,7 +1,7 @@
 use Rattle.std.proofs.Common.{ap, ◌∙◌}
-use Rattle.wal.specs.Log.{Log}
+use Rattle.wal_law.specs.Log.{Log}
 use Rattle.wal.specs.View.{log_of}
-use Rattle.wal.proofs.Lawful.{lawful_installed}
+use Rattle.wal_law.proofs.Lawful.{lawful_installed}
 use Rattle.wal.proofs.memory.Wal.end_installation.Goals as goal
 
 pub invariant_of-self : goal.invariant_of-self

@@ -1,6 +1,6 @@
-use Rattle.wal.specs.Installer.{with_inst_out}
-use Rattle.wal.proofs.Seen.{seen_next, seen_inst_out}
-use Rattle.wal.proofs.Beside.{next_inst_stands}
+use Rattle.wal_law.specs.Installer.{with_inst_out}
+use Rattle.wal_law.proofs.Seen.{seen_next, seen_inst_out}
+use Rattle.wal_law.proofs.Beside.{inst_goes_out}
 use Rattle.wal.proofs.memory.Wal.inst_next.Goals as goal
 
 pub returns-clause-seen : goal.returns-clause-seen
@@ -10,4 +10,4 @@ returns-clause-seen c =
 
 pub returns-clause-law : goal.returns-clause-law
 returns-clause-law c =
-    next_inst_stands c.next_inst_io.result c.args.self.now c.next_inst_io.new.self c.lawful.ensures c.next_inst_io.ensures.some c.next_inst_io.ensures.call
+    inst_goes_out c.next_inst_io.result c.args.self.now c.next_inst_io.new.self c.next_inst_io.ensures.lawful c.next_inst_io.ensures.some c.next_inst_io.ensures.call

@@ -1,6 +1,6 @@
-use Rattle.wal.specs.Logger.{with_log_out}
-use Rattle.wal.proofs.Seen.{seen_next, seen_log_out}
-use Rattle.wal.proofs.Beside.{next_log_stands}
+use Rattle.wal_law.specs.Logger.{with_log_out}
+use Rattle.wal_law.proofs.Seen.{seen_next, seen_log_out}
+use Rattle.wal_law.proofs.Beside.{log_goes_out}
 use Rattle.wal.proofs.memory.Wal.log_next.Goals as goal
 
 pub returns-clause-seen : goal.returns-clause-seen
@@ -10,4 +10,4 @@ returns-clause-seen c =
 
 pub returns-clause-law : goal.returns-clause-law
 returns-clause-law c =
-    next_log_stands c.next_log_io.result c.args.self.now c.next_log_io.new.self c.lawful.ensures c.next_log_io.ensures.some c.next_log_io.ensures.call
+    log_goes_out c.next_log_io.result c.args.self.now c.next_log_io.new.self c.next_log_io.ensures.lawful c.next_log_io.ensures.some c.next_log_io.ensures.call

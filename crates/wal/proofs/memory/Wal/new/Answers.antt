@@ -1,5 +1,5 @@
 use Rattle.std.proofs.Common.{◌≡◌, length, arith}
-use Rattle.wal.proofs.Lawful.{lawful_opened}
+use Rattle.wal_law.proofs.Lawful.{lawful_opened}
 use Rattle.wal.proofs.memory.Wal.new.Goals as goal
 
 pub invariant_of-result : goal.invariant_of-result

@@ -1,5 +1,5 @@
 use Rattle.wal.specs.View.{log_of}
-use Rattle.wal.proofs.Lawful.{lawful_group_settled}
+use Rattle.wal_law.proofs.Lawful.{lawful_group_settled}
 use Rattle.wal.proofs.memory.Wal.take_log_io.Goals as goal
 
 pub invariant_of-self-then-self : goal.invariant_of-self-then-self

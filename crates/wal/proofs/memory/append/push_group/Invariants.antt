@@ -1,7 +1,7 @@
 use Rattle.std.proofs.Common.{◌≡◌, ◌≤◌, ◌+◌, ◌++◌, length}
 use Rattle.std.specs.VecDeque.{deque_capacity}
 use Rattle.std.specs.Vec.Iter.{into_iter_items}
-use Rattle.wal.specs.Log.{changes_of}
+use Rattle.wal_law.specs.Log.{changes_of}
 use Rattle.wal.proofs.memory.append.push_group.Given as goal
 
 abbrev pub invariant-loop-block : goal.invariant-loop-block

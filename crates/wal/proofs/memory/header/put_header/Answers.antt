@@ -2,10 +2,10 @@ use Rattle.std.proofs.Common.{◌≡◌, ℕ, ◌+◌, ◌*◌, ◌%◌, ◌<◌
 use Rattle.std.proofs.lemmas.List.{length-replicate, length-take-le}
 use Rattle.std.proofs.lemmas.Option.{get_or_from_slice_get}
 use Rattle.limits.specs.declared.TheConstants.{LOG_SLOTS, BLOCK_BYTES}
-use Rattle.wal.specs.declared.change.Change.{Change}
-use Rattle.wal.specs.Numbers.{number_at, with_number}
-use Rattle.wal.proofs.Lists.{within-take, slice_get-take}
-use Rattle.wal.proofs.Numbers.{length-with_number, number_at-same, number_at-before, address_at-other}
+use Rattle.wal_law.specs.declared.change.Change.{Change}
+use Rattle.wal_law.specs.Numbers.{number_at, with_number}
+use Rattle.wal_law.proofs.Lists.{within-take, slice_get-take}
+use Rattle.wal_law.proofs.Numbers.{length-with_number, number_at-same, number_at-before, address_at-other}
 use Rattle.wal.proofs.memory.header.put_header.Goals as goal
 
 pub loop-i-init : goal.loop-i-init

@@ -1,5 +1,5 @@
 use Rattle.std.proofs.Common.{◌-◌, arith, sym}
-use Rattle.wal.proofs.Newest.{newest_of-other, newest_of-same, newest_of-later}
+use Rattle.wal_law.proofs.Newest.{newest_of-other, newest_of-same, newest_of-later}
 use Rattle.wal.proofs.memory.search.last_change.Goals as goal
 
 pub loop-i-preserved : goal.loop-i-preserved

@@ -1,5 +1,5 @@
 use Rattle.std.proofs.Common.{◌-◌, ◌≡◌, ◌≤◌, None, take, drop}
-use Rattle.wal.specs.Log.{newest_of}
+use Rattle.wal_law.specs.Log.{newest_of}
 use Rattle.wal.proofs.memory.search.last_change.Given as goal
 
 abbrev pub invariant-loop-i : goal.invariant-loop-i

@@ -1,5 +1,5 @@
 use Rattle.std.proofs.Common.{arith, ◌∙◌}
-use Rattle.wal.proofs.Newest.{passed_over-within, passed_over-end, is_some-match}
+use Rattle.wal_law.proofs.Newest.{passed_over-within, passed_over-end, is_some-match}
 use Rattle.wal.proofs.memory.search.next_newest.Goals as goal
 
 pub loop-i-preserved : goal.loop-i-preserved

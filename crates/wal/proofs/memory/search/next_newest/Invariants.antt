@@ -1,5 +1,5 @@
 use Rattle.std.proofs.Common.{◌≡◌, ◌+◌, take, drop}
-use Rattle.wal.specs.Installer.{passed_over}
+use Rattle.wal_law.specs.Installer.{passed_over}
 use Rattle.wal.proofs.memory.search.next_newest.Given as goal
 
 abbrev pub invariant-loop-i : goal.invariant-loop-i

@@ -1,0 +1,219 @@
+//! What no contract says: that calls succeed, and that a file of the system answers as a device does.
+use disk::{Block, BlockFile, BlockNo, CrashDisk, Failed, FileDisk, MemDisk, Side};
+use limits::BLOCK_BYTES;
+use std::alloc::Global;
+use std::fs::OpenOptions;
+use std::io;
+use std::test::Fail;
+
+const HOME: BlockNo = BlockNo(600);
+
+const LOG: BlockNo = BlockNo(2);
+
+const OTHER: BlockNo = BlockNo(601);
+
+const BLOCKS: u32 = 602;
+
+// A block that begins with this byte, and else has zeros.
+fn block(alloc: Global, byte: u8) -> Result<Block, Fail> {
+    let mut block = Block::zeros(alloc)?;
+    block.put(0, &[byte]);
+    Ok(block)
+}
+
+// A call of a device: of one block, or of the home side.
+#[derive(Clone, Copy)]
+enum Call {
+    Read(BlockNo),
+    Write(BlockNo),
+    Barrier,
+}
+
+// Makes a call, of a block on the device. Answers the first byte that was read or written.
+fn make<D: CrashDisk>(disk: &mut D, call: Call, content: &mut Block) -> Result<u8, Failed> {
+    match call {
+        Call::Read(block) if block.0 < disk.blocks() => disk.read(block, content)?,
+        Call::Write(block) if block.0 < disk.blocks() => disk.write(block, content)?,
+        Call::Barrier => disk.barrier(Side::Home)?,
+        _ => return Err(Failed),
+    }
+    Ok(content.as_slice()[0])
+}
+
+// Writes this byte to two home blocks and one of the log side.
+fn write_three(disk: &mut MemDisk, content: &mut Block) -> bool {
+    make(disk, Call::Write(LOG), content).is_ok()
+        && make(disk, Call::Write(HOME), content).is_ok()
+        && make(disk, Call::Write(OTHER), content).is_ok()
+}
+
+// A device on which they were each written twice, the second time with no barrier.
+fn written(alloc: Global) -> Result<MemDisk, Fail> {
+    let mut one = block(alloc, 1)?;
+    let mut two = block(alloc, 2)?;
+    let mut disk = MemDisk::new(alloc, BLOCKS)?;
+    let made = write_three(&mut disk, &mut one)
+        && disk.barrier(Side::Home).is_ok()
+        && write_three(&mut disk, &mut two);
+    if !made {
+        Err("a call failed")?;
+    }
+    Ok(disk)
+}
+
+// The first bytes of the newest contents of the three blocks.
+fn first_bytes(disk: &MemDisk) -> [u8; 3] {
+    let mut bytes = [0; 3];
+    for (byte, place) in bytes.iter_mut().zip([LOG, HOME, OTHER]) {
+        if place.0 < disk.blocks() {
+            *byte = disk.newest(place).as_slice()[0];
+        }
+    }
+    bytes
+}
+
+#[test]
+fn crash_chooses_by_digits(rt: HostRuntime) -> Result<(), Fail> {
+    let cases: [(&[u32], [u8; 3]); 5] = [
+        (&[], [0, 1, 1]),
+        (&[1, 0, 0], [1, 1, 1]),
+        (&[2, 1, 0], [2, 2, 1]),
+        (&[0, 1, 1], [0, 2, 2]),
+        (&[9, 9, 9], [2, 2, 2]),
+    ];
+    for (digits, wanted) in cases {
+        let disk = written(rt.alloc())?.crash(digits);
+        assert!(rt; first_bytes(&disk) == wanted && disk.calls() == 0);
+    }
+    Ok(())
+}
+
+// A device whose first, third and fifth calls fail, after the first of them: a write.
+fn named(alloc: Global) -> Result<MemDisk, Fail> {
+    let mut one = block(alloc, 1)?;
+    let mut disk = MemDisk::new(alloc, BLOCKS)?;
+    disk.fail_at(&[1, 3, 5])?;
+    if make(&mut disk, Call::Write(HOME), &mut one).is_ok() {
+        Err("the first call was made")?;
+    }
+    if HOME.0 >= disk.blocks() || disk.count(HOME) < 2 {
+        Err("no room for the write")?;
+    }
+    Ok(disk)
+}
+
+#[test]
+fn named_calls_fail(rt: HostRuntime) -> Result<(), Fail> {
+    // The read after the write that failed shows that it was made.
+    let calls = [
+        (Call::Read(HOME), Ok(1)),
+        (Call::Barrier, Err(Failed)),
+        (Call::Barrier, Ok(1)),
+        (Call::Read(HOME), Err(Failed)),
+        (Call::Read(HOME), Ok(1)),
+    ];
+    let mut disk = named(rt.alloc())?;
+    let mut out = Block::zeros(rt.alloc())?;
+    for (call, wanted) in calls {
+        assert!(rt; make(&mut disk, call, &mut out) == wanted);
+    }
+    assert!(rt; disk.calls() == 6);
+    Ok(())
+}
+
+// A file that fails each call, or none.
+#[derive(Drop)]
+struct Fake {
+    fails: bool,
+}
+
+impl Fake {
+    fn answer(&self) -> io::Result<()> {
+        if self.fails {
+            return Err(io::ErrorKind::StorageFull.into());
+        }
+        Ok(())
+    }
+}
+
+impl BlockFile for Fake {
+    ghost use Rattle.std.specs.Prelude.{[]};
+
+    ghost held = { λ _ _. [] };
+
+    fn read_block(&self, _offset: u64, bytes: &mut [u8]) -> io::Result<()> {
+        bytes.fill(7);
+        self.answer()
+    }
+
+    fn write_block(&self, _offset: u64, _bytes: &[u8]) -> io::Result<()> {
+        self.answer()
+    }
+
+    fn settle(&self) -> io::Result<()> {
+        self.answer()
+    }
+}
+
+#[test]
+fn errors_of_a_file_are_failures(rt: HostRuntime) -> Result<(), Fail> {
+    let mut out = Block::zeros(rt.alloc())?;
+    for (fails, wanted) in [(false, Ok(7)), (true, Err(Failed))] {
+        let mut disk = FileDisk::over(Fake { fails }, BLOCKS);
+        for call in [Call::Read(HOME), Call::Write(HOME), Call::Barrier] {
+            assert!(rt; make(&mut disk, call, &mut out) == wanted);
+        }
+    }
+    Ok(())
+}
+
+// Makes a file of three blocks, of which the last begins with 1.
+fn make_file(rt: &HostRuntime, path: &str) -> Result<bool, Fail> {
+    let mut one = block(rt.alloc(), 1)?;
+    let mut disk = FileDisk::create(rt, path, 3)?;
+    Ok(
+        disk.blocks() == 3
+            && make(&mut disk, Call::Write(BlockNo(2)), &mut one) == Ok(1)
+            && disk.barrier(Side::Log) == Ok(()),
+    )
+}
+
+#[test]
+fn a_file_keeps_what_was_written(rt: HostRuntime) -> Result<(), Fail> {
+    let path = "kept.tmp";
+    assert!(rt; make_file(&rt, path)?);
+    let mut out = Block::zeros(rt.alloc())?;
+    let mut longer = FileDisk::create(&rt, path, 5)?;
+    let kept = make(&mut longer, Call::Read(BlockNo(2)), &mut out);
+    let added = make(&mut longer, Call::Read(BlockNo(4)), &mut out);
+    assert!(rt; longer.blocks() == 5 && (kept, added) == (Ok(1), Ok(0)));
+    std::fs::remove_file(&rt, path)?;
+    Ok(())
+}
+
+// A file that was cut short behind the device's back: its blocks past the end can't be read.
+#[test]
+fn a_file_is_cut_short(rt: HostRuntime) -> Result<(), Fail> {
+    let path = "cut.tmp";
+    let mut out = Block::zeros(rt.alloc())?;
+    let mut longer = FileDisk::create(&rt, path, 5)?;
+    let before = make(&mut longer, Call::Read(BlockNo(4)), &mut out);
+    let cut = FileDisk::create(&rt, path, 2)?;
+    let after = make(&mut longer, Call::Read(BlockNo(4)), &mut out);
+    assert!(rt; cut.blocks() == 2 && (before, after) == (Ok(0), Err(Failed)));
+    std::fs::remove_file(&rt, path)?;
+    Ok(())
+}
+
+// A part of a block at the end isn't looked at.
+#[test]
+fn a_file_ends_within_a_block(rt: HostRuntime) -> Result<(), Fail> {
+    let path = "part.tmp";
+    assert!(rt; make_file(&rt, path)?);
+    let file = OpenOptions::new().write(true).open(&rt, path)?;
+    file.set_len(BLOCK_BYTES as u64 * 2 + 1)?;
+    let opened = FileDisk::open(&rt, path)?;
+    assert!(rt; opened.blocks() == 2);
+    std::fs::remove_file(&rt, path)?;
+    Ok(())
+}

@@ -1,8 +1,0 @@
-use Rattle.std.proofs.Common.{arith}
-use Rattle.wal.proofs.Lawful.{home_more}
-use Rattle.wal.proofs.tests.group.Goals as goal
-
-pub loop-i-preserved : goal.loop-i-preserved
-loop-i-preserved c =
-    home_more 2048 c.loop-i.group.items c.push.new.self.items _ _ c.in_ok-push.ensures.items c.loop-i.invariant
-    (omega (arith, c.from.ensures), omega (arith, c.from.ensures, c.from-i-end.ensures))

@@ -1,0 +1,34 @@
+-- Lemmas on reads one after another.
+use Rattle.std.proofs.Common.{◌≡◌, ℕ, ◌+◌, inl, inr, List, [], ◌∷◌, ◌++◌, refl, ap, ◌∙◌, arith, add-one}
+use Rattle.std.proofs.lemmas.Bool.{cases_lt}
+use Rattle.disk.specs.Device.{Content, Device, current, newest}
+use Rattle.disk.specs.Crash.{Image}
+use Rattle.disk.specs.declared.block.BlockNo.{BlockNo}
+use Rattle.wal_law.specs.Logger.{slot_block}
+use Rattle.wal_law.specs.Overlay.{home_at, positions}
+use Rattle.wal_law.specs.Found.{HasOnlyRead, IsUnspoiled, image_of}
+
+pub reads_then : (a b c : Device) → HasOnlyRead a b → HasOnlyRead b c → HasOnlyRead a c
+reads_then a b c first second =
+    record {
+      size = second.size ∙ first.size;
+      clock = omega (arith, first.clock, second.clock);
+      past = λ moment block h. second.past moment block (omega (arith, first.clock)) ∙ first.past moment block h;
+      during = λ moment block from to. elim (cases_lt b.clock moment) as (λ _. c.contents moment block ≡ current a block) [
+        | inl later ↦ second.during moment block (omega arith) to ∙ first.during b.clock block first.clock (omega arith)
+        | inr sooner ↦ second.past moment block sooner ∙ first.during moment block from sooner
+      ];
+      spoiled = λ block. second.spoiled block ∙ first.spoiled block;
+    }
+
+pub image_then : (a b : Device) → HasOnlyRead a b → (block : ℕ) → image_of b block ≡ image_of a block
+image_then a b reads block = ap newest (reads.during b.clock block reads.clock (omega arith))
+
+pub unspoiled_then : (a b : Device) → HasOnlyRead a b → IsUnspoiled a → IsUnspoiled b
+unspoiled_then a b reads h = λ block. reads.spoiled block ∙ h block
+
+-- one position more
+pub positions_more : (header : Content) (image : Image) (start n : ℕ) (items new : List (BlockNo × Content)) (home : BlockNo) (content : Content)
+    → items ≡ positions header image start n → new ≡ items ++ (home, content) ∷ [] → home ≡ home_at header (start + n) → content ≡ image (slot_block (start + n))
+    → new ≡ positions header image start (n + 1)
+positions_more header image start n items new home content e m h k = m ∙ rw (e, h, k, add-one) refl

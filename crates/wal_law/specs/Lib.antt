@@ -1,0 +1,12 @@
+pub mod Io
+pub mod Log
+pub mod Room
+pub mod Numbers
+pub mod Logger
+pub mod Installer
+pub mod Seen
+pub mod Overlay
+pub mod Found
+pub mod Law
+pub mod Calls
+pub mod ReadBack
