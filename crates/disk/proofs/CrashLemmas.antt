@@ -15,7 +15,8 @@ picked place contents some =
     (i, h, get_or_default contents i (pick place contents) [] h)
 
 -- the next block takes some place, and the others the digits that are left
-chosen_cons : (digits : List ℕ) (contents : List Content) (rest : Blocks) → (place : ℕ) × (left : List ℕ) × (chosen digits (contents ∷ rest) ≡ pick place contents ∷ chosen left rest)
+chosen_cons : (digits : List ℕ) (contents : List Content) (rest : Blocks)
+    → (place : ℕ) × (left : List ℕ) × (chosen digits (contents ∷ rest) ≡ pick place contents ∷ chosen left rest)
 chosen_cons digits contents rest =
     elim (nat_lt 1 (length contents)) as (λ b. (place : ℕ) × (left : List ℕ)
     × ((if b then pick (slice_index digits 0) contents ∷ chosen (drop 1 digits) rest else pick 0 contents ∷ chosen digits rest) ≡ pick place contents ∷ chosen left rest))
@@ -24,7 +25,9 @@ chosen_cons digits contents rest =
 abbrev alone : List Content → Blocks
 alone image = map (λ c. c ∷ []) image
 
-chosen_at : (digits : List ℕ) (now : Blocks) (block : ℕ) → block < length now → 0 < length (get_or now block []) → Contains (get_or now block []) (newest (get_or (alone (chosen digits now)) block []))
+chosen_at : (digits : List ℕ) (now : Blocks) (block : ℕ) → block < length now
+    → 0 < length (get_or now block [])
+    → Contains (get_or now block []) (newest (get_or (alone (chosen digits now)) block []))
 chosen_at digits [] block h some = absurd (omega (arith, h))
 chosen_at digits (contents ∷ rest) zero h some =
     let (place, left, e) = chosen_cons digits contents rest in
@@ -33,12 +36,14 @@ chosen_at digits (contents ∷ rest) (suc block) h some =
     let (place, left, e) = chosen_cons digits contents rest in
     subst (λ (image : List Content). Contains (get_or rest block []) (newest (get_or (alone image) (suc block) []))) (sym e) (chosen_at left rest block (omega (arith, h)) some)
 
-pub chosen_image : (digits : List ℕ) (now : Blocks) (past : Past) → ((block : ℕ) → block < length now → 0 < length (get_or now block []))
+pub chosen_image : (digits : List ℕ) (now : Blocks) (past : Past)
+    → ((block : ℕ) → block < length now → 0 < length (get_or now block []))
     → IsCrashImage (device_of now past) (length past) (λ block. newest (current (device_of (alone (chosen digits now)) []) block))
 chosen_image digits now past some block h =
     subst (λ (contents : List Content). Contains contents (newest (get_or (alone (chosen digits now)) block []))) (sym (current_now now past block)) (chosen_at digits now block h (some block h))
 
-alone_one : (image : List Content) (block : ℕ) → block < length (alone image) → length (get_or (alone image) block []) ≡ 1
+alone_one : (image : List Content) (block : ℕ) → block < length (alone image)
+    → length (get_or (alone image) block []) ≡ 1
 alone_one [] block h = absurd (omega (arith, h))
 alone_one (c ∷ image) zero h = refl
 alone_one (c ∷ image) (suc block) h = alone_one image block (omega (arith, h))

@@ -18,7 +18,8 @@ use Rattle.disk.specs.Device.{Content, Device, current, OneLater, CountsFailure,
 use Rattle.disk.specs.Noted.{is_failure, spoils}
 use Rattle.disk.specs.Memory.{Blocks, Past, held_at, device_of}
 
-held_before : (now new : Blocks) (past : Past) (n : Noted) (moment : ℕ) → moment ≤ length past → held_at new (past ++ (now, n) ∷ []) moment ≡ held_at now past moment
+held_before : (now new : Blocks) (past : Past) (n : Noted) (moment : ℕ) → moment ≤ length past
+    → held_at new (past ++ (now, n) ∷ []) moment ≡ held_at now past moment
 held_before now new [] n zero h = refl
 held_before now new [] n (suc m) h = absurd (omega (arith, h))
 held_before now new (e ∷ past) n zero h = refl
@@ -28,10 +29,12 @@ held_now : (now : Blocks) (past : Past) → held_at now past (length past) ≡ n
 held_now now [] = refl
 held_now now (e ∷ past) = held_now now past
 
-held_after : (now new : Blocks) (past : Past) (n : Noted) → held_at new (past ++ (now, n) ∷ []) (length (past ++ (now, n) ∷ [])) ≡ new
+held_after : (now new : Blocks) (past : Past) (n : Noted)
+    → held_at new (past ++ (now, n) ∷ []) (length (past ++ (now, n) ∷ [])) ≡ new
 held_after now new past n = held_now new (past ++ (now, n) ∷ [])
 
-later : (now new : Blocks) (past : Past) (n : Noted) → length new ≡ length now → OneLater (device_of now past) (device_of new (past ++ (now, n) ∷ []))
+later : (now new : Blocks) (past : Past) (n : Noted) → length new ≡ length now
+    → OneLater (device_of now past) (device_of new (past ++ (now, n) ∷ []))
 later now new past n same = record {
   size = same;
   clock = length-append past ((now, n) ∷ []);
@@ -39,13 +42,16 @@ later now new past n same = record {
 }
 
 -- the contents after one more call are the new ones
-pub current_after : (now new : Blocks) (past : Past) (n : Noted) (block : ℕ) → current (device_of new (past ++ (now, n) ∷ [])) block ≡ get_or new block []
+pub current_after : (now new : Blocks) (past : Past) (n : Noted) (block : ℕ)
+    → current (device_of new (past ++ (now, n) ∷ [])) block ≡ get_or new block []
 current_after now new past n block = ap (λ (bs : Blocks). get_or bs block []) (held_after now new past n)
 
-pub current_now : (now : Blocks) (past : Past) (block : ℕ) → current (device_of now past) block ≡ get_or now block []
+pub current_now : (now : Blocks) (past : Past) (block : ℕ)
+    → current (device_of now past) block ≡ get_or now block []
 current_now now past block = ap (λ (bs : Blocks). get_or bs block []) (held_now now past)
 
-counted : (p : Blocks × Noted → Bool) (past : Past) (e : Blocks × Noted) → count_by p (past ++ e ∷ []) ≡ count_by p past + cond (p e) 1 0
+counted : (p : Blocks × Noted → Bool) (past : Past) (e : Blocks × Noted)
+    → count_by p (past ++ e ∷ []) ≡ count_by p past + cond (p e) 1 0
 counted p past e = grind (arith, sum_by-append (λ x. cond (p x) 1 0) past (e ∷ []))
 
 pub counts : (now new : Blocks) (past : Past) (c : Call) (r : Result Unit Failed) → CountsFailure (device_of now past) (device_of new (past ++ (now, record { call = c; result = r }) ∷ [])) r
@@ -53,11 +59,13 @@ counts now new past c (Ok x) =
     let h = counted (λ e. is_failure e.1) past (now, record { call = c; result = Ok x }) in omega (arith, h)
 counts now new past c (Err x) = counted (λ e. is_failure e.1) past (now, record { call = c; result = Err x })
 
-any_after : (p : Blocks × Noted → Bool) (past : Past) (e : Blocks × Noted) → list_any p (past ++ e ∷ []) ≡ (list_any p past || p e)
+any_after : (p : Blocks × Noted → Bool) (past : Past) (e : Blocks × Noted)
+    → list_any p (past ++ e ∷ []) ≡ (list_any p past || p e)
 any_after p past e = list_any-append p past (e ∷ []) ∙ ap (λ (b : Bool). list_any p past || b) (or-false (p e))
 
 -- a fact of the device, where it is made of equal parts
-pub moved : (P : Device → Type 0) (now now' : Blocks) (past past' : Past) → now' ≡ now → past' ≡ past → P (device_of now past) → P (device_of now' past')
+pub moved : (P : Device → Type 0) (now now' : Blocks) (past past' : Past) → now' ≡ now → past' ≡ past
+    → P (device_of now past) → P (device_of now' past')
 moved P now now' past past' e f h =
     subst (λ (b : Blocks). P (device_of b past')) (sym e) (subst (λ (q : Past). P (device_of now q)) (sym f) h)
 
@@ -74,12 +82,14 @@ has_read now past b r =
       spoiled = λ block. any_after (λ e. spoils block e.1) past (now, n) ∙ no_write (list_any (λ e. spoils block e.1) past) r;
     }
 
-appends : (old old' new new' : List Content) (content : Content) (r : Result Unit Failed) → old' ≡ old → new' ≡ new → Appends old content r new → Appends old' content r new'
+appends : (old old' new new' : List Content) (content : Content) (r : Result Unit Failed) → old' ≡ old
+    → new' ≡ new → Appends old content r new → Appends old' content r new'
 appends old old' new new' content (Ok u) e f h = f ∙ h ∙ ap (λ (l : List Content). l ++ content ∷ []) (sym e)
 appends old old' new new' content (Err u) e f (inl h) = inl (f ∙ h ∙ sym e)
 appends old old' new new' content (Err u) e f (inr h) = inr (f ∙ h ∙ ap (λ (l : List Content). l ++ content ∷ []) (sym e))
 
-pub has_written : (now new : Blocks) (past : Past) (b : BlockNo) (content : Content) (r : Result Unit Failed) → length new ≡ length now → Appends (get_or now b.0 []) content r (get_or new b.0 [])
+pub has_written : (now new : Blocks) (past : Past) (b : BlockNo) (content : Content) (r : Result Unit Failed)
+    → length new ≡ length now → Appends (get_or now b.0 []) content r (get_or new b.0 [])
     → ((other : ℕ) → other ≢ b.0 → get_or new other [] ≡ get_or now other [])
     → HasWritten (device_of now past) b.0 content r (device_of new (past ++ (now, record { call = Write b; result = r }) ∷ []))
 has_written now new past b content r same h others =
@@ -91,11 +101,14 @@ has_written now new past b content r same h others =
       spoiled = λ block. any_after (λ e. spoils block e.1) past (now, n);
     }
 
-settles : (side : Side) (block : ℕ) (old old' new new' : List Content) (r : Result Unit Failed) → old' ≡ old → new' ≡ new → Settles side block old r new → Settles side block old' r new'
+settles : (side : Side) (block : ℕ) (old old' new new' : List Content) (r : Result Unit Failed) → old' ≡ old
+    → new' ≡ new → Settles side block old r new → Settles side block old' r new'
 settles side block old old' new new' (Ok u) e f h = f ∙ h ∙ ap (λ (l : List Content). if is_on side block then settled l else l) (sym e)
 settles side block old old' new new' (Err u) e f h = f ∙ h ∙ sym e
 
-pub has_settled : (now new : Blocks) (past : Past) (side : Side) (r : Result Unit Failed) → length new ≡ length now → ((block : ℕ) → Settles side block (get_or now block []) r (get_or new block []))
+pub has_settled : (now new : Blocks) (past : Past) (side : Side) (r : Result Unit Failed)
+    → length new ≡ length now
+    → ((block : ℕ) → Settles side block (get_or now block []) r (get_or new block []))
     → HasSettled (device_of now past) side r (device_of new (past ++ (now, record { call = Barrier side; result = r }) ∷ []))
 has_settled now new past side r same h =
     let n : Noted = record { call = Barrier side; result = r } in
@@ -105,10 +118,12 @@ has_settled now new past side r same h =
       spoiled = λ block. any_after (λ e. spoils block e.1) past (now, n) ∙ no_write (list_any (λ e. spoils block e.1) past) r;
     }
 
-pub settles_if_ok : (side : Side) (block : ℕ) (old new : List Content) (r : Result Unit Failed) → is_ok r ≡ true → new ≡ (if is_on side block then settled old else old) → Settles side block old r new
+pub settles_if_ok : (side : Side) (block : ℕ) (old new : List Content) (r : Result Unit Failed)
+    → is_ok r ≡ true → new ≡ (if is_on side block then settled old else old) → Settles side block old r new
 settles_if_ok side block old new (Ok u) h e = e
 settles_if_ok side block old new (Err u) h e = absurd (false≢true h)
 
-pub settles_if_err : (side : Side) (block : ℕ) (old new : List Content) (r : Result Unit Failed) → is_ok r ≡ false → new ≡ old → Settles side block old r new
+pub settles_if_err : (side : Side) (block : ℕ) (old new : List Content) (r : Result Unit Failed)
+    → is_ok r ≡ false → new ≡ old → Settles side block old r new
 settles_if_err side block old new (Ok u) h e = absurd (true≢false h)
 settles_if_err side block old new (Err u) h e = e

@@ -44,15 +44,19 @@ record Changes (old : Device) (call : DeviceCall) (r : Result Unit Failed) (new 
   spoiled : (k : ℕ) → new.spoiled k ≡ (old.spoiled k || spoils call r k)
   answer : Answers old call r
 
-settles_at : (side : Side) (k : ℕ) (r : Result Unit Failed) (old new : List Content) → is_on side k ≡ true → Settles side k old r new → Leaves (settles side) r old new
+settles_at : (side : Side) (k : ℕ) (r : Result Unit Failed) (old new : List Content) → is_on side k ≡ true
+    → Settles side k old r new → Leaves (settles side) r old new
 settles_at side k (Ok u) old new on h = h ∙ ap (λ (t : Bool). if t then settled old else old) on
 settles_at side k (Err u) old new on h = h
 
-settles_off : (side : Side) (k : ℕ) (r : Result Unit Failed) (old new : List Content) → is_on side k ≡ false → Settles side k old r new → new ≡ old
+settles_off : (side : Side) (k : ℕ) (r : Result Unit Failed) (old new : List Content) → is_on side k ≡ false
+    → Settles side k old r new → new ≡ old
 settles_off side k (Ok u) old new off h = h ∙ ap (λ (t : Bool). if t then settled old else old) off
 settles_off side k (Err u) old new off h = h
 
-settles_from : (side : Side) (k : ℕ) (r : Result Unit Failed) (old new : List Content) → (is_on side k ≡ false → new ≡ old) → (is_on side k ≡ true → Leaves (settles side) r old new) → Settles side k old r new
+settles_from : (side : Side) (k : ℕ) (r : Result Unit Failed) (old new : List Content)
+    → (is_on side k ≡ false → new ≡ old) → (is_on side k ≡ true → Leaves (settles side) r old new)
+    → Settles side k old r new
 settles_from side k (Ok u) old new off on =
     elim (cases_Bool (is_on side k)) [
       | inl t ↦ on t ∙ sym (ap (λ (t : Bool). if t then settled old else old) t)
@@ -60,7 +64,8 @@ settles_from side k (Ok u) old new off on =
     ]
 settles_from side k (Err u) old new off on = elim (cases_Bool (is_on side k)) [ inl t ↦ on t | inr f ↦ off f ]
 
-changes : (old : Device) (call : DeviceCall) (r : Result Unit Failed) (new : Device) → Makes old call r new → Changes old call r new
+changes : (old : Device) (call : DeviceCall) (r : Result Unit Failed) (new : Device) → Makes old call r new
+    → Changes old call r new
 changes old (reads block bytes) r new (read, failure, brings) = record {
   later = read.later;
   failure = failure;
@@ -86,7 +91,8 @@ changes old (settles side) r new (settle, failure) = record {
   answer = tt;
 }
 
-makes : (old : Device) (call : DeviceCall) (r : Result Unit Failed) (new : Device) → Changes old call r new → Makes old call r new
+makes : (old : Device) (call : DeviceCall) (r : Result Unit Failed) (new : Device) → Changes old call r new
+    → Makes old call r new
 makes old (reads block bytes) r new h = (record { later = h.later; contents = λ k. h.others k refl; spoiled = λ k. h.spoiled k ∙ or-false (old.spoiled k) }, h.failure, h.answer)
 makes old (writes block bytes) r new h = (record { later = h.later; written = h.own block (eq-eqb block block refl); others = λ k ne. h.others k (ne_eqb k block ne); spoiled = h.spoiled }, h.failure)
 makes old (settles side) r new h = (record { later = h.later; contents = λ k. settles_from side k r (current old k) (current new k) (h.others k) (h.own k); spoiled = λ k. h.spoiled k ∙ or-false (old.spoiled k) }, h.failure)
@@ -105,22 +111,26 @@ next d lists failures spoiled = record {
   spoiled = spoiled;
 }
 
-next_later : (d : Device) (lists : ℕ → List Content) (failures : ℕ) (spoiled : ℕ → Bool) → OneLater d (next d lists failures spoiled)
+next_later : (d : Device) (lists : ℕ → List Content) (failures : ℕ) (spoiled : ℕ → Bool)
+    → OneLater d (next d lists failures spoiled)
 next_later d lists failures spoiled = record {
   size = refl;
   clock = refl;
   past = λ moment k h. ap (λ (t : Bool). if t then d.contents moment k else lists k) (le-leb moment d.clock h);
 }
 
-next_current : (d : Device) (lists : ℕ → List Content) (failures : ℕ) (spoiled : ℕ → Bool) (k : ℕ) → current (next d lists failures spoiled) k ≡ lists k
+next_current : (d : Device) (lists : ℕ → List Content) (failures : ℕ) (spoiled : ℕ → Bool) (k : ℕ)
+    → current (next d lists failures spoiled) k ≡ lists k
 next_current d lists failures spoiled k =
     ap (λ (t : Bool). if t then d.contents (d.clock + 1) k else lists k) (lt-leb (d.clock + 1) d.clock (omega arith))
 
-counts_next : (d : Device) (lists : ℕ → List Content) (spoiled : ℕ → Bool) (r : Result Unit Failed) → CountsFailure d (next d lists (d.failures + counted r) spoiled) r
+counts_next : (d : Device) (lists : ℕ → List Content) (spoiled : ℕ → Bool) (r : Result Unit Failed)
+    → CountsFailure d (next d lists (d.failures + counted r) spoiled) r
 counts_next d lists spoiled (Ok u) = omega arith
 counts_next d lists spoiled (Err u) = refl
 
-failures_of : (old new : Device) (r : Result Unit Failed) → CountsFailure old new r → new.failures ≡ old.failures + counted r
+failures_of : (old new : Device) (r : Result Unit Failed) → CountsFailure old new r
+    → new.failures ≡ old.failures + counted r
 failures_of old new (Ok u) h = omega (arith, h)
 failures_of old new (Err u) h = h
 
@@ -136,10 +146,12 @@ record Keeps (old new : Device) (k : ℕ) : Type 0 where
   brings : newest (current new k) ≡ newest (current old k)
   clean : new.spoiled k ≡ old.spoiled k
 
-brings_back : (old new : Device) (k : ℕ) (bytes : Content) (r : Result Unit Failed) → Keeps old new k → Brings new k bytes r → Brings old k bytes r
+brings_back : (old new : Device) (k : ℕ) (bytes : Content) (r : Result Unit Failed) → Keeps old new k
+    → Brings new k bytes r → Brings old k bytes r
 brings_back old new k bytes r keeps h clean = subst (λ (c : Content). OnOk r (bytes ≡ c)) keeps.brings (h (keeps.clean ∙ clean))
 
-brings_on : (old new : Device) (k : ℕ) (bytes : Content) (r : Result Unit Failed) → Keeps old new k → Brings old k bytes r → Brings new k bytes r
+brings_on : (old new : Device) (k : ℕ) (bytes : Content) (r : Result Unit Failed) → Keeps old new k
+    → Brings old k bytes r → Brings new k bytes r
 brings_on old new k bytes r keeps h clean = subst (λ (c : Content). OnOk r (bytes ≡ c)) (sym keeps.brings) (h (sym keeps.clean ∙ clean))
 
 -- the first call writes no block that the other reads
@@ -154,11 +166,13 @@ no_spoil : (x t : Bool) (r : Result Unit Failed) → t ≡ false → (x || (is_e
 no_spoil x t (Ok u) h = or-false x
 no_spoil x t (Err u) h = ap (λ (b : Bool). x || b) h ∙ or-false x
 
-settle_keeps : (side : Side) (r : Result Unit Failed) (old new : List Content) → Leaves (settles side) r old new → newest new ≡ newest old
+settle_keeps : (side : Side) (r : Result Unit Failed) (old new : List Content)
+    → Leaves (settles side) r old new → newest new ≡ newest old
 settle_keeps side (Ok u) old new h = ap newest h ∙ newest_settled old
 settle_keeps side (Err u) old new h = ap newest h
 
-keeps : (old new : Device) (call : DeviceCall) (r : Result Unit Failed) (k : ℕ) (bytes : Content) → Changes old call r new → Spares call (reads k bytes) → Keeps old new k
+keeps : (old new : Device) (call : DeviceCall) (r : Result Unit Failed) (k : ℕ) (bytes : Content)
+    → Changes old call r new → Spares call (reads k bytes) → Keeps old new k
 keeps old new (reads block x) r k bytes h spares = record { brings = ap newest (h.others k refl); clean = h.spoiled k ∙ or-false (old.spoiled k) }
 keeps old new (writes block x) r k bytes h spares = record { brings = ap newest (h.others k (ne_eqb k block spares)); clean = h.spoiled k ∙ no_spoil (old.spoiled k) (nat_eq k block) r (ne_eqb k block spares) }
 keeps old new (settles side) r k bytes h spares = record {
@@ -166,12 +180,14 @@ keeps old new (settles side) r k bytes h spares = record {
   clean = h.spoiled k ∙ or-false (old.spoiled k);
 }
 
-answers_back : (old new : Device) (call other : DeviceCall) (r s : Result Unit Failed) → Changes old call r new → Spares call other → Answers new other s → Answers old other s
+answers_back : (old new : Device) (call other : DeviceCall) (r s : Result Unit Failed)
+    → Changes old call r new → Spares call other → Answers new other s → Answers old other s
 answers_back old new call (reads k bytes) r s h spares a = brings_back old new k bytes s (keeps old new call r k bytes h spares) a
 answers_back old new call (writes k bytes) r s h spares a = tt
 answers_back old new call (settles side) r s h spares a = tt
 
-answers_on : (old new : Device) (call other : DeviceCall) (r s : Result Unit Failed) → Changes old call r new → Spares call other → Answers old other s → Answers new other s
+answers_on : (old new : Device) (call other : DeviceCall) (r s : Result Unit Failed) → Changes old call r new
+    → Spares call other → Answers old other s → Answers new other s
 answers_on old new call (reads k bytes) r s h spares a = brings_on old new k bytes s (keeps old new call r k bytes h spares) a
 answers_on old new call (writes k bytes) r s h spares a = tt
 answers_on old new call (settles side) r s h spares a = tt
@@ -189,7 +205,8 @@ record Apart (first second : DeviceCall) : Type 0 where
   first_spares : Spares first second
   second_spares : Spares second first
 
-untouched : (first second : DeviceCall) → Apart first second → (k : ℕ) → touches second k ≡ true → touches first k ≡ false
+untouched : (first second : DeviceCall) → Apart first second → (k : ℕ) → touches second k ≡ true
+    → touches first k ≡ false
 untouched first second apart k h =
     elim (cases_Bool (touches first k)) [ inl t ↦ absurd (true≢false (sym h ∙ apart.disjoint k t)) | inr f ↦ f ]
 
@@ -209,7 +226,8 @@ module _ (old middle new : Device) (first second : DeviceCall) (r s : Result Uni
   end_at : (k : ℕ) → current end k ≡ current new k
   end_at k = next_current between (λ k. current new k) (between.failures + counted r) (λ k. between.spoiled k || spoils first r k) k
 
-  lists_at : (k : ℕ) (t : Bool) → touches second k ≡ t → lists k ≡ (if t then current new k else current old k)
+  lists_at : (k : ℕ) (t : Bool) → touches second k ≡ t
+      → lists k ≡ (if t then current new k else current old k)
   lists_at k t h = ap (λ (b : Bool). if b then current new k else current old k) h
 
   second_first : Changes old second s between
@@ -284,5 +302,7 @@ apart (settles side) (reads b y) h = record { disjoint = λ k t. refl; first_spa
 apart (settles side) (writes b y) h = record { disjoint = λ k t. ne_eqb k b (λ e. true≢false (sym t ∙ ap (λ (n : ℕ). is_on side n) e ∙ h)); first_spares = tt; second_spares = tt }
 apart (settles side) (settles other) h = record { disjoint = sides_apart side other h; first_spares = tt; second_spares = tt }
 
-pub commute : (old middle new : Device) (first second : DeviceCall) (r s : Result Unit Failed) → Makes old first r middle → Makes middle second s new → MayOverlap first second → Swapped old first second r s new
+pub commute : (old middle new : Device) (first second : DeviceCall) (r s : Result Unit Failed)
+    → Makes old first r middle → Makes middle second s new → MayOverlap first second
+    → Swapped old first second r s new
 commute old middle new first second r s one two may = swapped old middle new first second r s (changes old first r middle one) (changes middle second s new two) (apart first second may)

@@ -54,7 +54,7 @@ pub enum FileCall {
     Barrier(Side),
 }
 
-/// A device over a file. Its calls are kept for proofs alone, and take no memory.
+/// A device over a file. Its calls are kept for proofs alone, in `http_server`'s `Log`, and take no memory.
 #[derive(Drop)]
 pub struct FileDisk<F: BlockFile> {
     file: F,

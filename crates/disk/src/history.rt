@@ -1,4 +1,5 @@
-//! The calls of a device in memory, with what it held before each.
+//! The calls of a device in memory, with what it held before each. They are kept in `http_server`'s `Log`, a list for
+//! proofs alone that takes no memory: nothing else of that crate is used.
 ghost use Rattle.std.specs.Prelude.{◌≡◌, ◌-◌, ◌^◌, [], ◌∷◌, ◌++◌, min, length};
 
 use crate::contents::Contents;

@@ -9,17 +9,22 @@ ghost use Rattle.disk.specs.File.{Calls, IsAnswered, IsExplained};
 
 /// Two crashes of a device at rest leave the same blocks.
 pub fn one_image_at_rest()
-    ensures { (d : Device) (one other : Image) → IsAtRest d → IsCrashImage d d.clock one → IsCrashImage d d.clock other → (block : ℕ) → block < d.size → one block ≡ other block }
+    ensures { (d : Device) (one other : Image) → IsAtRest d → IsCrashImage d d.clock one → IsCrashImage d d.clock other
+        → (block : ℕ) → block < d.size → one block ≡ other block }
 {}
 
 /// A file that answers each read by the newest content keeps the model, whatever it held and whatever fails.
 pub fn honest_file_keeps_model()
     ensures opened { (held : ℕ → Content) → IsExplained held [] }
-    ensures called { (held : ℕ → Content) (calls : Calls) (call : FileCall) (outcome : Result Unit Failed) → IsExplained held calls → OnOk outcome (IsAnswered held calls call) → IsExplained held (calls ++ (call, outcome) ∷ []) }
+    ensures called { (held : ℕ → Content) (calls : Calls) (call : FileCall) (outcome : Result Unit Failed)
+        → IsExplained held calls → OnOk outcome (IsAnswered held calls call)
+        → IsExplained held (calls ++ (call, outcome) ∷ []) }
 {}
 
 /// Two calls that may overlap in time may come in the other order, with the same results, and then leave the same
 /// contents.
 pub fn overlapping_calls_commute()
-    ensures { (old middle new : Device) (first second : DeviceCall) (r s : Result Unit Failed) → Makes old first r middle → Makes middle second s new → MayOverlap first second → Swapped old first second r s new }
+    ensures { (old middle new : Device) (first second : DeviceCall) (r s : Result Unit Failed)
+        → Makes old first r middle → Makes middle second s new → MayOverlap first second
+        → Swapped old first second r s new }
 {}

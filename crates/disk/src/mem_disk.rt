@@ -252,7 +252,8 @@ fn place(digits: &[u32], at: usize) -> usize
 // Settles the blocks of a side.
 fn settle(blocks: &mut [Contents], side: Side)
     requires { length blocks.old < 2 ^ 32 }
-    ensures contents { (block : ℕ) → slice_index_or blocks.new block [] ≡ (if is_on side block then settled (slice_index_or blocks.old block []) else slice_index_or blocks.old block []) }
+    ensures contents { (block : ℕ) → slice_index_or blocks.new block []
+        ≡ (if is_on side block then settled (slice_index_or blocks.old block []) else slice_index_or blocks.old block []) }
     ensures len { length blocks.new ≡ length blocks.old }
 {
     for index in 0..blocks.len() {

@@ -1,5 +1,4 @@
 pub mod View
-
 -- What the contracts here cite, for the crates above.
 pub use Rattle.wal_law.specs.Io
 pub use Rattle.wal_law.specs.Log

@@ -9,5 +9,4 @@ mod memory;
 
 pub use io::{InstIo, LogIo};
 pub use memory::Wal;
-pub use wal_law::law;
-pub use wal_law::{Append, Change, IoCall, Room, Seq};
+pub use wal_law::{Append, Change, IoCall, Room, Seq, law};

@@ -54,33 +54,39 @@ for_inst_made P log home step end =
     ]
 
 -- a side whose calls nothing touched stands as it stood
-pub logger_as : (d e : Device) (log new : Log) (p : Pending) → new.log_out ≡ log.log_out → ((io : Io) → IsNextLogCall log io → IsNextLogCall new io)
+pub logger_as : (d e : Device) (log new : Log) (p : Pending) → new.log_out ≡ log.log_out
+    → ((io : Io) → IsNextLogCall log io → IsNextLogCall new io)
     → (HasMadeLogCall d log → HasMadeLogCall e new) → IsLoggerAt d log p → IsLoggerAt e new p
 logger_as d e log new idle same next made h = same ∙ h
 logger_as d e log new (out io) same next made h = (same ∙ h.0, next io h.1)
 logger_as d e log new (answered io (Ok u)) same next made h = (same ∙ h.0, next io h.1, made h.2)
 logger_as d e log new (answered io (Err u)) same next made h = (same ∙ h.0, next io h.1)
 
-installer_as : (d e : Device) (base : Image) (log new : Log) (p : Pending) → new.inst_out ≡ log.inst_out → ((io : Io) → IsNextInstCall log io → IsNextInstCall new io)
-    → (HasMadeInstCall d base log → HasMadeInstCall e base new) → IsInstallerAt d base log p → IsInstallerAt e base new p
+installer_as : (d e : Device) (base : Image) (log new : Log) (p : Pending) → new.inst_out ≡ log.inst_out
+    → ((io : Io) → IsNextInstCall log io → IsNextInstCall new io)
+    → (HasMadeInstCall d base log → HasMadeInstCall e base new) → IsInstallerAt d base log p
+    → IsInstallerAt e base new p
 installer_as d e base log new idle same next made h = same ∙ h
 installer_as d e base log new (out io) same next made h = (same ∙ h.0, next io h.1)
 installer_as d e base log new (answered io (Ok u)) same next made h = (same ∙ h.0, next io h.1, made h.2)
 installer_as d e base log new (answered io (Err u)) same next made h = (same ∙ h.0, next io h.1)
 
-logger_beside : (d : Device) (log : Log) (p : Pending) (installing inst_step : ℕ) (inst_out broken : Bool) → IsLoggerAt d log p → IsLoggerAt d (beside log installing inst_step log.log_out inst_out broken) p
+logger_beside : (d : Device) (log : Log) (p : Pending) (installing inst_step : ℕ) (inst_out broken : Bool)
+    → IsLoggerAt d log p → IsLoggerAt d (beside log installing inst_step log.log_out inst_out broken) p
 logger_beside d log p installing inst_step inst_out broken =
     logger_as d d log (beside log installing inst_step log.log_out inst_out broken) p refl
     (λ io. next_log_beside io log installing inst_step log.log_out inst_out broken) (log_made_beside d log installing inst_step log.log_out inst_out broken)
 
-installer_aside : (d : Device) (base : Image) (log : Log) (p : Pending) (logged taken log_step : ℕ) (log_out broken : Bool) → IsInstallerAt d base log p
+installer_aside : (d : Device) (base : Image) (log : Log) (p : Pending) (logged taken log_step : ℕ) (log_out broken : Bool)
+    → IsInstallerAt d base log p
     → IsInstallerAt d base (aside log logged taken log_step log_out log.inst_out broken) p
 installer_aside d base log p logged taken log_step log_out broken =
     installer_as d d base log (aside log logged taken log_step log_out log.inst_out broken) p refl
     (λ io. next_inst_aside io log logged taken log_step log_out log.inst_out broken) (inst_made_aside d base log logged taken log_step log_out log.inst_out broken)
 
 -- a call of the logger is handed out
-pub stands_log_out : (d : Device) (base : Image) (log : Log) (io : Io) (p : Pending) → IsLawful log → IsNextLogCall (with_log_out log) io
+pub stands_log_out : (d : Device) (base : Image) (log : Log) (io : Io) (p : Pending) → IsLawful log
+    → IsNextLogCall (with_log_out log) io
     → AgreesBeside d base log idle p → AgreesBeside d base (with_log_out log) (out io) p
 stands_log_out d base log io p lawful next s = record {
   agrees = record {
@@ -100,11 +106,14 @@ later_of old new io r made = go io.call made
     go (Write block) h = h.later
     go (Barrier side) h = h.later
 
-logger_made : (old new : Device) (log : Log) (io : Io) (r : Result Unit Failed) → IsLawful log → HasMade old io r new → LogAgrees old log → IsLoggerAt old log (out io) → IsLoggerAt new log (answered io r)
+logger_made : (old new : Device) (log : Log) (io : Io) (r : Result Unit Failed) → IsLawful log
+    → HasMade old io r new → LogAgrees old log → IsLoggerAt old log (out io)
+    → IsLoggerAt new log (answered io r)
 logger_made old new log io (Ok u) lawful made h at = (at.0, at.1, log_made old new log io lawful at.1 made h)
 logger_made old new log io (Err u) lawful made h at = at
 
-pub stands_log_made : (old new : Device) (base : Image) (log : Log) (io : Io) (r : Result Unit Failed) (p : Pending) → IsLawful log → HasMade old io r new
+pub stands_log_made : (old new : Device) (base : Image) (log : Log) (io : Io) (r : Result Unit Failed) (p : Pending)
+    → IsLawful log → HasMade old io r new
     → AgreesBeside old base log (out io) p → AgreesBeside new base log (answered io r) p
 stands_log_made old new base log io r p lawful made s =
     let next = s.logger.1 in
@@ -120,7 +129,8 @@ stands_log_made old new base log io r p lawful made s =
     }
 
 -- it is given back
-log_back_made : (d : Device) (base : Image) (log : Log) (p : Pending) → IsLawful log → HasMadeLogCall d log → Agrees d base log → IsInstallerAt d base log p
+log_back_made : (d : Device) (base : Image) (log : Log) (p : Pending) → IsLawful log → HasMadeLogCall d log
+    → Agrees d base log → IsInstallerAt d base log p
     → AgreesBeside d base (with_log_made log) idle p
 log_back_made d base log p lawful made a at = record {
   agrees = record {
@@ -136,7 +146,8 @@ log_back_made d base log p lawful made a at = record {
       (installer_aside d base log p log.logged log.taken (log.log_step + 1) false log.broken at);
 }
 
-pub stands_log_back : (d : Device) (base : Image) (log : Log) (io : Io) (r : Result Unit Failed) (p : Pending) → IsLawful log
+pub stands_log_back : (d : Device) (base : Image) (log : Log) (io : Io) (r : Result Unit Failed) (p : Pending)
+    → IsLawful log
     → AgreesBeside d base log (answered io r) p → AgreesBeside d base (with_log_back log (is_ok r)) idle p
 stands_log_back d base log io (Ok u) p lawful s = log_back_made d base log p lawful s.logger.2 s.agrees s.installer
 stands_log_back d base log io (Err u) p lawful s = record {
@@ -150,7 +161,8 @@ stands_log_back d base log io (Err u) p lawful s = record {
 }
 
 -- a call of the installer is handed out
-pub stands_inst_out : (d : Device) (base : Image) (log : Log) (io : Io) (p : Pending) → IsLawful log → IsNextInstCall (with_inst_out log) io
+pub stands_inst_out : (d : Device) (base : Image) (log : Log) (io : Io) (p : Pending) → IsLawful log
+    → IsNextInstCall (with_inst_out log) io
     → AgreesBeside d base log p idle → AgreesBeside d base (with_inst_out log) p (out io)
 stands_inst_out d base log io p lawful next s = record {
   agrees = record {
@@ -167,12 +179,14 @@ stands_inst_out d base log io p lawful next s = record {
 }
 
 -- it is made
-installer_made : (old new : Device) (base : Image) (log : Log) (io : Io) (r : Result Unit Failed) → IsLawful log → HasMade old io r new → HomeAgrees old base log
+installer_made : (old new : Device) (base : Image) (log : Log) (io : Io) (r : Result Unit Failed)
+    → IsLawful log → HasMade old io r new → HomeAgrees old base log
     → IsInstallerAt old base log (out io) → IsInstallerAt new base log (answered io r)
 installer_made old new base log io (Ok u) lawful made h at = (at.0, at.1, inst_made old new base log io lawful at.1 made h)
 installer_made old new base log io (Err u) lawful made h at = at
 
-pub stands_inst_made : (old new : Device) (base : Image) (log : Log) (io : Io) (r : Result Unit Failed) (p : Pending) → IsLawful log → HasMade old io r new
+pub stands_inst_made : (old new : Device) (base : Image) (log : Log) (io : Io) (r : Result Unit Failed) (p : Pending)
+    → IsLawful log → HasMade old io r new
     → AgreesBeside old base log p (out io) → AgreesBeside new base log p (answered io r)
 stands_inst_made old new base log io r p lawful made s =
     let next = s.installer.1 in
@@ -188,7 +202,8 @@ stands_inst_made old new base log io r p lawful made s =
     }
 
 -- it is given back
-inst_back_made : (d : Device) (base : Image) (log : Log) (p : Pending) → IsLawful log → HasMadeInstCall d base log → Agrees d base log → IsLoggerAt d log p
+inst_back_made : (d : Device) (base : Image) (log : Log) (p : Pending) → IsLawful log
+    → HasMadeInstCall d base log → Agrees d base log → IsLoggerAt d log p
     → AgreesBeside d (home_after base log true) (with_inst_made log) p idle
 inst_back_made d base log p lawful made a at = record {
   agrees = record {
@@ -206,8 +221,10 @@ inst_back_made d base log p lawful made a at = record {
   installer = for_inst_made (λ (l : Log). l.inst_out ≡ false) log refl refl refl;
 }
 
-pub stands_inst_back : (d : Device) (base : Image) (log : Log) (io : Io) (r : Result Unit Failed) (p : Pending) → IsLawful log
-    → AgreesBeside d base log p (answered io r) → AgreesBeside d (home_after base log (is_ok r)) (with_inst_back log (is_ok r)) p idle
+pub stands_inst_back : (d : Device) (base : Image) (log : Log) (io : Io) (r : Result Unit Failed) (p : Pending)
+    → IsLawful log
+    → AgreesBeside d base log p (answered io r)
+    → AgreesBeside d (home_after base log (is_ok r)) (with_inst_back log (is_ok r)) p idle
 stands_inst_back d base log io (Ok u) p lawful s = inst_back_made d base log p lawful s.installer.2 s.agrees s.logger
 stands_inst_back d base log io (Err u) p lawful s = record {
   agrees = record {
@@ -220,7 +237,8 @@ stands_inst_back d base log io (Err u) p lawful s = record {
 }
 
 -- a commit is appended
-pub stands_appended : (d : Device) (base : Image) (log : Log) (group : List (BlockNo × Content)) (p q : Pending) → IsLawful log
+pub stands_appended : (d : Device) (base : Image) (log : Log) (group : List (BlockNo × Content)) (p q : Pending)
+    → IsLawful log
     → AgreesBeside d base log p q → AgreesBeside d base (with_group log group) p q
 stands_appended d base log group p q lawful s = record {
   agrees = record {
@@ -233,7 +251,8 @@ stands_appended d base log group p q lawful s = record {
 }
 
 -- a block is read
-pub stands_read : (old new : Device) (base : Image) (log : Log) (p q : Pending) → IsLawful log → HasRead old new → AgreesBeside old base log p q → AgreesBeside new base log p q
+pub stands_read : (old new : Device) (base : Image) (log : Log) (p q : Pending) → IsLawful log
+    → HasRead old new → AgreesBeside old base log p q → AgreesBeside new base log p q
 stands_read old new base log p q lawful read s =
     let keeps = λ (block : ℕ). keeps_read old new block read in
     record {
@@ -247,18 +266,23 @@ stands_read old new base log p q lawful read s =
     }
 
 -- the call that is given back is the one that is out
-pub log_call_out : (log : Log) (io : Io) → log.log_out ≡ true → IsNextLogCall log io → is_log_out log io ≡ true
-log_call_out log io at next =
-    and_from log.log_out (nat_eq io.beginning (log_end log) && nat_eq io.step log.log_step) at
-    (and_from (nat_eq io.beginning (log_end log)) (nat_eq io.step log.log_step) (eq-eqb io.beginning (log_end log) next.beginning) (eq-eqb io.step log.log_step next.step))
+is_the_one : (handed : Bool) (io : Io) (beginning step : ℕ) → handed ≡ true → io.beginning ≡ beginning
+    → io.step ≡ step
+    → (handed && (nat_eq io.beginning beginning && nat_eq io.step step)) ≡ true
+is_the_one handed io beginning step there from at =
+    and_from handed (nat_eq io.beginning beginning && nat_eq io.step step) there
+    (and_from (nat_eq io.beginning beginning) (nat_eq io.step step) (eq-eqb io.beginning beginning from) (eq-eqb io.step step at))
 
-pub inst_call_out : (log : Log) (io : Io) → log.inst_out ≡ true → IsNextInstCall log io → is_inst_out log io ≡ true
-inst_call_out log io at next =
-    and_from log.inst_out (nat_eq io.beginning log.start && nat_eq io.step log.inst_step) at
-    (and_from (nat_eq io.beginning log.start) (nat_eq io.step log.inst_step) (eq-eqb io.beginning log.start next.beginning) (eq-eqb io.step log.inst_step next.step))
+log_call_out : (log : Log) (io : Io) → log.log_out ≡ true → IsNextLogCall log io → is_log_out log io ≡ true
+log_call_out log io at next = is_the_one log.log_out io (log_end log) log.log_step at next.beginning next.step
+
+inst_call_out : (log : Log) (io : Io) → log.inst_out ≡ true → IsNextInstCall log io
+    → is_inst_out log io ≡ true
+inst_call_out log io at next = is_the_one log.inst_out io log.start log.inst_step at next.beginning next.step
 
 -- A call that may or may not go out, with the log that it leaves.
-pub log_goes_out : (io : Option Io) (old new : Log) → IsLawful old → (IsSome io → new ≡ with_log_out old) → IfSome io (λ x. IsNextLogCall new x)
+pub log_goes_out : (io : Option Io) (old new : Log) → IsLawful old → (IsSome io → new ≡ with_log_out old)
+    → IfSome io (λ x. IsNextLogCall new x)
     → IfSome io (λ x. LogCallGoesOut old x new)
 log_goes_out None old new lawful some next = tt
 log_goes_out (Some io) old new lawful some next = λ d base p s.
@@ -266,7 +290,8 @@ log_goes_out (Some io) old new lawful some next = λ d base p s.
     subst (λ (log : Log). AgreesBeside d base log (out io) p) (sym same)
     (stands_log_out d base old io p lawful (subst (λ (log : Log). IsNextLogCall log io) same next) s)
 
-pub inst_goes_out : (io : Option Io) (old new : Log) → IsLawful old → (IsSome io → new ≡ with_inst_out old) → IfSome io (λ x. IsNextInstCall new x)
+pub inst_goes_out : (io : Option Io) (old new : Log) → IsLawful old → (IsSome io → new ≡ with_inst_out old)
+    → IfSome io (λ x. IsNextInstCall new x)
     → IfSome io (λ x. InstCallGoesOut old x new)
 inst_goes_out None old new lawful some next = tt
 inst_goes_out (Some io) old new lawful some next = λ d base p s.
@@ -275,31 +300,37 @@ inst_goes_out (Some io) old new lawful some next = λ d base p s.
     (stands_inst_out d base old io p lawful (subst (λ (log : Log). IsNextInstCall log io) same next) s)
 
 -- A call that is given back.
-pub log_comes_back : (log : Log) (io : Io) (ok : Bool) → IsLawful log → LogCallComesBack log io ok (with_log_back log ok)
+pub log_comes_back : (log : Log) (io : Io) (ok : Bool) → IsLawful log
+    → LogCallComesBack log io ok (with_log_back log ok)
 log_comes_back log io ok lawful d base r p same s =
     subst (λ (t : Bool). AgreesBeside d base (with_log_back log t) idle p) same (stands_log_back d base log io r p lawful s)
 
-pub inst_comes_back : (log : Log) (io : Io) (ok : Bool) → IsLawful log → InstCallComesBack log io ok (with_inst_back log ok)
+pub inst_comes_back : (log : Log) (io : Io) (ok : Bool) → IsLawful log
+    → InstCallComesBack log io ok (with_inst_back log ok)
 inst_comes_back log io ok lawful d base r p same s =
     subst (λ (t : Bool). AgreesBeside d (home_after base log t) (with_inst_back log t) p idle) same (stands_inst_back d base log io r p lawful s)
 
 -- It is the one that is out, so the log takes it.
-answered_log_out : (d : Device) (log : Log) (io : Io) (r : Result Unit Failed) → IsLoggerAt d log (answered io r) → is_log_out log io ≡ true
+answered_log_out : (d : Device) (log : Log) (io : Io) (r : Result Unit Failed)
+    → IsLoggerAt d log (answered io r) → is_log_out log io ≡ true
 answered_log_out d log io (Ok u) h = log_call_out log io h.0 h.1
 answered_log_out d log io (Err u) h = log_call_out log io h.0 h.1
 
-pub log_done : (old new : Log) (io : Io) (ok : Bool) → IsLawful old → new ≡ (if is_log_out old io then with_log_back old ok else old)
+pub log_done : (old new : Log) (io : Io) (ok : Bool) → IsLawful old
+    → new ≡ (if is_log_out old io then with_log_back old ok else old)
     → LogCallComesBack old io ok new
 log_done old new io ok lawful is d base r p same s =
     let e : new ≡ with_log_back old ok =
     is ∙ ap (λ (t : Bool). if t then with_log_back old ok else old) (answered_log_out d old io r s.logger) in
     subst (λ (log : Log). AgreesBeside d base log idle p) (sym e) (log_comes_back old io ok lawful d base r p same s)
 
-answered_inst_out : (d : Device) (base : Image) (log : Log) (io : Io) (r : Result Unit Failed) → IsInstallerAt d base log (answered io r) → is_inst_out log io ≡ true
+answered_inst_out : (d : Device) (base : Image) (log : Log) (io : Io) (r : Result Unit Failed)
+    → IsInstallerAt d base log (answered io r) → is_inst_out log io ≡ true
 answered_inst_out d base log io (Ok u) h = inst_call_out log io h.0 h.1
 answered_inst_out d base log io (Err u) h = inst_call_out log io h.0 h.1
 
-pub inst_done : (old new : Log) (io : Io) (ok : Bool) → IsLawful old → new ≡ (if is_inst_out old io then with_inst_back old ok else old)
+pub inst_done : (old new : Log) (io : Io) (ok : Bool) → IsLawful old
+    → new ≡ (if is_inst_out old io then with_inst_back old ok else old)
     → InstCallComesBack old io ok new
 inst_done old new io ok lawful is d base r p same s =
     let e : new ≡ with_inst_back old ok =
@@ -307,7 +338,8 @@ inst_done old new io ok lawful is d base r p same s =
     subst (λ (log : Log). AgreesBeside d (home_after base old ok) log p idle) (sym e) (inst_comes_back old io ok lawful d base r p same s)
 
 -- A commit that is appended, or refused.
-pub appended : (result : Append) (old new : Log) (group : List (BlockNo × Content)) → IsLawful old → (result ≡ Appended → new ≡ with_group old group) → (result ≢ Appended → new ≡ old)
+pub appended : (result : Append) (old new : Log) (group : List (BlockNo × Content)) → IsLawful old
+    → (result ≡ Appended → new ≡ with_group old group) → (result ≢ Appended → new ≡ old)
     → KeepsAgreement old new
 appended Appended old new group lawful done refused d base p q s = subst (λ (log : Log). AgreesBeside d base log p q) (sym (done refl)) (stands_appended d base old group p q lawful s)
 appended Full old new group lawful done refused d base p q s = subst (λ (log : Log). AgreesBeside d base log p q) (sym (refused (λ e. cc))) s

@@ -19,12 +19,14 @@ use Rattle.wal_law.specs.Law.{IsOutside, after, HoldsSlots, IsHeaderOf, IsStartB
 use Rattle.wal_law.proofs.Newest.{newest_of-append}
 use Rattle.wal_law.proofs.Lists.{slice_get-drop}
 
-pub newest_in-pairs : (changes : List Change) (block : ℕ) → newest_in (pairs_of changes) block ≡ newest_of changes block
+pub newest_in-pairs : (changes : List Change) (block : ℕ)
+    → newest_in (pairs_of changes) block ≡ newest_of changes block
 newest_in-pairs [] block = refl
 newest_in-pairs (change ∷ later) block = ap (λ o. or_else o (if nat_eq change.block.0 block then Some change.content else None)) (newest_in-pairs later block)
 
 -- the positions of an image are the changes that stand in its header and its slots
-pub positions_are : (header : Content) (image : Image) (start : ℕ) (changes : List Change) (n : ℕ) → n ≤ length changes
+pub positions_are : (header : Content) (image : Image) (start : ℕ) (changes : List Change) (n : ℕ)
+    → n ≤ length changes
     → ((k : ℕ) → k < n → (change : Change) → slice_get changes k ≡ Some change → home_at header (start + k) ≡ change.block)
     → ((k : ℕ) → k < n → (change : Change) → slice_get changes k ≡ Some change → image (slot_block (start + k)) ≡ change.content)
     → positions header image start n ≡ pairs_of (take n changes)
@@ -43,7 +45,8 @@ positions_are header image start changes (suc n) l homes slots =
       | inr past ↦ absurd (let far : length changes ≤ n = past.0 in omega arith)
     ]
 
-content_or-or_else : (a b : Option Content) (c : Content) → content_or (or_else a b) c ≡ content_or a (content_or b c)
+content_or-or_else : (a b : Option Content) (c : Content)
+    → content_or (or_else a b) c ≡ content_or a (content_or b c)
 content_or-or_else (Some a) b c = refl
 content_or-or_else None b c = refl
 
@@ -54,12 +57,15 @@ pub record Shows (image : Image) (log : Log) (count gone : ℕ) : Type 0 where
   pub behind : gone ≤ count
   pub header : IsHeaderOf log count (image LOG_HEADER_BLOCK)
   pub start : IsStartBehind log gone (image START_BLOCK)
-  pub slots : (k : ℕ) → k < count → (change : Change) → slice_get log.changes k ≡ Some change → image (slot_block (log.start + k)) ≡ change.content
+  pub slots : (k : ℕ) → k < count → (change : Change) → slice_get log.changes k ≡ Some change
+      → image (slot_block (log.start + k)) ≡ change.content
 
-end_shown : (image : Image) (log : Log) (count gone : ℕ) → Shows image log count gone → end_in image ≡ log.start + count
+end_shown : (image : Image) (log : Log) (count gone : ℕ) → Shows image log count gone
+    → end_in image ≡ log.start + count
 end_shown image log count gone s = s.header.0
 
-count_shown : (image : Image) (log : Log) (count gone : ℕ) → Shows image log count gone → count_in image ≡ count - gone
+count_shown : (image : Image) (log : Log) (count gone : ℕ) → Shows image log count gone
+    → count_in image ≡ count - gone
 count_shown image log count gone s = omega (arith, end_shown image log count gone s, s.start, s.behind)
 
 pub range_shown : (image : Image) (log : Log) (count gone : ℕ) → Shows image log count gone → IsInRange image
@@ -67,8 +73,10 @@ range_shown image log count gone s =
     let e = end_shown image log count gone s in
     record { order = omega (arith, e, s.start, s.behind); slots = omega (arith, e, s.start, s.few) }
 
-home_shown : (image : Image) (log : Log) (count gone k : ℕ) (change : Change) → Shows image log count gone → gone + k < count
-    → slice_get log.changes (gone + k) ≡ Some change → home_at (image LOG_HEADER_BLOCK) ((log.start + gone) + k) ≡ change.block
+home_shown : (image : Image) (log : Log) (count gone k : ℕ) (change : Change) → Shows image log count gone
+    → gone + k < count
+    → slice_get log.changes (gone + k) ≡ Some change
+    → home_at (image LOG_HEADER_BLOCK) ((log.start + gone) + k) ≡ change.block
 home_shown image log count gone k change s lt is =
     let e : (log.start + gone) + k ≡ log.start + (gone + k) = omega arith in
     let n : number_at (image LOG_HEADER_BLOCK) (8 + 8 * (((log.start + gone) + k) % LOG_SLOTS)) ≡ change.block.0 =
@@ -76,13 +84,16 @@ home_shown image log count gone k change s lt is =
     let f : ℕ → BlockNo = λ number. record { 0 = number } in
     ap f n
 
-slot_shown : (image : Image) (log : Log) (count gone k : ℕ) (change : Change) → Shows image log count gone → gone + k < count
-    → slice_get log.changes (gone + k) ≡ Some change → image (slot_block ((log.start + gone) + k)) ≡ change.content
+slot_shown : (image : Image) (log : Log) (count gone k : ℕ) (change : Change) → Shows image log count gone
+    → gone + k < count
+    → slice_get log.changes (gone + k) ≡ Some change
+    → image (slot_block ((log.start + gone) + k)) ≡ change.content
 slot_shown image log count gone k change s lt is =
     let e : (log.start + gone) + k ≡ log.start + (gone + k) = omega arith in
     ap (λ p. image (slot_block p)) e ∙ s.slots (gone + k) lt change is
 
-logged_shown : (image : Image) (log : Log) (count gone : ℕ) → Shows image log count gone → logged_in image ≡ pairs_of (take (count - gone) (drop gone log.changes))
+logged_shown : (image : Image) (log : Log) (count gone : ℕ) → Shows image log count gone
+    → logged_in image ≡ pairs_of (take (count - gone) (drop gone log.changes))
 logged_shown image log count gone s =
     let l : count - gone ≤ length (drop gone log.changes) = omega (arith, length-drop gone log.changes, s.within) in
     ap (λ start. positions (image LOG_HEADER_BLOCK) image start (count_in image)) s.start
@@ -106,7 +117,8 @@ newest_of-parts changes count gone block h =
     ∙ ap (λ xs. newest_of xs block) (take-add gone (count - gone) changes)
     ∙ newest_of-append (take gone changes) (take (count - gone) (drop gone changes)) block
 
-pub homes_shown : (image : Image) (log : Log) (count gone : ℕ) → IsLawful log → Shows image log count gone → HasHomes log.blocks image
+pub homes_shown : (image : Image) (log : Log) (count gone : ℕ) → IsLawful log → Shows image log count gone
+    → HasHomes log.blocks image
 homes_shown image log count gone h s k lt =
     let n = count_shown image log count gone s in
     let within : gone + k < length log.changes = omega (arith, s.within, s.behind) in
@@ -121,7 +133,8 @@ homes_shown image log count gone h s k lt =
       | inr past ↦ absurd (let far : length log.changes ≤ gone + k = past.0 in omega arith)
     ]
 
-content_or-some : (a : Option Content) (c x y : Content) → content_or (or_else a (Some c)) x ≡ content_or (or_else a (Some c)) y
+content_or-some : (a : Option Content) (c x y : Content)
+    → content_or (or_else a (Some c)) x ≡ content_or (or_else a (Some c)) y
 content_or-some (Some a) c x y = refl
 content_or-some None c x y = refl
 
@@ -132,8 +145,10 @@ over_whole image log count block s =
     over_shown image log count 0 block s ∙ ap (λ n. content_or (newest_of (take n log.changes) block) (image block)) e
 
 -- nothing raised: what is at home is old or new, and the log lies over both
-pub after_unraised : (image base : Image) (log : Log) (count block : ℕ) → Shows image log count 0 → log.installing ≤ count
-    → (image block ≡ base block) ⊎ (brought_home log block ≡ Some (image block)) → over image block ≡ after base (take count log.changes) block
+pub after_unraised : (image base : Image) (log : Log) (count block : ℕ) → Shows image log count 0
+    → log.installing ≤ count
+    → (image block ≡ base block) ⊎ (brought_home log block ≡ Some (image block))
+    → over image block ≡ after base (take count log.changes) block
 after_unraised image base log count block s le (inl old) = over_whole image log count block s ∙ ap (λ c. content_or (newest_of (take count log.changes) block) c) old
 after_unraised image base log count block s le (inr new) =
     let e : newest_of (take count log.changes) block ≡ or_else (newest_of (take (count - log.installing) (drop log.installing log.changes)) block) (Some (image block)) =
@@ -143,7 +158,8 @@ after_unraised image base log count block s le (inr new) =
 
 -- raised: what is at home is new, and the rest of the log lies over it
 pub after_raised : (image base : Image) (log : Log) (count block : ℕ) → Shows image log count log.installing
-    → image block ≡ after base (take log.installing log.changes) block → over image block ≡ after base (take count log.changes) block
+    → image block ≡ after base (take log.installing log.changes) block
+    → over image block ≡ after base (take count log.changes) block
 after_raised image base log count block s new =
     let rest : Option Content = newest_of (take (count - log.installing) (drop log.installing log.changes)) block in
     over_shown image log count log.installing block s
@@ -152,22 +168,26 @@ after_raised image base log count block s new =
     ∙ ap (λ o. content_or o (base block)) (sym (newest_of-parts log.changes count log.installing block s.behind))
 
 -- new is old or new
-new_either : (newest : Option Content) (content old : Content) → content ≡ content_or newest old → (content ≡ old) ⊎ (newest ≡ Some content)
+new_either : (newest : Option Content) (content old : Content) → content ≡ content_or newest old
+    → (content ≡ old) ⊎ (newest ≡ Some content)
 new_either (Some c) content old h = inr (ap Some (sym h))
 new_either None content old h = inl h
 
 -- how far the start of an image is raised, and what is at home then
 pub data Raised (image base : Image) (log : Log) : Type 0 where
   Unraised : IsStartBehind log 0 (image START_BLOCK)
-      → ((block : ℕ) → IsOutside log.blocks block → (image block ≡ base block) ⊎ (brought_home log block ≡ Some (image block))) → Raised image base log
+      → ((block : ℕ) → IsOutside log.blocks block → (image block ≡ base block) ⊎ (brought_home log block ≡ Some (image block)))
+      → Raised image base log
   Installed : IsStartBehind log log.installing (image START_BLOCK)
-      → ((block : ℕ) → IsOutside log.blocks block → image block ≡ after base (take log.installing log.changes) block) → Raised image base log
+      → ((block : ℕ) → IsOutside log.blocks block → image block ≡ after base (take log.installing log.changes) block)
+      → Raised image base log
 
 -- the settled groups, or one more
 abbrev IsEnd : Log → ℕ → Type 0
 IsEnd log count = (count ≡ log.logged) ⊎ (count ≡ log.logged + log.taken)
 
-shown : (image : Image) (log : Log) (count gone : ℕ) → (gone ≡ 0) ⊎ (gone ≡ log.installing) → IsEnd log count → Shows image log count gone → ShowsLog log (start_in image) (logged_in image)
+shown : (image : Image) (log : Log) (count gone : ℕ) → (gone ≡ 0) ⊎ (gone ≡ log.installing) → IsEnd log count
+    → Shows image log count gone → ShowsLog log (start_in image) (logged_in image)
 shown image log count gone from to s = record { first = gone; end = count; from = from; to = to; position = s.start; changes = logged_shown image log count gone s }
 
 -- What an image with a header of the first so many changes is.
@@ -178,7 +198,8 @@ record Opens (image base : Image) (log : Log) (count : ℕ) : Type 0 where
   positions : ShowsLog log (start_in image) (logged_in image)
 
 -- it is the blocks after them
-boundary_of : (image base : Image) (log : Log) (count : ℕ) → IsLawful log → count ≤ length log.changes → count ≤ LOG_SLOTS → log.installing ≤ count → IsEnd log count
+boundary_of : (image base : Image) (log : Log) (count : ℕ) → IsLawful log → count ≤ length log.changes
+    → count ≤ LOG_SLOTS → log.installing ≤ count → IsEnd log count
     → IsHeaderOf log count (image LOG_HEADER_BLOCK)
     → ((k : ℕ) → k < count → (change : Change) → slice_get log.changes k ≡ Some change → image (slot_block (log.start + k)) ≡ change.content)
     → Raised image base log → Opens image base log count
@@ -199,11 +220,8 @@ boundary_of image base log count h within few le to header slots (Installed star
       positions = shown image log count log.installing (inr refl) to s;
     }
 
--- the log's own blocks lie on the disk
-slot_within : (log : Log) (position : ℕ) → IsLawful log → slot_block position < log.blocks
-slot_within log position h = omega (arith, h.disk)
-
-raised_of : (d : Device) (base : Image) (log : Log) (image : Image) → IsLawful log → Agrees d base log → IsCrashImage d d.clock image → Raised image base log
+raised_of : (d : Device) (base : Image) (log : Log) (image : Image) → IsLawful log → Agrees d base log
+    → IsCrashImage d d.clock image → Raised image base log
 raised_of d base log image h a crash =
     let at : START_BLOCK < d.size = omega (arith, h.disk, a.size) in
     let outside : (block : ℕ) → IsOutside log.blocks block → block < d.size = λ block o. omega (arith, o.0, a.size) in
@@ -218,14 +236,17 @@ raised_of d base log image h a crash =
       | inr notyet ↦ Unraised (a.homes.start notyet (image START_BLOCK) (crash START_BLOCK at)) (λ block o. a.homes.home notyet block o (image block) (crash block (outside block o)))
     ]
 
-slots_of : (d : Device) (base : Image) (log : Log) (image : Image) (count : ℕ) → IsLawful log → Agrees d base log → IsCrashImage d d.clock image → HoldsSlots d log count
-    → (k : ℕ) → k < count → (change : Change) → slice_get log.changes k ≡ Some change → image (slot_block (log.start + k)) ≡ change.content
+slots_of : (d : Device) (base : Image) (log : Log) (image : Image) (count : ℕ) → IsLawful log
+    → Agrees d base log → IsCrashImage d d.clock image → HoldsSlots d log count
+    → (k : ℕ) → k < count → (change : Change) → slice_get log.changes k ≡ Some change
+    → image (slot_block (log.start + k)) ≡ change.content
 slots_of d base log image count h a crash holds k lt change is =
     let within : slot_block (log.start + k) < d.size = omega (arith, h.disk, a.size) in
     holds k lt change is (image (slot_block (log.start + k))) (crash (slot_block (log.start + k)) within)
 
 -- a crash leaves a group boundary
-pub crash_boundary : (d : Device) (base : Image) (log : Log) (image : Image) → IsLawful log → Agrees d base log → IsCrashImage d d.clock image → IsBoundary base log image
+pub crash_boundary : (d : Device) (base : Image) (log : Log) (image : Image) → IsLawful log
+    → Agrees d base log → IsCrashImage d d.clock image → IsBoundary base log image
 crash_boundary d base log image h a crash =
     let there = crash LOG_HEADER_BLOCK at in
     elim (cases_lt log.taken log.log_step) as (λ _. IsBoundary base log image) [
@@ -247,7 +268,8 @@ crash_boundary d base log image h a crash =
         let o = boundary_of image base log log.logged h (omega (arith, h.taken_within)) (omega (arith, h.slots)) h.installing (inl refl) header (slots_of d base log image log.logged h a crash a.own.slots) raised in
         record { range = o.range; homes = o.homes; blocks = inl o.blocks; positions = o.positions }
 
-    new : log.taken < log.log_step → IsHeaderOf log (log.logged + log.taken) (image LOG_HEADER_BLOCK) → IsBoundary base log image
+    new : log.taken < log.log_step → IsHeaderOf log (log.logged + log.taken) (image LOG_HEADER_BLOCK)
+        → IsBoundary base log image
     new made header =
         let o = boundary_of image base log (log.logged + log.taken) h h.taken_within h.slots (omega (arith, h.installing)) (inr refl) header
         (slots_of d base log image (log.logged + log.taken) h a crash (a.own.group_slots made)) raised in

@@ -26,7 +26,7 @@ use Rattle.wal_law.proofs.Numbers.{number_at-same}
 use Rattle.wal_law.proofs.Newest.{newest_of-drop}
 use Rattle.wal_law.proofs.Contents.{Keeps, keeps_same, keeps_settled, leaves_kept, leaves_newest, leaves_written, newest_written}
 use Rattle.wal_law.proofs.Steps.{Step, writes, settles, tells, ends, step_of, made_write, made_barrier, change_at}
-use Rattle.wal_law.proofs.LogCalls.{KeepsOwn}
+use Rattle.wal_law.proofs.LogCalls.{KeepsOwn, keeps_barrier}
 
 -- the blocks beside the log's own are kept
 abbrev pub KeepsHomes : Device → Device → Type 0
@@ -36,7 +36,8 @@ beside_log : (blocks block : ℕ) → IsOutside blocks block → (block < LOG_HE
 beside_log blocks block outside = elim (outside.1) as (λ _. (block < LOG_HEADER_BLOCK) ⊎ (START_BLOCK ≤ block)) [ inl below ↦ inl below | inr above ↦ inr (omega arith) ]
 
 -- a change has its home behind the log
-home_of : (log : Log) (k : ℕ) (change : Change) → IsLawful log → slice_get log.changes k ≡ Some change → IsHomeOn log.blocks change.block
+home_of : (log : Log) (k : ℕ) (change : Change) → IsLawful log → slice_get log.changes k ≡ Some change
+    → IsHomeOn log.blocks change.block
 home_of log k change lawful is =
     subst (λ (x : Change). IsHomeOn log.blocks x.block) (get_or_from_slice_get log.changes k change change is)
     (All-get_or (λ (x : Change). IsHomeOn log.blocks x.block) log.changes k change (slice_get_within log.changes k change is) lawful.homes)
@@ -51,7 +52,8 @@ Brought base log block content = content ≡ after base (take log.installing log
 abbrev Raised : Log → Content → Type 0
 Raised log content = IsStartBehind log 0 content ⊎ IsStartBehind log log.installing content
 
-pub homes_kept : (old new : Device) (base : Image) (log : Log) → KeepsHomes old new → HomeAgrees old base log → HomeAgrees new base log
+pub homes_kept : (old new : Device) (base : Image) (log : Log) → KeepsHomes old new → HomeAgrees old base log
+    → HomeAgrees new base log
 homes_kept old new base log keeps h =
     let at : (block : ℕ) → IsOutside log.blocks block → Keeps old new block = λ block outside. keeps block (beside_log log.blocks block outside) in
     let start = keeps START_BLOCK (inr (omega arith)) in
@@ -65,7 +67,8 @@ homes_kept old new base log keeps h =
       newest_start = λ end. subst (IsStartBehind log log.installing) (sym start.newest) (h.newest_start end);
     }
 
-pub inst_made_kept : (old new : Device) (base : Image) (log : Log) → IsLawful log → KeepsHomes old new → HasMadeInstCall old base log → HasMadeInstCall new base log
+pub inst_made_kept : (old new : Device) (base : Image) (log : Log) → IsLawful log → KeepsHomes old new
+    → HasMadeInstCall old base log → HasMadeInstCall new base log
 inst_made_kept old new base log lawful keeps h =
     let start = keeps START_BLOCK (inr (omega arith)) in
     record {
@@ -83,7 +86,8 @@ or_else_some (Some x) c e = absurd (cc)
 or_else_some None c e = absurd (cc)
 
 -- a change that has still to come home isn't past
-not_past : (log : Log) (change : Change) → IsLawful log → log.inst_step < log.installing → slice_get log.changes log.inst_step ≡ Some change → IsPast log change.block.0 → ⊥
+not_past : (log : Log) (change : Change) → IsLawful log → log.inst_step < log.installing
+    → slice_get log.changes log.inst_step ≡ Some change → IsPast log change.block.0 → ⊥
 not_past log change lawful lt is past =
     let n : length (take log.installing log.changes) ≡ log.installing = length-take-le log.installing log.changes (omega (arith, lawful.installing, lawful.taken_within)) in
     let it : get_or (take log.installing log.changes) log.inst_step change ≡ change =
@@ -95,8 +99,10 @@ not_past log change lawful lt is past =
     or_else_some rest change.content (ap (λ (t : Bool). or_else rest (if t then Some change.content else None)) (sym same) ∙ sym e ∙ past)
 
 -- the write of a change to its home
-home_written : (old new : Device) (base : Image) (log : Log) (change : Change) (wrote : Content) (r : Result Unit Failed) → IsLawful log → log.inst_step < log.installing
-    → slice_get log.changes log.inst_step ≡ Some change → wrote ≡ change.content → HasWritten old change.block.0 wrote r new → HomeAgrees old base log → HomeAgrees new base log
+home_written : (old new : Device) (base : Image) (log : Log) (change : Change) (wrote : Content) (r : Result Unit Failed)
+    → IsLawful log → log.inst_step < log.installing
+    → slice_get log.changes log.inst_step ≡ Some change → wrote ≡ change.content
+    → HasWritten old change.block.0 wrote r new → HomeAgrees old base log → HomeAgrees new base log
 home_written old new base log change wrote r lawful lt is same made h =
     let place = home_of log log.inst_step change lawful is in
     let other : (block : ℕ) → block ≢ change.block.0 → Keeps old new block = λ block differs. keeps_same old new block (made.others block differs) in
@@ -112,12 +118,14 @@ home_written old new base log change wrote r lawful lt is same made h =
       newest_start = λ end. absurd (omega arith);
     }
   where
-    it : (block : ℕ) → block ≡ change.block.0 → LeavesOnly old block (Either base log block) → LeavesOnly new block (Either base log block)
+    it : (block : ℕ) → block ≡ change.block.0 → LeavesOnly old block (Either base log block)
+        → LeavesOnly new block (Either base log block)
     it block e before =
         let chosen : brought_home log block ≡ Some wrote = ap (brought_home log) e ∙ h.chosen lt change is ∙ ap Some (sym same) in
         leaves_written old new block wrote r (Either base log block) (subst (λ n. HasWritten old n wrote r new) (sym e) made) (inr chosen) before
 
-    home : log.inst_step ≤ log.installing → (block : ℕ) → IsOutside log.blocks block → LeavesOnly new block (Either base log block)
+    home : log.inst_step ≤ log.installing → (block : ℕ) → IsOutside log.blocks block
+        → LeavesOnly new block (Either base log block)
     home before block outside = go (nat_eq block change.block.0) refl
       where
         go : (t : Bool) → nat_eq block change.block.0 ≡ t → LeavesOnly new block (Either base log block)
@@ -125,8 +133,10 @@ home_written old new base log change wrote r lawful lt is same made h =
         go false e = leaves_kept old new block (Either base log block) (keeps_same old new block (made.others block (eqb-false block change.block.0 e))) (h.home before block outside)
 
 -- the write of the raised start
-start_written : (old new : Device) (base : Image) (log : Log) (wrote : Content) (r : Result Unit Failed) → log.inst_step ≡ log.installing + 1
-    → HasWritten old START_BLOCK wrote r new → IsStartBehind log log.installing wrote → HomeAgrees old base log → HomeAgrees new base log
+start_written : (old new : Device) (base : Image) (log : Log) (wrote : Content) (r : Result Unit Failed)
+    → log.inst_step ≡ log.installing + 1
+    → HasWritten old START_BLOCK wrote r new → IsStartBehind log log.installing wrote
+    → HomeAgrees old base log → HomeAgrees new base log
 start_written old new base log wrote r at made start h = record {
   chosen = h.chosen;
   home = λ before. absurd (omega arith);
@@ -142,7 +152,8 @@ start_written old new base log wrote r at made start h = record {
     apart block outside e = elim (outside.1) as (λ _. ⊥) [ inl below ↦ omega (arith, e) | inr above ↦ omega (arith, e) ]
 
 -- the start that is written
-start_of : (log : Log) (content : Content) → IsLawful log → content ≡ start_content (log.start + log.installing) → IsStartBehind log log.installing content
+start_of : (log : Log) (content : Content) → IsLawful log
+    → content ≡ start_content (log.start + log.installing) → IsStartBehind log log.installing content
 start_of log content lawful e =
     let n : ℕ = log.start + log.installing in
     ap (λ c. number_at c 0) e ∙ number_at-same (replicate BLOCK_BYTES 0) 0 n (omega (arith, length-replicate {A = ℕ} BLOCK_BYTES 0)) (omega (arith, lawful.positions, lawful.installing, lawful.taken_within))
@@ -155,22 +166,21 @@ record Body (log : Log) (io : Io) : Type 0 where
   call : io.call ≡ Write change.block
   content : io.content ≡ change.content
 
-body_of : (log : Log) (io : Io) → IsLawful log → IsNextInstCall log io → log.inst_step < log.installing → Body log io
+body_of : (log : Log) (io : Io) → IsLawful log → IsNextInstCall log io → log.inst_step < log.installing
+    → Body log io
 body_of log io lawful next lt =
     let (change, is, home) = change_at log log.inst_step lawful (omega (arith, lawful.taken_within, lawful.installing)) in
     let call = next.home lt change is in
     record { change = change; is = is; home = home; call = call.0; content = call.1 }
 
-keeps_barrier : (old new : Device) (io : Io) (r : Result Unit Failed) → io.call ≡ Barrier Home → HasMade old io r new → (block : ℕ) → Keeps old new block
-keeps_barrier old new io r e made block = keeps_settled old new Home r block (made_barrier old new io Home r e made)
-
 -- a call of the installer, made or failed
-pub homes_called : (old new : Device) (base : Image) (log : Log) (io : Io) (r : Result Unit Failed) → IsLawful log → IsNextInstCall log io → HasMade old io r new
+pub homes_called : (old new : Device) (base : Image) (log : Log) (io : Io) (r : Result Unit Failed)
+    → IsLawful log → IsNextInstCall log io → HasMade old io r new
     → HomeAgrees old base log → HomeAgrees new base log
 homes_called old new base log io r lawful next made h = go (step_of log.inst_step log.installing lawful.inst_step)
   where
     settled : io.call ≡ Barrier Home → HomeAgrees new base log
-    settled e = homes_kept old new base log (λ block outside. keeps_barrier old new io r e made block) h
+    settled e = homes_kept old new base log (λ block outside. keeps_barrier old new io Home r e made block) h
 
     go : Step log.inst_step log.installing → HomeAgrees new base log
     go (writes lt) =
@@ -183,7 +193,8 @@ homes_called old new base log io r lawful next made h = go (step_of log.inst_ste
     go (ends at) = settled (next.start_barrier at)
 
 -- the log's own blocks are kept by it
-pub own_spared : (old new : Device) (log : Log) (io : Io) (r : Result Unit Failed) → IsLawful log → IsNextInstCall log io → HasMade old io r new → KeepsOwn old new
+pub own_spared : (old new : Device) (log : Log) (io : Io) (r : Result Unit Failed) → IsLawful log
+    → IsNextInstCall log io → HasMade old io r new → KeepsOwn old new
 own_spared old new log io r lawful next made at low high = go (step_of log.inst_step log.installing lawful.inst_step)
   where
     same : (other : BlockNo) → START_BLOCK ≤ other.0 → io.call ≡ Write other → Keeps old new at
@@ -191,9 +202,9 @@ own_spared old new log io r lawful next made at low high = go (step_of log.inst_
 
     go : Step log.inst_step log.installing → Keeps old new at
     go (writes lt) = let body = body_of log io lawful next lt in same body.change.block (omega (arith, body.home.0)) body.call
-    go (settles step) = keeps_barrier old new io r (next.home_barrier step) made at
+    go (settles step) = keeps_barrier old new io Home r (next.home_barrier step) made at
     go (tells step) = same (record { 0 = START_BLOCK }) (omega arith) (next.start step).0
-    go (ends step) = keeps_barrier old new io r (next.start_barrier step) made at
+    go (ends step) = keeps_barrier old new io Home r (next.start_barrier step) made at
 
 -- a block that isn't the log's own lies on the side of the homes
 pub on_home : (blocks block : ℕ) → IsOutside blocks block → is_on Home block ≡ true
@@ -204,15 +215,19 @@ on_home blocks block outside =
     ]
 
 -- what the disk shows once it was made
-pub inst_made : (old new : Device) (base : Image) (log : Log) (io : Io) → IsLawful log → IsNextInstCall log io → HasMade old io (Ok tt) new → HomeAgrees old base log → HasMadeInstCall new base log
+pub inst_made : (old new : Device) (base : Image) (log : Log) (io : Io) → IsLawful log → IsNextInstCall log io
+    → HasMade old io (Ok tt) new → HomeAgrees old base log → HasMadeInstCall new base log
 inst_made old new base log io lawful next made h = record { home = home; home_barrier = home_barrier; start = start; start_barrier = start_barrier }
   where
-    home : log.inst_step < log.installing → (change : Change) → slice_get log.changes log.inst_step ≡ Some change → newest (current new change.block.0) ≡ change.content
+    home : log.inst_step < log.installing → (change : Change)
+        → slice_get log.changes log.inst_step ≡ Some change
+        → newest (current new change.block.0) ≡ change.content
     home lt change is =
         let call = next.home lt change is in
         newest_written old new change.block.0 io.content (made_write old new io change.block (Ok tt) call.0 made) ∙ call.1
 
-    home_barrier : log.inst_step ≡ log.installing → (block : ℕ) → IsOutside log.blocks block → LeavesOnly new block (Brought base log block)
+    home_barrier : log.inst_step ≡ log.installing → (block : ℕ) → IsOutside log.blocks block
+        → LeavesOnly new block (Brought base log block)
     home_barrier at block outside = go (brought_home log block) refl
       where
         settled : HasSettled old Home (Ok tt) new
@@ -223,7 +238,8 @@ inst_made old new base log io lawful next made h = record { home = home; home_ba
             let n : length (take log.installing log.changes) ≡ log.installing = length-take-le log.installing log.changes (omega (arith, lawful.installing, lawful.taken_within)) in
             ap (λ xs. newest_of xs block) (drop_all log.inst_step (take log.installing log.changes) (omega arith))
 
-        go : (new_content : Option Content) → brought_home log block ≡ new_content → LeavesOnly new block (Brought base log block)
+        go : (new_content : Option Content) → brought_home log block ≡ new_content
+            → LeavesOnly new block (Brought base log block)
         go (Some content) e =
             let is : newest (current old block) ≡ after base (take log.installing log.changes) block =
             h.written (omega arith) block outside past content e ∙ ap (λ o. content_or o (base block)) (sym e) in
@@ -236,12 +252,14 @@ inst_made old new base log io lawful next made h = record { home = home; home_ba
             ] in
             leaves_kept old new block (Brought base log block) (keeps_settled old new Home (Ok tt) block settled) (λ content there. same content (h.home (omega arith) block outside content there))
 
-    start : log.inst_step ≡ log.installing + 1 → IsStartBehind log log.installing (newest (current new START_BLOCK))
+    start : log.inst_step ≡ log.installing + 1
+        → IsStartBehind log log.installing (newest (current new START_BLOCK))
     start at =
         let call = next.start at in
         let written = newest_written old new START_BLOCK io.content (made_write old new io (record { 0 = START_BLOCK }) (Ok tt) call.0 made) in
         subst (IsStartBehind log log.installing) (sym written) (start_of log io.content lawful call.1)
 
-    start_barrier : log.inst_step ≡ log.installing + 2 → LeavesOnly new START_BLOCK (IsStartBehind log log.installing)
+    start_barrier : log.inst_step ≡ log.installing + 2
+        → LeavesOnly new START_BLOCK (IsStartBehind log log.installing)
     start_barrier at =
         leaves_newest old new Home START_BLOCK (IsStartBehind log log.installing) (made_barrier old new io Home (Ok tt) (next.start_barrier at) made) refl (h.newest_start at)

@@ -24,20 +24,26 @@ use Rattle.wal_law.proofs.Steps.{change_at}
 abbrev pub aside : Log → ℕ → ℕ → ℕ → Bool → Bool → Bool → Log
 aside log logged taken log_step log_out inst_out broken = record log { logged = logged; taken = taken; log_step = log_step; log_out = log_out; inst_out = inst_out; broken = broken }
 
-pub homes_aside : (d : Device) (base : Image) (log : Log) (logged taken log_step : ℕ) (log_out inst_out broken : Bool) → HomeAgrees d base log → HomeAgrees d base (aside log logged taken log_step log_out inst_out broken)
+pub homes_aside : (d : Device) (base : Image) (log : Log) (logged taken log_step : ℕ) (log_out inst_out broken : Bool)
+    → HomeAgrees d base log → HomeAgrees d base (aside log logged taken log_step log_out inst_out broken)
 homes_aside d base log logged taken log_step log_out inst_out broken h =
     record { chosen = h.chosen; home = h.home; written = h.written; start = h.start; brought = h.brought; raised_start = h.raised_start; newest_start = h.newest_start }
 
-pub inst_made_aside : (d : Device) (base : Image) (log : Log) (logged taken log_step : ℕ) (log_out inst_out broken : Bool) → HasMadeInstCall d base log → HasMadeInstCall d base (aside log logged taken log_step log_out inst_out broken)
+pub inst_made_aside : (d : Device) (base : Image) (log : Log) (logged taken log_step : ℕ) (log_out inst_out broken : Bool)
+    → HasMadeInstCall d base log
+    → HasMadeInstCall d base (aside log logged taken log_step log_out inst_out broken)
 inst_made_aside d base log logged taken log_step log_out inst_out broken h = record { home = h.home; home_barrier = h.home_barrier; start = h.start; start_barrier = h.start_barrier }
 
-pub next_inst_aside : (io : Io) (log : Log) (logged taken log_step : ℕ) (log_out inst_out broken : Bool) → IsNextInstCall log io → IsNextInstCall (aside log logged taken log_step log_out inst_out broken) io
+pub next_inst_aside : (io : Io) (log : Log) (logged taken log_step : ℕ) (log_out inst_out broken : Bool)
+    → IsNextInstCall log io → IsNextInstCall (aside log logged taken log_step log_out inst_out broken) io
 next_inst_aside io log logged taken log_step log_out inst_out broken h =
     record { beginning = h.beginning; step = h.step; home = h.home; home_barrier = h.home_barrier; start = h.start; start_barrier = h.start_barrier }
 
 -- more changes at the end
 module _ (d : Device) (base : Image) (log : Log) (group : List (BlockNo × Content)) (lawful : IsLawful log) where
-  front : (change : Change) → log.inst_step < log.installing → slice_get (with_group log group).changes log.inst_step ≡ Some change → slice_get log.changes log.inst_step ≡ Some change
+  front : (change : Change) → log.inst_step < log.installing
+      → slice_get (with_group log group).changes log.inst_step ≡ Some change
+      → slice_get log.changes log.inst_step ≡ Some change
   front change lt is = slice_get-front log.changes (changes_of (log.places + 1) group) log.inst_step change (omega (arith, lawful.taken_within, lawful.installing)) is
 
   same : take log.installing log.changes ≡ take log.installing (with_group log group).changes
@@ -74,7 +80,8 @@ module _ (d : Device) (base : Image) (log : Log) (group : List (BlockNo × Conte
   }
 
 -- the installer takes the logged changes
-homes_begun : (d : Device) (base : Image) (log : Log) → IsLawful log → log.installing ≡ 0 → HomeAgrees d base log
+homes_begun : (d : Device) (base : Image) (log : Log) → IsLawful log → log.installing ≡ 0
+    → HomeAgrees d base log
     → HomeAgrees d base (record log { installing = log.logged; inst_step = next_home log.changes log.logged 0; inst_out = true })
 homes_begun d base log lawful idle h =
     let first = (lawful.inst_idle idle).0 in
@@ -97,7 +104,8 @@ homes_begun d base log lawful idle h =
       newest_start = λ end. absurd (omega arith);
     }
 
-pub homes_out : (d : Device) (base : Image) (log : Log) → IsLawful log → HomeAgrees d base log → HomeAgrees d base (with_inst_out log)
+pub homes_out : (d : Device) (base : Image) (log : Log) → IsLawful log → HomeAgrees d base log
+    → HomeAgrees d base (with_inst_out log)
 homes_out d base log lawful h = go (nat_lt 0 log.installing) refl
   where
     go : (has : Bool) → nat_lt 0 log.installing ≡ has → HomeAgrees d base (if has
@@ -107,7 +115,8 @@ homes_out d base log lawful h = go (nat_lt 0 log.installing) refl
     go false e = homes_begun d base log lawful (let le : log.installing ≤ 0 = ltb-false 0 log.installing e in omega arith) h
 
 -- a block was brought home
-one_home : (d : Device) (base : Image) (log : Log) → IsLawful log → log.inst_step < log.installing → HomeAgrees d base log → HasMadeInstCall d base log
+one_home : (d : Device) (base : Image) (log : Log) → IsLawful log → log.inst_step < log.installing
+    → HomeAgrees d base log → HasMadeInstCall d base log
     → HomeAgrees d base (record log { inst_step = next_home log.changes log.installing (log.inst_step + 1); inst_out = false })
 one_home d base log lawful lt h made =
     let bound : next_home log.changes log.installing (log.inst_step + 1) ≤ log.installing = next_within log.changes log.installing (log.inst_step + 1) within (omega arith) in
@@ -124,13 +133,16 @@ one_home d base log lawful lt h made =
     within : log.installing ≤ length log.changes
     within = omega (arith, lawful.taken_within, lawful.installing)
 
-    written : (block : ℕ) → IsOutside log.blocks block → newest_of (drop (log.inst_step + 1) (take log.installing log.changes)) block ≡ None → (content : Content) → brought_home log block ≡ Some content
+    written : (block : ℕ) → IsOutside log.blocks block
+        → newest_of (drop (log.inst_step + 1) (take log.installing log.changes)) block ≡ None
+        → (content : Content) → brought_home log block ≡ Some content
         → newest (current d block) ≡ content
     written block outside past content it =
         let (change, is, home) = change_at log log.inst_step lawful (omega (arith, within)) in
         go change is (nat_eq change.block.0 block) refl
       where
-        go : (change : Change) → slice_get log.changes log.inst_step ≡ Some change → (t : Bool) → nat_eq change.block.0 block ≡ t → newest (current d block) ≡ content
+        go : (change : Change) → slice_get log.changes log.inst_step ≡ Some change → (t : Bool)
+            → nat_eq change.block.0 block ≡ t → newest (current d block) ≡ content
         go change is true e =
             let same : change.block.0 ≡ block = eqb-true change.block.0 block e in
             let both : Some change.content ≡ Some content = sym (h.chosen lt change is) ∙ ap (brought_home log) same ∙ it in
@@ -146,7 +158,8 @@ one_home d base log lawful lt h made =
             h.written (omega arith) block outside none content it
 
 -- the barrier behind them was made, or the start was written
-one_step : (d : Device) (base : Image) (log : Log) → log.installing ≤ log.inst_step → log.inst_step < log.installing + 2 → HomeAgrees d base log → HasMadeInstCall d base log
+one_step : (d : Device) (base : Image) (log : Log) → log.installing ≤ log.inst_step
+    → log.inst_step < log.installing + 2 → HomeAgrees d base log → HasMadeInstCall d base log
     → HomeAgrees d base (record log { inst_step = log.inst_step + 1; inst_out = false })
 one_step d base log low high h made = record {
   chosen = λ lt. absurd (omega arith);
@@ -163,7 +176,8 @@ one_step d base log low high h made = record {
 }
 
 -- the raised start is settled: what was brought home is at home
-all_home : (d : Device) (base : Image) (log : Log) → log.inst_step ≡ log.installing + 2 → HomeAgrees d base log → HasMadeInstCall d base log
+all_home : (d : Device) (base : Image) (log : Log) → log.inst_step ≡ log.installing + 2
+    → HomeAgrees d base log → HasMadeInstCall d base log
     → HomeAgrees d (after base (take log.installing log.changes)) (with_installed log)
 all_home d base log end h made = record {
   chosen = λ lt. absurd (omega (arith, lt));
@@ -175,16 +189,19 @@ all_home d base log end h made = record {
   newest_start = λ other. absurd (omega (arith, other));
 }
 
-pub homes_made : (d : Device) (base : Image) (log : Log) → IsLawful log → HomeAgrees d base log → HasMadeInstCall d base log → HomeAgrees d (home_after base log true) (with_inst_made log)
+pub homes_made : (d : Device) (base : Image) (log : Log) → IsLawful log → HomeAgrees d base log
+    → HasMadeInstCall d base log → HomeAgrees d (home_after base log true) (with_inst_made log)
 homes_made d base log lawful h made = first (nat_lt log.inst_step log.installing) refl
   where
     unchanged : log.inst_step < log.installing + 2 → home_after base log true ≡ base
     unchanged lt = ap (λ (t : Bool). if t then after base (take log.installing log.changes) else base) (lt-leb (log.installing + 2) log.inst_step lt)
 
-    changed : log.installing + 2 ≤ log.inst_step → home_after base log true ≡ after base (take log.installing log.changes)
+    changed : log.installing + 2 ≤ log.inst_step
+        → home_after base log true ≡ after base (take log.installing log.changes)
     changed le = ap (λ (t : Bool). if t then after base (take log.installing log.changes) else base) (le-leb (log.installing + 2) log.inst_step le)
 
-    second : log.installing ≤ log.inst_step → (more : Bool) → nat_lt log.inst_step (log.installing + 2) ≡ more → HomeAgrees d (home_after base log true) (if more
+    second : log.installing ≤ log.inst_step → (more : Bool) → nat_lt log.inst_step (log.installing + 2) ≡ more
+        → HomeAgrees d (home_after base log true) (if more
         then record log { inst_step = log.inst_step + 1; inst_out = false }
         else with_installed log)
     second low true e =
@@ -194,7 +211,8 @@ homes_made d base log lawful h made = first (nat_lt log.inst_step log.installing
         let le = ltb-false log.inst_step (log.installing + 2) e in
         subst (λ (b : Image). HomeAgrees d b (with_installed log)) (sym (changed le)) (all_home d base log (omega (arith, le, lawful.inst_step)) h made)
 
-    first : (lower : Bool) → nat_lt log.inst_step log.installing ≡ lower → HomeAgrees d (home_after base log true) (if lower
+    first : (lower : Bool) → nat_lt log.inst_step log.installing ≡ lower
+        → HomeAgrees d (home_after base log true) (if lower
         then record log { inst_step = next_home log.changes log.installing (log.inst_step + 1); inst_out = false }
         else if nat_lt log.inst_step (log.installing + 2)
         then record log { inst_step = log.inst_step + 1; inst_out = false }

@@ -65,7 +65,8 @@ module _ (old new : Device) (base : Image) (log : Log) (block : ℕ) (content : 
   home_at_block : (other : ℕ) → other ≡ block → LeavesOnly new other (Either base' other)
   home_at_block other e = subst (λ n. LeavesOnly new n (Either base' n)) (sym e) (λ c there. inl (only c there ∙ sym at_block))
 
-  home_at_other : (other : ℕ) → other ≢ block → LeavesOnly old other (Either base other) → LeavesOnly new other (Either base' other)
+  home_at_other : (other : ℕ) → other ≢ block → LeavesOnly old other (Either base other)
+      → LeavesOnly new other (Either base' other)
   home_at_other other differs h c there =
       elim (h c ((keeps other differs).within c there)) as (λ _. Either base' other c) [ inl is ↦ inl (is ∙ sym (at_other other differs)) | inr is ↦ inr is ]
 
@@ -74,7 +75,8 @@ module _ (old new : Device) (base : Image) (log : Log) (block : ℕ) (content : 
       subst (λ n. LeavesOnly new n (Brought base' n)) (sym e)
       (λ c there. only c there ∙ sym at_block ∙ ap (λ o. content_or o (base' block)) (sym (not_brought log block none)))
 
-  brought_at_other : (other : ℕ) → other ≢ block → LeavesOnly old other (Brought base other) → LeavesOnly new other (Brought base' other)
+  brought_at_other : (other : ℕ) → other ≢ block → LeavesOnly old other (Brought base other)
+      → LeavesOnly new other (Brought base' other)
   brought_at_other other differs h c there =
       h c ((keeps other differs).within c there) ∙ ap (λ b. content_or (brought_home log other) b) (sym (at_other other differs))
 
@@ -85,7 +87,8 @@ module _ (old new : Device) (base : Image) (log : Log) (block : ℕ) (content : 
       go true e = home_at_block other (eqb-true other block e)
       go false e = home_at_other other (eqb-false other block e) h
 
-  brought_at : (other : ℕ) → LeavesOnly old other (Brought base other) → LeavesOnly new other (Brought base' other)
+  brought_at : (other : ℕ) → LeavesOnly old other (Brought base other)
+      → LeavesOnly new other (Brought base' other)
   brought_at other h = go (nat_eq other block) refl
     where
       go : (t : Bool) → nat_eq other block ≡ t → LeavesOnly new other (Brought base' other)
@@ -107,7 +110,8 @@ module _ (old new : Device) (base : Image) (log : Log) (block : ℕ) (content : 
   agrees_with a = record { size = size ∙ a.size; own = own_kept old new log keeps_own a.own; homes = homes_with a.homes }
 
   -- a change that the installer has out isn't of the block
-  not_change : (change : Change) → log.inst_step < log.installing → brought_home log change.block.0 ≡ Some change.content → change.block.0 ≢ block
+  not_change : (change : Change) → log.inst_step < log.installing
+      → brought_home log change.block.0 ≡ Some change.content → change.block.0 ≢ block
   not_change change lt is = not_it change.block.0 change.content is
 
   inst_made_with : HomeAgrees old base log → HasMadeInstCall old base log → HasMadeInstCall new base' log
@@ -118,7 +122,8 @@ module _ (old new : Device) (base : Image) (log : Log) (block : ℕ) (content : 
     start_barrier = λ at. leaves_kept old new START_BLOCK (IsStartBehind log log.installing) keeps_start (h.start_barrier at);
   }
 
-  installer_with : (p : Pending) → HomeAgrees old base log → IsInstallerAt old base log p → IsInstallerAt new base' log p
+  installer_with : (p : Pending) → HomeAgrees old base log → IsInstallerAt old base log p
+      → IsInstallerAt new base' log p
   installer_with idle a h = h
   installer_with (out io) a h = h
   installer_with (answered io (Ok u)) a h = (h.0, h.1, inst_made_with a h.2)
@@ -132,8 +137,10 @@ module _ (old new : Device) (base : Image) (log : Log) (block : ℕ) (content : 
   }
 
 -- the write and the barrier behind it were made
-pub home_settled : (old middle new : Device) (base : Image) (log : Log) (block : ℕ) (content : Content) (p q : Pending) → IsLawful log → IsOutside log.blocks block → newest_in_log log block ≡ None
-    → HasWritten old block content (Ok tt) middle → HasSettled middle Home (Ok tt) new → AgreesBeside old base log p q → AgreesBeside new (with_home base block content) log p q
+pub home_settled : (old middle new : Device) (base : Image) (log : Log) (block : ℕ) (content : Content) (p q : Pending)
+    → IsLawful log → IsOutside log.blocks block → newest_in_log log block ≡ None
+    → HasWritten old block content (Ok tt) middle → HasSettled middle Home (Ok tt) new
+    → AgreesBeside old base log p q → AgreesBeside new (with_home base block content) log p q
 home_settled old middle new base log block content p q lawful outside none wrote settled s =
     stands_with old new base log block content lawful outside none (settled.later.size ∙ wrote.later.size)
     (λ other differs. both other (keeps_same old middle other (wrote.others other differs)) (keeps_settled middle new Home (Ok tt) other settled))
@@ -147,15 +154,19 @@ home_settled old middle new base log block content p q lawful outside none wrote
 abbrev only_this : Device → ℕ → Content → Device
 only_this d block content = record d { contents = λ moment other. if nat_eq other block then content ∷ [] else d.contents moment other }
 
-this_there : (d : Device) (block : ℕ) (content : Content) → current (only_this d block content) block ≡ content ∷ []
+this_there : (d : Device) (block : ℕ) (content : Content)
+    → current (only_this d block content) block ≡ content ∷ []
 this_there d block content = ap (λ (t : Bool). if t then content ∷ [] else current d block) (eq-eqb block block refl)
 
-others_there : (d : Device) (block : ℕ) (content : Content) (other : ℕ) → other ≢ block → current (only_this d block content) other ≡ current d other
+others_there : (d : Device) (block : ℕ) (content : Content) (other : ℕ) → other ≢ block
+    → current (only_this d block content) other ≡ current d other
 others_there d block content other differs = ap (λ (t : Bool). if t then content ∷ [] else current d other) (ne_eqb other block differs)
 
 -- a crash in the middle of them leaves a boundary over the old home, or over the new
-pub home_written : (old new : Device) (base : Image) (log : Log) (block : ℕ) (content : Content) (r : Result Unit Failed) (image : Image) → IsLawful log → IsOutside log.blocks block
-    → newest_in_log log block ≡ None → HasWritten old block content r new → Agrees old base log → IsCrashImage new new.clock image
+pub home_written : (old new : Device) (base : Image) (log : Log) (block : ℕ) (content : Content) (r : Result Unit Failed) (image : Image)
+    → IsLawful log → IsOutside log.blocks block
+    → newest_in_log log block ≡ None → HasWritten old block content r new → Agrees old base log
+    → IsCrashImage new new.clock image
     → IsBoundary base log image ⊎ IsBoundary (with_home base block content) log image
 home_written old new base log block content r image lawful outside none wrote a crash = cases r wrote.written
   where
@@ -169,7 +180,8 @@ home_written old new base log block content r image lawful outside none wrote a 
     old_one : Contains (current old block) (image block) → IsBoundary base log image
     old_one there = crash_boundary old base log image lawful a crash_old
       where
-        at : (t : Bool) (other : ℕ) → nat_eq other block ≡ t → other < old.size → Contains (current old other) (image other)
+        at : (t : Bool) (other : ℕ) → nat_eq other block ≡ t → other < old.size
+            → Contains (current old other) (image other)
         at true other e lt = subst (λ n. Contains (current old n) (image n)) (sym (eqb-true other block e)) there
         at false other e lt = others other (eqb-false other block e) lt
 
@@ -189,7 +201,8 @@ home_written old new base log block content r image lawful outside none wrote a 
         alone : Contains (current (only_this old block content) block) (image block)
         alone = subst (λ (xs : List Content). Contains xs (image block)) (sym (this_there old block content)) (0, omega arith, sym is)
 
-        at : (t : Bool) (other : ℕ) → nat_eq other block ≡ t → other < old.size → Contains (current (only_this old block content) other) (image other)
+        at : (t : Bool) (other : ℕ) → nat_eq other block ≡ t → other < old.size
+            → Contains (current (only_this old block content) other) (image other)
         at true other e lt = subst (λ n. Contains (current (only_this old block content) n) (image n)) (sym (eqb-true other block e)) alone
         at false other e lt =
             subst (λ (xs : List Content). Contains xs (image other)) (sym (others_there old block content other (eqb-false other block e))) (others other (eqb-false other block e) lt)
@@ -197,17 +210,20 @@ home_written old new base log block content r image lawful outside none wrote a 
         crash_new : IsCrashImage (only_this old block content) (only_this old block content).clock image
         crash_new other lt = at (nat_eq other block) other refl lt
 
-    same : current new block ≡ current old block → IsBoundary base log image ⊎ IsBoundary (with_home base block content) log image
+    same : current new block ≡ current old block
+        → IsBoundary base log image ⊎ IsBoundary (with_home base block content) log image
     same e = inl (old_one (subst (λ (xs : List Content). Contains xs (image block)) e (crash block within)))
 
-    more : current new block ≡ current old block ++ content ∷ [] → IsBoundary base log image ⊎ IsBoundary (with_home base block content) log image
+    more : current new block ≡ current old block ++ content ∷ []
+        → IsBoundary base log image ⊎ IsBoundary (with_home base block content) log image
     more e =
         elim (Contains-append_cases (current old block) (content ∷ []) (image block) (subst (λ (xs : List Content). Contains xs (image block)) e (crash block within))) [
           | inl earlier ↦ inl (old_one earlier)
           | inr it ↦ inr (new_one (sym (one_member content (image block) it)))
         ]
 
-    cases : (r : Result Unit Failed) → Appends (current old block) content r (current new block) → IsBoundary base log image ⊎ IsBoundary (with_home base block content) log image
+    cases : (r : Result Unit Failed) → Appends (current old block) content r (current new block)
+        → IsBoundary base log image ⊎ IsBoundary (with_home base block content) log image
     cases (Ok u) e = more e
     cases (Err u) (inl e) = same e
     cases (Err u) (inr e) = more e

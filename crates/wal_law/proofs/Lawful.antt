@@ -10,13 +10,15 @@ use Rattle.wal_law.proofs.Places.{rising-append, rising-group, rising-drop, comm
 use Rattle.wal_law.specs.Log.{Log, IsCommitted, IsLawful, IsHomeOn, blocks_of, changes_of, tail_after, opened}
 use Rattle.wal_law.specs.Room.{HasPlaces, with_group}
 
-pub length-changes_of : (place : ℕ) (group : List (BlockNo × Content)) → length (changes_of place group) ≡ length group
+pub length-changes_of : (place : ℕ) (group : List (BlockNo × Content))
+    → length (changes_of place group) ≡ length group
 length-changes_of place group = length-map group (λ (change : BlockNo × Content). record { place = place; block = change.0; content = change.1 })
 
 pub length-blocks_of : (group : List (BlockNo × Content)) → length (blocks_of group) ≡ length group
 length-blocks_of group = length-map group (λ (change : BlockNo × Content). change.0)
 
-pub homes_of_group : (blocks place : ℕ) (group : List (BlockNo × Content)) → All (IsHomeOn blocks) (blocks_of group)
+pub homes_of_group : (blocks place : ℕ) (group : List (BlockNo × Content))
+    → All (IsHomeOn blocks) (blocks_of group)
     → All (λ (change : Change). IsHomeOn blocks change.block) (changes_of place group)
 homes_of_group blocks place [] h = All-nil (λ (change : Change). IsHomeOn blocks change.block)
 homes_of_group blocks place (change ∷ group) h =
@@ -24,8 +26,10 @@ homes_of_group blocks place (change ∷ group) h =
     (All-head (IsHomeOn blocks) change.0 (blocks_of group) h)
     (homes_of_group blocks place group (All-tail (IsHomeOn blocks) change.0 (blocks_of group) h))
 
-pub lawful_with_group : (log : Log) (group : List (BlockNo × Content)) → IsLawful log → HasPlaces log (blocks_of group)
-    → tail_after log (blocks_of group) ≤ LOG_SLOTS → All (IsHomeOn log.blocks) (blocks_of group) → IsLawful (with_group log group)
+pub lawful_with_group : (log : Log) (group : List (BlockNo × Content)) → IsLawful log
+    → HasPlaces log (blocks_of group)
+    → tail_after log (blocks_of group) ≤ LOG_SLOTS → All (IsHomeOn log.blocks) (blocks_of group)
+    → IsLawful (with_group log group)
 lawful_with_group log group h room fits homes =
     let m = length-blocks_of group in
     let n : length (log.changes ++ changes_of (log.places + 1) group) ≡ length log.changes + length group =
@@ -49,8 +53,10 @@ lawful_with_group log group h room fits homes =
           (All-append IsCommitted (drop log.logged log.changes) (changes_of (log.places + 1) group) h.committed (committed-group (log.places + 1) group (omega arith)));
     }
 
-pub lawful_opened : (blocks start : ℕ) (logged : List (BlockNo × Content)) → FIRST_HOME_BLOCK ≤ blocks → length logged ≤ LOG_SLOTS
-    → start + length logged < 2 ^ 64 → All (IsHomeOn blocks) (blocks_of logged) → IsLawful (opened blocks start logged)
+pub lawful_opened : (blocks start : ℕ) (logged : List (BlockNo × Content)) → FIRST_HOME_BLOCK ≤ blocks
+    → length logged ≤ LOG_SLOTS
+    → start + length logged < 2 ^ 64 → All (IsHomeOn blocks) (blocks_of logged)
+    → IsLawful (opened blocks start logged)
 lawful_opened blocks start logged disk slots positions homes =
     let n = length-changes_of 0 logged in
     record {
@@ -112,7 +118,8 @@ lawful_installed log h out =
     }
 
 -- one change more of a group
-pub home_more : (blocks : ℕ) (logged new : List (BlockNo × Content)) (home : BlockNo) (content : Content) → new ≡ logged ++ (home, content) ∷ []
+pub home_more : (blocks : ℕ) (logged new : List (BlockNo × Content)) (home : BlockNo) (content : Content)
+    → new ≡ logged ++ (home, content) ∷ []
     → All (IsHomeOn blocks) (blocks_of logged) → IsHomeOn blocks home → All (IsHomeOn blocks) (blocks_of new)
 home_more blocks logged new home content e h one =
     rw (e, map-append (λ (change : BlockNo × Content). change.0) logged ((home, content) ∷ [])) (All-push (IsHomeOn blocks) (blocks_of logged) home h one)

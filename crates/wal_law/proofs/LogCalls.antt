@@ -7,6 +7,7 @@ use Rattle.limits.specs.declared.TheConstants.{LOG_HEADER_BLOCK, START_BLOCK}
 use Rattle.disk.specs.Device.{Content, Device, current, newest, is_on, HasWritten}
 use Rattle.disk.specs.declared.device.Failed.{Failed}
 use Rattle.disk.specs.declared.block.BlockNo.{BlockNo}
+use Rattle.disk.specs.declared.block.Side.{Side}
 use Rattle.disk.specs.declared.block.Side.TheVariants.{Log as OnLog}
 use Rattle.wal_law.specs.declared.change.Change.{Change}
 use Rattle.wal_law.specs.declared.calls.IoCall.TheVariants.{Write, Barrier}
@@ -29,7 +30,8 @@ slot_kept old new position keeps = keeps (slot_block position) (omega arith) (om
 header_kept : (old new : Device) → KeepsOwn old new → Keeps old new LOG_HEADER_BLOCK
 header_kept old new keeps = keeps LOG_HEADER_BLOCK (omega arith) (omega arith)
 
-holds_kept : (old new : Device) (log : Log) (count : ℕ) → KeepsOwn old new → HoldsSlots old log count → HoldsSlots new log count
+holds_kept : (old new : Device) (log : Log) (count : ℕ) → KeepsOwn old new → HoldsSlots old log count
+    → HoldsSlots new log count
 holds_kept old new log count keeps h k lt change is =
     leaves_kept old new (slot_block (log.start + k)) (λ content. content ≡ change.content) (slot_kept old new (log.start + k) keeps) (h k lt change is)
 
@@ -45,7 +47,8 @@ own_kept old new log keeps h =
       newest_header = λ at. subst (IsHeaderOf log (log.logged + log.taken)) (sym head.newest) (h.newest_header at);
     }
 
-pub log_made_kept : (old new : Device) (log : Log) → KeepsOwn old new → HasMadeLogCall old log → HasMadeLogCall new log
+pub log_made_kept : (old new : Device) (log : Log) → KeepsOwn old new → HasMadeLogCall old log
+    → HasMadeLogCall new log
 log_made_kept old new log keeps h =
     let head = header_kept old new keeps in
     record {
@@ -56,8 +59,10 @@ log_made_kept old new log keeps h =
     }
 
 -- a write of a slot of the group
-slot_written : (old new : Device) (log : Log) (wrote : Content) (r : Result Unit Failed) → IsLawful log → log.log_step < log.taken
-    → HasWritten old (slot_block (log.start + (log.logged + log.log_step))) wrote r new → LogAgrees old log → LogAgrees new log
+slot_written : (old new : Device) (log : Log) (wrote : Content) (r : Result Unit Failed) → IsLawful log
+    → log.log_step < log.taken
+    → HasWritten old (slot_block (log.start + (log.logged + log.log_step))) wrote r new → LogAgrees old log
+    → LogAgrees new log
 slot_written old new log wrote r lawful lt made h =
     let other : (k : ℕ) → k < log.logged + log.log_step → Keeps old new (slot_block (log.start + k)) =
     λ k less. keeps_same old new (slot_block (log.start + k)) (made.others (slot_block (log.start + k)) (slots_differ log.start k (log.logged + log.log_step) less (omega (arith, lawful.slots)))) in
@@ -72,8 +77,10 @@ slot_written old new log wrote r lawful lt made h =
     }
 
 -- the write of the group's header
-header_written : (old new : Device) (log : Log) (wrote : Content) (r : Result Unit Failed) → log.log_step ≡ log.taken + 1
-    → HasWritten old LOG_HEADER_BLOCK wrote r new → IsHeaderOf log (log.logged + log.taken) wrote → LogAgrees old log → LogAgrees new log
+header_written : (old new : Device) (log : Log) (wrote : Content) (r : Result Unit Failed)
+    → log.log_step ≡ log.taken + 1
+    → HasWritten old LOG_HEADER_BLOCK wrote r new → IsHeaderOf log (log.logged + log.taken) wrote
+    → LogAgrees old log → LogAgrees new log
 header_written old new log wrote r at made header h =
     let other : (position : ℕ) → Keeps old new (slot_block position) =
     λ position. keeps_same old new (slot_block position) (made.others (slot_block position) (λ e. omega (arith, e))) in
@@ -89,7 +96,9 @@ header_written old new log wrote r at made header h =
     }
 
 -- the header that is written is one of the group
-header_of : (log : Log) (content : Content) → IsLawful log → IsHeader content log.start (take (log.logged + log.taken) log.changes) → IsHeaderOf log (log.logged + log.taken) content
+header_of : (log : Log) (content : Content) → IsLawful log
+    → IsHeader content log.start (take (log.logged + log.taken) log.changes)
+    → IsHeaderOf log (log.logged + log.taken) content
 header_of log content lawful h = (
   h.end ∙ ap (λ n. log.start + n) (length-take-le (log.logged + log.taken) log.changes lawful.taken_within),
   λ k lt change is. h.homes k change (slice_get-into_take log.changes (log.logged + log.taken) k change lt is),
@@ -110,15 +119,18 @@ body_of log io lawful next lt =
     let write = λ (position : ℕ). Write (record { 0 = slot_block position }) in
     record { change = change; is = is; call = call.0 ∙ ap write e; content = call.1 }
 
-keeps_barrier : (old new : Device) (io : Io) (r : Result Unit Failed) → io.call ≡ Barrier OnLog → HasMade old io r new → (block : ℕ) → Keeps old new block
-keeps_barrier old new io r e made block = keeps_settled old new OnLog r block (made_barrier old new io OnLog r e made)
+-- a barrier of a side keeps each block
+pub keeps_barrier : (old new : Device) (io : Io) (side : Side) (r : Result Unit Failed)
+    → io.call ≡ Barrier side → HasMade old io r new → (block : ℕ) → Keeps old new block
+keeps_barrier old new io side r e made block = keeps_settled old new side r block (made_barrier old new io side r e made)
 
 -- a call of the logger, made or failed
-pub own_called : (old new : Device) (log : Log) (io : Io) (r : Result Unit Failed) → IsLawful log → IsNextLogCall log io → HasMade old io r new → LogAgrees old log → LogAgrees new log
+pub own_called : (old new : Device) (log : Log) (io : Io) (r : Result Unit Failed) → IsLawful log
+    → IsNextLogCall log io → HasMade old io r new → LogAgrees old log → LogAgrees new log
 own_called old new log io r lawful next made h = go (step_of log.log_step log.taken lawful.log_step)
   where
     settled : io.call ≡ Barrier OnLog → LogAgrees new log
-    settled e = own_kept old new log (λ block low high. keeps_barrier old new io r e made block) h
+    settled e = own_kept old new log (λ block low high. keeps_barrier old new io OnLog r e made block) h
 
     go : Step log.log_step log.taken → LogAgrees new log
     go (writes lt) =
@@ -131,7 +143,8 @@ own_called old new log io r lawful next made h = go (step_of log.log_step log.ta
     go (ends at) = settled (next.header_barrier at)
 
 -- the other blocks are kept by it
-pub homes_spared : (old new : Device) (log : Log) (io : Io) (r : Result Unit Failed) → IsLawful log → IsNextLogCall log io → HasMade old io r new
+pub homes_spared : (old new : Device) (log : Log) (io : Io) (r : Result Unit Failed) → IsLawful log
+    → IsNextLogCall log io → HasMade old io r new
     → (block : ℕ) → (block < LOG_HEADER_BLOCK) ⊎ (START_BLOCK ≤ block) → Keeps old new block
 homes_spared old new log io r lawful next made at outside = go (step_of log.log_step log.taken lawful.log_step)
   where
@@ -146,15 +159,17 @@ homes_spared old new log io r lawful next made at outside = go (step_of log.log_
         let body = body_of log io lawful next lt in
         let slot : ℕ = slot_block (log.start + (log.logged + log.log_step)) in
         same slot (apart slot (omega arith) (omega arith)) (made_write old new io (record { 0 = slot }) r body.call made)
-    go (settles step) = keeps_barrier old new io r (next.body_barrier step) made at
+    go (settles step) = keeps_barrier old new io OnLog r (next.body_barrier step) made at
     go (tells step) = same LOG_HEADER_BLOCK (apart LOG_HEADER_BLOCK (omega arith) (omega arith)) (made_write old new io (record { 0 = LOG_HEADER_BLOCK }) r (next.header step).0 made)
-    go (ends step) = keeps_barrier old new io r (next.header_barrier step) made at
+    go (ends step) = keeps_barrier old new io OnLog r (next.header_barrier step) made at
 
 -- what the disk shows once it was made
-pub log_made : (old new : Device) (log : Log) (io : Io) → IsLawful log → IsNextLogCall log io → HasMade old io (Ok tt) new → LogAgrees old log → HasMadeLogCall new log
+pub log_made : (old new : Device) (log : Log) (io : Io) → IsLawful log → IsNextLogCall log io
+    → HasMade old io (Ok tt) new → LogAgrees old log → HasMadeLogCall new log
 log_made old new log io lawful next made h = record { body = body; body_barrier = body_barrier; header = header; header_barrier = header_barrier }
   where
-    body : log.log_step < log.taken → (change : Change) → slice_get log.changes (log.logged + log.log_step) ≡ Some change
+    body : log.log_step < log.taken → (change : Change)
+        → slice_get log.changes (log.logged + log.log_step) ≡ Some change
         → newest (current new (slot_block (log.start + (log.logged + log.log_step)))) ≡ change.content
     body lt change is =
         let call = next.body lt change is in
@@ -168,7 +183,8 @@ log_made old new log io lawful next made h = record { body = body; body_barrier 
         (le-leb LOG_HEADER_BLOCK (slot_block position) (omega arith)) (lt-ltb (slot_block position) START_BLOCK (omega arith))
 
     -- each slot of the group has its newest content, settled or not
-    newest_of_slot : log.log_step ≡ log.taken → (k : ℕ) → k < log.logged + log.taken → (change : Change) → slice_get log.changes k ≡ Some change
+    newest_of_slot : log.log_step ≡ log.taken → (k : ℕ) → k < log.logged + log.taken → (change : Change)
+        → slice_get log.changes k ≡ Some change
         → (k < log.logged) ⊎ (newest (current old (slot_block (log.start + k))) ≡ change.content)
     newest_of_slot at k lt change is =
         elim (cases_lt k log.logged) as (λ _. (k < log.logged) ⊎ (newest (current old (slot_block (log.start + k))) ≡ change.content)) [
@@ -189,12 +205,14 @@ log_made old new log io lawful next made h = record { body = body; body_barrier 
           | inr written ↦ leaves_newest old new OnLog slot P settled (on (log.start + k)) written
         ]
 
-    header : log.log_step ≡ log.taken + 1 → IsHeaderOf log (log.logged + log.taken) (newest (current new LOG_HEADER_BLOCK))
+    header : log.log_step ≡ log.taken + 1
+        → IsHeaderOf log (log.logged + log.taken) (newest (current new LOG_HEADER_BLOCK))
     header at =
         let call = next.header at in
         let written = newest_written old new LOG_HEADER_BLOCK io.content (made_write old new io (record { 0 = LOG_HEADER_BLOCK }) (Ok tt) call.0 made) in
         subst (IsHeaderOf log (log.logged + log.taken)) (sym written) (header_of log io.content lawful call.1)
 
-    header_barrier : log.log_step ≡ log.taken + 2 → LeavesOnly new LOG_HEADER_BLOCK (IsHeaderOf log (log.logged + log.taken))
+    header_barrier : log.log_step ≡ log.taken + 2
+        → LeavesOnly new LOG_HEADER_BLOCK (IsHeaderOf log (log.logged + log.taken))
     header_barrier at =
         leaves_newest old new OnLog LOG_HEADER_BLOCK (IsHeaderOf log (log.logged + log.taken)) (made_barrier old new io OnLog (Ok tt) (next.header_barrier at) made) refl (h.newest_header at)

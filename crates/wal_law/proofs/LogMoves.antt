@@ -22,14 +22,17 @@ use Rattle.wal_law.proofs.Lists.{slice_get-drop, slice_get-front, slice_get-take
 abbrev pub beside : Log → ℕ → ℕ → Bool → Bool → Bool → Log
 beside log installing inst_step log_out inst_out broken = record log { installing = installing; inst_step = inst_step; log_out = log_out; inst_out = inst_out; broken = broken }
 
-pub own_beside : (d : Device) (log : Log) (installing inst_step : ℕ) (log_out inst_out broken : Bool) → LogAgrees d log → LogAgrees d (beside log installing inst_step log_out inst_out broken)
+pub own_beside : (d : Device) (log : Log) (installing inst_step : ℕ) (log_out inst_out broken : Bool)
+    → LogAgrees d log → LogAgrees d (beside log installing inst_step log_out inst_out broken)
 own_beside d log installing inst_step log_out inst_out broken h =
     record { slots = h.slots; written = h.written; group_slots = h.group_slots; header = h.header; group_header = h.group_header; newest_header = h.newest_header }
 
-pub log_made_beside : (d : Device) (log : Log) (installing inst_step : ℕ) (log_out inst_out broken : Bool) → HasMadeLogCall d log → HasMadeLogCall d (beside log installing inst_step log_out inst_out broken)
+pub log_made_beside : (d : Device) (log : Log) (installing inst_step : ℕ) (log_out inst_out broken : Bool)
+    → HasMadeLogCall d log → HasMadeLogCall d (beside log installing inst_step log_out inst_out broken)
 log_made_beside d log installing inst_step log_out inst_out broken h = record { body = h.body; body_barrier = h.body_barrier; header = h.header; header_barrier = h.header_barrier }
 
-pub next_log_beside : (io : Io) (log : Log) (installing inst_step : ℕ) (log_out inst_out broken : Bool) → IsNextLogCall log io → IsNextLogCall (beside log installing inst_step log_out inst_out broken) io
+pub next_log_beside : (io : Io) (log : Log) (installing inst_step : ℕ) (log_out inst_out broken : Bool)
+    → IsNextLogCall log io → IsNextLogCall (beside log installing inst_step log_out inst_out broken) io
 next_log_beside io log installing inst_step log_out inst_out broken h =
     record { beginning = h.beginning; step = h.step; body = h.body; body_barrier = h.body_barrier; header = h.header; header_barrier = h.header_barrier }
 
@@ -52,7 +55,8 @@ own_out d log lawful h = go (nat_lt 0 log.taken) refl
     go false e = own_taken d log (length log.changes - log.logged) (lawful.log_idle (let le : log.taken ≤ 0 = ltb-false 0 log.taken e in omega arith)).0 h
 
 -- the last of a group's calls was made: it's settled
-group_settled : (d : Device) (log : Log) → log.log_step ≡ log.taken + 2 → LogAgrees d log → HasMadeLogCall d log
+group_settled : (d : Device) (log : Log) → log.log_step ≡ log.taken + 2 → LogAgrees d log
+    → HasMadeLogCall d log
     → LogAgrees d (record log { logged = log.logged + log.taken; taken = 0; log_step = 0; log_out = false })
 group_settled d log end h made = record {
   slots = h.group_slots (omega arith);
@@ -67,7 +71,8 @@ group_settled d log end h made = record {
 one_more : (d : Device) (log : Log) → IsLawful log → (log.log_step ≡ log.taken + 2 → ⊥) → LogAgrees d log → HasMadeLogCall d log → LogAgrees d (record log { log_step = log.log_step + 1; log_out = false })
 one_more d log lawful more h made = record { slots = h.slots; written = written; group_slots = group_slots; header = λ before. h.header (omega arith); group_header = group_header; newest_header = λ end. made.header (omega arith) }
   where
-    written : (k : ℕ) → k < log.log_step + 1 → k < log.taken → (change : Change) → slice_get log.changes (log.logged + k) ≡ Some change
+    written : (k : ℕ) → k < log.log_step + 1 → k < log.taken → (change : Change)
+        → slice_get log.changes (log.logged + k) ≡ Some change
         → newest (current d (slot_block (log.start + (log.logged + k)))) ≡ change.content
     written k lt within change is =
         elim (cases_lt k log.log_step) as (λ _. newest (current d (slot_block (log.start + (log.logged + k)))) ≡ change.content) [
@@ -81,14 +86,16 @@ one_more d log lawful more h made = record { slots = h.slots; written = written;
     group_slots later =
         elim (cases_lt log.taken log.log_step) as (λ _. HoldsSlots d log (log.logged + log.taken)) [ inl past ↦ h.group_slots past | inr now ↦ made.body_barrier (omega arith) ]
 
-    group_header : log.taken < log.log_step + 1 → LeavesOnly d LOG_HEADER_BLOCK (λ content. IsHeaderOf log log.logged content ⊎ IsHeaderOf log (log.logged + log.taken) content)
+    group_header : log.taken < log.log_step + 1
+        → LeavesOnly d LOG_HEADER_BLOCK (λ content. IsHeaderOf log log.logged content ⊎ IsHeaderOf log (log.logged + log.taken) content)
     group_header later content there =
         elim (cases_lt log.taken log.log_step) as (λ _. IsHeaderOf log log.logged content ⊎ IsHeaderOf log (log.logged + log.taken) content) [
           | inl past ↦ h.group_header past content there
           | inr now ↦ inl (h.header now content there)
         ]
 
-pub own_made : (d : Device) (log : Log) → IsLawful log → LogAgrees d log → HasMadeLogCall d log → LogAgrees d (with_log_made log)
+pub own_made : (d : Device) (log : Log) → IsLawful log → LogAgrees d log → HasMadeLogCall d log
+    → LogAgrees d (with_log_made log)
 own_made d log lawful h made = go (nat_eq log.log_step (log.taken + 2)) refl
   where
     go : (end : Bool) → nat_eq log.log_step (log.taken + 2) ≡ end → LogAgrees d (if end
@@ -99,16 +106,20 @@ own_made d log lawful h made = go (nat_eq log.log_step (log.taken + 2)) refl
 
 -- more changes at the end
 module _ (d : Device) (log : Log) (group : List (BlockNo × Content)) (lawful : IsLawful log) where
-  front : (k : ℕ) (change : Change) → k < log.logged + log.taken → slice_get (with_group log group).changes k ≡ Some change → slice_get log.changes k ≡ Some change
+  front : (k : ℕ) (change : Change) → k < log.logged + log.taken
+      → slice_get (with_group log group).changes k ≡ Some change → slice_get log.changes k ≡ Some change
   front k change lt is = slice_get-front log.changes (changes_of (log.places + 1) group) k change (omega (arith, lawful.taken_within)) is
 
-  holds_front : (count : ℕ) → count ≤ log.logged + log.taken → HoldsSlots d log count → HoldsSlots d (with_group log group) count
+  holds_front : (count : ℕ) → count ≤ log.logged + log.taken → HoldsSlots d log count
+      → HoldsSlots d (with_group log group) count
   holds_front count le h k lt change is = h k lt change (front k change (omega arith) is)
 
-  header_front : (count : ℕ) (content : Content) → count ≤ log.logged + log.taken → IsHeaderOf log count content → IsHeaderOf (with_group log group) count content
+  header_front : (count : ℕ) (content : Content) → count ≤ log.logged + log.taken
+      → IsHeaderOf log count content → IsHeaderOf (with_group log group) count content
   header_front count content le h = (h.0, λ k lt change is. h.1 k lt change (front k change (omega arith) is))
 
-  either_front : (content : Content) → IsHeaderOf log log.logged content ⊎ IsHeaderOf log (log.logged + log.taken) content
+  either_front : (content : Content)
+      → IsHeaderOf log log.logged content ⊎ IsHeaderOf log (log.logged + log.taken) content
       → IsHeaderOf (with_group log group) log.logged content ⊎ IsHeaderOf (with_group log group) (log.logged + log.taken) content
   either_front content (inl h) = inl (header_front log.logged content (omega arith) h)
   either_front content (inr h) = inr (header_front (log.logged + log.taken) content (omega arith) h)
@@ -149,15 +160,18 @@ module _ (d : Device) (log : Log) (lawful : IsLawful log) where
   abbrev gone : Log
   gone = with_installed log
 
-  behind : (k : ℕ) (change : Change) → slice_get gone.changes k ≡ Some change → slice_get log.changes (log.installing + k) ≡ Some change
+  behind : (k : ℕ) (change : Change) → slice_get gone.changes k ≡ Some change
+      → slice_get log.changes (log.installing + k) ≡ Some change
   behind k change is = slice_get-drop log.changes log.installing k change is
 
-  holds_behind : (count fewer : ℕ) → log.installing + fewer ≡ count → HoldsSlots d log count → HoldsSlots d gone fewer
+  holds_behind : (count fewer : ℕ) → log.installing + fewer ≡ count → HoldsSlots d log count
+      → HoldsSlots d gone fewer
   holds_behind count fewer e h k lt change is =
       let at : (log.start + log.installing) + k ≡ log.start + (log.installing + k) = omega arith in
       subst (λ n. LeavesOnly d (slot_block n) (λ content. content ≡ change.content)) (sym at) (h (log.installing + k) (omega arith) change (behind k change is))
 
-  header_behind : (count fewer : ℕ) (content : Content) → log.installing + fewer ≡ count → IsHeaderOf log count content → IsHeaderOf gone fewer content
+  header_behind : (count fewer : ℕ) (content : Content) → log.installing + fewer ≡ count
+      → IsHeaderOf log count content → IsHeaderOf gone fewer content
   header_behind count fewer content e h = (
     h.0 ∙ (omega arith),
     λ k lt change is.
@@ -171,12 +185,14 @@ module _ (d : Device) (log : Log) (lawful : IsLawful log) where
   group : log.installing + ((log.logged - log.installing) + log.taken) ≡ log.logged + log.taken
   group = omega (arith, lawful.installing)
 
-  either_behind : (content : Content) → IsHeaderOf log log.logged content ⊎ IsHeaderOf log (log.logged + log.taken) content
+  either_behind : (content : Content)
+      → IsHeaderOf log log.logged content ⊎ IsHeaderOf log (log.logged + log.taken) content
       → IsHeaderOf gone (log.logged - log.installing) content ⊎ IsHeaderOf gone ((log.logged - log.installing) + log.taken) content
   either_behind content (inl h) = inl (header_behind log.logged (log.logged - log.installing) content few h)
   either_behind content (inr h) = inr (header_behind (log.logged + log.taken) ((log.logged - log.installing) + log.taken) content group h)
 
-  slot_behind : (k : ℕ) (change : Change) → (slice_get log.changes (log.logged + k) ≡ Some change → newest (current d (slot_block (log.start + (log.logged + k)))) ≡ change.content)
+  slot_behind : (k : ℕ) (change : Change)
+      → (slice_get log.changes (log.logged + k) ≡ Some change → newest (current d (slot_block (log.start + (log.logged + k)))) ≡ change.content)
       → slice_get gone.changes ((log.logged - log.installing) + k) ≡ Some change
       → newest (current d (slot_block (gone.start + ((log.logged - log.installing) + k)))) ≡ change.content
   slot_behind k change h is =
@@ -202,7 +218,8 @@ module _ (d : Device) (log : Log) (lawful : IsLawful log) where
     header_barrier = λ at content there. header_behind (log.logged + log.taken) ((log.logged - log.installing) + log.taken) content group (h.header_barrier at content there);
   }
 
-  header_written_behind : (content : Content) → IsHeader content log.start (take (log.logged + log.taken) log.changes)
+  header_written_behind : (content : Content)
+      → IsHeader content log.start (take (log.logged + log.taken) log.changes)
       → IsHeader content gone.start (take ((log.logged - log.installing) + log.taken) gone.changes)
   header_written_behind content h =
       let n = length-take (log.logged + log.taken) log.changes in

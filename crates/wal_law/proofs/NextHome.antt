@@ -17,7 +17,8 @@ passed_within (x ∷ xs) =
     elim (is_some (newest_of xs x.block.0)) as (λ later. (if later then 1 + passed_over xs else 0) ≤ suc (length xs)) [ true ↦ omega (arith, h) | false ↦ omega arith ]
 
 -- to pass over a change loses no newest content
-or_else_later : (later : Option Content) (here : Option Content) → is_some later ≡ true → or_else later here ≡ later
+or_else_later : (later : Option Content) (here : Option Content) → is_some later ≡ true
+    → or_else later here ≡ later
 or_else_later (Some c) here h = refl
 or_else_later None here h = absurd (cc)
 
@@ -25,25 +26,31 @@ or_else_nothing : (later : Option Content) → or_else later None ≡ later
 or_else_nothing (Some c) = refl
 or_else_nothing None = refl
 
-here_lost : (later : ℕ → Option Content) (x : Change) (block : ℕ) → is_some (later x.block.0) ≡ true → or_else (later block) (if nat_eq x.block.0 block then Some x.content else None) ≡ later block
+here_lost : (later : ℕ → Option Content) (x : Change) (block : ℕ) → is_some (later x.block.0) ≡ true
+    → or_else (later block) (if nat_eq x.block.0 block then Some x.content else None) ≡ later block
 here_lost later x block h = go (nat_eq x.block.0 block) refl
   where
-    go : (t : Bool) → nat_eq x.block.0 block ≡ t → or_else (later block) (if t then Some x.content else None) ≡ later block
+    go : (t : Bool) → nat_eq x.block.0 block ≡ t
+        → or_else (later block) (if t then Some x.content else None) ≡ later block
     go true e = or_else_later (later block) (Some x.content) (ap (λ n. is_some (later n)) (sym (eqb-true x.block.0 block e)) ∙ h)
     go false e = or_else_nothing (later block)
 
-passed_keeps : (xs : List Change) (block : ℕ) → newest_of (drop (passed_over xs) xs) block ≡ newest_of xs block
+passed_keeps : (xs : List Change) (block : ℕ)
+    → newest_of (drop (passed_over xs) xs) block ≡ newest_of xs block
 passed_keeps [] block = refl
 passed_keeps (x ∷ xs) block = go (passed_keeps xs block) (is_some (newest_of xs x.block.0)) refl
   where
-    go : newest_of (drop (passed_over xs) xs) block ≡ newest_of xs block → (later : Bool) → is_some (newest_of xs x.block.0) ≡ later → newest_of (drop (if later then 1 + passed_over xs else 0) (x ∷ xs)) block ≡ newest_of (x ∷ xs) block
+    go : newest_of (drop (passed_over xs) xs) block ≡ newest_of xs block → (later : Bool)
+        → is_some (newest_of xs x.block.0) ≡ later
+        → newest_of (drop (if later then 1 + passed_over xs else 0) (x ∷ xs)) block ≡ newest_of (x ∷ xs) block
     go ih true e =
         let n : 1 + passed_over xs ≡ suc (passed_over xs) = omega arith in
         ap (λ k. newest_of (drop k (x ∷ xs)) block) n ∙ ih ∙ sym (here_lost (newest_of xs) x block e)
     go ih false e = refl
 
 -- the change at which the passing over ends is the newest of its block
-passed_newest : (xs : List Change) (x : Change) → slice_get xs (passed_over xs) ≡ Some x → newest_of xs x.block.0 ≡ Some x.content
+passed_newest : (xs : List Change) (x : Change) → slice_get xs (passed_over xs) ≡ Some x
+    → newest_of xs x.block.0 ≡ Some x.content
 passed_newest [] x is = absurd (cc)
 passed_newest (y ∷ xs) x is = go (passed_newest xs x) (is_some (newest_of xs y.block.0)) refl is
   where
@@ -51,7 +58,9 @@ passed_newest (y ∷ xs) x is = go (passed_newest xs x) (is_some (newest_of xs y
     none (Some c) e = absurd (cc)
     none None e = refl
 
-    go : (slice_get xs (passed_over xs) ≡ Some x → newest_of xs x.block.0 ≡ Some x.content) → (later : Bool) → is_some (newest_of xs y.block.0) ≡ later → slice_get (y ∷ xs) (if later then 1 + passed_over xs else 0) ≡ Some x
+    go : (slice_get xs (passed_over xs) ≡ Some x → newest_of xs x.block.0 ≡ Some x.content) → (later : Bool)
+        → is_some (newest_of xs y.block.0) ≡ later
+        → slice_get (y ∷ xs) (if later then 1 + passed_over xs else 0) ≡ Some x
         → newest_of (y ∷ xs) x.block.0 ≡ Some x.content
     go ih true e h =
         let n : 1 + passed_over xs ≡ suc (passed_over xs) = omega arith in
@@ -72,10 +81,13 @@ module _ (changes : List Change) (count from : ℕ) (within : count ≤ length c
   pub next_within : next_home changes count from ≤ count
   next_within = omega (arith, passed_within (drop from some), length-drop from some, length-take-le count changes within)
 
-  pub next_keeps : (block : ℕ) → newest_of (drop (next_home changes count from) some) block ≡ newest_of (drop from some) block
+  pub next_keeps : (block : ℕ)
+      → newest_of (drop (next_home changes count from) some) block ≡ newest_of (drop from some) block
   next_keeps block = ap (λ xs. newest_of xs block) (sym (drop-drop (passed_over (drop from some)) from some)) ∙ passed_keeps (drop from some) block
 
-  pub next_newest : (change : Change) → next_home changes count from < count → slice_get changes (next_home changes count from) ≡ Some change → newest_of some change.block.0 ≡ Some change.content
+  pub next_newest : (change : Change) → next_home changes count from < count
+      → slice_get changes (next_home changes count from) ≡ Some change
+      → newest_of some change.block.0 ≡ Some change.content
   next_newest change lt is =
       let there : slice_get some (from + passed_over (drop from some)) ≡ Some change = slice_get-into_take changes count (next_home changes count from) change lt is in
       newest_of-later some 0 from change.block.0 change.content (omega arith) (passed_newest (drop from some) change (slice_get-into_drop some from (passed_over (drop from some)) change there))

@@ -29,6 +29,7 @@ unspoiled_then a b reads h = λ block. reads.spoiled block ∙ h block
 
 -- one position more
 pub positions_more : (header : Content) (image : Image) (start n : ℕ) (items new : List (BlockNo × Content)) (home : BlockNo) (content : Content)
-    → items ≡ positions header image start n → new ≡ items ++ (home, content) ∷ [] → home ≡ home_at header (start + n) → content ≡ image (slot_block (start + n))
+    → items ≡ positions header image start n → new ≡ items ++ (home, content) ∷ []
+    → home ≡ home_at header (start + n) → content ≡ image (slot_block (start + n))
     → new ≡ positions header image start (n + 1)
 positions_more header image start n items new home content e m h k = m ∙ rw (e, h, k, add-one) refl

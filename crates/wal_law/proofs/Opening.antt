@@ -26,13 +26,15 @@ use Rattle.wal_law.proofs.Lists.{slice_get-front}
 use Rattle.wal_law.proofs.Lawful.{length-changes_of}
 
 -- the one content is the newest
-one_newest : (contents : List Content) (content : Content) → length contents ≡ 1 → Contains contents content → content ≡ newest contents
+one_newest : (contents : List Content) (content : Content) → length contents ≡ 1 → Contains contents content
+    → content ≡ newest contents
 one_newest contents content one (i, h, e) =
     let at : i ≡ length contents - 1 = omega arith in
     let there : length contents - 1 < length contents = omega arith in
     sym e ∙ ap (λ n. get_or contents n content) at ∙ get_or_default contents (length contents - 1) content [] there
 
-pub length-positions : (header : Content) (image : Image) (start n : ℕ) → length (positions header image start n) ≡ n
+pub length-positions : (header : Content) (image : Image) (start n : ℕ)
+    → length (positions header image start n) ≡ n
 length-positions header image start zero = refl
 length-positions header image start (suc n) =
     let h = length-positions header image start n in
@@ -43,7 +45,8 @@ length-positions header image start (suc n) =
 abbrev IsAt : Content → Image → ℕ → Change → Type 0
 IsAt header image position change = (change.block ≡ home_at header position) × (change.content ≡ image (slot_block position))
 
-position_at : (header : Content) (image : Image) (start n k : ℕ) (change : Change) → slice_get (changes_of 0 (positions header image start n)) k ≡ Some change
+position_at : (header : Content) (image : Image) (start n k : ℕ) (change : Change)
+    → slice_get (changes_of 0 (positions header image start n)) k ≡ Some change
     → IsAt header image (start + k) change
 position_at header image start zero k change is = absurd (cc)
 position_at header image start (suc n) k change is = go (cases_lt k n) (position_at header image start n k change)
@@ -63,7 +66,9 @@ position_at header image start (suc n) k change is = go (cases_lt k n) (position
     there : slice_get (changes_of 0 (positions header image start n) ++ it ∷ []) k ≡ Some change
     there = subst (λ (xs : List Change). slice_get xs k ≡ Some change) parts is
 
-    go : (k < n) ⊎ (n ≤ k) → (slice_get (changes_of 0 (positions header image start n)) k ≡ Some change → IsAt header image (start + k) change) → IsAt header image (start + k) change
+    go : (k < n) ⊎ (n ≤ k)
+        → (slice_get (changes_of 0 (positions header image start n)) k ≡ Some change → IsAt header image (start + k) change)
+        → IsAt header image (start + k) change
     go (inl lt) ih = ih (slice_get-front (changes_of 0 (positions header image start n)) (it ∷ []) k change (omega (arith, count)) there)
     go (inr le) ih =
         let within = slice_get_within (changes_of 0 (positions header image start n) ++ it ∷ []) k change there in
@@ -82,10 +87,12 @@ abbrev log_found : Device → Log
 log_found d = opened d.size (start_in (image_of d)) (logged_in (image_of d))
 
 module _ (d : Device) (large : FIRST_HOME_BLOCK ≤ d.size) (rest : IsAtRest d) (range : IsInRange (image_of d)) where
-  newest_at : (block : ℕ) → block < d.size → (content : Content) → Contains (current d block) content → content ≡ image_of d block
+  newest_at : (block : ℕ) → block < d.size → (content : Content) → Contains (current d block) content
+      → content ≡ image_of d block
   newest_at block within content there = one_newest (current d block) content (rest.one block within) there
 
-  found_at : (k : ℕ) (change : Change) → slice_get (log_found d).changes k ≡ Some change → IsAt (image_of d LOG_HEADER_BLOCK) (image_of d) (start_in (image_of d) + k) change
+  found_at : (k : ℕ) (change : Change) → slice_get (log_found d).changes k ≡ Some change
+      → IsAt (image_of d LOG_HEADER_BLOCK) (image_of d) (start_in (image_of d) + k) change
   found_at k change is = position_at (image_of d LOG_HEADER_BLOCK) (image_of d) (start_in (image_of d)) (count_in (image_of d)) k change is
 
   header_found : IsHeaderOf (log_found d) (log_found d).logged (image_of d LOG_HEADER_BLOCK)
@@ -118,7 +125,8 @@ module _ (d : Device) (large : FIRST_HOME_BLOCK ≤ d.size) (rest : IsAtRest d) 
   stands_found = record { agrees = record { size = refl; own = own_found; homes = homes_found }; logger = refl; installer = refl }
 
 -- an opening after a crash answers the log
-pub read_back : (base : Image) (log : Log) (image : Image) (result : Result Recovered LogFault) → IsBoundary base log image → IsFound log.blocks image result → IsReadBack log result
+pub read_back : (base : Image) (log : Log) (image : Image) (result : Result Recovered LogFault)
+    → IsBoundary base log image → IsFound log.blocks image result → IsReadBack log result
 read_back base log image (Ok found) b h =
     subst (λ (start : ℕ). ShowsLog log start found.logged.items) (sym h.0)
     (subst (λ (logged : List (BlockNo × Content)). ShowsLog log (start_in image) logged) (sym h.1) b.positions)
@@ -127,7 +135,8 @@ read_back base log image (Err Address) b h = h.1 b.homes
 read_back base log image (Err DeviceFails) b h = tt
 read_back base log image (Err NoMemory) b h = tt
 
-pub log_read_back : (base : Image) (log : Log) (image : Image) (result : Result (Vec (BlockNo × Content) Global) LogFault) → IsBoundary base log image → IsLog log.blocks image result → IsLogReadBack log result
+pub log_read_back : (base : Image) (log : Log) (image : Image) (result : Result (Vec (BlockNo × Content) Global) LogFault)
+    → IsBoundary base log image → IsLog log.blocks image result → IsLogReadBack log result
 log_read_back base log image (Ok logged) b h = (start_in image, subst (λ (items : List (BlockNo × Content)). ShowsLog log (start_in image) items) (sym h.0) b.positions)
 log_read_back base log image (Err Range) b h = h b.range
 log_read_back base log image (Err Address) b h = h.1 b.homes

@@ -15,12 +15,14 @@ use Rattle.wal_law.proofs.Places.{place_before-drop-le, rising-drop}
 use Rattle.wal_law.proofs.Lawful.{length-changes_of, length-blocks_of}
 
 -- the place of a group's changes doesn't matter for its contents
-newest_of-group : (p q : ℕ) (group : List (BlockNo × Content)) (block : ℕ) → newest_of (changes_of p group) block ≡ newest_of (changes_of q group) block
+newest_of-group : (p q : ℕ) (group : List (BlockNo × Content)) (block : ℕ)
+    → newest_of (changes_of p group) block ≡ newest_of (changes_of q group) block
 newest_of-group p q [] block = refl
 newest_of-group p q (change ∷ group) block = ap (λ o. or_else o (if nat_eq change.0.0 block then Some change.1 else None)) (newest_of-group p q group block)
 
 -- what is in the front of a list is in the list
-front_within : (xs : List Change) (n : ℕ) (block : ℕ) → newest_of xs block ≡ or_else (newest_of (drop n xs) block) (newest_of (take n xs) block)
+front_within : (xs : List Change) (n : ℕ) (block : ℕ)
+    → newest_of xs block ≡ or_else (newest_of (drop n xs) block) (newest_of (take n xs) block)
 front_within xs n block = ap (λ ys. newest_of ys block) (sym (take-append-drop n xs)) ∙ newest_of-append (take n xs) (drop n xs) block
 
 or_else-again : (a b : Option Content) → or_else a b ≡ or_else (or_else a b) b
@@ -29,7 +31,8 @@ or_else-again None (Some b) = refl
 or_else-again None None = refl
 
 -- nothing is let go
-pub newest-kept : (xs : List Change) (n : ℕ) (block : ℕ) → newest_of xs block ≡ or_else (newest_of xs block) (newest_of (take n xs) block)
+pub newest-kept : (xs : List Change) (n : ℕ) (block : ℕ)
+    → newest_of xs block ≡ or_else (newest_of xs block) (newest_of (take n xs) block)
 newest-kept xs n block =
     let e = front_within xs n block in
     rw e (or_else-again (newest_of (drop n xs) block) (newest_of (take n xs) block))
@@ -37,13 +40,15 @@ newest-kept xs n block =
 not_empty : (n : ℕ) → nat_eq (suc n) 0 ≡ false
 not_empty n = ne_eqb (suc n) 0 (λ h. absurd (omega arith))
 
-place_before-append : (xs : List Change) (places : ℕ) (group : List (BlockNo × Content)) → place_before (xs ++ changes_of (places + 1) group) (places + 1)
+place_before-append : (xs : List Change) (places : ℕ) (group : List (BlockNo × Content))
+    → place_before (xs ++ changes_of (places + 1) group) (places + 1)
     ≡ (if nat_eq (length xs) 0 && nat_eq (length group) 0 then places + 1 else place_before xs places)
 place_before-append [] places [] = refl
 place_before-append [] places (change ∷ group) = let e : places + 1 - 1 ≡ places = omega arith in rw (not_empty (length group)) e
 place_before-append (x ∷ xs) places group = rw (not_empty (length xs)) refl
 
-pub seen_append : (log : Log) (group : List (BlockNo × Content)) → IsLawful log → HasAppended log group (with_group log group)
+pub seen_append : (log : Log) (group : List (BlockNo × Content)) → IsLawful log
+    → HasAppended log group (with_group log group)
 seen_append log group h =
     let new : List Change = changes_of (log.places + 1) group in
     let within : log.logged ≤ length log.changes = omega (arith, h.taken_within) in
@@ -59,7 +64,8 @@ seen_append log group h =
     }
 
 -- A step that lets no change go and settles none.
-keeps_all : (log : Log) (taken log_step : ℕ) (log_out : Bool) (installing inst_step : ℕ) (inst_out broken : Bool) → log.taken ≤ taken
+keeps_all : (log : Log) (taken log_step : ℕ) (log_out : Bool) (installing inst_step : ℕ) (inst_out broken : Bool)
+    → log.taken ≤ taken
     → (log.broken ≡ true → broken ≡ true)
     → HasGoneOn log (record log { taken = taken; log_step = log_step; log_out = log_out; installing = installing; inst_step = inst_step; inst_out = inst_out; broken = broken })
 keeps_all log taken log_step log_out installing inst_step inst_out broken more stays =
@@ -74,12 +80,14 @@ keeps_all log taken log_step log_out installing inst_step inst_out broken more s
     }
 
 -- One of the logger alone, or of the installer alone.
-log_moves : (log : Log) (taken log_step : ℕ) (log_out broken : Bool) → log.taken ≤ taken → (log.broken ≡ true → broken ≡ true)
+log_moves : (log : Log) (taken log_step : ℕ) (log_out broken : Bool) → log.taken ≤ taken
+    → (log.broken ≡ true → broken ≡ true)
     → HasGoneOn log (record log { taken = taken; log_step = log_step; log_out = log_out; broken = broken })
 log_moves log taken log_step log_out broken more stays =
     keeps_all log taken log_step log_out log.installing log.inst_step log.inst_out broken more stays
 
-inst_moves : (log : Log) (installing inst_step : ℕ) (inst_out broken : Bool) → (log.broken ≡ true → broken ≡ true)
+inst_moves : (log : Log) (installing inst_step : ℕ) (inst_out broken : Bool)
+    → (log.broken ≡ true → broken ≡ true)
     → HasGoneOn log (record log { installing = installing; inst_step = inst_step; inst_out = inst_out; broken = broken })
 inst_moves log installing inst_step inst_out broken stays =
     keeps_all log log.taken log.log_step log.log_out installing inst_step inst_out broken (omega arith) stays
@@ -95,7 +103,8 @@ seen_log_out log =
     let more = group_grows log.taken (length log.changes - log.logged) in
     log_moves log (if nat_lt 0 log.taken then log.taken else length log.changes - log.logged) log.log_step true log.broken more (λ b. b)
 
-settled_more : (log : Log) → IsLawful log → settled_place log ≤ place_before (drop (log.logged + log.taken) log.changes) log.places
+settled_more : (log : Log) → IsLawful log
+    → settled_place log ≤ place_before (drop (log.logged + log.taken) log.changes) log.places
 settled_more log h =
     rw (← drop-drop log.taken log.logged log.changes) (place_before-drop-le (drop log.logged log.changes) log.places log.taken (rising-drop log.changes log.places log.logged h.rising))
 
@@ -120,7 +129,8 @@ pub seen_log_back : (log : Log) (ok : Bool) → IsLawful log → HasGoneOn log (
 seen_log_back log true h = seen_log_made log h
 seen_log_back log false h = log_moves log log.taken log.log_step false true (omega arith) (λ b. refl)
 
-pub seen_log_done : (log : Log) (out ok : Bool) → IsLawful log → HasGoneOn log (if out then with_log_back log ok else log)
+pub seen_log_done : (log : Log) (out ok : Bool) → IsLawful log
+    → HasGoneOn log (if out then with_log_back log ok else log)
 seen_log_done log true ok h = seen_log_back log ok h
 seen_log_done log false ok h = seen_same log
 
@@ -169,10 +179,12 @@ pub seen_inst_back : (log : Log) (ok : Bool) → IsLawful log → HasGoneOn log 
 seen_inst_back log true h = seen_inst_made log h
 seen_inst_back log false h = inst_moves log log.installing log.inst_step false true (λ b. refl)
 
-pub seen_inst_done : (log : Log) (out ok : Bool) → IsLawful log → HasGoneOn log (if out then with_inst_back log ok else log)
+pub seen_inst_done : (log : Log) (out ok : Bool) → IsLawful log
+    → HasGoneOn log (if out then with_inst_back log ok else log)
 seen_inst_done log true ok h = seen_inst_back log ok h
 seen_inst_done log false ok h = seen_same log
 
-pub seen_next : {X : Type 0} (io : Option X) (old new out : Log) → HasGoneOn old out → (IsNone io → new ≡ old) → (IsSome io → new ≡ out) → HasGoneOn old new
+pub seen_next : {X : Type 0} (io : Option X) (old new out : Log) → HasGoneOn old out → (IsNone io → new ≡ old)
+    → (IsSome io → new ≡ out) → HasGoneOn old new
 seen_next None old new out h none some = subst (λ (log : Log). HasGoneOn old log) (sym (none refl)) (seen_same old)
 seen_next (Some io) old new out h none some = subst (λ (log : Log). HasGoneOn old log) (sym (some refl)) h

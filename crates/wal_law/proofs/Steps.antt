@@ -33,10 +33,12 @@ behind step count low high =
 pub step_of : (step count : ℕ) → step ≤ count + 2 → Step step count
 step_of step count high = elim (cases_lt step count) as (λ _. Step step count) [ inl lt ↦ writes lt | inr le ↦ behind step count le high ]
 
-pub made_write : (old new : Device) (io : Io) (block : BlockNo) (r : Result Unit Failed) → io.call ≡ Write block → HasMade old io r new → HasWritten old block.0 io.content r new
+pub made_write : (old new : Device) (io : Io) (block : BlockNo) (r : Result Unit Failed)
+    → io.call ≡ Write block → HasMade old io r new → HasWritten old block.0 io.content r new
 made_write old new io block r e h = subst (λ (call : IoCall). HasMadeCall old call io.content r new) e h
 
-pub made_barrier : (old new : Device) (io : Io) (side : Side) (r : Result Unit Failed) → io.call ≡ Barrier side → HasMade old io r new → HasSettled old side r new
+pub made_barrier : (old new : Device) (io : Io) (side : Side) (r : Result Unit Failed)
+    → io.call ≡ Barrier side → HasMade old io r new → HasSettled old side r new
 made_barrier old new io side r e h = subst (λ (call : IoCall). HasMadeCall old call io.content r new) e h
 
 -- the slots of two positions less than the count of slots apart

@@ -20,20 +20,26 @@ pub data Pending : Type 0 where
 -- What the disk shows once the logger's call that is out was made: by its number, what was written is the newest content of
 -- its block, and what was settled the only one.
 pub record HasMadeLogCall (d : Device) (log : Log) : Type 0 where
-  pub body : log.log_step < log.taken → (change : Change) → slice_get log.changes (log.logged + log.log_step) ≡ Some change
+  pub body : log.log_step < log.taken → (change : Change)
+      → slice_get log.changes (log.logged + log.log_step) ≡ Some change
       → newest (current d (slot_block (log.start + (log.logged + log.log_step)))) ≡ change.content
   pub body_barrier : log.log_step ≡ log.taken → HoldsSlots d log (log.logged + log.taken)
-  pub header : log.log_step ≡ log.taken + 1 → IsHeaderOf log (log.logged + log.taken) (newest (current d LOG_HEADER_BLOCK))
-  pub header_barrier : log.log_step ≡ log.taken + 2 → LeavesOnly d LOG_HEADER_BLOCK (IsHeaderOf log (log.logged + log.taken))
+  pub header : log.log_step ≡ log.taken + 1
+      → IsHeaderOf log (log.logged + log.taken) (newest (current d LOG_HEADER_BLOCK))
+  pub header_barrier : log.log_step ≡ log.taken + 2
+      → LeavesOnly d LOG_HEADER_BLOCK (IsHeaderOf log (log.logged + log.taken))
 
 -- The same of the installer's call.
 pub record HasMadeInstCall (d : Device) (base : Image) (log : Log) : Type 0 where
-  pub home : log.inst_step < log.installing → (change : Change) → slice_get log.changes log.inst_step ≡ Some change
+  pub home : log.inst_step < log.installing → (change : Change)
+      → slice_get log.changes log.inst_step ≡ Some change
       → newest (current d change.block.0) ≡ change.content
   pub home_barrier : log.inst_step ≡ log.installing → (block : ℕ) → IsOutside log.blocks block
       → LeavesOnly d block (λ content. content ≡ after base (take log.installing log.changes) block)
-  pub start : log.inst_step ≡ log.installing + 1 → IsStartBehind log log.installing (newest (current d START_BLOCK))
-  pub start_barrier : log.inst_step ≡ log.installing + 2 → LeavesOnly d START_BLOCK (IsStartBehind log log.installing)
+  pub start : log.inst_step ≡ log.installing + 1
+      → IsStartBehind log log.installing (newest (current d START_BLOCK))
+  pub start_barrier : log.inst_step ≡ log.installing + 2
+      → LeavesOnly d START_BLOCK (IsStartBehind log log.installing)
 
 -- how the logger stands
 abbrev pub IsLoggerAt : Device → Log → Pending → Type 0
@@ -72,7 +78,8 @@ LogCallGoesOut old io new = (d : Device) (base : Image) (installing : Pending)
 -- It is made on the disk, with this answer.
 abbrev pub LogCallIsMade : Device → Io → Result Unit Failed → Device → Type 0
 LogCallIsMade old io answer new = (base : Image) (log : Log) (installing : Pending) → IsLawful log
-    → AgreesBeside old base log (out io) installing → AgreesBeside new base log (answered io answer) installing
+    → AgreesBeside old base log (out io) installing
+    → AgreesBeside new base log (answered io answer) installing
 
 -- It is given back, with whether it was made.
 abbrev pub LogCallComesBack : Log → Io → Bool → Log → Type 0
@@ -92,4 +99,5 @@ InstCallIsMade old io answer new = (base : Image) (log : Log) (logging : Pending
 -- It is given back, with whether it was made. After the last, what was brought home is what is at home.
 abbrev pub InstCallComesBack : Log → Io → Bool → Log → Type 0
 InstCallComesBack old io ok new = (d : Device) (base : Image) (answer : Result Unit Failed) (logging : Pending) → is_ok answer ≡ ok
-    → AgreesBeside d base old logging (answered io answer) → AgreesBeside d (home_after base old ok) new logging idle
+    → AgreesBeside d base old logging (answered io answer)
+    → AgreesBeside d (home_after base old ok) new logging idle

@@ -23,7 +23,8 @@ pub record HasOnlyRead (old new : Device) : Type 0 where
   pub size : new.size ≡ old.size
   pub clock : old.clock ≤ new.clock
   pub past : (moment block : ℕ) → moment ≤ old.clock → new.contents moment block ≡ old.contents moment block
-  pub during : (moment block : ℕ) → old.clock ≤ moment → moment ≤ new.clock → new.contents moment block ≡ current old block
+  pub during : (moment block : ℕ) → old.clock ≤ moment → moment ≤ new.clock
+      → new.contents moment block ≡ current old block
   pub spoiled : (block : ℕ) → new.spoiled block ≡ old.spoiled block
 
 -- a failure is counted just where the answer is that the device failed

@@ -38,7 +38,8 @@ start_content start = with_number (replicate BLOCK_BYTES 0) 0 start
 pub record IsNextInstCall (log : Log) (io : Io) : Type 0 where
   pub beginning : io.beginning ≡ log.start
   pub step : io.step ≡ log.inst_step
-  pub home : log.inst_step < log.installing → (change : Change) → slice_get log.changes log.inst_step ≡ Some change
+  pub home : log.inst_step < log.installing → (change : Change)
+      → slice_get log.changes log.inst_step ≡ Some change
       → (io.call ≡ Write change.block) × (io.content ≡ change.content)
   pub home_barrier : log.inst_step ≡ log.installing → io.call ≡ Barrier Home
   pub start : log.inst_step ≡ log.installing + 1

@@ -45,13 +45,16 @@ IsStartBehind log count content = number_at content 0 ≡ log.start + count
 pub record LogAgrees (d : Device) (log : Log) : Type 0 where
   pub slots : HoldsSlots d log log.logged
   -- what was written of the group is the newest of its slots
-  pub written : (k : ℕ) → k < log.log_step → k < log.taken → (change : Change) → slice_get log.changes (log.logged + k) ≡ Some change
+  pub written : (k : ℕ) → k < log.log_step → k < log.taken → (change : Change)
+      → slice_get log.changes (log.logged + k) ≡ Some change
       → newest (current d (slot_block (log.start + (log.logged + k)))) ≡ change.content
   -- after the barrier behind its blocks, the group is in its slots, and its header may come
   pub group_slots : log.taken < log.log_step → HoldsSlots d log (log.logged + log.taken)
   pub header : log.log_step ≤ log.taken → LeavesOnly d LOG_HEADER_BLOCK (IsHeaderOf log log.logged)
-  pub group_header : log.taken < log.log_step → LeavesOnly d LOG_HEADER_BLOCK (λ content. IsHeaderOf log log.logged content ⊎ IsHeaderOf log (log.logged + log.taken) content)
-  pub newest_header : log.log_step ≡ log.taken + 2 → IsHeaderOf log (log.logged + log.taken) (newest (current d LOG_HEADER_BLOCK))
+  pub group_header : log.taken < log.log_step
+      → LeavesOnly d LOG_HEADER_BLOCK (λ content. IsHeaderOf log log.logged content ⊎ IsHeaderOf log (log.logged + log.taken) content)
+  pub newest_header : log.log_step ≡ log.taken + 2
+      → IsHeaderOf log (log.logged + log.taken) (newest (current d LOG_HEADER_BLOCK))
 
 -- no change that the installer has still to bring home is of the block
 abbrev pub IsPast : Log → ℕ → Type 0
@@ -60,7 +63,9 @@ IsPast log block = newest_of (drop log.inst_step (take log.installing log.change
 -- The blocks at home and the start agree with the log, by how far the installer has come.
 pub record HomeAgrees (d : Device) (base : Image) (log : Log) : Type 0 where
   -- what comes home next is the newest of its block
-  pub chosen : log.inst_step < log.installing → (change : Change) → slice_get log.changes log.inst_step ≡ Some change → brought_home log change.block.0 ≡ Some change.content
+  pub chosen : log.inst_step < log.installing → (change : Change)
+      → slice_get log.changes log.inst_step ≡ Some change
+      → brought_home log change.block.0 ≡ Some change.content
   -- before the barrier behind what is brought home, each of those blocks may be old or new
   pub home : log.inst_step ≤ log.installing → (block : ℕ) → IsOutside log.blocks block
       → LeavesOnly d block (λ content. (content ≡ base block) ⊎ (brought_home log block ≡ Some content))
@@ -71,8 +76,10 @@ pub record HomeAgrees (d : Device) (base : Image) (log : Log) : Type 0 where
   -- after it they are new, and the raised start may come
   pub brought : log.installing < log.inst_step → (block : ℕ) → IsOutside log.blocks block
       → LeavesOnly d block (λ content. content ≡ after base (take log.installing log.changes) block)
-  pub raised_start : log.installing < log.inst_step → LeavesOnly d START_BLOCK (λ content. IsStartBehind log 0 content ⊎ IsStartBehind log log.installing content)
-  pub newest_start : log.inst_step ≡ log.installing + 2 → IsStartBehind log log.installing (newest (current d START_BLOCK))
+  pub raised_start : log.installing < log.inst_step
+      → LeavesOnly d START_BLOCK (λ content. IsStartBehind log 0 content ⊎ IsStartBehind log log.installing content)
+  pub newest_start : log.inst_step ≡ log.installing + 2
+      → IsStartBehind log log.installing (newest (current d START_BLOCK))
 
 -- The contents that the disk may have agree with the log, over what is at home.
 pub record Agrees (d : Device) (base : Image) (log : Log) : Type 0 where

@@ -34,13 +34,15 @@ slot_block position = FIRST_SLOT_BLOCK + position % LOG_SLOTS
 pub record IsHeader (content : Content) (start : ℕ) (changes : List Change) : Type 0 where
   pub bytes : length content ≡ BLOCK_BYTES
   pub end : number_at content 0 ≡ start + length changes
-  pub homes : (k : ℕ) (change : Change) → slice_get changes k ≡ Some change → number_at content (8 + 8 * ((start + k) % LOG_SLOTS)) ≡ change.block.0
+  pub homes : (k : ℕ) (change : Change) → slice_get changes k ≡ Some change
+      → number_at content (8 + 8 * ((start + k) % LOG_SLOTS)) ≡ change.block.0
 
 -- The call is the one that the logger has to make next.
 pub record IsNextLogCall (log : Log) (io : Io) : Type 0 where
   pub beginning : io.beginning ≡ log_end log
   pub step : io.step ≡ log.log_step
-  pub body : log.log_step < log.taken → (change : Change) → slice_get log.changes (log.logged + log.log_step) ≡ Some change
+  pub body : log.log_step < log.taken → (change : Change)
+      → slice_get log.changes (log.logged + log.log_step) ≡ Some change
       → (io.call ≡ Write (record { 0 = slot_block (log_end log + log.log_step) })) × (io.content ≡ change.content)
   pub body_barrier : log.log_step ≡ log.taken → io.call ≡ Barrier LogSide
   pub header : log.log_step ≡ log.taken + 1

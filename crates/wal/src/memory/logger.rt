@@ -14,8 +14,9 @@ use limits::{FIRST_SLOT_BLOCK, LOG_HEADER_BLOCK, LOG_SLOTS};
 
 impl Wal {
     /// Takes the tail as a group where none is taken, and hands out the group's next call: the writes of its blocks
-    /// to their slots, a barrier, the write of the header, a barrier.
+    /// to their slots, a barrier, the write of the header, a barrier. The log was lawful, as each log is.
     pub fn log_next(&mut self) -> Option<LogIo>
+        ensures lawful { IsLawful self.old }
         ensures causes { is_some result ≡ may_log self.old }
         ensures none { IsNone result → self.new ≡ self.old }
         ensures some { IsSome result → self.new ≡ with_log_out self.old }
