@@ -65,6 +65,8 @@ pub const TARGET_BYTES: usize = 1024;
 pub const MOST_LINKS: u32 = 32_000;
 /// The bits of a mode that a file keeps.
 pub const MODE_BITS: u32 = 4095;
+/// The mode of a fresh root: read, write and search for its owner, read and search for everybody else.
+pub const ROOT_MODE: u32 = 0o755;
 /// Nanoseconds of a second: those of a time lie below.
 pub const NANOSECONDS: u32 = 1_000_000_000;
 
@@ -95,6 +97,9 @@ pub const NOBODY: u32 = 65_534;
 pub const CHANGED_BLOCKS: usize = 64;
 /// The most workers of a run.
 pub const MOST_WORKERS: usize = 64;
+/// The most commits that an open store keeps in memory once it has settled: where there are more, what is logged is
+/// brought home.
+pub const MOST_KEPT_COMMITS: usize = 64;
 
 const _: () = prove!(FILE_INDEXES == DIRECT_INDEXES + INDIRECT_INDEXES);
 
