@@ -1,10 +1,9 @@
 -- The blocks of an image that was just made.
 use Rattle.std.specs.Prelude.{◌≡◌, ℕ, ◌+◌, ◌-◌, ◌*◌, ◌/◌, ◌<◌, Bool, ◌||◌, cond, List, ◌++◌, length, map, nat_eq, nat_le, nat_lt, replicate, None}
 use Rattle.std.specs.List.{range_with_len}
-use Rattle.limits.specs.declared.TheConstants.{BITS_PER_BLOCK, BLOCK_BYTES, DIRECT_INDEXES, FIRST_HOME_BLOCK, INODE_BYTES, INODES_PER_BLOCK, LOG_HEADER_BLOCK, ROOT, START_BLOCK, SUPER_BLOCK}
+use Rattle.limits.specs.declared.TheConstants.{BITS_PER_BLOCK, BLOCK_BYTES, DIRECT_INDEXES, FIRST_HOME_BLOCK, INODE_BYTES, INODES_PER_BLOCK, LOG_HEADER_BLOCK, ROOT, ROOT_MODE, START_BLOCK, SUPER_BLOCK}
 use Rattle.disk.specs.Crash.{Image}
 use Rattle.nfs_types.specs.declared.ctx.Moment.{Moment}
-use Rattle.model.specs.Format.{ROOT_MODE}
 use Rattle.model.specs.Sound.{AreBytes}
 use Rattle.layout.specs.declared.geometry.Geometry.{Geometry}
 use Rattle.layout.specs.declared.inode.Inode.{Inode}
