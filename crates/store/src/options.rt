@@ -1,12 +1,12 @@
-//! Places for one value that can't be dropped.
+//! An `Option` of a value that can't be dropped.
 ghost use Rattle.std.specs.Prelude.{◌≡◌, None, Some};
 
 // Puts a value where none is.
-pub(crate) fn put<T>(slot: &mut Option<T>, value: T)
-    requires { slot.old ≡ None }
-    ensures { slot.new ≡ Some value }
+pub(crate) fn put<T>(option: &mut Option<T>, value: T)
+    requires { option.old ≡ None }
+    ensures { option.new ≡ Some value }
 {
-    match slot.replace(value) {
+    match option.replace(value) {
         None => {}
         Some(_other) => unreachable!(),
     }
