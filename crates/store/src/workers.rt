@@ -72,8 +72,32 @@ pub(crate) struct Begun {
 }
 
 impl Begun {
-    ghost use Rattle.std.specs.Prelude.{◌≡◌, None};
+    ghost use Rattle.std.specs.Prelude.{◌≡◌, Some, None, true, is_some};
     ghost use Rattle.store.specs.Counts.{SameCounts};
+
+    // Takes the transaction that is out.
+    pub(crate) fn take_tx(&mut self) -> Tx
+        requires { is_some self.old.tx ≡ true }
+        ensures tx { self.old.tx ≡ Some result }
+        ensures rest { self.new ≡ record self.old { tx = None } }
+    {
+        match self.tx.take() {
+            Some(tx) => tx,
+            None => unreachable!(),
+        }
+    }
+
+    // Takes the fetch that is out.
+    pub(crate) fn take_fetch(&mut self) -> FetchIo
+        requires { is_some self.old.io ≡ true }
+        ensures io { self.old.io ≡ Some result }
+        ensures rest { self.new ≡ record self.old { io = None } }
+    {
+        match self.io.take() {
+            Some(io) => io,
+            None => unreachable!(),
+        }
+    }
 
     // Gives the fetch back, and ends the transaction.
     fn end(self, core: &mut Core<Done>)

@@ -24,9 +24,7 @@ impl Worker {
         ensures counts { SameCounts core.old core.new }
     {
         let next = self.next(alloc);
-        let Some(tx) = self.begun.tx.take() else {
-            unreachable!();
-        };
+        let tx = self.begun.take_tx();
         match next {
             Plan::Need(addr) => self.want(alloc, core, tx, addr),
             Plan::Claim(block) => self.claim(core, tx, block),

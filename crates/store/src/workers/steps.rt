@@ -54,9 +54,7 @@ impl Worker {
         ensures fits { Fits self.new core.new }
         ensures counts { SameCounts core.old core.new }
     {
-        let Some(io) = self.begun.io.take() else {
-            unreachable!();
-        };
+        let io = self.begun.take_fetch();
         let block = io.block();
         if ok {
             core.fetched(io);
@@ -76,9 +74,7 @@ impl Worker {
         ensures fits { Fits self.new core.new }
         ensures counts { SameCounts core.old core.new }
     {
-        let Some(tx) = self.begun.tx.take() else {
-            unreachable!();
-        };
+        let tx = self.begun.take_tx();
         core.abort(tx);
         let Some(job) = self.work.job.as_ref() else {
             unreachable!();
@@ -95,9 +91,7 @@ impl Worker {
         ensures fits { Fits self.new core.new }
         ensures counts { SameCounts core.old core.new }
     {
-        let Some(tx) = self.begun.tx.take() else {
-            unreachable!();
-        };
+        let tx = self.begun.take_tx();
         core.abort(tx);
         self.phase = Phase::Called;
         Step::Ended(Ending::Again)
