@@ -5,3 +5,4 @@ pub mod FreshBytes
 pub mod FreshFiles
 pub mod FreshInodes
 pub mod NumbersAt
+pub mod BitmapBytes

@@ -1,5 +1,5 @@
 -- The inode: what the disk has of a file in 128 bytes.
-use Rattle.std.specs.Prelude.{ℕ, ◌/◌, ◌%◌, Bool, true, cond, not, ◌&&◌, ◌||◌, List, ◌++◌, nat_eq, nat_le, nat_lt, take, drop, min, Option, Some, None, Result, Ok, Err}
+use Rattle.std.specs.Prelude.{ℕ, ◌+◌, ◌/◌, ◌%◌, Bool, true, cond, not, ◌&&◌, ◌||◌, List, ◌++◌, nat_eq, nat_le, nat_lt, take, drop, min, Option, Some, None, Result, Ok, Err}
 use Rattle.std.specs.List.{list_all}
 use Rattle.limits.specs.declared.TheConstants.{BLOCK_BYTES, DIRECT_INDEXES, LARGEST_FILE, MODE_BITS, MOST_LINKS, NANOSECONDS, TARGET_BYTES}
 use Rattle.nfs_types.specs.declared.ctx.Moment.{Moment}
@@ -8,6 +8,7 @@ use Rattle.layout.specs.declared.fault.LayoutFault.TheVariants.{Range}
 use Rattle.layout.specs.declared.inode.Inode.{Inode}
 use Rattle.layout.specs.declared.inode.InodeKind.{InodeKind}
 use Rattle.layout.specs.declared.inode.InodeKind.TheVariants.{Free, Regular, Directory, Link}
+use Rattle.layout.specs.declared.inode_fields.TheConstants.{KIND_AT, MODE_AT, UID_AT, GID_AT, NLINK_AT, GAP_AT, SIZE_AT, ATIME_AT, MTIME_AT, CTIME_AT, BOOT_AT, TRANSACTION_AT, PARENT_AT, FLAGS_AT, VERIFIER_AT, DIRECT_AT, INDIRECT_AT, END_GAP_AT}
 use Rattle.layout.specs.Fields.{four_at, eight_at, numbers_at, four_bytes, eight_bytes, number_bytes, is_zeros}
 use Rattle.layout.specs.Places.{is_data}
 
@@ -37,27 +38,27 @@ verifier_of flags verifier = cond (nat_eq flags 1) (Some verifier) None
 unfoldable pub fields_of : InodeKind → List ℕ → Inode
 fields_of kind bytes = record {
   kind = kind;
-  mode = four_at 4 bytes;
-  uid = four_at 8 bytes;
-  gid = four_at 12 bytes;
-  nlink = four_at 16 bytes;
-  size = eight_at 24 bytes;
-  atime = time_at 32 36 bytes;
-  mtime = time_at 40 44 bytes;
-  ctime = time_at 48 52 bytes;
-  stamp = record { boot = eight_at 56 bytes; transaction = eight_at 64 bytes };
-  parent = four_at 72 bytes;
-  verifier = verifier_of (four_at 76 bytes) (eight_at 80 bytes);
-  direct = numbers_at DIRECT_INDEXES 88 bytes;
-  indirect = four_at 120 bytes;
+  mode = four_at MODE_AT bytes;
+  uid = four_at UID_AT bytes;
+  gid = four_at GID_AT bytes;
+  nlink = four_at NLINK_AT bytes;
+  size = eight_at SIZE_AT bytes;
+  atime = time_at ATIME_AT (ATIME_AT + 4) bytes;
+  mtime = time_at MTIME_AT (MTIME_AT + 4) bytes;
+  ctime = time_at CTIME_AT (CTIME_AT + 4) bytes;
+  stamp = record { boot = eight_at BOOT_AT bytes; transaction = eight_at TRANSACTION_AT bytes };
+  parent = four_at PARENT_AT bytes;
+  verifier = verifier_of (four_at FLAGS_AT bytes) (eight_at VERIFIER_AT bytes);
+  direct = numbers_at DIRECT_INDEXES DIRECT_AT bytes;
+  indirect = four_at INDIRECT_AT bytes;
 }
 
 -- what no field has is zero; a free inode is nothing but zeros
 abbrev pub rest_is_zero : InodeKind → List ℕ → Bool
 rest_is_zero Free bytes = is_zeros bytes
 rest_is_zero _ bytes =
-    nat_eq (four_at 20 bytes) 0 && nat_eq (four_at 124 bytes) 0
-    && (nat_eq (four_at 76 bytes) 1 || nat_eq (four_at 76 bytes) 0 && nat_eq (eight_at 80 bytes) 0)
+    nat_eq (four_at GAP_AT bytes) 0 && nat_eq (four_at END_GAP_AT bytes) 0
+    && (nat_eq (four_at FLAGS_AT bytes) 1 || nat_eq (four_at FLAGS_AT bytes) 0 && nat_eq (eight_at VERIFIER_AT bytes) 0)
 
 -- no block, or a data block
 abbrev pub is_place : ℕ → ℕ → ℕ → Bool
@@ -118,7 +119,7 @@ inode_of_kind blocks inodes (Some kind) bytes =
 
 -- the inode that 128 bytes are in an image of these sizes
 unfoldable pub read_inode : ℕ → ℕ → List ℕ → Result Inode LayoutFault
-read_inode blocks inodes bytes = inode_of_kind blocks inodes (kind_of_number (four_at 0 bytes)) bytes
+read_inode blocks inodes bytes = inode_of_kind blocks inodes (kind_of_number (four_at KIND_AT bytes)) bytes
 
 abbrev pub time_bytes : Moment → List ℕ
 time_bytes time = four_bytes time.seconds ++ four_bytes time.nanoseconds

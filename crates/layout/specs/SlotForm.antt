@@ -4,26 +4,23 @@ use Rattle.limits.specs.declared.TheConstants.{NAME_BYTES}
 use Rattle.layout.specs.declared.fault.LayoutFault.{LayoutFault}
 use Rattle.layout.specs.declared.fault.LayoutFault.TheVariants.{Range}
 use Rattle.layout.specs.declared.slot.Slot.{Slot}
+use Rattle.layout.specs.declared.slot.TheConstants.{NUMBER_AT, COUNT_AT, NAME_AT}
 use Rattle.layout.specs.Fields.{four_at, is_zeros}
-
--- where the name begins, behind the number and the name's length
-abbrev pub NAME_PLACE : ℕ
-NAME_PLACE = 8
 
 -- the name and the number of a slot that is in use
 abbrev pub slot_of : List ℕ → Slot
-slot_of bytes = record { number = four_at 0 bytes; name = take (four_at 4 bytes) (drop NAME_PLACE bytes) }
+slot_of bytes = record { number = four_at NUMBER_AT bytes; name = take (four_at COUNT_AT bytes) (drop NAME_AT bytes) }
 
 -- the number is that of an inode of the image, the name's length is lawful, and nothing but zeros is behind the name
 abbrev pub is_sound_slot : ℕ → List ℕ → Bool
 is_sound_slot inodes bytes =
-    nat_lt (four_at 0 bytes) inodes && nat_le 1 (four_at 4 bytes) && nat_le (four_at 4 bytes) NAME_BYTES
-    && is_zeros (drop (NAME_PLACE + four_at 4 bytes) bytes)
+    nat_lt (four_at NUMBER_AT bytes) inodes && nat_le 1 (four_at COUNT_AT bytes) && nat_le (four_at COUNT_AT bytes) NAME_BYTES
+    && is_zeros (drop (NAME_AT + four_at COUNT_AT bytes) bytes)
 
 -- The slot that 128 bytes are in an image of so many inodes; a free one is nothing but zeros. The characters of a
 -- name aren't looked at.
 unfoldable pub read_slot : ℕ → List ℕ → Result (Option Slot) LayoutFault
 read_slot inodes bytes =
-    cond (nat_eq (four_at 0 bytes) 0)
+    cond (nat_eq (four_at NUMBER_AT bytes) 0)
     (cond (is_zeros bytes) (Ok None) (Err Range))
     (cond (is_sound_slot inodes bytes) (Ok (Some (slot_of bytes))) (Err Range))

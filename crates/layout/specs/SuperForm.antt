@@ -4,6 +4,7 @@ use Rattle.limits.specs.declared.TheConstants.{BLOCK_BYTES, FORMAT_VERSION}
 use Rattle.layout.specs.declared.fault.LayoutFault.{LayoutFault}
 use Rattle.layout.specs.declared.fault.LayoutFault.TheVariants.{Magic, Version, Range}
 use Rattle.layout.specs.declared.super_block.Super.{Super}
+use Rattle.layout.specs.declared.super_block.TheConstants.{VERSION_AT, BLOCKS_AT, INODES_AT, GAP_AT, BOOT_AT, REST_AT}
 use Rattle.layout.specs.Fields.{four_at, eight_at, four_bytes, eight_bytes, is_zeros}
 use Rattle.layout.specs.Places.{IsLawful}
 
@@ -13,19 +14,19 @@ MAGIC_BYTES = 78 ∷ 70 ∷ 83 ∷ 74 ∷ 82 ∷ 78 ∷ 76 ∷ 49 ∷ []
 
 -- the bytes begin as those of an image do
 abbrev pub HasMagic : List ℕ → Type 0
-HasMagic bytes = take 8 bytes ≡ MAGIC_BYTES
+HasMagic bytes = take VERSION_AT bytes ≡ MAGIC_BYTES
 
 -- they are of this version of the format
 abbrev pub HasVersion : List ℕ → Type 0
-HasVersion bytes = four_at 8 bytes ≡ FORMAT_VERSION
+HasVersion bytes = four_at VERSION_AT bytes ≡ FORMAT_VERSION
 
 -- what isn't used is zero
 abbrev pub is_unused_zero : List ℕ → Bool
-is_unused_zero bytes = nat_eq (four_at 20 bytes) 0 && is_zeros (drop 32 bytes)
+is_unused_zero bytes = nat_eq (four_at GAP_AT bytes) 0 && is_zeros (drop REST_AT bytes)
 
 -- the sizes are lawful, and what isn't used is zero
 pub record HasSizes (bytes : List ℕ) : Type 0 where
-  pub lawful : IsLawful (four_at 12 bytes) (four_at 16 bytes)
+  pub lawful : IsLawful (four_at BLOCKS_AT bytes) (four_at INODES_AT bytes)
   pub unused : is_unused_zero bytes ≡ true
 
 -- the bytes of a block are those of this super block
@@ -33,9 +34,9 @@ pub record IsSuper (bytes : List ℕ) (super : Super) : Type 0 where
   pub magic : HasMagic bytes
   pub version : HasVersion bytes
   pub sizes : HasSizes bytes
-  pub blocks : super.geometry.blocks ≡ four_at 12 bytes
-  pub inodes : super.geometry.inodes ≡ four_at 16 bytes
-  pub boot : super.boot ≡ eight_at 24 bytes
+  pub blocks : super.geometry.blocks ≡ four_at BLOCKS_AT bytes
+  pub inodes : super.geometry.inodes ≡ four_at INODES_AT bytes
+  pub boot : super.boot ≡ eight_at BOOT_AT bytes
 
 -- the bytes are those of no super block, and this is the first thing that is wrong with them
 abbrev pub IsNoSuper : List ℕ → LayoutFault → Type 0
@@ -51,4 +52,4 @@ super_head super =
 
 -- the bytes that a super block gets
 abbrev pub super_bytes : Super → List ℕ
-super_bytes super = super_head super ++ replicate (BLOCK_BYTES - 32) 0
+super_bytes super = super_head super ++ replicate (BLOCK_BYTES - REST_AT) 0

@@ -3,7 +3,7 @@ ghost use Rattle.std.specs.Prelude.{◌≡◌, ◌≤◌, length, IfOk};
 
 use crate::fields::four_at;
 use crate::inode_bytes::{put_head, put_middle, put_tail};
-use crate::inode_fields::{fields_of, kind_of_number, rest_is_zero};
+use crate::inode_fields::{KIND_AT, fields_of, kind_of_number, rest_is_zero};
 use crate::numbers::count_kept;
 use crate::{Geometry, LayoutFault};
 use limits::{DIRECT_INDEXES, INODE_BYTES};
@@ -47,7 +47,7 @@ impl Inode {
         requires { length bytes.now ≡ INODE_BYTES }
         ensures { result ≡ read_inode geometry.now.blocks geometry.now.inodes bytes.now }
     {
-        let Some(kind) = kind_of_number(four_at(bytes, 0)) else {
+        let Some(kind) = kind_of_number(four_at(bytes, KIND_AT)) else {
             return Err(LayoutFault::Range);
         };
         let inode = fields_of(kind, bytes);

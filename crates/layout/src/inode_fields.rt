@@ -3,11 +3,50 @@ ghost use Rattle.std.specs.Prelude.{◌≡◌, ◌+◌, ◌≤◌, length};
 ghost use Rattle.limits.specs.declared.TheConstants.{INODE_BYTES};
 ghost use Rattle.layout.specs.InodeForm.{kind_of_number, fields_of, rest_is_zero, time_at, verifier_of};
 ghost use Rattle.layout.specs.Fields.{numbers_at};
+ghost use Rattle.layout.specs.declared.inode_fields.TheConstants.{DIRECT_AT};
 
 use crate::fields::{eight_at, four_at, is_zeros};
 use crate::{Inode, InodeKind};
 use limits::DIRECT_INDEXES;
 use nfs_types::{Moment, Stamp};
+
+// Where the fields of an inode begin in its bytes.
+
+pub(crate) const KIND_AT: usize = 0;
+
+const MODE_AT: usize = 4;
+
+const UID_AT: usize = 8;
+
+const GID_AT: usize = 12;
+
+const NLINK_AT: usize = 16;
+// Four bytes that no field has.
+const GAP_AT: usize = 20;
+
+const SIZE_AT: usize = 24;
+
+const ATIME_AT: usize = 32;
+
+const MTIME_AT: usize = 40;
+
+const CTIME_AT: usize = 48;
+
+const BOOT_AT: usize = 56;
+
+const TRANSACTION_AT: usize = 64;
+
+const PARENT_AT: usize = 72;
+// Whether there is a verifier.
+const FLAGS_AT: usize = 76;
+
+const VERIFIER_AT: usize = 80;
+
+const DIRECT_AT: usize = 88;
+
+const INDIRECT_AT: usize = 120;
+// The last four bytes, which no field has.
+const END_GAP_AT: usize = 124;
 
 /// The kind of a number, if it is one's.
 pub(crate) fn kind_of_number(number: u32) -> Option<InodeKind>
@@ -43,17 +82,17 @@ fn verifier_of(flags: u32, verifier: u64) -> Option<u64>
 // The numbers of the blocks that an inode names directly.
 fn direct_of(bytes: &[u8]) -> [u32; DIRECT_INDEXES]
     requires { length bytes.now ≡ INODE_BYTES }
-    ensures { result ≡ numbers_at DIRECT_INDEXES 88 bytes.now }
+    ensures { result ≡ numbers_at DIRECT_INDEXES DIRECT_AT bytes.now }
 {
     [
-        four_at(bytes, 88),
-        four_at(bytes, 92),
-        four_at(bytes, 96),
-        four_at(bytes, 100),
-        four_at(bytes, 104),
-        four_at(bytes, 108),
-        four_at(bytes, 112),
-        four_at(bytes, 116),
+        four_at(bytes, DIRECT_AT),
+        four_at(bytes, DIRECT_AT + 4),
+        four_at(bytes, DIRECT_AT + 8),
+        four_at(bytes, DIRECT_AT + 12),
+        four_at(bytes, DIRECT_AT + 16),
+        four_at(bytes, DIRECT_AT + 20),
+        four_at(bytes, DIRECT_AT + 24),
+        four_at(bytes, DIRECT_AT + 28),
     ]
 }
 
@@ -64,22 +103,22 @@ pub(crate) fn fields_of(kind: InodeKind, bytes: &[u8]) -> Inode
 {
     Inode {
         kind,
-        mode: four_at(bytes, 4),
-        uid: four_at(bytes, 8),
-        gid: four_at(bytes, 12),
-        nlink: four_at(bytes, 16),
-        size: eight_at(bytes, 24),
-        atime: time_at(bytes, 32),
-        mtime: time_at(bytes, 40),
-        ctime: time_at(bytes, 48),
+        mode: four_at(bytes, MODE_AT),
+        uid: four_at(bytes, UID_AT),
+        gid: four_at(bytes, GID_AT),
+        nlink: four_at(bytes, NLINK_AT),
+        size: eight_at(bytes, SIZE_AT),
+        atime: time_at(bytes, ATIME_AT),
+        mtime: time_at(bytes, MTIME_AT),
+        ctime: time_at(bytes, CTIME_AT),
         stamp: Stamp {
-            boot: eight_at(bytes, 56),
-            transaction: eight_at(bytes, 64),
+            boot: eight_at(bytes, BOOT_AT),
+            transaction: eight_at(bytes, TRANSACTION_AT),
         },
-        parent: four_at(bytes, 72),
-        verifier: verifier_of(four_at(bytes, 76), eight_at(bytes, 80)),
+        parent: four_at(bytes, PARENT_AT),
+        verifier: verifier_of(four_at(bytes, FLAGS_AT), eight_at(bytes, VERIFIER_AT)),
         direct: direct_of(bytes),
-        indirect: four_at(bytes, 120),
+        indirect: four_at(bytes, INDIRECT_AT),
     }
 }
 
@@ -91,8 +130,8 @@ pub(crate) fn rest_is_zero(kind: InodeKind, bytes: &[u8]) -> bool
     if kind == InodeKind::Free {
         return is_zeros(bytes);
     }
-    let flags = four_at(bytes, 76);
-    four_at(bytes, 20) == 0
-        && four_at(bytes, 124) == 0
-        && (flags == 1 || flags == 0 && eight_at(bytes, 80) == 0)
+    let flags = four_at(bytes, FLAGS_AT);
+    four_at(bytes, GAP_AT) == 0
+        && four_at(bytes, END_GAP_AT) == 0
+        && (flags == 1 || flags == 0 && eight_at(bytes, VERIFIER_AT) == 0)
 }

@@ -5,6 +5,7 @@
 mod fault;
 mod fields;
 mod fresh;
+mod fresh_image;
 mod geometry;
 mod inode;
 mod inode_bytes;
@@ -19,6 +20,7 @@ pub use fault::LayoutFault;
 pub use fresh::{
     a_fresh_image_stands_for_the_format_tree, a_super_block_is_its_bytes, there_is_a_fresh_image,
 };
+pub use fresh_image::FreshImage;
 pub use geometry::{Geometry, GeometryFault};
 pub use inode::{Inode, InodeKind};
 pub use laws::blocks_stand_for_one_tree;

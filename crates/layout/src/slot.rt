@@ -11,8 +11,13 @@ use std::alloc::{AllocError, Global};
 /// The bytes of a slot.
 pub const SLOT_BYTES: usize = BLOCK_BYTES / SLOTS_PER_BLOCK as usize;
 
-// Where the name begins.
-const NAME_PLACE: usize = 8;
+// Where the fields of a slot begin in its bytes: the number, the count of the name's bytes, and the name.
+
+const NUMBER_AT: usize = 0;
+
+const COUNT_AT: usize = 4;
+
+const NAME_AT: usize = 8;
 
 /// A name in a directory, and the number of the file that it names.
 #[derive(Drop)]
@@ -35,7 +40,7 @@ impl Slot {
         requires { length bytes.now ≡ SLOT_BYTES }
         ensures { IfOk result (λ slot. slot ≡ read_slot inodes bytes.now) }
     {
-        let number = four_at(bytes, 0);
+        let number = four_at(bytes, NUMBER_AT);
         if number == 0 {
             return Ok(if is_zeros(bytes) {
                 Ok(None)
@@ -46,8 +51,8 @@ impl Slot {
         if !is_sound_slot(inodes, bytes) {
             return Ok(Err(LayoutFault::Range));
         }
-        let (_, behind) = bytes.split_at(NAME_PLACE);
-        let (name, _) = behind.split_at(four_at(bytes, 4) as usize);
+        let (_, behind) = bytes.split_at(NAME_AT);
+        let (name, _) = behind.split_at(four_at(bytes, COUNT_AT) as usize);
         let name = Octets::copied(alloc, name)?;
         Ok(Ok(Some(Slot { number, name })))
     }
@@ -58,10 +63,10 @@ fn is_sound_slot(inodes: u32, bytes: &[u8]) -> bool
     requires { length bytes.now ≡ SLOT_BYTES }
     ensures { result ≡ is_sound_slot inodes bytes.now }
 {
-    let count = four_at(bytes, 4) as usize;
-    if four_at(bytes, 0) >= inodes || count < 1 || count > NAME_BYTES {
+    let count = four_at(bytes, COUNT_AT) as usize;
+    if four_at(bytes, NUMBER_AT) >= inodes || count < 1 || count > NAME_BYTES {
         return false;
     }
-    let (_, rest) = bytes.split_at(NAME_PLACE + count);
+    let (_, rest) = bytes.split_at(NAME_AT + count);
     is_zeros(rest)
 }

@@ -3,6 +3,7 @@ ghost use Rattle.std.specs.Prelude.{◌≡◌, ◌+◌, ◌++◌, ◌≤◌, ◌
 ghost use Rattle.limits.specs.declared.TheConstants.{BLOCK_BYTES};
 ghost use Rattle.layout.specs.SuperForm.{HasMagic, HasSizes, is_unused_zero, super_head};
 ghost use Rattle.layout.specs.Fields.{four_at};
+ghost use Rattle.layout.specs.declared.super_block.TheConstants.{VERSION_AT, BLOCKS_AT, INODES_AT, REST_AT};
 
 use crate::fields::{eight_at, four_at, is_zeros, put_eight, put_four};
 use crate::{Geometry, LayoutFault};
@@ -11,6 +12,20 @@ use std::alloc::{AllocError, Global};
 
 /// The bytes that an image of this format begins with.
 pub const MAGIC: [u8; 8] = *b"NFSJRNL1";
+
+// Where the fields of a super block begin in its bytes, behind the magic ones.
+
+const VERSION_AT: usize = 8;
+
+const BLOCKS_AT: usize = 12;
+
+const INODES_AT: usize = 16;
+// Four bytes that no field has.
+const GAP_AT: usize = 20;
+
+const BOOT_AT: usize = 24;
+// From here on no field has a byte.
+const REST_AT: usize = 32;
 
 /// What the super block says: how large the image is, and how often it was opened.
 #[derive(Clone, Copy, Debug, PartialEq, Eq)]
@@ -31,13 +46,13 @@ impl Super {
         if !has_magic(bytes) {
             return Err(LayoutFault::Magic);
         }
-        if four_at(bytes, 8) != FORMAT_VERSION {
+        if four_at(bytes, VERSION_AT) != FORMAT_VERSION {
             return Err(LayoutFault::Version);
         }
         let Some(geometry) = geometry_in(bytes) else {
             return Err(LayoutFault::Range);
         };
-        let boot = eight_at(bytes, 24);
+        let boot = eight_at(bytes, BOOT_AT);
         Ok(Super { geometry, boot })
     }
 
@@ -56,10 +71,10 @@ impl Super {
 // The sizes, if they are lawful and what isn't used is zero.
 fn geometry_in(bytes: &[u8]) -> Option<Geometry>
     requires { length bytes.now ≡ BLOCK_BYTES }
-    ensures some { IfSome result (λ g. HasSizes bytes.now × (g.blocks ≡ four_at 12 bytes.now) × (g.inodes ≡ four_at 16 bytes.now)) }
+    ensures some { IfSome result (λ g. HasSizes bytes.now × (g.blocks ≡ four_at BLOCKS_AT bytes.now) × (g.inodes ≡ four_at INODES_AT bytes.now)) }
     ensures none { IfNone result (HasSizes bytes.now → ⊥) }
 {
-    let geometry = Geometry::new(four_at(bytes, 12), four_at(bytes, 16)).ok()?;
+    let geometry = Geometry::new(four_at(bytes, BLOCKS_AT), four_at(bytes, INODES_AT)).ok()?;
     if is_unused_zero(bytes) {
         Some(geometry)
     } else {
@@ -72,22 +87,22 @@ fn is_unused_zero(bytes: &[u8]) -> bool
     requires { length bytes.now ≡ BLOCK_BYTES }
     ensures { result ≡ is_unused_zero bytes.now }
 {
-    let (_, rest) = bytes.split_at(32);
-    four_at(bytes, 20) == 0 && is_zeros(rest)
+    let (_, rest) = bytes.split_at(REST_AT);
+    four_at(bytes, GAP_AT) == 0 && is_zeros(rest)
 }
 
 // Whether the bytes begin as those of an image do.
 fn has_magic(bytes: &[u8]) -> bool
-    requires { 8 ≤ length bytes.now }
+    requires { VERSION_AT ≤ length bytes.now }
     ensures { IsTrue result ↔ HasMagic bytes.now }
 {
-    bytes[..8] == MAGIC[..]
+    bytes[..VERSION_AT] == MAGIC[..]
 }
 
 // Adds what of the bytes isn't zero always.
 fn put_head(bytes: &mut Vec<u8>, super_block: &Super) -> Result<(), AllocError>
     ensures bytes { OnOk result (bytes.new.items ≡ bytes.old.items ++ super_head super_block.now) }
-    ensures len { OnOk result (length bytes.new.items ≡ length bytes.old.items + 32) }
+    ensures len { OnOk result (length bytes.new.items ≡ length bytes.old.items + REST_AT) }
 {
     bytes.extend_from_slice(&MAGIC)?;
     put_four(bytes, FORMAT_VERSION)?;

@@ -40,35 +40,35 @@ IsServed (Some job) = has_rules job.call ≡ true
 
 -- there is a call, with what was read for it, and it is one that is served
 pub record IsPlanned (worker : Worker) : Type 0 where
-  pub served : IsServed worker.job
-  pub read : is_some worker.snap ≡ true
+  pub served : IsServed worker.work.job
+  pub read : is_some worker.work.snap ≡ true
 
 -- both replies of the committed procedure are there
 pub record IsReplied (worker : Worker) : Type 0 where
-  pub told : is_some worker.told ≡ true
-  pub broken : is_some worker.broken ≡ true
+  pub reply : is_some worker.work.reply ≡ true
+  pub broken_reply : is_some worker.work.broken_reply ≡ true
 
 -- what the worker needs to go on is there
 abbrev pub IsReady : Phase → Worker → Type 0
 IsReady Idle worker = Unit {0}
-IsReady Called worker = is_some worker.job ≡ true
+IsReady Called worker = is_some worker.work.job ≡ true
 IsReady Planning worker = IsPlanned worker
 IsReady Reading worker = IsPlanned worker
 IsReady (Read ok) worker = IsPlanned worker
-IsReady (Refused refusal) worker = is_some worker.job ≡ true
-IsReady Again worker = is_some worker.job ≡ true
+IsReady (Refused refusal) worker = is_some worker.work.job ≡ true
+IsReady Again worker = is_some worker.work.job ≡ true
 IsReady (Waiting place) worker = IsReplied worker
 
 -- the block that it has to read is one of the image's
 abbrev pub ReadsWithin : ℕ → Worker → Type 0
-ReadsWithin blocks worker = IfSome worker.io (λ io. io.block.0 < blocks)
+ReadsWithin blocks worker = IfSome worker.begun.io (λ io. io.block.0 < blocks)
 
 -- A worker fits a core: the transaction that is out is the worker's, the block that it reads is one of the image's, and
 -- what it needs to go on is there.
 pub record Fits (worker : Worker) (core : CoreState) : Type 0 where
-  pub out : core.out ≡ worker.tx
-  pub transaction : is_some worker.tx ≡ has_transaction worker.phase
-  pub fetch : is_some worker.io ≡ has_fetch worker.phase
+  pub out : core.out ≡ worker.begun.tx
+  pub transaction : is_some worker.begun.tx ≡ has_transaction worker.phase
+  pub fetch : is_some worker.begun.io ≡ has_fetch worker.phase
   pub reads : ReadsWithin core.log.blocks worker
   pub ready : IsReady worker.phase worker
   pub lawful : IsLawful core.log.blocks core.inodes
@@ -76,20 +76,19 @@ pub record Fits (worker : Worker) (core : CoreState) : Type 0 where
 -- the worker's transaction was taken out of it, and what it needs to plan is there
 pub record IsHeld (worker : Worker) (tx : ℕ) (core : CoreState) : Type 0 where
   pub out : core.out ≡ Some tx
-  pub none : worker.tx ≡ None
-  pub no_fetch : worker.io ≡ None
+  pub none : worker.begun.tx ≡ None
+  pub no_fetch : worker.begun.io ≡ None
   pub planned : IsPlanned worker
   pub lawful : IsLawful core.log.blocks core.inodes
 
 -- the worker has room for what is read or claimed next
 abbrev pub HasRoom : Worker → Type 0
-HasRoom worker = IfSome worker.snap (λ snap. seen.HasRoom snap)
+HasRoom worker = IfSome worker.work.snap (λ snap. seen.HasRoom snap)
 
 -- what the worker needs to plan is there still, and what it has out is what it was
 pub record IsStillPlanned (old new : Worker) : Type 0 where
   pub planned : IsPlanned new
-  pub tx : new.tx ≡ old.tx
-  pub io : new.io ≡ old.io
+  pub begun : new.begun ≡ old.begun
 
 -- there is room for what the plan asks for
 abbrev pub HasRoomFor : Plan → Worker → Type 0

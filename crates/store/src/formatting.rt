@@ -1,15 +1,13 @@
-//! Making an image: the root alone, and an empty log.
-ghost use Rattle.std.specs.Prelude.{◌≡◌, ◌≤◌, ◌<◌, ◌+◌, ◌-◌, ◌^◌, length, IfOk};
-ghost use Rattle.limits.specs.declared.TheConstants.{INODE_BYTES};
+//! Making an image: the order of its device calls. What its blocks hold is `layout`'s.
+ghost use Rattle.std.specs.Prelude.{◌≡◌, ◌≤◌, ◌<◌, ◌-◌, IfOk};
+ghost use Rattle.disk.specs.Device.{HasWritten};
+ghost use Rattle.layout.specs.Fresh.{fresh};
 ghost use Rattle.layout.specs.Places.{data_at};
 
 use disk::{Block, BlockNo, CrashDisk, Failed, Side};
-use layout::{Geometry, GeometryFault, Inode, InodeKind, Super};
-use limits::{
-    BITS_PER_BLOCK, BLOCK_BYTES, DIRECT_INDEXES, INODES_PER_BLOCK, LOG_HEADER_BLOCK, ROOT,
-    START_BLOCK, SUPER_BLOCK,
-};
-use nfs_types::{Moment, Stamp};
+use layout::{FreshImage, Geometry, GeometryFault};
+use limits::{FIRST_HOME_BLOCK, LOG_HEADER_BLOCK, START_BLOCK, SUPER_BLOCK};
+use nfs_types::Moment;
 use std::alloc::{AllocError, Global};
 use thiserror::Error;
 
@@ -26,13 +24,6 @@ pub enum FormatFault {
     NoMemory = 4,
 }
 
-impl FormatFault {
-    /// Its number.
-    pub fn number(self) -> u8 {
-        self as u8
-    }
-}
-
 impl From<AllocError> for FormatFault {
     fn from(_: AllocError) -> FormatFault {
         FormatFault::NoMemory
@@ -45,12 +36,9 @@ impl From<Failed> for FormatFault {
     }
 }
 
-/// The mode of a fresh root: read, write and search for its owner, read and search for everybody else.
-const ROOT_MODE: u32 = 0o755;
-
 /// Makes an image of all blocks of the disk, with so many inodes, whose root is made at the moment. It answers the
-/// count of data blocks. Size and Inodes come before any write. While it goes on, and where the device fails, the image
-/// is the old one, or one that has no super block, or the new one.
+/// count of data blocks. The faults in their order: Size, Inodes, NoMemory, each before any write, and Device. While it
+/// goes on, and where the device fails, the image is the old one, or one that has no super block, or the new one.
 pub fn format<D: CrashDisk>(
     alloc: Global,
     disk: &mut D,
@@ -65,135 +53,48 @@ pub fn format<D: CrashDisk>(
         Err(GeometryFault::Inodes) => return Err(FormatFault::Inodes),
     };
     let mut block = Block::zeros(alloc)?;
-    let root = root_inode(moment).write(alloc)?;
-    let head = Super { geometry, boot: 0 }.write(alloc)?;
+    let image = FreshImage::new(alloc, geometry, moment)?;
     disk.write(BlockNo(SUPER_BLOCK), &block)?;
     disk.barrier(Side::Home)?;
-    disk.write(BlockNo(LOG_HEADER_BLOCK), &block)?;
-    disk.write(BlockNo(START_BLOCK), &block)?;
-    write_bitmaps(disk, &mut block, &geometry)?;
-    write_table(disk, &mut block, &geometry, &root)?;
+    write_one(disk, &mut block, &image, LOG_HEADER_BLOCK)?;
+    write_one(disk, &mut block, &image, START_BLOCK)?;
+    write_up_to(disk, &mut block, &image, geometry.data().0)?;
     disk.barrier(Side::Log)?;
     disk.barrier(Side::Home)?;
-    block.put(0, &head);
-    disk.write(BlockNo(SUPER_BLOCK), &block)?;
+    write_one(disk, &mut block, &image, SUPER_BLOCK)?;
     disk.barrier(Side::Home)?;
     Ok(geometry.data_blocks())
 }
 
-// The root of a fresh image, an empty directory.
-fn root_inode(moment: Moment) -> Inode {
-    Inode {
-        kind: InodeKind::Directory,
-        mode: ROOT_MODE,
-        uid: 0,
-        gid: 0,
-        nlink: 2,
-        size: 0,
-        atime: moment,
-        mtime: moment,
-        ctime: moment,
-        stamp: Stamp {
-            boot: 0,
-            transaction: 0,
-        },
-        parent: ROOT,
-        verifier: None,
-        direct: [0; DIRECT_INDEXES],
-        indirect: 0,
-    }
-}
-
-// Writes the bitmap of blocks, in which those before the data and past the last are marked, and the bitmap of inodes,
-// in which number 0, the root and those past the last are.
-fn write_bitmaps<D: CrashDisk>(
+// Writes the image's blocks from the first behind the log up to one.
+fn write_up_to<D: CrashDisk>(
     disk: &mut D,
     block: &mut Block,
-    geometry: &Geometry,
+    image: &FreshImage,
+    end: u32,
 ) -> Result<(), Failed>
-    requires { geometry.now.blocks ≡ (D.device disk.old).size }
+    requires blocks { image.now.geometry.blocks ≡ (D.device disk.old).size }
+    requires end { end ≤ image.now.geometry.blocks }
     ensures { (D.device disk.new).size ≡ (D.device disk.old).size }
 {
-    let inodes = geometry.inode_bitmap().0;
-    let table = geometry.inode_table().0;
-    write_bitmap(
-        disk,
-        block,
-        geometry.block_bitmap().0,
-        inodes,
-        geometry.data().0,
-        geometry.blocks,
-    )?;
-    write_bitmap(disk, block, inodes, table, ROOT + 1, geometry.inodes)
-}
-
-// Writes the blocks of a bitmap in which the numbers below one and those from another on are marked.
-fn write_bitmap<D: CrashDisk>(
-    disk: &mut D,
-    block: &mut Block,
-    from: u32,
-    to: u32,
-    below: u32,
-    past: u32,
-) -> Result<(), Failed>
-    requires { to ≤ (D.device disk.old).size }
-    ensures { (D.device disk.new).size ≡ (D.device disk.old).size }
-{
-    'numbers: for number in from..to {
-        mark(
-            block,
-            (number - from) as u64 * BITS_PER_BLOCK as u64,
-            below as u64,
-            past as u64,
-        );
-        disk.write(BlockNo(number), block)?;
+    'numbers: for number in FIRST_HOME_BLOCK..end {
+        write_one(disk, block, image, number)?;
     }
     Ok(())
 }
 
-// Makes a block the part of a bitmap that begins with the bit of a number.
-fn mark(block: &mut Block, first: u64, below: u64, past: u64)
-    requires { first < 2 ^ 63 }
-{
-    for place in 0..BLOCK_BYTES {
-        let byte = marked_byte(first + 8 * place as u64, below, past);
-        block.put(place, &[byte]);
-    }
-}
-
-// The byte of a bitmap that begins with the bit of a number.
-fn marked_byte(first: u64, below: u64, past: u64) -> u8
-    requires { first + 8 < 2 ^ 64 }
-{
-    let mut byte = 0;
-    for bit in 0..8u8 {
-        let number = first + bit as u64;
-        if number < below || number >= past {
-            byte |= 1 << bit;
-        }
-    }
-    byte
-}
-
-// Writes the table of inodes, all free but the root.
-fn write_table<D: CrashDisk>(
+// Writes the image's block of this number.
+fn write_one<D: CrashDisk>(
     disk: &mut D,
     block: &mut Block,
-    geometry: &Geometry,
-    root: &[u8],
+    image: &FreshImage,
+    number: u32,
 ) -> Result<(), Failed>
-    requires blocks { geometry.now.blocks ≡ (D.device disk.old).size }
-    requires root { length root.now ≡ INODE_BYTES }
-    ensures { (D.device disk.new).size ≡ (D.device disk.old).size }
+    requires blocks { image.now.geometry.blocks ≡ (D.device disk.old).size }
+    requires number { number < image.now.geometry.blocks }
+    ensures written { HasWritten (D.device disk.old) number (fresh image.now.geometry image.now.made number) result (D.device disk.new) }
+    ensures size { (D.device disk.new).size ≡ (D.device disk.old).size }
 {
-    let table = geometry.inode_table().0;
-    block.put(0, &[0; BLOCK_BYTES]);
-    'numbers: for number in 1..geometry.inodes / INODES_PER_BLOCK {
-        disk.write(BlockNo(table + number), block)?;
-    }
-    let addr = geometry.inode_addr(ROOT);
-    block.put(addr.offset, root);
-    disk.write(addr.block, block)?;
-    block.put(0, &[0; BLOCK_BYTES]);
-    Ok(())
+    image.put(number, block);
+    disk.write(BlockNo(number), block)
 }

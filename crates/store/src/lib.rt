@@ -6,8 +6,8 @@ mod formatting;
 mod one_call;
 mod opened;
 mod opening;
+mod options;
 mod runs;
-mod slots;
 mod workers;
 
 pub use formatting::{FormatFault, format};

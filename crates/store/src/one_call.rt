@@ -2,7 +2,7 @@
 ghost use Rattle.std.specs.Prelude.{◌≡◌, None};
 ghost use Rattle.store.specs.Worker.{Fits};
 
-use crate::opened::{Store, settle};
+use crate::opened::{Store, keeps_too_many, settle};
 use crate::workers::Worker;
 use disk::CrashDisk;
 use nfs_types::{Call, Credential, Moment};
@@ -10,7 +10,8 @@ use std::alloc::Global;
 use store_promise::{Committing, Step, Verdict};
 
 /// Runs a call to its answer. Where the answer waits for its place everything is settled before; where the log is full,
-/// too. A call that isn't served is NOTSUPP and begins no transaction.
+/// too, and so it is where more than MOST_KEPT_COMMITS commits are kept then, since that brings home what is logged. A
+/// call that isn't served is NOTSUPP and begins no transaction.
 pub fn procedure<D: CrashDisk>(
     alloc: Global,
     store: &mut Store<D>,
@@ -25,6 +26,9 @@ pub fn procedure<D: CrashDisk>(
     worker.hand(credential, moment, call);
     let verdict = answer(alloc, store, &mut worker);
     worker.end(&mut store.core);
+    if keeps_too_many(store) {
+        let _ = settle(store);
+    }
     verdict
 }
 

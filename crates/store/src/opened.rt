@@ -1,9 +1,12 @@
 //! An open store: a disk with the core over it.
-ghost use Rattle.std.specs.Prelude.{◌≡◌};
+ghost use Rattle.std.specs.Prelude.{◌≡◌, ◌≤◌, ◌<◌, ◌↔◌, false, IsTrue, IfOk, length};
+ghost use Rattle.limits.specs.declared.TheConstants.{MOST_KEPT_COMMITS};
+ghost use Rattle.wal.specs.Log.{settled_place};
 ghost use Rattle.layout.specs.Places.{IsLawful};
 ghost use Rattle.store.specs.Counts.{SameCounts};
 
 use disk::{CrashDisk, Failed};
+use limits::MOST_KEPT_COMMITS;
 use procs::Done;
 use txn::Core;
 
@@ -23,6 +26,13 @@ impl<D: CrashDisk> Store<D> {
     {
         self.boot
     }
+
+    /// How many commits it keeps in memory: those that aren't home.
+    pub fn kept(&self) -> usize
+        ensures { result ≡ length self.now.core.records }
+    {
+        self.core.kept()
+    }
 }
 
 /// Gives the disk back. It makes no device call: what isn't settled is lost, as in a crash.
@@ -37,21 +47,36 @@ pub fn close<D: CrashDisk>(store: Store<D>) -> D
     disk
 }
 
-/// Makes every change settled, and brings it home. It fails only where a device call fails in it, or where a write or a
-/// barrier failed since the opening.
+/// Makes every change settled in the log. What is logged is brought home only where the log has no room behind its
+/// settled start for the changes that wait, or where more than MOST_KEPT_COMMITS commits are kept; what is left, the
+/// next opening brings home. It fails only where a device call fails in it, or where a write or a barrier failed since
+/// the opening.
 pub fn settle<D: CrashDisk>(store: &mut Store<D>) -> Result<(), Failed>
     ensures out { store.new.core.out ≡ store.old.core.out }
     ensures counts { SameCounts store.old.core store.new.core }
+    ensures settled { IfOk result (λ _. settled_place store.new.core.log ≡ store.new.core.log.places) }
+    ensures kept { IfOk result (λ _. length store.new.core.records ≤ MOST_KEPT_COMMITS) }
+    ensures sound { IfOk result (λ _. store.new.core.log.broken ≡ false) }
 {
     'calls: for _ in 0..u64::MAX {
         if store.core.broken() {
             return Err(Failed);
         }
-        if !log_one(store) && !install_one(store) {
+        if store.core.is_settled() && !keeps_too_many(store) {
             return Ok(());
+        }
+        if !log_one(store) && !install_one(store) {
+            return Err(Failed);
         }
     }
     Err(Failed)
+}
+
+/// Whether more commits are kept than a store keeps once it has settled.
+pub(crate) fn keeps_too_many<D: CrashDisk>(store: &Store<D>) -> bool
+    ensures { IsTrue result ↔ (MOST_KEPT_COMMITS < length store.now.core.records) }
+{
+    store.kept() > MOST_KEPT_COMMITS
 }
 
 // Makes the next device call of the log, if there is one.

@@ -49,15 +49,70 @@ pub(crate) enum Refusal {
 pub struct Worker {
     boot: u64,
     phase: Phase,
-    job: Option<Job>,
-    snap: Option<Snap>,
-    tx: Option<Tx>,
-    io: Option<FetchIo>,
-    // The replies of a committed procedure: the one that is told, and the one that is told where the store is broken.
-    told: Option<Reply>,
-    broken: Option<Reply>,
-    entry: Option<Entry>,
-    answer: Option<Answered>,
+    work: Work,
+    begun: Begun,
+}
+
+// What a worker has of its call and of what came of it.
+#[derive(Drop)]
+pub(crate) struct Work {
+    pub(crate) job: Option<Job>,
+    pub(crate) snap: Option<Snap>,
+    // The replies of a committed procedure: that of its plan, and the one in its place where the store is broken.
+    pub(crate) reply: Option<Reply>,
+    pub(crate) broken_reply: Option<Reply>,
+    pub(crate) entry: Option<Entry>,
+    pub(crate) answer: Option<Answered>,
+}
+
+// What a worker has out of the core, and has to give back.
+pub(crate) struct Begun {
+    pub(crate) tx: Option<Tx>,
+    pub(crate) io: Option<FetchIo>,
+}
+
+impl Begun {
+    ghost use Rattle.std.specs.Prelude.{◌≡◌, Some, None, true, is_some};
+    ghost use Rattle.store.specs.Counts.{SameCounts};
+
+    // Takes the transaction that is out.
+    pub(crate) fn take_tx(&mut self) -> Tx
+        requires { is_some self.old.tx ≡ true }
+        ensures tx { self.old.tx ≡ Some result }
+        ensures rest { self.new ≡ record self.old { tx = None } }
+    {
+        match self.tx.take() {
+            Some(tx) => tx,
+            None => unreachable!(),
+        }
+    }
+
+    // Takes the fetch that is out.
+    pub(crate) fn take_fetch(&mut self) -> FetchIo
+        requires { is_some self.old.io ≡ true }
+        ensures io { self.old.io ≡ Some result }
+        ensures rest { self.new ≡ record self.old { io = None } }
+    {
+        match self.io.take() {
+            Some(io) => io,
+            None => unreachable!(),
+        }
+    }
+
+    // Gives the fetch back, and ends the transaction.
+    fn end(self, core: &mut Core<Done>)
+        requires { core.old.out ≡ self.tx }
+        ensures counts { SameCounts core.old core.new }
+        ensures ended { core.new.out ≡ None }
+    {
+        let Begun { tx, io } = self;
+        if let Some(io) = io {
+            core.fetch_failed(io);
+        }
+        if let Some(tx) = tx {
+            core.abort(tx);
+        }
+    }
 }
 
 impl Worker {
@@ -71,20 +126,21 @@ impl Worker {
     pub fn new(boot: u64) -> Worker
         ensures idle { result.phase ≡ Idle }
         ensures boot { result.boot ≡ boot }
-        ensures out { (result.tx ≡ None) × (result.io ≡ None) }
-        ensures ready { (result.entry ≡ None) × (result.answer ≡ None) }
+        ensures out { (result.begun.tx ≡ None) × (result.begun.io ≡ None) }
+        ensures ready { (result.work.entry ≡ None) × (result.work.answer ≡ None) }
     {
         Worker {
             boot,
             phase: Phase::Idle,
-            job: None,
-            snap: None,
-            tx: None,
-            io: None,
-            told: None,
-            broken: None,
-            entry: None,
-            answer: None,
+            work: Work {
+                job: None,
+                snap: None,
+                reply: None,
+                broken_reply: None,
+                entry: None,
+                answer: None,
+            },
+            begun: Begun { tx: None, io: None },
         }
     }
 
@@ -123,10 +179,10 @@ impl Worker {
     // Takes a call, which begins with the next step.
     fn take_call(&mut self, ctx: Ctx, call: Call)
         ensures phase { self.new.phase ≡ Called }
-        ensures job { is_some self.new.job ≡ true }
-        ensures rest { self.new ≡ record self.old { job = self.new.job; phase = self.new.phase } }
+        ensures job { is_some self.new.work.job ≡ true }
+        ensures rest { self.new ≡ record self.old { work = record self.old.work { job = self.new.work.job }; phase = self.new.phase } }
     {
-        self.job = Some(Job { ctx, call });
+        self.work.job = Some(Job { ctx, call });
         self.phase = Phase::Called;
     }
 
@@ -134,7 +190,7 @@ impl Worker {
     /// read is due.
     pub fn read<D: CrashDisk>(&mut self, disk: &mut D) -> Option<Step>
         requires within { ReadsWithin (D.device disk.old).size self.old }
-        requires fetch { is_some self.old.io ≡ has_fetch self.old.phase }
+        requires fetch { is_some self.old.begun.io ≡ has_fetch self.old.phase }
         ensures fits { (core : CoreState) → Fits self.old core → Fits self.new core }
         ensures size { (D.device disk.new).size ≡ (D.device disk.old).size }
         ensures due { IsSome result ↔ (self.old.phase ≡ Reading) }
@@ -142,7 +198,7 @@ impl Worker {
         if self.phase != Phase::Reading {
             return None;
         }
-        let Some(io) = self.io.as_mut() else {
+        let Some(io) = self.begun.io.as_mut() else {
             unreachable!();
         };
         let block = io.block();
@@ -171,18 +227,18 @@ impl Worker {
 
     /// Takes the procedure that the last step committed, if it committed one.
     pub fn take_entry(&mut self) -> Option<Entry>
-        ensures result { result ≡ self.old.entry }
+        ensures result { result ≡ self.old.work.entry }
         ensures fits { (core : CoreState) → Fits self.old core → Fits self.new core }
     {
-        self.entry.take()
+        self.work.entry.take()
     }
 
     /// Takes the answer that the last step gave, if it gave one.
     pub fn take_answer(&mut self) -> Option<Answered>
-        ensures result { result ≡ self.old.answer }
+        ensures result { result ≡ self.old.work.answer }
         ensures fits { (core : CoreState) → Fits self.old core → Fits self.new core }
     {
-        self.answer.take()
+        self.work.answer.take()
     }
 
     /// Ends the worker, and what it has begun.
@@ -194,20 +250,9 @@ impl Worker {
         let Worker {
             boot: _,
             phase: _,
-            job: _,
-            snap: _,
-            tx,
-            io,
-            told: _,
-            broken: _,
-            entry: _,
-            answer: _,
+            work: _,
+            begun,
         } = self;
-        if let Some(io) = io {
-            core.fetch_failed(io);
-        }
-        if let Some(tx) = tx {
-            core.abort(tx);
-        }
+        begun.end(core);
     }
 }

@@ -1,5 +1,5 @@
 //! The core: who holds what, what is in memory, and the commits that aren't installed.
-ghost use Rattle.std.specs.Prelude.{◌≡◌, ◌≤◌, ◌+◌, ◌^◌, ◌↔◌, IsTrue, IsSome, IsNone, IfSome, IsErrOf, OnErr, IfOk, Some, None, true, false, is_some, if◌then◌else◌, []};
+ghost use Rattle.std.specs.Prelude.{◌≡◌, ◌≤◌, ◌+◌, ◌^◌, ◌↔◌, IsTrue, IsSome, IsNone, IfSome, IsErrOf, OnErr, IfOk, Some, None, true, false, is_some, if◌then◌else◌, [], length};
 ghost use Rattle.wal.specs.Log.{settled_place, installed_place, tail_count, IsHomeOn};
 ghost use Rattle.wal.specs.Io.{IsCallWithin};
 ghost use Rattle.wal.specs.Logger.{may_log, with_log_out, is_log_out, with_log_back};
@@ -144,6 +144,20 @@ impl<C: Change> Core<C> {
         } else {
             None
         }
+    }
+
+    /// Whether every commit is settled.
+    pub fn is_settled(&self) -> bool
+        ensures { IsTrue result ↔ (settled_place self.now.log ≡ self.now.log.places) }
+    {
+        self.wal.settled() == self.wal.places()
+    }
+
+    /// How many commits it keeps: those that aren't installed.
+    pub fn kept(&self) -> usize
+        ensures { result ≡ length self.now.records }
+    {
+        self.records.len()
     }
 
     /// How many blocks the open tail of the log holds.

@@ -4,7 +4,7 @@ ghost use Rattle.store_promise.specs.Room.{HasRoom};
 ghost use Rattle.store.specs.Running.{RunsWell};
 
 use crate::opened::Store;
-use crate::slots::put;
+use crate::options::put;
 use crate::workers::Worker;
 use disk::CrashDisk;
 use nfs_types::{Call, Credential, Moment};

@@ -2,7 +2,7 @@
 ghost use Rattle.std.specs.Prelude.{◌≡◌, ◌≤◌, Some, None, true, length};
 
 use super::{Job, Phase, Refusal, Worker};
-use crate::slots::put;
+use crate::options::put;
 use disk::BlockNo;
 use nfs_types::{Reply, Status};
 use objects::Addr;
@@ -24,9 +24,7 @@ impl Worker {
         ensures counts { SameCounts core.old core.new }
     {
         let next = self.next(alloc);
-        let Some(tx) = self.tx.take() else {
-            unreachable!();
-        };
+        let tx = self.begun.take_tx();
         match next {
             Plan::Need(addr) => self.want(alloc, core, tx, addr),
             Plan::Claim(block) => self.claim(core, tx, block),
@@ -40,7 +38,7 @@ impl Worker {
         requires { IsPlanned self.old }
         ensures { IsTold self.old result self.new }
     {
-        let (Some(job), Some(snap)) = (self.job.as_ref(), self.snap.as_mut()) else {
+        let (Some(job), Some(snap)) = (self.work.job.as_ref(), self.work.snap.as_mut()) else {
             unreachable!();
         };
         if snap.make_room().is_err() {
@@ -74,7 +72,7 @@ impl Worker {
                 Wish::Held
             }
             Want::Fetch(tx, io) => {
-                put(&mut self.io, io);
+                put(&mut self.begun.io, io);
                 self.go_on(tx, Phase::Reading);
                 Wish::Fetch
             }
@@ -105,7 +103,7 @@ impl Worker {
         requires len { length bytes.items ≡ addr.len }
         ensures { IsStillPlanned self.old self.new }
     {
-        match self.snap.as_mut() {
+        match self.work.snap.as_mut() {
             Some(snap) => snap.add(addr, bytes),
             None => unreachable!(),
         }
@@ -150,7 +148,7 @@ impl Worker {
         requires room { HasRoom self.old }
         ensures { IsStillPlanned self.old self.new }
     {
-        match self.snap.as_mut() {
+        match self.work.snap.as_mut() {
             Some(snap) => snap.claimed(block),
             None => unreachable!(),
         }
@@ -197,11 +195,11 @@ impl Worker {
     // The procedure was committed at this place. It is answered at once, or when its place is settled.
     fn committed(&mut self, place: Seq, told: Reply, kept: Reply)
         requires planned { IsPlanned self.old }
-        requires out { (self.old.tx ≡ None) × (self.old.io ≡ None) }
-        ensures out { (self.new.tx ≡ None) × (self.new.io ≡ None) }
+        requires out { (self.old.begun.tx ≡ None) × (self.old.begun.io ≡ None) }
+        ensures out { (self.new.begun.tx ≡ None) × (self.new.begun.io ≡ None) }
         ensures ready { IsWithout self.new }
     {
-        let Some(job) = self.job.take() else {
+        let Some(job) = self.work.job.take() else {
             unreachable!();
         };
         if is_answered_stable(&job.call) {
@@ -216,18 +214,18 @@ impl Worker {
     fn wait_for(&mut self, place: Seq, told: Reply, broken: Reply)
         ensures phase { self.new.phase ≡ Waiting place }
         ensures replied { IsReplied self.new }
-        ensures rest { (self.new.tx ≡ self.old.tx) × (self.new.io ≡ self.old.io) }
+        ensures rest { self.new.begun ≡ self.old.begun }
     {
-        self.told = Some(told);
-        self.broken = Some(broken);
+        self.work.reply = Some(told);
+        self.work.broken_reply = Some(broken);
         self.phase = Phase::Waiting(place);
     }
 
     // The entry of a committed procedure lies ready to be taken.
     fn note_entry(&mut self, job: Job, reply: Reply)
-        ensures { self.new ≡ record self.old { entry = self.new.entry } }
+        ensures { self.new ≡ record self.old { work = record self.old.work { entry = self.new.work.entry } } }
     {
         let Job { ctx, call } = job;
-        self.entry = Some(Entry { ctx, call, reply });
+        self.work.entry = Some(Entry { ctx, call, reply });
     }
 }

@@ -2,7 +2,7 @@
 ghost use Rattle.std.specs.Prelude.{◌≡◌, Some, None, true};
 
 use super::{Phase, Refusal, Worker};
-use crate::slots::put;
+use crate::options::put;
 use layout::Geometry;
 use nfs_types::{Call, Status};
 use procs::{Done, Snap, has_rules, refused_reply};
@@ -22,7 +22,7 @@ impl Worker {
         ensures fits { Fits self.new core.new }
         ensures counts { SameCounts core.old core.new }
     {
-        let Some(job) = self.job.as_mut() else {
+        let Some(job) = self.work.job.as_mut() else {
             unreachable!();
         };
         if !has_rules(&job.call) {
@@ -35,7 +35,7 @@ impl Worker {
                 let number = tx.number();
                 job.ctx.transaction = number;
                 let (blocks, inodes) = core.counts();
-                self.snap = Some(Snap::new(alloc, Geometry { blocks, inodes }));
+                self.work.snap = Some(Snap::new(alloc, Geometry { blocks, inodes }));
                 self.go_on(tx, Phase::Planning);
                 Step::Begun(Ok(number))
             }
@@ -54,9 +54,7 @@ impl Worker {
         ensures fits { Fits self.new core.new }
         ensures counts { SameCounts core.old core.new }
     {
-        let Some(io) = self.io.take() else {
-            unreachable!();
-        };
+        let io = self.begun.take_fetch();
         let block = io.block();
         if ok {
             core.fetched(io);
@@ -76,11 +74,9 @@ impl Worker {
         ensures fits { Fits self.new core.new }
         ensures counts { SameCounts core.old core.new }
     {
-        let Some(tx) = self.tx.take() else {
-            unreachable!();
-        };
+        let tx = self.begun.take_tx();
         core.abort(tx);
-        let Some(job) = self.job.as_ref() else {
+        let Some(job) = self.work.job.as_ref() else {
             unreachable!();
         };
         let told = verdict(&job.call, refusal);
@@ -95,9 +91,7 @@ impl Worker {
         ensures fits { Fits self.new core.new }
         ensures counts { SameCounts core.old core.new }
     {
-        let Some(tx) = self.tx.take() else {
-            unreachable!();
-        };
+        let tx = self.begun.take_tx();
         core.abort(tx);
         self.phase = Phase::Called;
         Step::Ended(Ending::Again)
@@ -112,9 +106,9 @@ impl Worker {
         let settled = core.stable(place).is_some();
         if settled || core.broken() {
             let reply = if settled {
-                self.told.take()
+                self.work.reply.take()
             } else {
-                self.broken.take()
+                self.work.broken_reply.take()
             };
             let Some(reply) = reply else {
                 unreachable!();
@@ -127,21 +121,21 @@ impl Worker {
     // The answer lies ready to be taken, and the worker is idle.
     pub(super) fn give(&mut self, verdict: Verdict, place: Option<Seq>)
         ensures idle { self.new.phase ≡ Idle }
-        ensures rest { (self.new.tx ≡ self.old.tx) × (self.new.io ≡ self.old.io) }
+        ensures rest { self.new.begun ≡ self.old.begun }
     {
-        self.answer = Some(Answered { verdict, place });
+        self.work.answer = Some(Answered { verdict, place });
         self.phase = Phase::Idle;
     }
 
     // The worker goes on with its transaction.
     pub(super) fn go_on(&mut self, tx: Tx, phase: Phase)
-        requires { self.old.tx ≡ None }
-        ensures tx { self.new.tx ≡ Some tx }
+        requires { self.old.begun.tx ≡ None }
+        ensures tx { self.new.begun.tx ≡ Some tx }
         ensures phase { self.new.phase ≡ phase }
-        ensures rest { (self.new.job ≡ self.old.job) × (self.new.snap ≡ self.old.snap) × (self.new.io ≡ self.old.io) }
+        ensures rest { (self.new.work ≡ self.old.work) × (self.new.begun.io ≡ self.old.begun.io) }
     {
         self.phase = phase;
-        put(&mut self.tx, tx);
+        put(&mut self.begun.tx, tx);
     }
 }
 
