@@ -19,6 +19,6 @@ abbrev pub HasPrinted : Args → Option (List ℕ) → Option (List ℕ) → Typ
 HasPrinted (Format image blocks inodes time) before later = Appends before later (formatted_line blocks inodes)
 HasPrinted (Once image time) before later = ⊤
 
--- the words ask for something that has been done
+-- the arguments ask for something that has been done
 abbrev pub IsDone : List Text → Option (List ℕ) → Option (List ℕ) → Type 0
 IsDone words before later = (args : Args) × WordsAsk words args × HasPrinted args before later

@@ -38,7 +38,7 @@ session_line session.NoMemory = as_line (codes "nfsd: 4 NoMemory")
 session_line session.Truncated = as_line (codes "nfsd: 5 Truncated")
 session_line session.Device = as_line (codes "nfsd: 6 Device")
 
--- the line of a fault; of words that don't parse their parser tells
+-- the line of a fault; of arguments that don't parse their parser tells
 abbrev pub fault_line : Fault → Option (List ℕ)
 fault_line (fault.Words error) = None
 fault_line fault.File = Some (as_line (codes "nfsd: file"))
@@ -47,7 +47,7 @@ fault_line (fault.Open why) = Some (open_line why)
 fault_line (fault.Session why) = Some (session_line why)
 fault_line fault.Print = Some (as_line (codes "nfsd: output"))
 
--- 2 where the words don't parse, and 1 at every other fault
+-- 2 where the arguments don't parse, and 1 at every other fault
 abbrev pub status_of : Fault → ℕ
 status_of (fault.Words error) = 2
 status_of other = 1

@@ -1,4 +1,4 @@
-//! What the program does for its words.
+//! What the program does for its arguments.
 ghost use Rattle.std.specs.Prelude.{◌≡◌, ◌≢◌, ◌≤◌, ◌-◌, IfErr, IfOk, IfSome, OnOk, map};
 ghost use Rattle.std.specs.Io.KnownBytes.{Appends};
 ghost use Rattle.nfsd_words.specs.Words.{HasMeaning};
@@ -13,8 +13,8 @@ use nfsd_words::{Args, words};
 use std::fs::Files;
 use std::io::{self, Read, Write};
 
-/// Does what the words ask for, of which the first is the program's name, and gives the exit status: 0 where it is
-/// done, 2 where the words don't parse, and else 1. A fault is told on `faults`.
+/// Does what the arguments ask for, of which the first is the program's name, and gives the exit status: 0 where it is
+/// done, 2 where they don't parse, and else 1. A fault is told on `faults`.
 pub fn answer<R, I, O, E>(
     rt: &R,
     line: &[&str],

@@ -1,4 +1,4 @@
-//! Why the program didn't do what its words ask for.
+//! Why the program didn't do what its arguments ask for.
 ghost use Rattle.std.specs.Prelude.{◌≡◌};
 ghost use Rattle.nfsd.specs.Faults.{status_of};
 
@@ -7,10 +7,10 @@ use session::SessionFault;
 use std::fmt;
 use store::{FormatFault, OpenFault};
 
-/// Why the program didn't do what its words ask for. Its `Display` is the text for the user.
+/// Why the program didn't do what its arguments ask for. Its `Display` is the text for the user.
 #[derive(Debug, Drop)]
 pub enum Fault {
-    /// The words don't parse.
+    /// The arguments don't parse.
     Words(clap::Error),
     /// The image's file can't be opened or given its length.
     File,

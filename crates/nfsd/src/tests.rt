@@ -1,12 +1,9 @@
-//! Tests of the program and of the layers under it together.
+//! Tests of the program: its arguments, its files and its exit statuses. What goes through the layers below it is
+//! tested in `rows`.
 
-mod devices;
+mod arguments;
 mod first_path;
 mod images;
 mod outcome;
-mod records;
 mod refusals;
-mod spent;
-mod stops;
 mod streams;
-mod wire;

@@ -1,4 +1,4 @@
--- What the words of a command line ask of the program.
+-- What the arguments of a command line ask of the program.
 use Rattle.std.specs.Prelude.{◌≡◌, ℕ, List, [], ◌∷◌, Option, Some, true, codes, pos}
 use Rattle.std.specs.Option.{IsSomeAnd}
 use Rattle.std.specs.Str.Parse.{IsNumeral, digits_value, without_leading_plus}
@@ -8,7 +8,7 @@ use Rattle.clap.specs.declared.builder.ValueParser.TheVariants as value_parser
 use Rattle.nfsd_words.specs.declared.Args.{Args}
 use Rattle.nfsd_words.specs.declared.Args.TheVariants.{Format, Once}
 
--- the image, a word that must be there
+-- the image, an argument that must be there
 abbrev pub image_rule : Rule
 image_rule = record (new_rule (codes "IMAGE")) { required = true }
 
@@ -57,7 +57,7 @@ IsNumber found name number = IsSomeAnd (one_of name found) (λ text.
     IsNumeral 10 (without_leading_plus text)
     × (number ≡ digits_value 10 (without_leading_plus text)))
 
--- a command of this name, with what was found of its words, asks for this
+-- a command of this name, with what was found of its arguments, asks for this
 abbrev pub Asks : Text → List Row → Args → Type 0
 Asks name found (Format image blocks inodes time) = (name ≡ codes "format")
     × (first_of (codes "IMAGE") found ≡ Some image.now)
@@ -70,10 +70,10 @@ Asks name found (Once image time) = (name ≡ codes "once")
 abbrev pub IsAsked : Option (Text × List Row) → Args → Type 0
 IsAsked met args = IsSomeAnd met (λ command. Asks command.0 command.1 args)
 
--- the words, the program's name first, ask for this
+-- the arguments, the program's name first, ask for this
 abbrev pub WordsAsk : List Text → Args → Type 0
 WordsAsk words args = IsAsked (subcommand_of whole_program words) args
 
--- the words ask for something
+-- the arguments ask for something
 abbrev pub HasMeaning : List Text → Type 0
 HasMeaning words = (args : Args) × WordsAsk words args

@@ -1,4 +1,4 @@
-//! The words of the program's command line: which commands there are, and what they take.
+//! The arguments of the program's command line: which commands there are, and what they take.
 #![tactic(auto)]
 
 ghost use Rattle.std.specs.Prelude.{◌≡◌, ◌⊎◌, IfOk, IfErr, IfSome, [], codes, map, false};
@@ -12,10 +12,7 @@ use clap::error::ErrorKind;
 use clap::{Arg, ArgMatches, Command, Error, value_parser};
 use std::alloc::{AllocError, Global};
 
-#[cfg(test)]
-mod tests;
-
-/// What the words ask for.
+/// What the arguments ask for.
 #[derive(Clone, Copy, Debug, PartialEq, Eq)]
 pub enum Args<'a> {
     /// Makes an image anew.
@@ -32,7 +29,7 @@ pub enum Args<'a> {
     },
 }
 
-/// Reads the words of a command line, of which the first is the program's name. A refused value that should have been
+/// Reads the arguments of a command line, of which the first is the program's name. A refused value that should have been
 /// there is reported as missing; that this never comes is tested and not proved.
 pub fn words<'a>(alloc: Global, line: &'a [&'a str]) -> Result<Args<'a>, Error>
     ensures asked { IfOk result (WordsAsk (map (λ word. word.now) line.now)) }

@@ -8,8 +8,6 @@ mod node;
 mod permissions;
 mod refusal;
 mod server;
-#[cfg(test)]
-mod tests;
 mod tree;
 
 pub use kept::Kept;

@@ -1,11 +1,19 @@
-//! Tests that go through several layers.
+//! Tests that go through several layers. The page README.md says which file asks which question.
 
-mod calls;
 mod compared;
+mod failures;
 mod first_path;
-mod messages;
+mod items;
+mod judged;
+mod left;
+mod openings;
 mod plain;
+mod plain_calls;
+mod plain_messages;
+mod records;
+mod replies;
 mod runs;
 mod served;
-mod stops;
-mod wire;
+mod spent;
+mod streams;
+mod values;

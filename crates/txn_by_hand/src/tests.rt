@@ -74,9 +74,10 @@ fn eight(offset: usize) -> Addr
     requires { offset + 8 ≤ BLOCK_BYTES }
     ensures { result.len ≡ 8 }
 {
-    match Addr::new(HOME, offset, 8) {
-        Some(addr) => addr,
-        None => unreachable!(),
+    Addr {
+        block: HOME,
+        offset,
+        len: 8,
     }
 }
 
@@ -243,7 +244,7 @@ fn at_home<D: CrashDisk>(alloc: Global, disk: &mut D) -> Result<u8, Fail>
 {
     let mut block = Block::zeros(alloc)?;
     disk.read(HOME, &mut block)?;
-    Ok(block.as_slice()[0])
+    Ok(first(block.as_slice()))
 }
 
 #[test]
@@ -266,65 +267,100 @@ fn a_change_is_settled_and_brought_home(rt: HostRuntime) -> Result<(), Fail> {
     Ok(())
 }
 
+// Three changes of one object, the last of which has read what the second replaced.
+fn three_changes<D: CrashDisk>(
+    alloc: Global,
+    core: &mut Core<Toy>,
+    disk: &mut D,
+) -> Result<[Ended; 3], Fail>
+    requires size { (D.device disk.old).size ≡ core.old.log.blocks }
+    requires idle { core.old.out ≡ None }
+    ensures size { (D.device disk.new).size ≡ core.new.log.blocks }
+{
+    let first = change(alloc, core, disk, eight(8), 0, 7)?;
+    let second = change(alloc, core, disk, eight(8), 7, 9)?;
+    let third = change(alloc, core, disk, eight(8), 7, 5)?;
+    Ok([first, second, third])
+}
+
 #[test]
 fn a_later_transaction_reads_what_is_not_home(rt: HostRuntime) -> Result<(), Fail> {
     let alloc = rt.alloc();
     let mut disk = MemDisk::new(alloc, BLOCKS)?;
     let mut core = core(alloc, 0)?;
+    let ended = three_changes(alloc, &mut core, &mut disk);
+    let calls = log_all(&mut core, &mut disk);
+    let stable = [core.stable(Seq(2)).is_some(), core.stable(Seq(3)).is_some()];
     assert_eq!(rt;
-        change(alloc, &mut core, &mut disk, eight(8), 0, 7)?,
-        Ended::Place(Seq(1))
+        ended?,
+        [Ended::Place(Seq(1)), Ended::Place(Seq(2)), Ended::Foreign]
     );
-    assert_eq!(rt;
-        change(alloc, &mut core, &mut disk, eight(8), 7, 9)?,
-        Ended::Place(Seq(2))
-    );
-    assert_eq!(rt;
-        change(alloc, &mut core, &mut disk, eight(8), 7, 5)?,
-        Ended::Foreign
-    );
-    assert_eq!(rt; log_all(&mut core, &mut disk), 5);
-    assert!(rt; core.stable(Seq(2)).is_some());
-    assert!(rt; core.stable(Seq(3)).is_none());
+    assert_eq!(rt; calls, 5);
+    assert_eq!(rt; stable, [true, false]);
+    Ok(())
+}
+
+// Wants two objects in a transaction of its own, and tells its number and what came of them.
+fn want_two<D: CrashDisk>(
+    alloc: Global,
+    core: &mut Core<Toy>,
+    disk: &mut D,
+    one: Addr,
+    other: Addr,
+) -> Result<(u64, [Seen; 2]), Fail>
+    requires size { (D.device disk.old).size ≡ core.old.log.blocks }
+    requires idle { core.old.out ≡ None }
+    ensures size { (D.device disk.new).size ≡ core.new.log.blocks }
+    ensures idle { core.new.out ≡ None }
+{
+    let tx = core.begin()?;
+    let number = tx.number();
+    let (tx, first) = want(alloc, core, disk, tx, one);
+    let (tx, second) = want(alloc, core, disk, tx, other);
+    core.abort(tx);
+    Ok((number, [first, second]))
+}
+
+#[test]
+fn blocks_of_the_log_and_past_the_last_are_outside(rt: HostRuntime) -> Result<(), Fail> {
+    let alloc = rt.alloc();
+    let mut disk = MemDisk::new(alloc, BLOCKS)?;
+    let mut core = core(alloc, 0)?;
+    let (number, seen) = want_two(
+        alloc,
+        &mut core,
+        &mut disk,
+        Addr::whole(BlockNo(FIRST_HOME_BLOCK - 1)),
+        Addr::whole(BlockNo(BLOCKS)),
+    )?;
+    assert_eq!(rt; number, 1);
+    assert_eq!(rt; seen, [Seen::Outside, Seen::Outside]);
     Ok(())
 }
 
 #[test]
-fn wants_in_their_order(rt: HostRuntime) -> Result<(), Fail> {
+fn a_block_is_fetched_until_that_succeeds(rt: HostRuntime) -> Result<(), Fail> {
     let alloc = rt.alloc();
     let mut disk = MemDisk::new(alloc, BLOCKS)?;
     disk.fail_at(&[1])?;
     let mut core = core(alloc, 0)?;
-    let tx = core.begin()?;
-    let number = tx.number();
-    let (tx, early) = want(alloc, &mut core, &mut disk, tx, Addr::whole(BlockNo(513)));
-    let (tx, late) = want(
-        alloc,
-        &mut core,
-        &mut disk,
-        tx,
-        Addr::whole(BlockNo(BLOCKS)),
-    );
-    let (tx, failed) = want(alloc, &mut core, &mut disk, tx, eight(0));
-    let (tx, fetched) = want(alloc, &mut core, &mut disk, tx, eight(0));
-    let (tx, held) = want(alloc, &mut core, &mut disk, tx, eight(0));
-    let (tx, busy) = want(alloc, &mut core, &mut disk, tx, eight(4));
-    let (tx, beside) = want(alloc, &mut core, &mut disk, tx, eight(8));
-    core.abort(tx);
-    let again = core.begin()?;
-    let next = again.number();
-    let (again, anew) = want(alloc, &mut core, &mut disk, again, eight(4));
-    core.abort(again);
-    assert_eq!(rt; [number, next], [1, 2]);
-    assert_eq!(rt; [early, late], [Seen::Outside, Seen::Outside]);
-    assert_eq!(rt;
-        [failed, fetched, held],
-        [Seen::FetchFailed, Seen::Fetched, Seen::Bytes(0)]
-    );
-    assert_eq!(rt;
-        [busy, beside, anew],
-        [Seen::Busy, Seen::Bytes(0), Seen::Fetched]
-    );
+    let (_, seen) = want_two(alloc, &mut core, &mut disk, eight(0), eight(0))?;
+    assert_eq!(rt; seen, [Seen::FetchFailed, Seen::Fetched]);
+    let (number, anew) = want_two(alloc, &mut core, &mut disk, eight(0), eight(0))?;
+    assert_eq!(rt; number, 2);
+    assert_eq!(rt; anew, [Seen::Fetched, Seen::Bytes(0)]);
+    Ok(())
+}
+
+#[test]
+fn bytes_that_are_taken_by_another_address_are_busy(rt: HostRuntime) -> Result<(), Fail> {
+    let alloc = rt.alloc();
+    let mut disk = MemDisk::new(alloc, BLOCKS)?;
+    let mut core = core(alloc, 0)?;
+    let (_, seen) = want_two(alloc, &mut core, &mut disk, eight(0), eight(4))?;
+    assert_eq!(rt; seen, [Seen::Fetched, Seen::Busy]);
+    let (_, beside) = want_two(alloc, &mut core, &mut disk, eight(4), eight(12))?;
+    assert_eq!(rt; beside, [Seen::Fetched, Seen::Bytes(0)]);
     Ok(())
 }
 
@@ -364,29 +400,39 @@ fn a_claimed_block_is_written_whole(rt: HostRuntime) -> Result<(), Fail> {
 }
 
 #[test]
-fn commits_are_refused_in_their_order(rt: HostRuntime) -> Result<(), Fail> {
+fn a_log_without_positions_is_spent(rt: HostRuntime) -> Result<(), Fail> {
     let alloc = rt.alloc();
     let mut disk = MemDisk::new(alloc, BLOCKS)?;
-    let mut spent = core(alloc, u64::MAX)?;
-    assert_eq!(rt;
-        change(alloc, &mut spent, &mut disk, eight(0), 0, 7)?,
-        Ended::Spent
-    );
-    assert_eq!(rt;
-        change(alloc, &mut spent, &mut disk, eight(0), 1, 7)?,
-        Ended::Foreign
-    );
+    let mut core = core(alloc, u64::MAX)?;
+    let spent = change(alloc, &mut core, &mut disk, eight(0), 0, 7)?;
+    let foreign = change(alloc, &mut core, &mut disk, eight(0), 1, 7)?;
+    assert_eq!(rt; [spent, foreign], [Ended::Spent, Ended::Foreign]);
+    Ok(())
+}
+
+#[test]
+fn a_change_that_was_not_read_is_foreign(rt: HostRuntime) -> Result<(), Fail> {
+    let alloc = rt.alloc();
+    let mut disk = MemDisk::new(alloc, BLOCKS)?;
     let mut core = core(alloc, 0)?;
-    let unread = change_of(alloc, eight(0), 0, 7)?;
+    let toy = change_of(alloc, eight(0), 0, 7)?;
     let tx = core.begin()?;
     let (tx, _) = want(alloc, &mut core, &mut disk, tx, eight(0));
-    assert_eq!(rt; commit(alloc, &mut core, tx, unread), Ended::Foreign);
-    let mut other = change_of(alloc, eight(0), 0, 7)?;
-    other.inodes = 96;
+    assert_eq!(rt; commit(alloc, &mut core, tx, toy), Ended::Foreign);
+    Ok(())
+}
+
+#[test]
+fn a_change_for_other_counts_is_foreign(rt: HostRuntime) -> Result<(), Fail> {
+    let alloc = rt.alloc();
+    let mut disk = MemDisk::new(alloc, BLOCKS)?;
+    let mut core = core(alloc, 0)?;
+    let mut toy = change_of(alloc, eight(0), 0, 7)?;
+    toy.inodes = 96;
     let tx = core.begin()?;
     let (tx, _) = want(alloc, &mut core, &mut disk, tx, eight(0));
     let (tx, _) = want(alloc, &mut core, &mut disk, tx, eight(0));
-    assert_eq!(rt; commit(alloc, &mut core, tx, other), Ended::Foreign);
+    assert_eq!(rt; commit(alloc, &mut core, tx, toy), Ended::Foreign);
     Ok(())
 }
 
@@ -408,19 +454,15 @@ fn a_failed_call_of_the_log_breaks_the_core(rt: HostRuntime) -> Result<(), Fail>
     assert!(rt; core.broken());
     assert_eq!(rt; ended, Ended::Broken);
     assert!(rt; core.stable(Seq(1)).is_none());
-    begin_refused(&mut core, BeginFault::Broken)
+    assert_eq!(rt; begin_and_end(&mut core), Err(BeginFault::Broken));
+    Ok(())
 }
 
-// No transaction is begun, for this cause.
-fn begin_refused(core: &mut Core<Toy>, cause: BeginFault) -> Result<(), Fail>
+// Begins a transaction and ends it.
+fn begin_and_end(core: &mut Core<Toy>) -> Result<(), BeginFault>
     requires { core.old.out ≡ None }
 {
-    match core.begin() {
-        Ok(tx) => {
-            core.abort(tx);
-            Err("begun")?
-        }
-        Err(fault) if fault == cause => Ok(()),
-        Err(_) => Err("another cause")?,
-    }
+    let tx = core.begin()?;
+    core.abort(tx);
+    Ok(())
 }

@@ -16,8 +16,8 @@ fn files_that_are_no_images(rt: HostRuntime) -> Result<(), Fail> {
     remove(&rt, &["text.img", "nothing.img", "zeros.img"])
 }
 
-/// Gives bytes of a file another value.
-pub fn poke(rt: &impl Host, image: &str, at: usize, bytes: &[u8]) -> Result<(), Fail> {
+// Gives bytes of a file another value.
+fn poke(rt: &impl Host, image: &str, at: usize, bytes: &[u8]) -> Result<(), Fail> {
     let mut held = fs::read(rt, image)?;
     for (place, byte) in held.iter_mut().skip(at).zip(bytes) {
         *place = *byte;

@@ -1,10 +1,10 @@
-//! The program run on words and an input, with all that it wrote.
+//! The program run on arguments and an input, with all that it wrote.
 
 use crate::answer::answer;
-use crate::tests::wire::{bytes, stream};
 use std::fs::{File, Files, remove_file};
 use std::process::Abort;
 use std::test::Fail;
+use worked_messages::stream;
 
 /// A runtime that has files and can end a test.
 pub trait Host: Files<File = File> + AllocGlobal + Abort {}
@@ -69,14 +69,14 @@ pub fn assert_served(
     Ok(())
 }
 
-/// The program ended with status 1 and this fault, after it wrote these words.
+/// The program ended with status 1 and this fault, after it wrote these replies.
 pub fn assert_fault(
     rt: &impl Host,
     ran: &Outcome,
     fault: &[u8],
-    words: &[u32],
+    replies: &[&[u32]],
 ) -> Result<(), Fail> {
-    let wanted = bytes(rt.alloc(), words)?;
+    let wanted = stream(rt.alloc(), replies)?;
     assert!(rt; ran.faults.as_slice() == fault);
     assert_eq!(rt; ran.status, 1);
     assert!(rt; ran.output == wanted);

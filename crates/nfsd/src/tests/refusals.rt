@@ -1,4 +1,4 @@
-//! Words, files and sizes that the program refuses, and what it prints where it doesn't.
+//! Files and sizes that the program refuses, and what it prints where it doesn't.
 
 use crate::tests::outcome::{Host, Outcome, assert_fault, once, remove, run};
 use std::test::Fail;
@@ -44,15 +44,6 @@ fn format_refuses_inodes(rt: HostRuntime) -> Result<(), Fail> {
         assert_fault(&rt, &ran, b"nfsd: 2 Inodes\n", &[])?;
     }
     remove(&rt, &["inodes.img"])
-}
-
-#[test]
-fn other_words_have_status_two(rt: HostRuntime) {
-    for word in ["--help", "check", "serve", "format", "once"] {
-        let ran = run(&rt, &["nfsd", word], &[]);
-        assert_eq!(rt; ran.status, 2, "{word}");
-        assert!(rt; ran.output.is_empty() && !ran.faults.is_empty(), "{word}");
-    }
 }
 
 #[test]

@@ -1,13 +1,13 @@
-//! Inputs and outputs that fail in mid-stream.
+//! Inputs that end a session early, and inputs and outputs that fail in mid-stream: the fault, the status and the replies.
 
 use crate::answer::answer;
-use crate::tests::outcome::{Host, Outcome, assert_fault, assert_served, fresh, remove};
-use crate::tests::wire::{
-    CHANGED_REPLY, GETATTR_CALL, NULL_CALL, NULL_REPLY, SETATTR_CALL, SETATTR_REPLY, stream,
-};
+use crate::tests::outcome::{Host, Outcome, assert_fault, assert_served, fresh, once, remove};
 use std::io;
 use std::io::{Error, ErrorKind, Read, Write};
 use std::test::Fail;
+use worked_messages::{
+    GETATTR, GETATTR_CHANGED, NULL, NULL_REPLY, SETATTR, SETATTR_DONE, TOO_LONG, stream,
+};
 
 // An input that fails behind its bytes.
 #[derive(Drop)]
@@ -62,26 +62,44 @@ fn served<I: Read>(rt: &impl Host, image: &str, reader: &mut I, room: usize) -> 
 #[test]
 fn an_input_that_fails(rt: HostRuntime) -> Result<(), Fail> {
     fresh(&rt, "input.img");
-    let input = stream(rt.alloc(), &[&SETATTR_CALL])?;
+    let input = stream(rt.alloc(), &[&SETATTR])?;
     let ran = served(&rt, "input.img", &mut Broken(input.as_slice()), usize::MAX);
-    assert_fault(&rt, &ran, b"nfsd: 2 Input\n", &SETATTR_REPLY)?;
-    assert_served(&rt, "input.img", &[&GETATTR_CALL], &[&CHANGED_REPLY])?;
+    assert_fault(&rt, &ran, b"nfsd: 2 Input\n", &[&SETATTR_DONE])?;
+    assert_served(&rt, "input.img", &[&GETATTR], &[&GETATTR_CHANGED])?;
     remove(&rt, &["input.img"])
 }
 
 #[test]
 fn an_output_that_fails(rt: HostRuntime) -> Result<(), Fail> {
     fresh(&rt, "output.img");
-    let input = stream(rt.alloc(), &[&NULL_CALL, &SETATTR_CALL, &NULL_CALL])?;
+    let input = stream(rt.alloc(), &[&NULL, &SETATTR, &NULL])?;
     let ran = served(
         &rt,
         "output.img",
         &mut input.as_slice(),
         NULL_REPLY.len() * 4,
     );
-    assert_fault(&rt, &ran, b"nfsd: 3 Output\n", &NULL_REPLY)?;
-    assert_served(&rt, "output.img", &[&GETATTR_CALL], &[&CHANGED_REPLY])?;
+    assert_fault(&rt, &ran, b"nfsd: 3 Output\n", &[&NULL_REPLY])?;
+    assert_served(&rt, "output.img", &[&GETATTR], &[&GETATTR_CHANGED])?;
     remove(&rt, &["output.img"])
+}
+
+#[test]
+fn an_input_that_ends_in_a_record(rt: HostRuntime) -> Result<(), Fail> {
+    fresh(&rt, "truncated.img");
+    let two = stream(rt.alloc(), &[&NULL, &NULL])?;
+    let ran = once(&rt, "truncated.img", two.get(..45).unwrap_or(&[]));
+    assert_fault(&rt, &ran, b"nfsd: 5 Truncated\n", &[&NULL_REPLY])?;
+    remove(&rt, &["truncated.img"])
+}
+
+#[test]
+fn a_record_that_ends_the_session(rt: HostRuntime) -> Result<(), Fail> {
+    fresh(&rt, "record.img");
+    let input = stream(rt.alloc(), &[&NULL, &TOO_LONG])?;
+    let ran = once(&rt, "record.img", input.as_slice());
+    assert_fault(&rt, &ran, b"nfsd: 1 Record\n", &[&NULL_REPLY])?;
+    remove(&rt, &["record.img"])
 }
 
 #[test]

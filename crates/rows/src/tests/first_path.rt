@@ -1,14 +1,14 @@
 //! A fresh image, and the calls that are served so far, through both bodies.
 
-use crate::tests::calls::{GETATTR, GETATTR_REPLY, SETATTR, SETATTR_REPLY, record};
 use crate::tests::compared::{is_same_reply, is_tree_of};
 use crate::tests::plain::{DATA_BLOCKS, fresh, reply_in, reply_to};
-use crate::tests::served::{Host, INODES, MADE, formatted, serve_one};
+use crate::tests::served::{Host, INODES, MADE, formatted, has_replies, reopened, serve};
 use disk::MemDisk;
 use limits::LEAST_BLOCKS;
 use plain_image::read_image;
 use session_wire::nfs_codec::Procedure;
 use std::test::Fail;
+use worked_messages::{GETATTR, GETATTR_FRESH, SETATTR, SETATTR_DONE};
 
 #[test]
 fn a_fresh_image(rt: HostRuntime) -> Result<(), Fail> {
@@ -22,29 +22,30 @@ fn a_fresh_image(rt: HostRuntime) -> Result<(), Fail> {
     Ok(())
 }
 
-// Serves a call through both bodies, which have to agree, and with the reply of these words.
+// Serves a call through both bodies, which have to agree, and with this reply.
 fn agrees(rt: &impl Host, procedure: Procedure, call: &[u32], reply: &[u32]) -> Result<(), Fail> {
     let alloc = rt.alloc();
-    let served = serve_one(alloc, formatted(alloc)?, call)?;
-    let wanted = record(alloc, reply)?;
-    assert!(rt; served.output.as_slice() == wanted.as_slice());
+    let served = serve(alloc, formatted(alloc)?, &[call])?;
+    assert_eq!(rt; served.boot, 1);
+    assert_eq!(rt; served.result, Ok(1));
+    assert!(rt; has_replies(alloc, &served, &[reply])?);
     let mut tree = fresh(alloc)?;
     let plain = reply_to(alloc, &mut tree, served.boot, call)?;
     let (xid, told) = reply_in(procedure, &served.output)?;
-    assert_eq!(rt; Some(&xid), call.first());
+    assert_eq!(rt; Some(&xid), call.get(1));
     assert!(rt; is_same_reply(&plain, &told));
-    let image = read_image(alloc, &served.disk)?;
-    assert_eq!(rt; image.boot, 1);
+    let image = read_image(alloc, &reopened(alloc, served.disk)?)?;
+    assert_eq!(rt; image.boot, 2);
     assert!(rt; is_tree_of(&image, &tree));
     Ok(())
 }
 
 #[test]
 fn getattr_of_the_root(rt: HostRuntime) -> Result<(), Fail> {
-    agrees(&rt, Procedure::GetAttr, &GETATTR, &GETATTR_REPLY)
+    agrees(&rt, Procedure::GetAttr, &GETATTR, &GETATTR_FRESH)
 }
 
 #[test]
 fn setattr_of_the_roots_mode(rt: HostRuntime) -> Result<(), Fail> {
-    agrees(&rt, Procedure::SetAttr, &SETATTR, &SETATTR_REPLY)
+    agrees(&rt, Procedure::SetAttr, &SETATTR, &SETATTR_DONE)
 }

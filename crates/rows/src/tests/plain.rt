@@ -1,6 +1,5 @@
 //! The same by the plain programs: a call's bytes are read as a value, which is served over a tree.
 
-use crate::tests::calls::bytes;
 use crate::tests::served::{INODES, MADE, NOW};
 use nfs_types::{Call, Credential, Ctx, Numbers, Reply};
 use plain_server::PlainTree;
@@ -9,6 +8,7 @@ use session_wire::nfs_codec::Procedure;
 use session_wire::{MessageCredential, ReplyBody};
 use std::alloc::{AllocError, Global};
 use std::test::Fail;
+use worked_messages::content;
 
 /// The data blocks of an image of 1,024 blocks and 64 inodes.
 pub const DATA_BLOCKS: u32 = 506;
@@ -30,20 +30,20 @@ fn caller(alloc: Global, credential: MessageCredential) -> Credential {
     }
 }
 
-/// Who asks for what by these words.
-pub fn asked(alloc: Global, words: &[u32]) -> Result<(Credential, Call), Fail> {
-    let message = read_call(alloc, &bytes(alloc, words)?)?.ok_or("a call")?;
-    Ok((caller(alloc, message.credential), message.call))
+/// Who asks for what by this message.
+pub fn asked(alloc: Global, message: &[u32]) -> Result<(Credential, Call), Fail> {
+    let read = read_call(alloc, &content(alloc, message)?)?.ok_or("a call")?;
+    Ok((caller(alloc, read.credential), read.call))
 }
 
-/// The reply to a call of these words, with which the tree goes on.
+/// The reply to this message, with which the tree goes on.
 pub fn reply_to(
     alloc: Global,
     tree: &mut PlainTree,
     boot: u64,
-    words: &[u32],
+    message: &[u32],
 ) -> Result<Reply, Fail> {
-    let (credential, call) = asked(alloc, words)?;
+    let (credential, call) = asked(alloc, message)?;
     let ctx = Ctx {
         credential,
         moment: NOW,
@@ -51,6 +51,13 @@ pub fn reply_to(
         transaction: 1,
     };
     Ok(plain_server::serve(tree, &ctx, &call)?)
+}
+
+/// The tree of a fresh image after this message.
+pub fn changed_by(alloc: Global, message: &[u32]) -> Result<PlainTree, Fail> {
+    let mut tree = fresh(alloc)?;
+    reply_to(alloc, &mut tree, 1, message)?;
+    Ok(tree)
 }
 
 /// The number and the reply that these bytes spell behind their mark.

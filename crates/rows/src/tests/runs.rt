@@ -1,28 +1,31 @@
-//! A SETATTR of the root's mode by events, stopped after each device call of its group: when it is answered, and what a
-//! crash then leaves.
+//! A SETATTR of the root's mode as a run of events, stopped after each of them by a crash: when it is answered, and what
+//! the crash leaves.
 
-use crate::tests::calls::SETATTR;
-use crate::tests::compared::{is_same_reply, is_tree_of};
+use crate::tests::compared::is_same_reply;
+use crate::tests::left::{CHOICES, LOG_CALLS, assert_left};
 use crate::tests::plain::{asked, fresh, reply_to};
-use crate::tests::served::{Host, NOW, formatted, reopened};
+use crate::tests::served::{Host, NOW, formatted};
+use disk::MemDisk;
 use nfs_types::Reply;
-use plain_image::read_image;
-use std::alloc::Global;
+use session::{answer_to, reply_bytes};
+use std::alloc::{AllocError, Global};
 use std::test::Fail;
-use store::{Event, Run, Verdict, run};
+use store::{Event, Run, Step, Verdict, run};
+use worked_messages::{SETATTR, SETATTR_DONE, spelled};
 
-/// The calls of a group of one block that the log makes: the block's content, a barrier, the header, a barrier.
-const LOG_CALLS: usize = 4;
-
-/// Those by which the installer brings it home: the block, a barrier, the log's start, a barrier.
+// The calls of the installer for a group of one block: the block, a barrier, the log's start, a barrier.
 const HOME_CALLS: usize = 4;
 
-/// More steps than a procedure has.
-const MOST_STEPS: usize = 20;
+// How often the worker may go on before the log does. It reads one block.
+const STEPS: usize = 8;
 
-// A call that is handed to the worker, the steps of its procedure, and then so many device calls of the log and of the
-// installer, after each of which the worker makes a step.
-fn schedule(alloc: Global, calls: usize) -> Result<Vec<Event>, Fail> {
+// The events up to the commit, and those of a device call.
+const COMMIT_EVENTS: usize = 1 + 2 * STEPS;
+
+const CALL_EVENTS: usize = 4;
+
+// A call that is handed to the worker, and the steps of its procedure.
+fn worked(alloc: Global) -> Result<Vec<Event>, Fail> {
     let (credential, call) = asked(alloc, &SETATTR)?;
     let mut events = Vec::new(alloc);
     events.push(Event::Call {
@@ -31,62 +34,146 @@ fn schedule(alloc: Global, calls: usize) -> Result<Vec<Event>, Fail> {
         moment: NOW,
         call,
     })?;
-    for _ in 0..MOST_STEPS {
+    for _ in 0..STEPS {
         events.push(Event::Work(0))?;
         events.push(Event::Read(0))?;
     }
-    for made in 0..calls {
-        let logs = made < LOG_CALLS;
-        events.push(if logs { Event::Log } else { Event::Install })?;
-        events.push(if logs { Event::LogIo } else { Event::InstIo })?;
-        events.push(if logs { Event::Log } else { Event::Install })?;
+    Ok(events)
+}
+
+// Then each device call of the log and one round more, and each of the installer and one round more. After each the
+// worker makes a step. What doesn't apply does nothing.
+fn schedule(alloc: Global) -> Result<Vec<Event>, Fail> {
+    let mut events = worked(alloc)?;
+    for _ in 0..=LOG_CALLS {
+        events.push(Event::Log)?;
+        events.push(Event::LogIo)?;
+        events.push(Event::Log)?;
+        events.push(Event::Work(0))?;
+    }
+    for _ in 0..=HOME_CALLS {
+        events.push(Event::Install)?;
+        events.push(Event::InstIo)?;
+        events.push(Event::Install)?;
         events.push(Event::Work(0))?;
     }
     Ok(events)
 }
 
-// Whether the only answer of the run is this reply.
-fn answers(ran: &Run, reply: &Reply) -> bool {
-    match ran.answers.as_slice() {
-        [answer] => match &answer.verdict {
-            Verdict::Reply(told) => is_same_reply(told, reply),
-            Verdict::NoMemory => false,
-        },
-        _ => false,
+// Runs the first of these events on a fresh image.
+fn ran(alloc: Global, count: usize) -> Result<(MemDisk, Run), Fail> {
+    let mut events = schedule(alloc)?;
+    events.truncate(count);
+    let (disk, ran) = run(alloc, formatted(alloc)?, 1, events);
+    Ok((disk, ran?))
+}
+
+// How many calls of the log the first of these events make.
+fn log_calls(count: usize) -> usize {
+    let behind = count.saturating_sub(COMMIT_EVENTS).saturating_add(2);
+    (behind / CALL_EVENTS).min(LOG_CALLS)
+}
+
+// Whether the mode is the new one: from the header's write to its barrier it is where the crash leaves the header, which
+// is then the one block that has two contents.
+fn is_new(count: usize, digits: [u32; 2]) -> bool {
+    match log_calls(count) {
+        0..3 => false,
+        3 => digits[0] == 1,
+        _ => true,
     }
 }
 
-// Runs the first of these events, crashes, and decodes the image that an opening then leaves.
-fn stopped(rt: &impl Host, calls: usize, digits: &[u32]) -> Result<(), Fail> {
-    let alloc = rt.alloc();
-    let events = schedule(alloc, calls)?;
-    let taken = events.len();
-    let (disk, ran) = run(alloc, formatted(alloc)?, 1, events);
-    let ran = ran?;
-    assert_eq!(rt; ran.boot, 1);
-    assert_eq!(rt; ran.steps.len(), taken);
-    assert_eq!(rt; ran.history.len(), 1);
-    let old = fresh(alloc)?;
-    let mut changed = fresh(alloc)?;
-    let reply = reply_to(alloc, &mut changed, ran.boot, &SETATTR)?;
-    assert_eq!(rt; ran.answers.is_empty(), calls < LOG_CALLS);
-    assert_eq!(rt; answers(&ran, &reply), calls >= LOG_CALLS);
-    let image = read_image(alloc, &reopened(alloc, disk.crash(digits))?)?;
-    assert_eq!(rt; image.boot, 2);
-    // between the header's write and its barrier it is where the crash leaves the header
-    let is_new = calls >= LOG_CALLS || calls == LOG_CALLS - 1 && digits.first() == Some(&1);
-    assert_eq!(rt; is_tree_of(&image, &changed), is_new);
-    assert_eq!(rt; is_tree_of(&image, &old), !is_new);
+// Whether the worker has made the step behind the log's last call.
+fn is_answered(count: usize) -> bool {
+    count >= COMMIT_EVENTS + CALL_EVENTS * LOG_CALLS
+}
+
+#[test]
+fn what_a_stop_leaves(rt: HostRuntime) -> Result<(), Fail> {
+    for count in 0..=schedule(rt.alloc())?.len() {
+        for digits in CHOICES {
+            let (disk, _) = ran(rt.alloc(), count)?;
+            let boot = assert_left(&rt, disk.crash(&digits), is_new(count, digits))?;
+            assert_eq!(rt; boot, 2, "{count}");
+        }
+    }
     Ok(())
 }
 
 #[test]
-fn a_run_stopped_after_each_call(rt: HostRuntime) -> Result<(), Fail> {
-    let choices: [&[u32]; 3] = [&[], &[1, 1], &[0, 1]];
-    for calls in 0..=LOG_CALLS + HOME_CALLS {
-        for digits in choices {
-            stopped(&rt, calls, digits)?;
+fn what_a_run_tells(rt: HostRuntime) -> Result<(), Fail> {
+    for count in 0..=schedule(rt.alloc())?.len() {
+        let (_, run) = ran(rt.alloc(), count)?;
+        assert_eq!(rt; run.boot, 1);
+        assert_eq!(rt; run.steps.len(), count);
+        assert_eq!(rt;
+            run.answers.len(),
+            usize::from(is_answered(count)),
+            "{count}"
+        );
+        // it is committed in one of the worker's steps
+        if count >= COMMIT_EVENTS {
+            assert_eq!(rt; run.history.len(), 1, "{count}");
         }
     }
+    Ok(())
+}
+
+// Whether the verdict is written as the worked reply.
+fn is_so_written(alloc: Global, verdict: &Verdict) -> Result<bool, AllocError> {
+    let mut out = Vec::new(alloc);
+    reply_bytes(alloc, &mut out, 4, answer_to(verdict))?;
+    let wanted = spelled(alloc, &SETATTR_DONE)?;
+    Ok(out.as_slice() == wanted.as_slice())
+}
+
+fn is_reply(verdict: &Verdict, reply: &Reply) -> bool {
+    match verdict {
+        Verdict::Reply(told) => is_same_reply(told, reply),
+        Verdict::NoMemory => false,
+    }
+}
+
+// Whether each answer of the run is the worked reply, which is the plain server's too.
+fn has_worked_answers(alloc: Global, run: &Run) -> Result<bool, Fail> {
+    let mut tree = fresh(alloc)?;
+    let reply = reply_to(alloc, &mut tree, run.boot, &SETATTR)?;
+    for answer in &run.answers {
+        if !is_reply(&answer.verdict, &reply) || !is_so_written(alloc, &answer.verdict)? {
+            return Ok(false);
+        }
+    }
+    Ok(true)
+}
+
+#[test]
+fn what_a_run_answers(rt: HostRuntime) -> Result<(), Fail> {
+    for count in 0..=schedule(rt.alloc())?.len() {
+        let (_, run) = ran(rt.alloc(), count)?;
+        assert!(rt; has_worked_answers(rt.alloc(), &run)?, "{count}");
+    }
+    Ok(())
+}
+
+// How many device calls the steps made.
+fn calls(steps: &[Option<Step>]) -> usize {
+    let mut count: usize = 0;
+    for step in steps {
+        if let Some(Step::Read(_, true) | Step::LogIo(true) | Step::InstIo(true)) = step {
+            count = count.saturating_add(1);
+        }
+    }
+    count
+}
+
+#[test]
+fn it_is_answered_once_it_is_settled(rt: HostRuntime) -> Result<(), Fail> {
+    let alloc = rt.alloc();
+    let (_, run) = ran(alloc, schedule(alloc)?.len())?;
+    let answer = run.answers.first().ok_or("no answer")?;
+    // a read, and the calls of the log, and in the end those of the installer
+    assert_eq!(rt; answer.moment, 1 + LOG_CALLS as u64);
+    assert_eq!(rt; calls(&run.steps), 1 + LOG_CALLS + HOME_CALLS);
     Ok(())
 }

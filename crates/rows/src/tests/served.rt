@@ -1,12 +1,13 @@
 //! The server over a device in memory: bytes in, bytes out, and an image.
 
-use crate::tests::calls::record;
 use disk::MemDisk;
 use limits::LEAST_BLOCKS;
 use nfs_types::Moment;
-use std::alloc::Global;
+use session::SessionFault;
+use std::alloc::{AllocError, Global};
 use std::process::Abort;
 use std::test::Fail;
+use worked_messages::stream;
 
 /// A runtime that can end a test.
 pub trait Host: AllocGlobal + Abort {}
@@ -27,11 +28,12 @@ pub const NOW: Moment = Moment {
     nanoseconds: 0,
 };
 
-/// What serving one call gave: what was written, and the image.
+/// What serving a stream gave.
 #[derive(Drop)]
 pub struct Served {
     pub boot: u64,
     pub output: Vec<u8>,
+    pub result: Result<u64, SessionFault>,
     pub disk: MemDisk,
 }
 
@@ -42,23 +44,35 @@ pub fn formatted(alloc: Global) -> Result<MemDisk, Fail> {
     Ok(disk)
 }
 
-/// Opens the image and closes it.
+/// Opens the image and closes it, which brings home what the log has.
 pub fn reopened(alloc: Global, disk: MemDisk) -> Result<MemDisk, Fail> {
     let store = store::open(alloc, disk).map_err(|refused| refused.1)?;
     Ok(store::close(store))
 }
 
-/// Serves one call. A fault of the device shows in what was written.
-pub fn serve_one(alloc: Global, disk: MemDisk, call: &[u32]) -> Result<Served, Fail> {
-    let input = record(alloc, call)?;
+/// Opens the image and serves a stream of these bytes.
+pub fn serve_bytes(alloc: Global, disk: MemDisk, input: &[u8]) -> Result<Served, Fail> {
     let mut store = store::open(alloc, disk).map_err(|refused| refused.1)?;
     let boot = store.boot();
-    let mut reader = input.as_slice();
+    let mut reader = input;
     let mut output = Vec::new(alloc);
-    let _ = session::serve(alloc, &mut store, &mut reader, &mut output, NOW);
+    let result = session::serve(alloc, &mut store, &mut reader, &mut output, NOW);
     Ok(Served {
         boot,
         output,
+        result,
         disk: store::close(store),
     })
+}
+
+/// Opens the image and serves a stream of these messages.
+pub fn serve(alloc: Global, disk: MemDisk, messages: &[&[u32]]) -> Result<Served, Fail> {
+    let input = stream(alloc, messages)?;
+    serve_bytes(alloc, disk, input.as_slice())
+}
+
+/// Whether these replies were written, and no more.
+pub fn has_replies(alloc: Global, served: &Served, replies: &[&[u32]]) -> Result<bool, AllocError> {
+    let wanted = stream(alloc, replies)?;
+    Ok(served.output.as_slice() == wanted.as_slice())
 }

@@ -2,7 +2,7 @@ use Rattle.std.proofs.Common.{ℕ, ◌+◌, ◌≤◌, Bool, true, false, cond, 
 use Rattle.std.specs.Ordering.{nat_cmp}
 use Rattle.std.specs.Cmp.{nat_cmp_total}
 use Rattle.std.specs.FinSet as set
-use Rattle.plain_server.proofs.tests.file.Goals as goal
+use Rattle.rows.proofs.tests.plain_calls.blocks_0_and_8.Goals as goal
 
 one_more : (b : Bool) (n : ℕ) → cond b n (n + 1) ≤ n + 1
 one_more true n = omega arith

@@ -1,0 +1,73 @@
+//! What the server takes worked calls for.
+
+use crate::tests::values::{REFUSED, is_worked_setattr};
+use nfs_types::Call;
+use session_wire::rpc::Refusal;
+use session_wire::{Judged, judge};
+use std::alloc::{AllocError, Global};
+use std::test::Fail;
+use worked_messages::{NULL, SETATTR, content};
+
+fn judged(alloc: Global, message: &[u32]) -> Result<Judged, AllocError> {
+    let bytes = content(alloc, message)?;
+    judge(alloc, bytes.as_slice())
+}
+
+fn is_null(call: &Call) -> bool {
+    matches!(call, Call::Null)
+}
+
+// Whether it is NULL by nobody, transaction 1.
+fn is_worked_null(judged: &Judged) -> bool {
+    match judged {
+        Judged::Call {
+            xid,
+            credential,
+            call,
+        } => *xid == 1 && credential.uid == 65_534 && is_null(call),
+        _ => false,
+    }
+}
+
+#[test]
+fn null_by_nobody(rt: HostRuntime) -> Result<(), Fail> {
+    let found = judged(rt.alloc(), &NULL)?;
+    assert!(rt; is_worked_null(&found));
+    Ok(())
+}
+
+// Whether it is the SETATTR by user 0, transaction 4.
+fn is_setattr_by_root(judged: &Judged) -> bool {
+    match judged {
+        Judged::Call {
+            xid,
+            credential,
+            call,
+        } => *xid == 4 && credential.uid == 0 && is_worked_setattr(call),
+        _ => false,
+    }
+}
+
+#[test]
+fn setattr_of_the_roots_mode(rt: HostRuntime) -> Result<(), Fail> {
+    let found = judged(rt.alloc(), &SETATTR)?;
+    assert!(rt; is_setattr_by_root(&found));
+    Ok(())
+}
+
+// Whether transaction 1 gets this refusal.
+fn is_refused(judged: &Judged, wanted: Refusal) -> bool {
+    match judged {
+        Judged::Refused { xid, refusal } => *xid == 1 && *refusal == wanted,
+        _ => false,
+    }
+}
+
+#[test]
+fn calls_that_are_refused(rt: HostRuntime) -> Result<(), Fail> {
+    for (message, refusal, _) in REFUSED {
+        let found = judged(rt.alloc(), message)?;
+        assert!(rt; is_refused(&found, refusal), "{refusal:?}");
+    }
+    Ok(())
+}

@@ -1,0 +1,105 @@
+//! Streams of several records, and records that aren't answered by a procedure.
+
+use crate::tests::served::{formatted, has_replies, serve, serve_bytes};
+use crate::tests::values::REFUSED;
+use session::SessionFault;
+use std::alloc::{AllocError, Global};
+use std::test::Fail;
+use worked_messages::{
+    GETATTR, GETATTR_CHANGED, GETATTR_FRESH, NO_CALL, NO_LAST_FRAGMENT, NO_VERSION, NULL,
+    NULL_REPLY, SETATTR, SETATTR_DONE, TOO_LONG, spelled, stream,
+};
+
+#[test]
+fn calls_of_one_stream(rt: HostRuntime) -> Result<(), Fail> {
+    let alloc = rt.alloc();
+    let served = serve(
+        alloc,
+        formatted(alloc)?,
+        &[&GETATTR, &NULL, &SETATTR, &GETATTR],
+    )?;
+    assert!(rt;
+        has_replies(
+            alloc,
+            &served,
+            &[&GETATTR_FRESH, &NULL_REPLY, &SETATTR_DONE, &GETATTR_CHANGED]
+        )?
+    );
+    assert_eq!(rt; served.result, Ok(4));
+    let after = serve(alloc, served.disk, &[&GETATTR])?;
+    assert!(rt; has_replies(alloc, &after, &[&GETATTR_CHANGED])?);
+    Ok(())
+}
+
+// Whether the first bytes of two NULL calls get these replies, and then the fault.
+fn is_truncated(alloc: Global, kept: usize, replies: &[&[u32]]) -> Result<bool, Fail> {
+    let two = stream(alloc, &[&NULL, &NULL])?;
+    let input = two.get(..kept).unwrap_or(&[]);
+    let served = serve_bytes(alloc, formatted(alloc)?, input)?;
+    let ends = served.result == Err(SessionFault::Truncated);
+    Ok(ends && has_replies(alloc, &served, replies)?)
+}
+
+#[test]
+fn inputs_that_end_in_a_record(rt: HostRuntime) -> Result<(), Fail> {
+    for kept in [3, 4, 5, 43] {
+        assert!(rt; is_truncated(rt.alloc(), kept, &[])?, "{kept}");
+    }
+    for kept in [45, 87] {
+        assert!(rt; is_truncated(rt.alloc(), kept, &[&NULL_REPLY])?, "{kept}");
+    }
+    Ok(())
+}
+
+#[test]
+fn records_that_end_the_session(rt: HostRuntime) -> Result<(), Fail> {
+    let alloc = rt.alloc();
+    let closed: [&[u32]; 5] = [
+        &TOO_LONG,
+        &NO_LAST_FRAGMENT,
+        &NULL_REPLY,
+        &NO_CALL,
+        &NO_VERSION,
+    ];
+    for record in closed {
+        let served = serve(alloc, formatted(alloc)?, &[&NULL, record, &NULL])?;
+        assert!(rt; has_replies(alloc, &served, &[&NULL_REPLY])?);
+        assert_eq!(rt; served.result, Err(SessionFault::Record));
+    }
+    Ok(())
+}
+
+#[test]
+fn calls_that_are_refused(rt: HostRuntime) -> Result<(), Fail> {
+    let alloc = rt.alloc();
+    for (call, refusal, reply) in REFUSED {
+        let served = serve(alloc, formatted(alloc)?, &[call])?;
+        assert!(rt; has_replies(alloc, &served, &[reply])?, "{refusal:?}");
+        assert_eq!(rt; served.result, Ok(1), "{refusal:?}");
+    }
+    Ok(())
+}
+
+const SETATTRS: usize = 600;
+
+// A message so many times.
+fn repeated(alloc: Global, message: &[u32], count: usize) -> Result<Vec<u8>, AllocError> {
+    let bytes = spelled(alloc, message)?;
+    let mut all = Vec::new(alloc);
+    for _ in 0..count {
+        all.extend_from_slice(bytes.as_slice())?;
+    }
+    Ok(all)
+}
+
+#[test]
+fn more_groups_than_the_log_has_slots(rt: HostRuntime) -> Result<(), Fail> {
+    let alloc = rt.alloc();
+    let input = repeated(alloc, &SETATTR, SETATTRS)?;
+    let served = serve_bytes(alloc, formatted(alloc)?, input.as_slice())?;
+    assert_eq!(rt; served.result, Ok(SETATTRS as u64));
+    assert_eq!(rt; served.output.len(), SETATTRS * SETATTR_DONE.len() * 4);
+    let after = serve(alloc, served.disk, &[&GETATTR])?;
+    assert!(rt; has_replies(alloc, &after, &[&GETATTR_CHANGED])?);
+    Ok(())
+}
