@@ -5,7 +5,7 @@ ghost use Rattle.txn.specs.Group.{blocks_of};
 
 use crate::Snap;
 use nfs_types::Reply;
-use std::alloc::{AllocError, Global};
+use std::alloc::AllocError;
 use txn::{Change, Object};
 
 /// A finished plan: the reply, the objects that were read for it, those that it writes, and the counts of the image
@@ -24,12 +24,7 @@ impl Done {
     ghost use Rattle.procs.specs.Seen.{IsDoneFor};
 
     /// What comes of a call, worked out from all that was read.
-    pub(crate) fn new(
-        alloc: Global,
-        snap: &Snap,
-        reply: Reply,
-        written: Vec<Object>,
-    ) -> Result<Done, AllocError>
+    pub(crate) fn new(snap: &Snap, reply: Reply, written: Vec<Object>) -> Result<Done, AllocError>
         requires { length (blocks_of written.items) ≤ CHANGED_BLOCKS }
         ensures snap { IfOk result (λ done. IsDoneFor snap.now done) }
         ensures reply { IfOk result (λ done. done.reply ≡ reply) }
@@ -37,7 +32,7 @@ impl Done {
     {
         Ok(Done {
             reply,
-            read: again(alloc, &snap.objects)?,
+            read: snap.objects.clone()?,
             written,
             blocks: snap.geometry.blocks,
             inodes: snap.geometry.inodes,
@@ -57,17 +52,6 @@ impl Done {
     {
         self.reply
     }
-}
-
-// The same objects again.
-fn again(alloc: Global, objects: &[Object]) -> Result<Vec<Object>, AllocError>
-    ensures { IfOk result (λ copies. copies.items ≡ objects.now) }
-{
-    let mut copies = Vec::with_capacity(alloc, objects.len())?;
-    for object in objects {
-        copies.push(object.again(alloc)?)?;
-    }
-    Ok(copies)
 }
 
 impl Change for Done {

@@ -19,7 +19,7 @@ use txn::Object;
 fn told(alloc: Global, snap: &Snap, reply: Reply) -> Result<Done, AllocError>
     ensures { IfOk result (λ done. IsDoneFor snap.now done) }
 {
-    Done::new(alloc, snap, reply, Vec::new(alloc))
+    Done::new(snap, reply, Vec::new(alloc))
 }
 
 // GETATTR (RFC 1813, section 3.3.1).
@@ -60,7 +60,7 @@ fn changed(alloc: Global, snap: &Snap, old: &Found, new: &Found) -> Result<Done,
         outcome: Ok(()),
         object: old.change_to(new),
     };
-    Done::new(alloc, snap, reply, written)
+    Done::new(snap, reply, written)
 }
 
 // SETATTR of the mode (RFC 1813, section 3.3.2).

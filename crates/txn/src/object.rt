@@ -1,9 +1,9 @@
 //! Objects: parts of blocks with their bytes.
-ghost use Rattle.std.specs.Prelude.{◌≡◌, length, IfOk};
+ghost use Rattle.std.specs.Prelude.{◌≡◌, length};
 ghost use Rattle.objects.specs.declared.addr.Addr.{Addr as Place};
 
 use objects::Addr;
-use std::alloc::{AllocError, Global};
+use std::alloc::AllocError;
 use std::marker::Model;
 
 /// An address and the bytes that lie there, or that are to lie there.
@@ -48,14 +48,15 @@ impl Object {
     {
         &self.bytes
     }
+}
 
-    /// The same object again.
-    pub fn again(&self, alloc: Global) -> Result<Object, AllocError>
-        ensures { IfOk result (λ o. o ≡ self.now) }
-    {
+impl Clone for Object {
+    ghost is_clone = { λ object copy. copy ≡ object };
+
+    fn clone(&self) -> Result<Object, AllocError> {
         Ok(Object {
             addr: self.addr,
-            bytes: self.bytes.to_vec(alloc)?,
+            bytes: self.bytes.clone()?,
         })
     }
 }

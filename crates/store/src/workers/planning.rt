@@ -160,7 +160,7 @@ impl Worker {
         ensures fits { Fits self.new core.new }
         ensures counts { SameCounts core.old core.new }
     {
-        let (Ok(told), Ok(kept)) = (done.reply().again(alloc), done.reply().again(alloc)) else {
+        let (Ok(told), Ok(kept)) = (done.reply().clone(), done.reply().clone()) else {
             return self.lack(core, tx);
         };
         let answer = match core.commit(alloc, tx, done) {
