@@ -209,9 +209,9 @@ fn a_full_tail_waits_for_the_installer(rt: HostRuntime) -> Result<(), Fail> {
     let settled = log.settled();
     let installed = count(&mut log, Worker::Installer);
     let later = count(&mut log, Worker::Logger);
-    assert!(rt; refused == Append::Full && appended == Append::Appended);
+    assert!(rt; (refused, appended) == (Append::Full, Append::Appended));
     assert!(rt; (logged, waits, installed, later) == (503, 0, 503, 15));
-    assert!(rt; settled == Seq(1) && log.settled() == Seq(2));
+    assert!(rt; (settled, log.settled()) == (Seq(1), Seq(2)));
     Ok(())
 }
 

@@ -14,7 +14,7 @@ use limits::{FIRST_SLOT_BLOCK, LOG_HEADER_BLOCK, LOG_SLOTS};
 
 impl Wal {
     /// Takes the tail as a group where none is taken, and hands out the group's next call: the writes of its blocks
-    /// to their slots, a barrier, the write of the header, a barrier. The log was lawful, as each log is.
+    /// to their slots, a barrier, the write of the header, a barrier.
     pub fn log_next(&mut self) -> Option<LogIo>
         ensures lawful { IsLawful self.old }
         ensures causes { is_some result ≡ may_log self.old }
