@@ -13,8 +13,8 @@ use nfsd_words::{Args, words};
 use std::fs::Files;
 use std::io::{self, Read, Write};
 
-/// Does what the arguments ask for, of which the first is the program's name, and gives the exit status: 0 where it is
-/// done, 2 where they don't parse, and else 1. A fault is told on `faults`.
+/// Does what the arguments ask for, of which the first is the program's name, and gives the exit status: 0 where it
+/// is done, 2 where they don't parse, and else 1. A fault is told on `faults`.
 pub fn answer<R, I, O, E>(
     rt: &R,
     line: &[&str],

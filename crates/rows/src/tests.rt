@@ -3,17 +3,11 @@
 mod compared;
 mod failures;
 mod first_path;
-mod items;
-mod judged;
 mod left;
 mod openings;
 mod plain;
 mod plain_calls;
-mod plain_messages;
-mod records;
-mod replies;
 mod runs;
 mod served;
 mod spent;
 mod streams;
-mod values;

@@ -1,19 +1,22 @@
-//! Worked messages, each spelled once: calls and replies in words of four bytes, as the standards write them (RFC 5531,
-//! sections 8, 9 and 11; RFC 1813, sections 2.5, 2.6, 3.3.0 to 3.3.2). The first word of each is its mark.
+//! Worked messages, each spelled once: calls and replies in words of four bytes, as the standards write them
+//! (RFC 5531, sections 8, 9 and 11; RFC 1813, sections 2.5, 2.6 and 3.3.0 to 3.3.2), and the values that they mean. The
+//! first word of each is its mark. Only tests use this crate.
 #![tactic(auto)]
 
 mod bytes;
 mod refused;
 mod served;
+mod values;
 
 pub use bytes::{content, spelled, stream};
 pub use refused::{
     ANOTHER_FLAVOR, ANOTHER_PROCEDURE, ANOTHER_PROGRAM, ANOTHER_RPC_VERSION, ANOTHER_VERSION,
     ARGUMENTS_LEFT, BAD_CREDENTIAL, GARBAGE_ARGUMENTS, MOUNT_NULL, NO_CALL, NO_LAST_FRAGMENT,
     NO_VERSION, NOTHING_RIGHT, PROCEDURE_UNAVAILABLE, PROGRAM_MISMATCH, PROGRAM_UNAVAILABLE,
-    REJECTED_CREDENTIAL, RPC_MISMATCH, SEVENTEEN_GIDS, SYSTEM_ERROR, TOO_LONG,
+    REFUSED, REJECTED_CREDENTIAL, RPC_MISMATCH, SEVENTEEN_GIDS, SYSTEM_ERROR, TOO_LONG,
 };
 pub use served::{
     GETATTR, GETATTR_CHANGED, GETATTR_FRESH, GETATTR_IO, NULL, NULL_REPLY, SETATTR, SETATTR_DONE,
     SETATTR_IO, SETATTR_NO_MEMORY, SETATTR_SERVER_FAULT,
 };
+pub use values::{CHANGED_ROOT, FRESH_ROOT, MADE, NOW, ROOT_IS_CHANGED, ROOT_IS_LEFT};

@@ -1,5 +1,5 @@
-//! Calls that are refused before they come to a procedure, the refusals, and records that aren't answered. Each call is
-//! the NULL of transaction 1 with what its name says.
+//! Calls that are refused before they come to a procedure, the refusals, and records that aren't answered. Each call
+//! is the NULL of transaction 1 with what its name says.
 
 /// Version 3 of RPC.
 pub const ANOTHER_RPC_VERSION: [u32; 11] = [0x8000_0028, 1, 0, 3, 100_003, 3, 0, 0, 0, 0, 0];
@@ -97,3 +97,16 @@ pub const NO_CALL: [u32; 11] = [0x8000_0028, 1, 1, 2, 100_003, 3, 0, 0, 0, 0, 0]
 
 /// A call that ends before the version of RPC.
 pub const NO_VERSION: [u32; 3] = [0x8000_0008, 1, 0];
+
+/// The calls that are refused, each with its reply.
+pub const REFUSED: [(&[u32], &[u32]); 9] = [
+    (&ANOTHER_RPC_VERSION, &RPC_MISMATCH),
+    (&NOTHING_RIGHT, &RPC_MISMATCH),
+    (&SEVENTEEN_GIDS, &BAD_CREDENTIAL),
+    (&ANOTHER_FLAVOR, &REJECTED_CREDENTIAL),
+    (&ANOTHER_PROGRAM, &PROGRAM_UNAVAILABLE),
+    (&MOUNT_NULL, &PROGRAM_UNAVAILABLE),
+    (&ANOTHER_VERSION, &PROGRAM_MISMATCH),
+    (&ANOTHER_PROCEDURE, &PROCEDURE_UNAVAILABLE),
+    (&ARGUMENTS_LEFT, &GARBAGE_ARGUMENTS),
+];

@@ -2,13 +2,13 @@
 
 use crate::tests::compared::{is_same_reply, is_tree_of};
 use crate::tests::plain::{DATA_BLOCKS, fresh, reply_in, reply_to};
-use crate::tests::served::{Host, INODES, MADE, formatted, has_replies, reopened, serve};
+use crate::tests::served::{Host, INODES, formatted, has_replies, reopened, serve};
 use disk::MemDisk;
 use limits::LEAST_BLOCKS;
 use plain_image::read_image;
 use session_wire::nfs_codec::Procedure;
 use std::test::Fail;
-use worked_messages::{GETATTR, GETATTR_FRESH, SETATTR, SETATTR_DONE};
+use worked_messages::{GETATTR, GETATTR_FRESH, MADE, SETATTR, SETATTR_DONE};
 
 #[test]
 fn a_fresh_image(rt: HostRuntime) -> Result<(), Fail> {

@@ -1,4 +1,4 @@
-//! What a crash leaves, while a SETATTR of the root's mode is served: the tree before it or after it, as the next
+//! What a crash leaves while a SETATTR of the root's mode is served: the tree before it or after it, as the next
 //! session tells, and as the image is decoded.
 
 use crate::tests::compared::is_tree_of;
@@ -10,7 +10,7 @@ use std::alloc::Global;
 use std::test::Fail;
 use worked_messages::{GETATTR, GETATTR_CHANGED, GETATTR_FRESH, SETATTR};
 
-/// The calls of a group of one block that the log makes: the block's content, a barrier, the header, a barrier.
+/// The calls that the log makes for a group of one block: its content, a barrier, the header, a barrier.
 pub const LOG_CALLS: usize = 4;
 
 /// Which contents a crash leaves of the first two blocks that have several.
@@ -23,7 +23,8 @@ fn is_left(alloc: Global, image: &PlainImage, is_new: bool) -> Result<bool, Fail
     Ok(is_tree_of(image, &old) != is_new && is_tree_of(image, &new) == is_new)
 }
 
-/// The next session finds the old mode or the new one, and so does who decodes the image then. It answers the boot number.
+/// The next session finds the old mode or the new one, and so does who decodes the image then. It answers the boot
+/// number.
 pub fn assert_left(rt: &impl Host, disk: MemDisk, is_new: bool) -> Result<u64, Fail> {
     let alloc = rt.alloc();
     let after = serve(alloc, disk, &[&GETATTR])?;

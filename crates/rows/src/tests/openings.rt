@@ -1,13 +1,13 @@
 //! Making and opening images on devices whose calls fail.
 
 use crate::tests::left::{CHOICES, assert_left};
-use crate::tests::served::{Host, INODES, MADE, formatted, reopened, serve};
+use crate::tests::served::{Host, INODES, formatted, reopened, serve};
 use disk::MemDisk;
 use limits::LEAST_BLOCKS;
 use std::alloc::Global;
 use std::test::Fail;
 use store::{FormatFault, OpenFault};
-use worked_messages::SETATTR;
+use worked_messages::{MADE, SETATTR};
 
 // An opening that is refused: the disk and the fault.
 fn refused(alloc: Global, disk: MemDisk) -> Result<(MemDisk, OpenFault), Fail> {

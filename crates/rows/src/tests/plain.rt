@@ -1,6 +1,6 @@
 //! The same by the plain programs: a call's bytes are read as a value, which is served over a tree.
 
-use crate::tests::served::{INODES, MADE, NOW};
+use crate::tests::served::INODES;
 use nfs_types::{Call, Credential, Ctx, Numbers, Reply};
 use plain_server::PlainTree;
 use plain_wire::{read_call, read_reply};
@@ -8,7 +8,7 @@ use session_wire::nfs_codec::Procedure;
 use session_wire::{MessageCredential, ReplyBody};
 use std::alloc::{AllocError, Global};
 use std::test::Fail;
-use worked_messages::content;
+use worked_messages::{MADE, NOW, content};
 
 /// The data blocks of an image of 1,024 blocks and 64 inodes.
 pub const DATA_BLOCKS: u32 = 506;

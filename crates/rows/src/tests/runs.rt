@@ -1,17 +1,17 @@
-//! A SETATTR of the root's mode as a run of events, stopped after each of them by a crash: when it is answered, and what
-//! the crash leaves.
+//! A SETATTR of the root's mode as a run of events, stopped after each of them by a crash: when it is answered, and
+//! what the crash leaves.
 
 use crate::tests::compared::is_same_reply;
 use crate::tests::left::{CHOICES, LOG_CALLS, assert_left};
 use crate::tests::plain::{asked, fresh, reply_to};
-use crate::tests::served::{Host, NOW, formatted};
+use crate::tests::served::formatted;
 use disk::MemDisk;
 use nfs_types::Reply;
 use session::{answer_to, reply_bytes};
 use std::alloc::{AllocError, Global};
 use std::test::Fail;
 use store::{Event, Run, Step, Verdict, run};
-use worked_messages::{SETATTR, SETATTR_DONE, spelled};
+use worked_messages::{NOW, SETATTR, SETATTR_DONE, spelled};
 
 // The calls of the installer for a group of one block: the block, a barrier, the log's start, a barrier.
 const HOME_CALLS: usize = 4;
@@ -41,8 +41,8 @@ fn worked(alloc: Global) -> Result<Vec<Event>, Fail> {
     Ok(events)
 }
 
-// Then each device call of the log and one round more, and each of the installer and one round more. After each the
-// worker makes a step. What doesn't apply does nothing.
+// Then each device call of the log and one round more, and each of the installer and one round more. After each
+// the worker makes a step. What doesn't apply does nothing.
 fn schedule(alloc: Global) -> Result<Vec<Event>, Fail> {
     let mut events = worked(alloc)?;
     for _ in 0..=LOG_CALLS {
@@ -74,8 +74,8 @@ fn log_calls(count: usize) -> usize {
     (behind / CALL_EVENTS).min(LOG_CALLS)
 }
 
-// Whether the mode is the new one: from the header's write to its barrier it is where the crash leaves the header, which
-// is then the one block that has two contents.
+// Whether the mode is the new one: from the header's write to its barrier it is where the crash leaves the header,
+// which is then the one block that has two contents.
 fn is_new(count: usize, digits: [u32; 2]) -> bool {
     match log_calls(count) {
         0..3 => false,

@@ -2,12 +2,11 @@
 
 use disk::MemDisk;
 use limits::LEAST_BLOCKS;
-use nfs_types::Moment;
 use session::SessionFault;
 use std::alloc::{AllocError, Global};
 use std::process::Abort;
 use std::test::Fail;
-use worked_messages::stream;
+use worked_messages::{MADE, NOW, stream};
 
 /// A runtime that can end a test.
 pub trait Host: AllocGlobal + Abort {}
@@ -15,18 +14,6 @@ pub trait Host: AllocGlobal + Abort {}
 impl<R: AllocGlobal + Abort> Host for R {}
 
 pub const INODES: u32 = 64;
-
-/// When images are made.
-pub const MADE: Moment = Moment {
-    seconds: 1000,
-    nanoseconds: 0,
-};
-
-/// When calls are served.
-pub const NOW: Moment = Moment {
-    seconds: 2000,
-    nanoseconds: 0,
-};
 
 /// What serving a stream gave.
 #[derive(Drop)]

@@ -1,13 +1,13 @@
 //! Streams of several records, and records that aren't answered by a procedure.
 
 use crate::tests::served::{formatted, has_replies, serve, serve_bytes};
-use crate::tests::values::REFUSED;
-use session::SessionFault;
+use session::{SessionFault, answer_to, reply_bytes};
 use std::alloc::{AllocError, Global};
 use std::test::Fail;
+use store::Verdict;
 use worked_messages::{
     GETATTR, GETATTR_CHANGED, GETATTR_FRESH, NO_CALL, NO_LAST_FRAGMENT, NO_VERSION, NULL,
-    NULL_REPLY, SETATTR, SETATTR_DONE, TOO_LONG, spelled, stream,
+    NULL_REPLY, REFUSED, SETATTR, SETATTR_DONE, SETATTR_NO_MEMORY, TOO_LONG, spelled, stream,
 };
 
 #[test]
@@ -72,11 +72,20 @@ fn records_that_end_the_session(rt: HostRuntime) -> Result<(), Fail> {
 #[test]
 fn calls_that_are_refused(rt: HostRuntime) -> Result<(), Fail> {
     let alloc = rt.alloc();
-    for (call, refusal, reply) in REFUSED {
+    for (call, reply) in REFUSED {
         let served = serve(alloc, formatted(alloc)?, &[call])?;
-        assert!(rt; has_replies(alloc, &served, &[reply])?, "{refusal:?}");
-        assert_eq!(rt; served.result, Ok(1), "{refusal:?}");
+        assert!(rt; has_replies(alloc, &served, &[reply])?, "{call:?}");
+        assert_eq!(rt; served.result, Ok(1), "{call:?}");
     }
+    Ok(())
+}
+
+#[test]
+fn an_allocation_that_failed(rt: HostRuntime) -> Result<(), Fail> {
+    let mut out = Vec::new(rt.alloc());
+    reply_bytes(rt.alloc(), &mut out, 4, answer_to(&Verdict::NoMemory))?;
+    let wanted = spelled(rt.alloc(), &SETATTR_NO_MEMORY)?;
+    assert!(rt; out.as_slice() == wanted.as_slice());
     Ok(())
 }
 

@@ -1,12 +1,12 @@
 //! What the server takes worked calls for.
 
-use crate::tests::values::{REFUSED, is_worked_setattr};
+use crate::tests::setattr::is_worked_setattr;
 use nfs_types::Call;
 use session_wire::rpc::Refusal;
 use session_wire::{Judged, judge};
 use std::alloc::{AllocError, Global};
 use std::test::Fail;
-use worked_messages::{NULL, SETATTR, content};
+use worked_messages::*;
 
 fn judged(alloc: Global, message: &[u32]) -> Result<Judged, AllocError> {
     let bytes = content(alloc, message)?;
@@ -55,6 +55,19 @@ fn setattr_of_the_roots_mode(rt: HostRuntime) -> Result<(), Fail> {
     Ok(())
 }
 
+// The calls that are refused, each with its refusal.
+const REFUSALS: [(&[u32], Refusal); 9] = [
+    (&ANOTHER_RPC_VERSION, Refusal::RpcMismatch),
+    (&NOTHING_RIGHT, Refusal::RpcMismatch),
+    (&SEVENTEEN_GIDS, Refusal::BadCredential),
+    (&ANOTHER_FLAVOR, Refusal::RejectedCredential),
+    (&ANOTHER_PROGRAM, Refusal::ProgramUnavailable),
+    (&MOUNT_NULL, Refusal::ProgramUnavailable),
+    (&ANOTHER_VERSION, Refusal::ProgramMismatch),
+    (&ANOTHER_PROCEDURE, Refusal::ProcedureUnavailable),
+    (&ARGUMENTS_LEFT, Refusal::GarbageArguments),
+];
+
 // Whether transaction 1 gets this refusal.
 fn is_refused(judged: &Judged, wanted: Refusal) -> bool {
     match judged {
@@ -65,7 +78,7 @@ fn is_refused(judged: &Judged, wanted: Refusal) -> bool {
 
 #[test]
 fn calls_that_are_refused(rt: HostRuntime) -> Result<(), Fail> {
-    for (message, refusal, _) in REFUSED {
+    for (message, refusal) in REFUSALS {
         let found = judged(rt.alloc(), message)?;
         assert!(rt; is_refused(&found, refusal), "{refusal:?}");
     }

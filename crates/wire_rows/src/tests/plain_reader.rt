@@ -1,6 +1,6 @@
 //! Worked messages by the plain reader, with the values that they must be read as.
 
-use crate::tests::values::{FRESH_ROOT, is_worked_setattr};
+use crate::tests::setattr::is_worked_setattr;
 use nfs_types::Reply;
 use plain_wire::{read_call, read_reply};
 use session_wire::nfs_codec::Procedure;
@@ -8,7 +8,7 @@ use session_wire::rpc::Refusal;
 use session_wire::{CallMessage, MessageCredential, ReplyBody, ReplyMessage};
 use std::alloc::{AllocError, Global};
 use std::test::Fail;
-use worked_messages::{GETATTR_FRESH, PROGRAM_MISMATCH, SETATTR, content};
+use worked_messages::{FRESH_ROOT, GETATTR_FRESH, PROGRAM_MISMATCH, SETATTR, content};
 
 fn has_stamp(credential: &MessageCredential, wanted: u32) -> bool {
     match credential {

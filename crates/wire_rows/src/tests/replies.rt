@@ -1,17 +1,12 @@
 //! The bytes of worked replies, as the server writes them.
 ghost use Rattle.session_wire.specs.Replies.{IsSpellable, body_of};
 
-use crate::tests::values::{CHANGED_ROOT, FRESH_ROOT, REFUSED, since_fresh};
 use nfs_types::Reply;
-use session::answer_to;
 use session_wire::rpc::Refusal;
 use session_wire::{Answer, reply_bytes};
 use std::alloc::{AllocError, Global};
 use std::test::Fail;
-use store::Verdict;
-use worked_messages::{
-    GETATTR_FRESH, NULL_REPLY, SETATTR_DONE, SETATTR_NO_MEMORY, SYSTEM_ERROR, spelled,
-};
+use worked_messages::*;
 
 // Whether this answer to a transaction is so written.
 fn is_written(
@@ -47,28 +42,29 @@ fn attributes_of_the_root(rt: HostRuntime) -> Result<(), Fail> {
 fn mode_of_the_root_is_set(rt: HostRuntime) -> Result<(), Fail> {
     let reply = Reply::SetAttr {
         outcome: Ok(()),
-        object: since_fresh(CHANGED_ROOT),
+        object: ROOT_IS_CHANGED,
     };
     assert!(rt; is_written(rt.alloc(), 4, Answer::Done(&reply), &SETATTR_DONE)?);
     Ok(())
 }
 
-#[test]
-fn refusals(rt: HostRuntime) -> Result<(), Fail> {
-    for (_, refusal, reply) in REFUSED {
-        assert!(rt;
-            is_written(rt.alloc(), 1, Answer::Refused(refusal), reply)?,
-            "{refusal:?}"
-        );
-    }
-    let no_memory = Answer::Refused(Refusal::SystemError);
-    assert!(rt; is_written(rt.alloc(), 1, no_memory, &SYSTEM_ERROR)?);
-    Ok(())
-}
+// Each refusal with the bytes of its reply to transaction 1.
+const REFUSALS: [(Refusal, &[u32]); 8] = [
+    (Refusal::RpcMismatch, &RPC_MISMATCH),
+    (Refusal::BadCredential, &BAD_CREDENTIAL),
+    (Refusal::RejectedCredential, &REJECTED_CREDENTIAL),
+    (Refusal::ProgramUnavailable, &PROGRAM_UNAVAILABLE),
+    (Refusal::ProgramMismatch, &PROGRAM_MISMATCH),
+    (Refusal::ProcedureUnavailable, &PROCEDURE_UNAVAILABLE),
+    (Refusal::GarbageArguments, &GARBAGE_ARGUMENTS),
+    (Refusal::SystemError, &SYSTEM_ERROR),
+];
 
 #[test]
-fn an_allocation_that_failed(rt: HostRuntime) -> Result<(), Fail> {
-    let answer = answer_to(&Verdict::NoMemory);
-    assert!(rt; is_written(rt.alloc(), 4, answer, &SETATTR_NO_MEMORY)?);
+fn refusals(rt: HostRuntime) -> Result<(), Fail> {
+    for (refusal, words) in REFUSALS {
+        let answer = Answer::Refused(refusal);
+        assert!(rt; is_written(rt.alloc(), 1, answer, words)?, "{refusal:?}");
+    }
     Ok(())
 }

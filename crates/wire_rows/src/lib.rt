@@ -1,0 +1,6 @@
+//! Worked messages by the server's readers and writers, and by the plain reader: bytes and values that were worked out
+//! by hand. No crate stands on this one.
+#![tactic(auto)]
+
+#[cfg(test)]
+mod tests;
