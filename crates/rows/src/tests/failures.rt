@@ -10,8 +10,8 @@ use worked_messages::{
     GETATTR, GETATTR_FRESH, GETATTR_IO, NULL, NULL_REPLY, SETATTR, SETATTR_DONE, SETATTR_IO,
 };
 
-// The number of the last device call before the calls of a group: behind the opening comes the read of the root's
-// block.
+// The number of the last device call before the calls of a group: behind the opening comes the read of the
+// root's block.
 fn calls_until_read(alloc: Global) -> Result<u64, Fail> {
     let opened = reopened(alloc, formatted(alloc)?)?;
     Ok(opened.calls().saturating_add(1))
@@ -46,9 +46,9 @@ fn a_read_that_fails_breaks_nothing(rt: HostRuntime) -> Result<(), Fail> {
     Ok(())
 }
 
-// Whether the image has the new tree where the group's call of this number, from 1, was the first that failed. A
-// write that fails has been made all the same. By the header's write or its barrier, it is where the crash leaves
-// the header, which is the first block that has several contents.
+// Whether the image has the new tree where the group's call of this number, from 1, was the first that
+// failed. A write that fails has been made all the same. By the header's write or its barrier, it is where
+// the crash leaves the header, which is the first block that has several contents.
 fn is_new(failed: u64, digits: [u32; 2]) -> bool {
     match failed {
         1 | 2 => false,
@@ -57,7 +57,8 @@ fn is_new(failed: u64, digits: [u32; 2]) -> bool {
     }
 }
 
-// Serves a SETATTR while a call of its group fails, of those that are made before the stream ends. Then crashes.
+// Serves a SETATTR while a call of its group fails, of those that are made before the stream ends. Then
+// crashes.
 fn assert_failed(rt: &impl Host, failed: u64, made: u64, digits: [u32; 2]) -> Result<(), Fail> {
     let alloc = rt.alloc();
     let call = calls_until_read(alloc)?.saturating_add(failed);

@@ -1,5 +1,5 @@
-//! What a crash leaves while a SETATTR of the root's mode is served: the tree before it or after it, as the next
-//! session tells, and as the image is decoded.
+//! What a crash leaves while a SETATTR of the root's mode is served: the tree before it or after it, as the
+//! next session tells, and as the image is decoded.
 
 use crate::tests::compared::is_tree_of;
 use crate::tests::plain::{changed_by, fresh};
@@ -23,8 +23,8 @@ fn is_left(alloc: Global, image: &PlainImage, is_new: bool) -> Result<bool, Fail
     Ok(is_tree_of(image, &old) != is_new && is_tree_of(image, &new) == is_new)
 }
 
-/// The next session finds the old mode or the new one, and so does who decodes the image then. It answers the boot
-/// number.
+/// The next session finds the old mode or the new one, and so does who decodes the image then. It answers
+/// the boot number.
 pub fn assert_left(rt: &impl Host, disk: MemDisk, is_new: bool) -> Result<u64, Fail> {
     let alloc = rt.alloc();
     let after = serve(alloc, disk, &[&GETATTR])?;

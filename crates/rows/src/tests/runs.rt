@@ -1,10 +1,10 @@
-//! A SETATTR of the root's mode as a run of events, stopped after each of them by a crash: when it is answered, and
-//! what the crash leaves.
+//! A SETATTR of the root's mode as a run of events, stopped after each of them by a crash: when it is
+//! answered, and what the crash leaves.
 
 use crate::tests::compared::is_same_reply;
-use crate::tests::left::{CHOICES, LOG_CALLS, assert_left};
+use crate::tests::left::{LOG_CALLS, assert_left};
 use crate::tests::plain::{asked, fresh, reply_to};
-use crate::tests::served::formatted;
+use crate::tests::served::{Host, formatted};
 use disk::MemDisk;
 use nfs_types::Reply;
 use session::{answer_to, reply_bytes};
@@ -41,8 +41,8 @@ fn worked(alloc: Global) -> Result<Vec<Event>, Fail> {
     Ok(events)
 }
 
-// Then each device call of the log and one round more, and each of the installer and one round more. After each
-// the worker makes a step. What doesn't apply does nothing.
+// Then each device call of the log and one round more, and each of the installer and one round more. After
+// each the worker makes a step. What doesn't apply does nothing.
 fn schedule(alloc: Global) -> Result<Vec<Event>, Fail> {
     let mut events = worked(alloc)?;
     for _ in 0..=LOG_CALLS {
@@ -74,8 +74,8 @@ fn log_calls(count: usize) -> usize {
     (behind / CALL_EVENTS).min(LOG_CALLS)
 }
 
-// Whether the mode is the new one: from the header's write to its barrier it is where the crash leaves the header,
-// which is then the one block that has two contents.
+// Whether the mode is the new one: from the header's write to its barrier it is where the crash leaves the
+// header, which is then the one block that has two contents.
 fn is_new(count: usize, digits: [u32; 2]) -> bool {
     match log_calls(count) {
         0..3 => false,
@@ -89,16 +89,34 @@ fn is_answered(count: usize) -> bool {
     count >= COMMIT_EVENTS + CALL_EVENTS * LOG_CALLS
 }
 
-#[test]
-fn what_a_stop_leaves(rt: HostRuntime) -> Result<(), Fail> {
+// Stops after each event, and crashes with this choice of contents.
+fn assert_stops(rt: &impl Host, digits: [u32; 2]) -> Result<(), Fail> {
     for count in 0..=schedule(rt.alloc())?.len() {
-        for digits in CHOICES {
-            let (disk, _) = ran(rt.alloc(), count)?;
-            let boot = assert_left(&rt, disk.crash(&digits), is_new(count, digits))?;
-            assert_eq!(rt; boot, 2, "{count}");
-        }
+        let (disk, _) = ran(rt.alloc(), count)?;
+        let boot = assert_left(rt, disk.crash(&digits), is_new(count, digits))?;
+        assert_eq!(rt; boot, 2, "{count}");
     }
     Ok(())
+}
+
+#[test]
+fn stops_that_leave_old_contents(rt: HostRuntime) -> Result<(), Fail> {
+    assert_stops(&rt, [0, 0])
+}
+
+#[test]
+fn stops_that_leave_new_contents(rt: HostRuntime) -> Result<(), Fail> {
+    assert_stops(&rt, [1, 1])
+}
+
+#[test]
+fn stops_that_leave_the_first_block_old(rt: HostRuntime) -> Result<(), Fail> {
+    assert_stops(&rt, [0, 1])
+}
+
+#[test]
+fn stops_that_leave_the_second_block_old(rt: HostRuntime) -> Result<(), Fail> {
+    assert_stops(&rt, [1, 0])
 }
 
 #[test]

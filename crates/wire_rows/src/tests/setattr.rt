@@ -2,7 +2,8 @@
 
 use nfs_types::{Call, SetTime};
 
-/// Whether the call is the worked SETATTR: the mode 448 of a file whose handle has 20 bytes, and nothing else.
+/// Whether the call is the worked SETATTR: the mode 448 of a file whose handle has 20 bytes, and nothing
+/// else.
 pub fn is_worked_setattr(call: &Call) -> bool {
     match call {
         Call::SetAttr {
