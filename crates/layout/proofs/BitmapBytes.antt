@@ -8,9 +8,12 @@ use Rattle.limits.specs.declared.TheConstants.{BLOCK_BYTES}
 use Rattle.layout.specs.Fresh.{byte_of, bitmap_block}
 
 -- the first bytes of a block in which one more was put
-taken : (block : List ℕ) (place byte : ℕ) → place < length block → take (place + 1) (take place block ++ byte ∷ [] ++ drop (place + 1) block) ≡ take place block ++ byte ∷ []
+taken : (block : List ℕ) (place byte : ℕ) → place < length block
+    → take (place + 1) (take place block ++ byte ∷ [] ++ drop (place + 1) block) ≡ take place block ++ byte ∷ []
 taken block place byte less =
-    let n : length (take place block ++ byte ∷ []) ≡ place + 1 = omega (arith, length-append (take place block) (byte ∷ []), length-take-le place block (omega (arith, less))) in
+    let before = length-take-le place block (omega (arith, less)) in
+    let n : length (take place block ++ byte ∷ []) ≡ place + 1 =
+    omega (arith, length-append (take place block) (byte ∷ []), before) in
     ap (λ n. take n (take place block ++ byte ∷ [] ++ drop (place + 1) block)) (sym n)
     ∙ take-append_seam (take place block ++ byte ∷ []) (drop (place + 1) block)
 
@@ -25,7 +28,8 @@ one_more marked first place byte old new less put is so_far =
     ∙ (λ i. so_far i ++ is i ∷ [])
     ∙ sym (map-range_with_len_more (λ place. byte_of marked (first + 8 * place)) 0 place place (omega arith))
 
-pub whole : (marked : ℕ → Bool) (first place : ℕ) (block : List ℕ) → place ≡ BLOCK_BYTES → length block ≡ BLOCK_BYTES
+pub whole : (marked : ℕ → Bool) (first place : ℕ) (block : List ℕ) → place ≡ BLOCK_BYTES
+    → length block ≡ BLOCK_BYTES
     → take place block ≡ map (λ place. byte_of marked (first + 8 * place)) (range_with_len 0 place)
     → block ≡ bitmap_block marked first
 unfolding bitmap_block

@@ -109,7 +109,8 @@ fn root_inode(made: Moment) -> Inode
     }
 }
 
-// The block of the table in which the root lies: inode 0 is free, then comes the root, and all others are free.
+// The block of the table in which the root lies: inode 0 is free, then comes the root, and all others are
+// free.
 fn root_block(alloc: Global, made: Moment) -> Result<Vec<u8>, AllocError>
     ensures bytes { IfOk result (λ bytes. bytes.items ≡ root_block made) }
     ensures len { IfOk result (λ bytes. length bytes.items ≡ BLOCK_BYTES) }
@@ -122,7 +123,8 @@ fn root_block(alloc: Global, made: Moment) -> Result<Vec<u8>, AllocError>
     Ok(bytes)
 }
 
-// Makes a block the part of this number of a bitmap in which the numbers below one and those from another on are marked.
+// Makes a block the part of this number of a bitmap in which the numbers below one and those from another on
+// are marked.
 fn put_bitmap(block: &mut Block, part: u32, below: u32, past: u32)
     ensures { block.new ≡ bitmap_block (is_outside below past) (BITS_PER_BLOCK * part) }
 {

@@ -9,8 +9,10 @@ bytes-init c = (refl, c.put_zeros.ensures.len)
 
 pub bytes-preserved : goal.bytes-preserved
 bytes-preserved c = (
-  one_more (is_outside c.args.below c.args.past) (BITS_PER_BLOCK * c.args.part) c.bytes.place c.byte_of-byte.result c.bytes.block c.put.new.self
-      (omega (arith, c.bytes-test.true, c.bytes.invariant.1)) c.put.ensures.bytes c.byte_of-byte.ensures c.bytes.invariant.0,
+  one_more (is_outside c.args.below c.args.past) (BITS_PER_BLOCK * c.args.part) c.bytes.place c.byte_of-byte.result
+      c.bytes.block c.put.new.self
+      (omega (arith, c.bytes-test.true, c.bytes.invariant.1)) c.put.ensures.bytes c.byte_of-byte.ensures
+      c.bytes.invariant.0,
   c.put.ensures.len,
 )
 
