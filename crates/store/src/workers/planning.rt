@@ -1,5 +1,5 @@
 //! The steps of a worker that go by its plan: it reads and claims what the plan asks for, and commits what it ends in.
-ghost use Rattle.std.specs.Prelude.{◌≡◌, ◌≤◌, Some, None, true, length};
+ghost use Rattle.std.specs.Prelude.{◌≡◌, ◌≤◌, Some, None, true, length, IfOk};
 
 use super::{Job, Phase, Refusal, Worker};
 use crate::options::put;
@@ -7,7 +7,7 @@ use disk::BlockNo;
 use nfs_types::{Reply, Status};
 use objects::Addr;
 use procs::{Done, Plan, is_answered_stable, plan, refused_reply};
-use std::alloc::Global;
+use std::alloc::{AllocError, Global};
 use store_promise::{Committing, Ending, Entry, Step, Verdict, Wish};
 use txn::{Claim, Commit, Core, Seq, Tx, Want};
 
@@ -160,7 +160,7 @@ impl Worker {
         ensures fits { Fits self.new core.new }
         ensures counts { SameCounts core.old core.new }
     {
-        let (Ok(told), Ok(kept)) = (done.reply().clone(), done.reply().clone()) else {
+        let Ok((told, kept)) = twice(done.reply()) else {
             return self.lack(core, tx);
         };
         let answer = match core.commit(alloc, tx, done) {
@@ -228,4 +228,11 @@ impl Worker {
         let Job { ctx, call } = job;
         self.work.entry = Some(Entry { ctx, call, reply });
     }
+}
+
+// Two copies of a reply: one is answered, and one is kept for the history.
+fn twice(reply: &Reply) -> Result<(Reply, Reply), AllocError>
+    ensures { IfOk result (λ both. (both.0 ≡ reply.now) × (both.1 ≡ reply.now)) }
+{
+    Ok((reply.clone()?, reply.clone()?))
 }
