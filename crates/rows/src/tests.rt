@@ -14,6 +14,7 @@ mod records;
 mod replies;
 mod runs;
 mod served;
+mod settling;
 mod spent;
 mod streams;
 mod values;
