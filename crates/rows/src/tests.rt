@@ -9,5 +9,6 @@ mod plain;
 mod plain_calls;
 mod runs;
 mod served;
+mod settling;
 mod spent;
 mod streams;

@@ -8,5 +8,5 @@ use Rattle.layout.proofs.fresh_image.put_bitmap.Given as goal
 abbrev pub invariant-bytes : goal.invariant-bytes
 invariant-bytes l =
     (take l.place l.block
-      ≡ map (λ place. byte_of (is_outside l.below l.past) (BITS_PER_BLOCK * l.part + 8 * place)) (range_with_len 0 l.place))
+    ≡ map (λ place. byte_of (is_outside l.below l.past) (BITS_PER_BLOCK * l.part + 8 * place)) (range_with_len 0 l.place))
     × (length l.block ≡ BLOCK_BYTES)

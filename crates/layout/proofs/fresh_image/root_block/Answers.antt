@@ -39,6 +39,6 @@ returns-clause-bytes c =
     (vec_len c.extend_from_slice.new.self) (omega arith)
     (ap length (sym spelled) ∙ c.in_ok-root.ensures.len)
     (zeros_put c.in_ok-bytes.bytes.items zeros (vec_len c.in_ok-bytes.bytes) (omega (arith, ap length none)) none
-      c.in_ok-resize.ensures.items)
+    c.in_ok-resize.ensures.items)
     (c.in_ok-extend_from_slice.ensures.items ∙ ap (λ l. zeros ++ l) (c.deref.ensures.value ∙ spelled))
     c.in_ok-resize-2.ensures.items
