@@ -1,0 +1,209 @@
+# What ./nfsd and ./check share: whether the program is built, and how it is built. They set `root`, the checkout's top.
+
+program=$root/crates/nfsd/out/nfsd
+# What has to outlast `rt ci` lies here, since that moves crates/*/out aside.
+kept=$root/out
+# Names what the program was made from. It is as old as the beginning of the build, so that a change meanwhile is newer.
+stamp=$kept/nfsd.stamp
+# The stamp of a build that hasn't ended.
+begun=$kept/nfsd.begun
+log=$kept/nfsd.log
+lock_file=$kept/nfsd.lock
+
+# The crates that the program is made from, each after those that it uses, and what the lines of crates.txt name.
+order=()
+declare -A uses=()
+# The last crate that was announced.
+announced=
+# The command that this one waits for.
+child=
+
+say() {
+    echo "$*" >&2 || true
+}
+
+stop() {
+    say "${0##*/}: $*"
+    exit 1
+}
+
+# Whether the program stands, and nothing that it is made from has changed since its build began. A folder changes too
+# when a file in it is removed or another takes its place. Times of change (ctime) are compared, which nothing sets back.
+is_built() {
+    local parts newer
+    [ -x "$program" ] && [ -s "$stamp" ] || return 1
+    mapfile -t parts <"$stamp"
+    newer=$(find "${parts[@]/#/$root/}" \( -type d -o -name '*.rt' -o -name '*.antt' -o -name crates.txt \) \
+        -cnewer "$stamp" -print -quit 2>/dev/null) && [ -z "$newer" ]
+}
+
+find_rt() {
+    local it
+    for it in "$(command -v rt || true)" /usr/local/bin/rt /opt/rattle/bin/rt; do
+        if [ -x "$it" ]; then
+            echo "$it"
+            return
+        fi
+    done
+    return 1
+}
+
+# Reads crates.txt into `uses` and `order`.
+order_crates() {
+    local line
+    while IFS= read -r line || [ -n "$line" ]; do
+        line=${line%%#*}
+        if [[ $line == *:* ]]; then
+            uses[${line%%[: ]*}]=${line#*:}
+        fi
+    done <"$root/crates.txt"
+    add_crate nfsd
+}
+
+# Appends a crate to `order`, after those that it uses. The kit's own libraries have no line in crates.txt.
+add_crate() {
+    local library
+    if [[ " ${order[*]} " == *" $1 "* ]]; then
+        return
+    fi
+    for library in ${uses[$1]}; do
+        if [[ -v uses[$library] ]]; then
+            add_crate "$library"
+        fi
+    done
+    order+=("$1")
+}
+
+# Whether a file or folder can be written, or made where it isn't there.
+can_write() {
+    if [ -e "$1" ]; then
+        [ -w "$1" ]
+    else
+        [ -w "${1%/*}" ]
+    fi
+}
+
+# Where a build can't be written, says so before an hour is spent on it.
+stop_unless_writable() {
+    local it places=("$kept" "$lock_file" "$log" "$begun" "$stamp") name
+    for name in "${order[@]}"; do
+        places+=("$root/crates/$name/out")
+    done
+    mkdir -p "$kept" 2>/dev/null || true
+    for it in "${places[@]}"; do
+        if ! can_write "$it"; then
+            stop "the program has to be built first, and $it can't be written." \
+                "Run $root/nfsd --help as a user who may write this checkout"
+        fi
+    done
+}
+
+# Keeps other builds of this checkout out until this process and its build have ended.
+hold_lock() {
+    local status=0
+    exec {lock}>>"$lock_file"
+    flock -n -E 75 "$lock" || status=$?
+    # Another status than 75 is a file system that knows no locks: rt keeps what it builds apart there by itself.
+    if [ "$status" = 75 ]; then
+        say "${0##*/}: waiting for another build of this checkout; what it prints goes into $log"
+        flock "$lock"
+    fi
+}
+
+# Others may build again. What is run later must not keep them out.
+release_lock() {
+    exec {lock}>&-
+}
+
+# Begins a stamp: the files and folders, below the top, that the program is made from.
+begin_stamp() {
+    local name part
+    {
+        echo crates.txt
+        for name in "${order[@]}"; do
+            for part in src specs proofs; do
+                if [ -d "$root/crates/$name/$part" ]; then
+                    echo "crates/$name/$part"
+                fi
+            done
+        done
+    } >"$begun"
+}
+
+# What was built since the stamp was begun is the program of what it names.
+end_stamp() {
+    mv -f "$begun" "$stamp"
+}
+
+# Ends what was begun, when this process ends before it is done.
+give_up() {
+    if [ -n "$child" ]; then
+        kill "$child" 2>/dev/null || true
+    fi
+    rm -f "$begun"
+}
+
+# Says that rt has come to a crate.
+announce() {
+    local at
+    if [ "$1" = "$announced" ]; then
+        return
+    fi
+    for at in "${!order[@]}"; do
+        if [ "${order[at]}" = "$1" ]; then
+            announced=$1
+            say "proving $1: $((at + 1)) of ${#order[@]}, $(((SECONDS - began) / 60)) min"
+        fi
+    done
+}
+
+# Keeps what rt prints in the log, and announces each crate: rt names it before its proof and, in any case, behind it.
+follow() {
+    local line name
+    while IFS= read -r line || [ -n "$line" ]; do
+        printf '%s\n' "$line"
+        case $line in
+            "rt: chose --jobs "*" for "*) announce "${line##* }" ;;
+            "crate "*": modules "*)
+                name=${line#crate }
+                announce "${name%%:*}"
+                ;;
+        esac
+    done >>"$log"
+}
+
+# Proves and builds the program. `rt run` builds it and then runs it; the argument ends it at once, with any status.
+prove_and_build() {
+    local began=$SECONDS lines
+    say "${0##*/}: proving and building the program. From nothing that takes up to an hour, after a change minutes." \
+        "What rt prints goes into $log"
+    : >"$log"
+    exec {lines}< <(cd "$root/crates/nfsd" && exec "$rt" run -- --help </dev/null 2>&1)
+    child=$!
+    follow <&"$lines"
+    exec {lines}<&-
+    wait "$child" || true
+    child=
+    # rt prints this line between the build and the run.
+    if [ ! -x "$program" ] || ! grep -q '^rt: running out/nfsd' "$log"; then
+        grep -v -e ': proved$' -e '^statements ' -e '^library ' "$log" | tail -n 40 >&2 || true
+        stop "the program was not built. All that rt printed is in $log"
+    fi
+    say "${0##*/}: built in $(((SECONDS - began) / 60)) min: $program"
+}
+
+# Builds the program, unless another call did so while this one waited.
+build() {
+    rt=$(find_rt) || stop "the kit's command rt is not found"
+    order_crates
+    stop_unless_writable
+    hold_lock
+    if ! is_built; then
+        trap give_up EXIT
+        begin_stamp
+        prove_and_build
+        end_stamp
+        trap - EXIT
+    fi
+    release_lock
+}
