@@ -3,9 +3,10 @@
 program=$root/crates/nfsd/out/nfsd
 # What has to outlast `rt ci` lies here, since that moves crates/*/out aside.
 kept=$root/out
-# Names what the program was made from. It is as old as the beginning of the build, so that a change meanwhile is newer.
+# A sum of what the program was made from, and the files and folders of that, below the top, one a line. It is as old as
+# the beginning of the build.
 stamp=$kept/nfsd.stamp
-# The stamp of a build that hasn't ended.
+# As old as a build that hasn't ended.
 begun=$kept/nfsd.begun
 log=$kept/nfsd.log
 lock_file=$kept/nfsd.lock
@@ -15,8 +16,9 @@ order=()
 declare -A uses=()
 # The last crate that was announced.
 announced=
-# The command that this one waits for.
+# The command that this one waits for, and whether a build of its own goes on.
 child=
+has_begun=no
 
 say() {
     echo "$*" >&2 || true
@@ -27,14 +29,38 @@ stop() {
     exit 1
 }
 
-# Whether the program stands, and nothing that it is made from has changed since its build began. A folder changes too
-# when a file in it is removed or another takes its place. Times of change (ctime) are compared, which nothing sets back.
+# Prints the first of the given files and folders, or of those in them, that has changed since a file was written. A
+# folder changes too when a file in it is removed or another takes its place. Times of change (ctime) are compared, which
+# nothing sets back. It fails where one of the given isn't there.
+changed_since() {
+    local file=$1
+    shift
+    find "${@/#/$root/}" \( -type d -o -name '*.rt' -o -name '*.antt' -o -name crates.txt \) \
+        -cnewer "$file" -print -quit 2>/dev/null
+}
+
+# Whether the program stands, and nothing that it is made from has changed since its build began. Nothing is summed.
 is_built() {
-    local parts newer
+    local lines changed
     [ -x "$program" ] && [ -s "$stamp" ] || return 1
-    mapfile -t parts <"$stamp"
-    newer=$(find "${parts[@]/#/$root/}" \( -type d -o -name '*.rt' -o -name '*.antt' -o -name crates.txt \) \
-        -cnewer "$stamp" -print -quit 2>/dev/null) && [ -z "$newer" ]
+    mapfile -t lines <"$stamp"
+    changed=$(changed_since "$stamp" "${lines[@]:1}") && [ -z "$changed" ]
+}
+
+# Whether the program stands, and what it is made from has the same bytes still: only times, owners or modes changed. The
+# stamp is then as old as this look, where it can be written, so that the next call need not sum again.
+is_same() {
+    local look
+    [ -x "$program" ] && [ -s "$stamp" ] || return 1
+    look=$(mktemp "$kept/nfsd.look.XXXXXX" 2>/dev/null) || look=
+    if [ "$(made_from)" != "$(<"$stamp")" ]; then
+        rm -f "$look"
+        return 1
+    fi
+    if [ -n "$look" ]; then
+        touch -c -r "$look" "$stamp" 2>/dev/null || true
+        rm -f "$look"
+    fi
 }
 
 find_rt() {
@@ -92,8 +118,8 @@ stop_unless_writable() {
     mkdir -p "$kept" 2>/dev/null || true
     for it in "${places[@]}"; do
         if ! can_write "$it"; then
-            stop "the program has to be built first, and $it can't be written." \
-                "Run $root/nfsd --help as a user who may write this checkout"
+            stop "$it can't be written, and the program has to be built in this checkout first:" \
+                "run $root/nfsd --help as a user who may write there"
         fi
     done
 }
@@ -105,8 +131,11 @@ hold_lock() {
     flock -n -E 75 "$lock" || status=$?
     # Another status than 75 is a file system that knows no locks: rt keeps what it builds apart there by itself.
     if [ "$status" = 75 ]; then
-        say "${0##*/}: waiting for another build of this checkout; what it prints goes into $log"
-        flock "$lock"
+        say "${0##*/}: waiting for another build of this checkout. A ./nfsd keeps what it prints in $log"
+        flock "$lock" &
+        child=$!
+        wait "$child"
+        child=
     fi
 }
 
@@ -115,32 +144,62 @@ release_lock() {
     exec {lock}>&-
 }
 
-# Begins a stamp: the files and folders, below the top, that the program is made from.
-begin_stamp() {
+# Prints the files and folders, below the top, that the program is made from.
+parts() {
     local name part
-    {
-        echo crates.txt
-        for name in "${order[@]}"; do
-            for part in src specs proofs; do
-                if [ -d "$root/crates/$name/$part" ]; then
-                    echo "crates/$name/$part"
-                fi
-            done
+    echo crates.txt
+    for name in "${order[@]}"; do
+        for part in src specs proofs; do
+            if [ -d "$root/crates/$name/$part" ]; then
+                echo "crates/$name/$part"
+            fi
         done
-    } >"$begun"
+    done
 }
 
-# What was built since the stamp was begun is the program of what it names.
+# Prints a stamp's text.
+made_from() {
+    local lines
+    mapfile -t lines < <(parts)
+    (
+        cd "$root"
+        find "${lines[@]}" -type f \( -name '*.rt' -o -name '*.antt' -o -name crates.txt \) -print0 |
+            LC_ALL=C sort -z | xargs -0 sha256sum | sha256sum
+    )
+    printf '%s\n' "${lines[@]}"
+}
+
+begin_stamp() {
+    has_begun=yes
+    rm -f "$stamp"
+    : >"$begun"
+}
+
+# The program that was built is that of the files that stand here, unless one changed meanwhile: then it gets no stamp.
 end_stamp() {
-    mv -f "$begun" "$stamp"
+    local text lines changed
+    text=$(made_from)
+    mapfile -t lines < <(parts)
+    changed=$(changed_since "$begun" "${lines[@]}") || changed="a folder"
+    if [ -n "$changed" ]; then
+        say "${0##*/}: $changed changed in mid-build, so the next ./nfsd builds again"
+    else
+        printf '%s\n' "$text" >"$begun.text"
+        touch -r "$begun" "$begun.text"
+        mv -f "$begun.text" "$stamp"
+    fi
+    rm -f "$begun"
+    has_begun=no
 }
 
-# Ends what was begun, when this process ends before it is done.
+# Ends what was begun, when this process ends before it is done. A build of another process is left alone.
 give_up() {
     if [ -n "$child" ]; then
         kill "$child" 2>/dev/null || true
     fi
-    rm -f "$begun"
+    if [ "$has_begun" = yes ]; then
+        rm -f "$begun" "$begun.text"
+    fi
 }
 
 # Says that rt has come to a crate.
@@ -172,7 +231,7 @@ follow() {
     done >>"$log"
 }
 
-# Proves and builds the program. `rt run` builds it and then runs it; the argument ends it at once, with any status.
+# Proves, builds and stamps the program. `rt run` builds it and then runs it; the argument ends it at once, with any status.
 prove_and_build() {
     local began=$SECONDS lines
     say "${0##*/}: proving and building the program. From nothing that takes up to an hour, after a change minutes." \
@@ -189,21 +248,24 @@ prove_and_build() {
         grep -v -e ': proved$' -e '^statements ' -e '^library ' "$log" | tail -n 40 >&2 || true
         stop "the program was not built. All that rt printed is in $log"
     fi
+    end_stamp
     say "${0##*/}: built in $(((SECONDS - began) / 60)) min: $program"
 }
 
-# Builds the program, unless another call did so while this one waited.
+# Builds the program, unless it is the same still, or another call built it while this one waited.
 build() {
-    rt=$(find_rt) || stop "the kit's command rt is not found"
     order_crates
+    if is_same; then
+        return
+    fi
+    rt=$(find_rt) || stop "the kit's command rt is not found"
     stop_unless_writable
+    trap give_up EXIT
     hold_lock
-    if ! is_built; then
-        trap give_up EXIT
+    if ! is_built && ! is_same; then
         begin_stamp
         prove_and_build
-        end_stamp
-        trap - EXIT
     fi
+    trap - EXIT
     release_lock
 }
