@@ -163,37 +163,45 @@ def test_a_change_in_mid_build_builds_again(place):
     assert_silent(checkout)
 
 
-def test_a_second_caller_waits_and_says_so(place):
-    checkout = Checkout(place)
-    checkout.put("pause", "0.05")
+def begun_build(checkout):
+    """Starts a call whose build goes on until it is released."""
+    checkout.hold()
     first = checkout.start(ARGUMENTS, stdin=-1)
     log = checkout.path("out/nfsd.log")
     wait_until("the log has begun", lambda: os.path.exists(log) and os.path.getsize(log))
+    return first, log
+
+
+def test_a_second_caller_waits_and_says_so(place):
+    checkout = Checkout(place)
+    first, log = begun_build(checkout)
     begun = contents(log)
-    second = checkout.run(ARGUMENTS, DATA)
-    assert_runs(second, "the second caller")
-    said = second.errors.decode().splitlines()
-    wanted = f"nfsd: waiting for another build of this checkout. A ./nfsd keeps what it prints in {log}"
-    same("what the second caller says", said, [wanted])
+    second = checkout.start(ARGUMENTS, stdin=-1)
+    wanted = f"nfsd: waiting for another build of this checkout. A ./nfsd keeps what it prints in {log}\n".encode()
+    same("what the second caller says", read_exactly(second.stderr, len(wanted), "its line"), wanted)
+    is_so("the log was cut", contents(log).startswith(begun))
+    checkout.release()
     output, errors = first.communicate(DATA, timeout=SECONDS)
     same("the first caller", (output, first.returncode), (SHOWN, 3))
     same("the crates that the first caller told of", len(steps(errors)), len(checkout.crates()))
-    same("builds", len(checkout.builds()), 1)
-    is_so("the log was cut", contents(log).startswith(begun) and contents(log).count(b"logic=proved") == len(checkout.crates()))
+    output, errors = second.communicate(DATA, timeout=SECONDS)
+    same("the second caller", (output, errors, second.returncode), (SHOWN, b"", 3))
+    same("builds", len(checkout.calls()), 1)
+    same("crates in the log", contents(log).count(b"logic=proved"), len(checkout.crates()))
 
 
 def test_a_caller_that_is_stopped_while_it_waits_leaves_the_build_alone(place):
     checkout = Checkout(place)
-    checkout.put("pause", "0.1")
-    first = checkout.start([])
-    wait_until("the build has begun", lambda: checkout.calls())
+    first, _ = begun_build(checkout)
     for name in "nfsd", "check":
         other = checkout.start([], name=name)
         waits = read_exactly(other.stderr, len(f"{name}: waiting"), "the line of who waits")
         same("what it does", waits.decode(), f"{name}: waiting")
         other.terminate()
         same("what it leaves running", is_held_by_others(other), False)
-    same("the first call", (*first.communicate(timeout=SECONDS)[:1], first.returncode), (b"", 3))
+    checkout.release()
+    output, errors = first.communicate(DATA, timeout=SECONDS)
+    same("the first caller", (output, first.returncode), (SHOWN, 3))
     same("builds", len(checkout.calls()), 1)
     assert_silent(checkout)
 
@@ -241,12 +249,14 @@ def test_a_build_that_fails_runs_no_older_program(place):
 
 
 def assert_interrupted(checkout, end, wanted):
-    """A call that is ended in mid-build leaves no process and no stamp, and the next builds."""
+    """A call that is ended in mid-build leaves no process and no stamp."""
     before = len(checkout.calls())
     ran = checkout.start(ARGUMENTS)
     wait_until("the build has begun", lambda: len(checkout.calls()) > before)
+    # Its first crate is told of once it reads what rt prints.
+    read_exactly(ran.stderr, len("nfsd: proving"), "the first line")
+    wait_until("a crate is told of", lambda: b" 0 min" in os.read(ran.stderr.fileno(), 10_000))
     number = checkout.calls()[-1][0]
-    time.sleep(0.1)
     end(ran)
     ran.communicate(timeout=SECONDS)
     same("status", ran.returncode, wanted)
@@ -264,11 +274,11 @@ def is_running(number):
 
 def test_an_interrupt_ends_the_build(place):
     checkout = Checkout(place)
-    checkout.put("pause", "0.2")
+    checkout.hold()
     assert_interrupted(checkout, lambda ran: os.killpg(ran.pid, signal.SIGINT), -signal.SIGINT)
     assert_interrupted(checkout, lambda ran: ran.terminate(), -signal.SIGTERM)
     assert_interrupted(checkout, lambda ran: os.kill(ran.pid, signal.SIGINT), -signal.SIGINT)
-    checkout.put("pause", "0")
+    checkout.release()
     assert_builds(checkout, "the call after")
     assert_silent(checkout)
 

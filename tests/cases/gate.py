@@ -109,20 +109,21 @@ def test_a_program_that_the_gate_did_not_leave_is_built(place):
 
 def test_what_the_gate_prints_comes_as_it_goes(place):
     checkout = checkout_of(place)
-    checkout.put("pause", "1")
+    checkout.hold()
     ran = checkout.start([], name="check")
     same("the first line", read_exactly(ran.stdout, 10, "the first line"), b"== limits\n")
     same("the check, after its first line", ran.poll(), None)
-    other = checkout.run(["beside"])
-    same("a ./nfsd beside the check", (other.status, other.output), (3, b"[beside]\n"))
-    is_so("it didn't wait", b"waiting for another build" in other.errors)
-    ran.communicate(timeout=SECONDS)
+    other, waiting = checkout.start(["beside"]), b"nfsd: waiting for another build"
+    same("a ./nfsd beside it", read_exactly(other.stderr, len(waiting), "its line"), waiting)
+    checkout.release()
+    same("the last line", ran.communicate(timeout=SECONDS)[0].decode().splitlines()[-1], "45 passed, 0 failed")
+    same("the ./nfsd after it", (other.communicate(timeout=SECONDS)[0], other.returncode), (b"[beside]\n", 3))
     same("calls of rt", [it for _, it in checkout.calls()], ["ci"])
 
 
 def test_a_check_that_is_stopped_ends_the_gate_and_fails(place):
     checkout = checkout_of(place)
-    checkout.put("pause", "20")
+    checkout.hold()
     for end in signal.SIGTERM, signal.SIGINT:
         before = len(checkout.calls())
         ran = checkout.start([], name="check")
