@@ -3,8 +3,8 @@
 program=$root/crates/nfsd/out/nfsd
 # What has to outlast `rt ci` lies here, since that moves crates/*/out aside.
 kept=$root/out
-# A sum of what the program was made from, and the files and folders of that, below the top, one a line. It is as old as
-# the beginning of the build.
+# A sum of the program and of what it was made from, and then the files and folders of that, below the top, one a line.
+# It is as old as the beginning of the build.
 stamp=$kept/nfsd.stamp
 # As old as a build that hasn't ended.
 begun=$kept/nfsd.begun
@@ -157,14 +157,14 @@ parts() {
     done
 }
 
-# Prints a stamp's text.
+# Prints a stamp's text. The sum is of the program too, which a call of rt may have made from other files meanwhile.
 made_from() {
     local lines
     mapfile -t lines < <(parts)
     (
         cd "$root"
         find "${lines[@]}" -type f \( -name '*.rt' -o -name '*.antt' -o -name crates.txt \) -print0 |
-            LC_ALL=C sort -z | xargs -0 sha256sum | sha256sum
+            LC_ALL=C sort -z | xargs -0 sha256sum "${program#"$root/"}" | sha256sum
     )
     printf '%s\n' "${lines[@]}"
 }
@@ -217,12 +217,14 @@ announce() {
 }
 
 # Keeps what rt prints in the log, and announces each crate: rt names it before its proof and, in any case, behind it.
+# That rt waits for another rt is told too.
 follow() {
     local line name
     while IFS= read -r line || [ -n "$line" ]; do
         printf '%s\n' "$line"
         case $line in
             "rt: chose --jobs "*" for "*) announce "${line##* }" ;;
+            "rt: waiting for "*) say "$line" ;;
             "crate "*": modules "*)
                 name=${line#crate }
                 announce "${name%%:*}"

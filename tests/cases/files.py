@@ -66,7 +66,7 @@ def mode_of(path):
     return stat.S_IMODE(os.stat(path).st_mode)
 
 
-def test_a_new_image_is_its_owner_s_alone(place):
+def test_a_new_image_is_its_owners_alone(place):
     for umask in 0o000, 0o022, 0o077:
         name = f"image{umask:o}"
         ran = place.run(["format", name, "--blocks", str(BLOCKS), "--inodes", str(INODES)], umask=umask)

@@ -108,7 +108,12 @@ def test_a_change_of_what_it_is_made_from_builds_again(place):
         put(source, b"// another\n" + kept)
         os.utime(source, (0, 0))
 
+    def have_rt_build_another_and_take_the_change_back():
+        put(checkout.path("crates/nfsd/out/nfsd"), b"#!/bin/sh\necho another\n")
+        os.utime(source)
+
     changes = [
+        have_rt_build_another_and_take_the_change_back,
         lambda: put(source, kept + b"\n"),
         put_an_older_one_in_its_place,
         write_it_with_an_old_time,

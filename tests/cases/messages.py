@@ -33,7 +33,7 @@ def test_each_example_is_answered(place):
         expect(name, place.once(place.image(), call), 0, reply, b"")
 
 
-def test_the_readme_s_commands_do_what_it_says(place):
+def test_the_commands_of_the_readme_do_what_it_says(place):
     # The lines of a block of code that begins with ./nfsd, on an image in the case's own folder.
     blocks = re.findall(r"(?:^ {4}\S.*\n)+", readme(place), re.M)
     found = [it for it in blocks if it.startswith("    ./nfsd ")]

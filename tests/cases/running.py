@@ -15,8 +15,9 @@ SECONDS = 30
 BLOCKS, INODES, MADE = 1024, 64, 1000
 # The mode of a new root.
 NEW_MODE = 0o755
-# How another user is asked to run a command, where the test may ask that.
-AS_NOBODY = {} if os.geteuid() else {"user": 65534, "group": 65534, "extra_groups": []}
+NOBODY = 65534
+# How a user is asked who may not write everything: root may, and asks another.
+AS_NOBODY = {"user": None if os.geteuid() else NOBODY}
 
 Ended = collections.namedtuple("Ended", "status output errors")
 
@@ -35,25 +36,12 @@ class Place:
     def path(self, name):
         return os.path.join(self.folder, name)
 
-    def start(self, arguments, command=None, closed=(), file_limit=None, memory_limit=None, **how):
-        """Starts the program, or another command, in the folder. What isn't named is closed or empty."""
-
-        def prepare():
-            # (bash has what it starts beside it ignore the first, and Python ignores the second)
-            signal.signal(signal.SIGINT, signal.SIG_DFL)
-            if file_limit is not None:
-                signal.signal(signal.SIGXFSZ, signal.SIG_IGN)
-                resource.setrlimit(resource.RLIMIT_FSIZE, (file_limit, file_limit))
-            for it in closed:
-                os.close(it)
-            if memory_limit is not None:
-                resource.setrlimit(resource.RLIMIT_AS, (memory_limit, memory_limit))
-
-        given = {"stdin": subprocess.DEVNULL, "stdout": subprocess.PIPE, "stderr": subprocess.PIPE}
-        given.update(how)
-        whole = [*(command or [self.program]), *arguments]
-        cwd = given.pop("cwd", self.folder)
-        ran = subprocess.Popen(whole, cwd=cwd, preexec_fn=prepare, start_new_session=True, **given)
+    def start(self, arguments, command=None, cwd=None, **how):
+        """Starts the program, or another command, in the folder. A stream that isn't named is a pipe, or no input."""
+        prepared = {it: how.pop(it) for it in ("closed", "file_limit", "memory_limit", "umask", "user") if it in how}
+        given = {"stdin": subprocess.DEVNULL, "stdout": subprocess.PIPE, "stderr": subprocess.PIPE, **how}
+        given.update(cwd=cwd or self.folder, start_new_session=True, preexec_fn=lambda: prepare(**prepared))
+        ran = subprocess.Popen([*(command or [self.program]), *arguments], **given)
         self.started.append(ran)
         return ran
 
@@ -86,6 +74,25 @@ class Place:
         """An opening finds this mode and this second of the last change."""
         ran = self.once(image, wire.getattr_call(7))
         expect(what, ran, 0, wire.getattr_reply(7, mode, MADE, changed), b"")
+
+
+def prepare(closed=(), file_limit=None, memory_limit=None, umask=None, user=None):
+    """What a new process does to itself before it becomes the command."""
+    # (bash has what it starts beside it ignore this one)
+    signal.signal(signal.SIGINT, signal.SIG_DFL)
+    if umask is not None:
+        os.umask(umask)
+    if file_limit is not None:
+        signal.signal(signal.SIGXFSZ, signal.SIG_IGN)
+        resource.setrlimit(resource.RLIMIT_FSIZE, (file_limit, file_limit))
+    for it in closed:
+        os.close(it)
+    if user is not None:
+        os.setgroups([])
+        os.setgid(user)
+        os.setuid(user)
+    if memory_limit is not None:
+        resource.setrlimit(resource.RLIMIT_AS, (memory_limit, memory_limit))
 
 
 # The blocks before the data are 514 of the log and the super block, one for each bitmap, and two for 64 inodes.
