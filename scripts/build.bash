@@ -1,24 +1,12 @@
-# What ./nfsd and ./check share: whether the program is built, and how it is built. They set `root`, the checkout's top.
+# How the program is built, as ./nfsd and ./check do it. They set `root`, the checkout's top, and read stamp.bash
+# first.
 
-program=$root/crates/nfsd/out/nfsd
-# What has to outlast `rt ci` lies here, since that moves crates/*/out aside.
-kept=$root/out
-# A sum of the program and of what it was made from, and then the files and folders of that, below the top, one a line.
-# It is as old as the beginning of the build.
-stamp=$kept/nfsd.stamp
-# As old as a build that hasn't ended.
-begun=$kept/nfsd.begun
 log=$kept/nfsd.log
 lock_file=$kept/nfsd.lock
-
-# The crates that the program is made from, each after those that it uses, and what the lines of crates.txt name.
-order=()
-declare -A uses=()
 # The last crate that was announced.
 announced=
-# The command that this one waits for, and whether a build of its own goes on.
+# The command that this process waits for.
 child=
-has_begun=no
 
 say() {
     echo "$*" >&2 || true
@@ -27,40 +15,6 @@ say() {
 stop() {
     say "${0##*/}: $*"
     exit 1
-}
-
-# Prints the first of the given files and folders, or of those in them, that has changed since a file was written. A
-# folder changes too when a file in it is removed or another takes its place. Times of change (ctime) are compared, which
-# nothing sets back. It fails where one of the given isn't there.
-changed_since() {
-    local file=$1
-    shift
-    find "${@/#/$root/}" \( -type d -o -name '*.rt' -o -name '*.antt' -o -name crates.txt \) \
-        -cnewer "$file" -print -quit 2>/dev/null
-}
-
-# Whether the program stands, and nothing that it is made from has changed since its build began. Nothing is summed.
-is_built() {
-    local lines changed
-    [ -x "$program" ] && [ -s "$stamp" ] || return 1
-    mapfile -t lines <"$stamp"
-    changed=$(changed_since "$stamp" "${lines[@]:1}") && [ -z "$changed" ]
-}
-
-# Whether the program stands, and what it is made from has the same bytes still: only times, owners or modes changed. The
-# stamp is then as old as this look, where it can be written, so that the next call need not sum again.
-is_same() {
-    local look
-    [ -x "$program" ] && [ -s "$stamp" ] || return 1
-    look=$(mktemp "$kept/nfsd.look.XXXXXX" 2>/dev/null) || look=
-    if [ "$(made_from)" != "$(<"$stamp")" ]; then
-        rm -f "$look"
-        return 1
-    fi
-    if [ -n "$look" ]; then
-        touch -c -r "$look" "$stamp" 2>/dev/null || true
-        rm -f "$look"
-    fi
 }
 
 find_rt() {
@@ -72,32 +26,6 @@ find_rt() {
         fi
     done
     return 1
-}
-
-# Reads crates.txt into `uses` and `order`.
-order_crates() {
-    local line
-    while IFS= read -r line || [ -n "$line" ]; do
-        line=${line%%#*}
-        if [[ $line == *:* ]]; then
-            uses[${line%%[: ]*}]=${line#*:}
-        fi
-    done <"$root/crates.txt"
-    add_crate nfsd
-}
-
-# Appends a crate to `order`, after those that it uses. The kit's own libraries have no line in crates.txt.
-add_crate() {
-    local library
-    if [[ " ${order[*]} " == *" $1 "* ]]; then
-        return
-    fi
-    for library in ${uses[$1]}; do
-        if [[ -v uses[$library] ]]; then
-            add_crate "$library"
-        fi
-    done
-    order+=("$1")
 }
 
 # Whether a file or folder can be written, or made where it isn't there.
@@ -124,72 +52,25 @@ stop_unless_writable() {
     done
 }
 
-# Keeps other builds of this checkout out until this process and its build have ended.
+# Keeps other builds of this checkout out until this process and its build have ended. Each try is short, so that none
+# goes on for long when this process is stopped while it waits. flock's other statuses than 75 are those of a file
+# system that knows no locks, where rt goes on without one too.
 hold_lock() {
     local status=0
     exec {lock}>>"$lock_file"
     flock -n -E 75 "$lock" || status=$?
-    # Another status than 75 is a file system that knows no locks: rt keeps what it builds apart there by itself.
     if [ "$status" = 75 ]; then
         say "${0##*/}: waiting for another build of this checkout. A ./nfsd keeps what it prints in $log"
-        flock "$lock" &
-        child=$!
-        wait "$child"
-        child=
     fi
+    while [ "$status" = 75 ]; do
+        status=0
+        flock -w 1 -E 75 "$lock" || status=$?
+    done
 }
 
 # Others may build again. What is run later must not keep them out.
 release_lock() {
     exec {lock}>&-
-}
-
-# Prints the files and folders, below the top, that the program is made from.
-parts() {
-    local name part
-    echo crates.txt
-    for name in "${order[@]}"; do
-        for part in src specs proofs; do
-            if [ -d "$root/crates/$name/$part" ]; then
-                echo "crates/$name/$part"
-            fi
-        done
-    done
-}
-
-# Prints a stamp's text. The sum is of the program too, which a call of rt may have made from other files meanwhile.
-made_from() {
-    local lines
-    mapfile -t lines < <(parts)
-    (
-        cd "$root"
-        find "${lines[@]}" -type f \( -name '*.rt' -o -name '*.antt' -o -name crates.txt \) -print0 |
-            LC_ALL=C sort -z | xargs -0 sha256sum "${program#"$root/"}" | sha256sum
-    )
-    printf '%s\n' "${lines[@]}"
-}
-
-begin_stamp() {
-    has_begun=yes
-    rm -f "$stamp"
-    : >"$begun"
-}
-
-# The program that was built is that of the files that stand here, unless one changed meanwhile: then it gets no stamp.
-end_stamp() {
-    local text lines changed
-    text=$(made_from)
-    mapfile -t lines < <(parts)
-    changed=$(changed_since "$begun" "${lines[@]}") || changed="a folder"
-    if [ -n "$changed" ]; then
-        say "${0##*/}: $changed changed in mid-build, so the next ./nfsd builds again"
-    else
-        printf '%s\n' "$text" >"$begun.text"
-        touch -r "$begun" "$begun.text"
-        mv -f "$begun.text" "$stamp"
-    fi
-    rm -f "$begun"
-    has_begun=no
 }
 
 # Ends what was begun, when this process ends before it is done. A build of another process is left alone.
@@ -216,8 +97,8 @@ announce() {
     done
 }
 
-# Keeps what rt prints in the log, and announces each crate: rt names it before its proof and, in any case, behind it.
-# That rt waits for another rt is told too.
+# Keeps what rt prints in the log, and announces each crate: rt names it before its proof and, in any case, behind
+# it. That rt waits for another rt is told too.
 follow() {
     local line name
     while IFS= read -r line || [ -n "$line" ]; do
@@ -233,7 +114,8 @@ follow() {
     done >>"$log"
 }
 
-# Proves, builds and stamps the program. `rt run` builds it and then runs it; the argument ends it at once, with any status.
+# Proves, builds and stamps the program. `rt run` builds it and then runs it; the argument ends it at once, with
+# any status.
 prove_and_build() {
     local began=$SECONDS lines
     say "${0##*/}: proving and building the program. From nothing that takes up to an hour, after a change minutes." \

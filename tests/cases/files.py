@@ -108,7 +108,7 @@ def test_a_limit_of_file_sizes_below_the_log_makes_calls_fail_and_loses_nothing(
     image = place.image()
     expect("the first server", place.once(image, wire.setattr_call(1, 0o711)), 0,
            wire.setattr_reply(1, 0o711, MADE, MADE, 2000), NOTHING)
-    # Block 0 lies below the limit, and the log past it: the change fails, and the store is broken for the calls after it.
+    # Block 0 lies below the limit, and the log past it: the change fails, and then the store is broken.
     with open(place.path("replies"), "wb") as replies:
         calls = wire.getattr_call(1) + wire.setattr_call(2, 0o700) + wire.getattr_call(3) + wire.null_call(4)
         ran = place.once(image, calls, 3000, file_limit=4096, stdout=replies)

@@ -71,8 +71,8 @@ def test_any_folder_and_a_link_will_do(place):
     os.symlink(checkout.command(), place.path("a link"))
     os.symlink("../a link", place.path("a folder/another"))
     checkout.run([], command=["./a folder/another"])
-    for command, folder in (["../checkout/nfsd"], "a folder"), (["./another"], "a folder"), ([place.path("a link")], "/"):
-        assert_silent(checkout, command[0], command=command, cwd=os.path.join(place.folder, folder))
+    for command, folder in ("../checkout/nfsd", "a folder"), ("./another", "a folder"), (place.path("a link"), "/"):
+        assert_silent(checkout, command, command=[command], cwd=os.path.join(place.folder, folder))
 
 
 def test_closed_streams_are_handed_on_closed(place):
@@ -81,11 +81,10 @@ def test_closed_streams_are_handed_on_closed(place):
     for name, closed in ("first", [0, 1, 2]), ("later", [0, 1, 2]), ("open", []):
         same(f"{name}: status", checkout.run([place.path(name)], closed=closed).status, 0)
     same("calls of rt", len(checkout.builds()), 1)
-    # (a shell holds its script by a number of two digits or more)
-    shown = {it: [n for n in contents(place.path(it)).decode().split() if len(n) == 1] for it in ("first", "later", "open")}
-    same("with none closed", {"0", "1", "2"} - {*shown["open"]}, set())
-    for name in "first", "later":
-        same(f"{name}: what is open of the three", [it for it in shown[name] if it in "02"], [])
+    # (the shell gives its own ls an output; a shell holds its script by a number of two digits or more)
+    for name, wanted in ("first", set()), ("later", set()), ("open", {"0", "2"}):
+        shown = contents(place.path(name)).decode().split()
+        same(f"{name}: what is open of input and error stream", {"0", "2"} & {*shown}, wanted)
 
 
 def put(path, data):
@@ -96,7 +95,7 @@ def put(path, data):
 def test_a_change_of_what_it_is_made_from_builds_again(place):
     checkout = Checkout(place)
     checkout.run([])
-    source = checkout.path("crates/wal/src/lib.rt")
+    source, statements = checkout.files("src/lib.rt")[0], checkout.files("specs/*.antt")
     kept = contents(source)
 
     def put_an_older_one_in_its_place():
@@ -118,8 +117,8 @@ def test_a_change_of_what_it_is_made_from_builds_again(place):
         put_an_older_one_in_its_place,
         write_it_with_an_old_time,
         lambda: put(checkout.path("crates.txt"), contents(checkout.path("crates.txt")) + b"# more\n"),
-        lambda: os.remove(checkout.path("crates/disk/specs/Device.antt")),
-        lambda: shutil.rmtree(checkout.path("crates/objects/specs")),
+        lambda: os.remove(statements[0]),
+        lambda: shutil.rmtree(os.path.dirname(statements[-1])),
         lambda: os.remove(checkout.path("crates/nfsd/out/nfsd")),
         lambda: os.remove(checkout.path("out/nfsd.stamp")),
     ]
@@ -132,25 +131,27 @@ def test_a_change_of_what_it_is_made_from_builds_again(place):
 def test_other_changes_build_nothing(place):
     checkout = Checkout(place)
     checkout.run([])
-    for it in "README.md", "crates/rows/src/lib.rt":
-        with open(checkout.path(it), "ab") as file:
-            file.write(b"\n")
+    others = {*os.listdir(checkout.path("crates"))} - {*checkout.crates()}
+    for it in [checkout.path("README.md"), *checkout.files("src/lib.rt", others)]:
+        put(it, contents(it) + b"\n")
     # As rt ci does.
-    os.rename(checkout.path("crates/wal"), checkout.path("crates/aside"))
-    os.rename(checkout.path("crates/aside"), checkout.path("crates/wal"))
-    os.mkdir(checkout.path("crates/wal/out"))
-    os.mkdir(checkout.path("crates/wal/must-fail"))
+    crate = checkout.path(f"crates/{checkout.crates()[0]}")
+    os.mkdir(crate + "/out")
+    os.rename(crate + "/out", checkout.path("aside"))
+    os.mkdir(crate + "/must-fail")
     assert_silent(checkout)
 
 
 def test_new_times_alone_build_nothing(place):
     checkout = Checkout(place)
     checkout.run([])
-    os.utime(checkout.path("crates/wal/src/lib.rt"))
-    os.chmod(checkout.path("crates/wal/specs"), 0o755)
+    folder = os.path.dirname(checkout.files("specs/*.antt")[0])
+    os.utime(checkout.files("src/lib.rt")[0])
+    os.chmod(folder, 0o755)
     assert_silent(checkout, "the call after")
     stamp = checkout.path("out/nfsd.stamp")
-    is_so("the stamp is older than the change", os.stat(stamp).st_mtime > os.stat(checkout.path("crates/wal/specs")).st_ctime)
+    changed = os.stat(folder).st_ctime
+    is_so("the stamp is older than the change", os.stat(stamp).st_mtime > changed)
     same("what was left in out", sorted(os.listdir(checkout.path("out"))), ["nfsd.lock", "nfsd.log", "nfsd.stamp"])
     copy = checkout.top + "2"
     shutil.copytree(checkout.top, copy)
@@ -159,7 +160,7 @@ def test_new_times_alone_build_nothing(place):
 
 def test_a_change_in_mid_build_builds_again(place):
     checkout = Checkout(place)
-    checkout.put("edits", checkout.path("crates/wal/src/lib.rt"))
+    checkout.put("edits", checkout.files("src/lib.rt")[0])
     ran = checkout.run(ARGUMENTS, DATA)
     assert_runs(ran)
     is_so("no word of the change", b"changed in mid-build" in ran.errors)
@@ -247,7 +248,7 @@ def test_a_build_that_fails_runs_no_older_program(place):
     checkout = Checkout(place)
     checkout.run([])
     checkout.put("fails", "")
-    put(checkout.path("crates/wal/src/lib.rt"), b"// another\n")
+    put(checkout.files("src/lib.rt")[0], b"// another\n")
     for what in "first", "second":
         ran = checkout.run(ARGUMENTS, DATA)
         same(f"the {what} call: status and standard output", (ran.status, ran.output), (1, b""))
@@ -303,8 +304,8 @@ def test_a_checkout_that_cannot_be_written_is_told_of(place):
         ran = checkout.run(ARGUMENTS, DATA, **AS_NOBODY)
         same("status and standard output", (ran.status, ran.output), (1, b""))
         said = ran.errors.decode().splitlines()
-        same("what is said", said, [f"nfsd: {checkout.path('out')} can't be written, and the program has to be built in"
-                                    f" this checkout first: run {checkout.command()} --help as a user who may write there"])
+        wanted = f"nfsd: {checkout.path('out')} can't be written, and the program has to be built in this checkout first:"
+        same("what is said", said, [f"{wanted} run {checkout.command()} --help as a user who may write there"])
         same("calls of rt", checkout.calls(), [])
     finally:
         close(checkout.top, True)
@@ -314,12 +315,13 @@ def test_a_crate_that_cannot_be_written_is_told_of_before_the_build(place):
     checkout = Checkout(place)
     os.mkdir(checkout.path("out"), 0o777)
     os.chmod(checkout.path("out"), 0o777)
-    os.chmod(checkout.path("crates/limits"), 0o555)
+    crate = checkout.path(f"crates/{checkout.crates()[0]}")
+    os.chmod(crate, 0o555)
     ran = checkout.run(ARGUMENTS, DATA, **AS_NOBODY)
     same("status and standard output", (ran.status, ran.output), (1, b""))
-    is_so("the folder isn't named", checkout.path("crates/limits/out") in ran.errors.decode())
+    is_so("the folder isn't named", crate + "/out" in ran.errors.decode())
     same("calls of rt", checkout.calls(), [])
-    os.chmod(checkout.path("crates/limits"), 0o755)
+    os.chmod(crate, 0o755)
 
 
 def test_who_may_not_write_the_checkout_may_run_what_is_built(place):

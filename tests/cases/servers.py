@@ -89,7 +89,8 @@ def test_an_answered_mode_outlasts_a_kill(place):
         same(f"{what}: standard error and status of the next server", (ran.errors, ran.status), (NOTHING, 0))
         found = wire.mode_and_change(ran.output)
         lawful = [(mode, changed)] + [(it, second) for it in modes[len(answered) : len(answered) + 1]]
-        is_so(f"{what}: after {len(answered)} answers the mode and its second are {found}, not of {lawful}", found in lawful)
+        told = f"{what}: after {len(answered)} answers the mode and its second are {found}, not of {lawful}"
+        is_so(told, found in lawful)
         before, has_changed = found
         seen += len(answered)
     is_so(f"no kill by seed {seed} came after an answer, so nothing was tried", seen)

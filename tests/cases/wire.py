@@ -1,5 +1,6 @@
-"""Calls, replies and the super block, spelled from the standards and from docs/FORMAT.md, and never from what the program
-wrote: records from RFC 5531 section 11, headers from its section 9, items from RFC 4506, and procedures from RFC 1813."""
+"""Calls, replies and the super block, spelled from the standards and from docs/FORMAT.md, and never from what the
+program wrote: records from RFC 5531 section 11, headers from its section 9, items from RFC 4506, and procedures from
+RFC 1813."""
 
 import struct
 
@@ -90,7 +91,7 @@ def setattr_failed(xid):
 
 
 def attributes(mode, made, changed):
-    """Of a root: two links, user and group 0, no bytes and none used, no device, file system 1, file 1, and three times."""
+    """Of a root: two links, user and group 0, no bytes, none used, no device, file system 1, file 1, and three times."""
     head = words(DIRECTORY, mode, 2, 0, 0) + doubles(0, 0) + words(0, 0) + doubles(1, 1)
     return head + words(made, 0, made, 0, changed, 0)
 
