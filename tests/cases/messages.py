@@ -1,0 +1,49 @@
+"""The README's commands, and the example messages that they send."""
+
+import glob
+import os
+import re
+
+from cases import wire
+from cases.running import FORMATTED, MADE, NEW_MODE, contents, expect, is_so, same
+
+# The calls and replies of examples/README.md: on a fresh image, in the order of the README's command.
+EXAMPLES = {
+    "null": (wire.null_call(1), wire.null_reply(1)),
+    "getattr": (wire.getattr_call(3), wire.getattr_reply(3, NEW_MODE, MADE, MADE)),
+    "setattr": (wire.setattr_call(4, 448), wire.setattr_reply(4, 448, MADE, MADE, 2000)),
+}
+
+
+def readme(place):
+    return contents(os.path.join(place.top, "README.md")).decode()
+
+
+def test_the_examples_are_as_the_standards_spell_them(place):
+    folder = os.path.join(place.top, "examples")
+    names = sorted({os.path.splitext(os.path.basename(it))[0] for it in glob.glob(f"{folder}/*.[cr]*")})
+    same("the examples", names, sorted(EXAMPLES))
+    for name, (call, reply) in EXAMPLES.items():
+        same(f"{name}.call", contents(f"{folder}/{name}.call"), call)
+        same(f"{name}.reply", contents(f"{folder}/{name}.reply"), reply)
+
+
+def test_each_example_is_answered(place):
+    for name, (call, reply) in EXAMPLES.items():
+        expect(name, place.once(place.image(), call), 0, reply, b"")
+
+
+def test_the_commands_of_the_readme_do_what_it_says(place):
+    # The lines of a block of code that begins with ./nfsd, on an image in the case's own folder.
+    blocks = re.findall(r"(?:^ {4}\S.*\n)+", readme(place), re.M)
+    found = [it for it in blocks if it.startswith("    ./nfsd ")]
+    is_so("README.md has no block that begins with ./nfsd", found)
+    os.symlink(place.program, place.path("nfsd"))
+    os.symlink(os.path.join(place.top, "examples"), place.path("examples"))
+    script = re.sub(r"/tmp/\w+", place.path("image"), found[0])
+    ran = place.run(["-euc", script], command=["bash"])
+    expect("the commands", ran, 0, FORMATTED + b"same\n", b"")
+
+
+def test_the_readme_names_the_check(place):
+    is_so("README.md has no line of code that is ./check", re.search(r"^ {4}\./check$", readme(place), re.M))
