@@ -3,7 +3,7 @@ ghost use Rattle.std.specs.Prelude.{◌≡◌, IfOk, None};
 
 use crate::tests::compared::is_tree_of;
 use crate::tests::plain::fresh;
-use crate::tests::served::{NOW, formatted};
+use crate::tests::served::formatted;
 use disk::MemDisk;
 use limits::{MOST_KEPT_COMMITS, ROOT};
 use nfs_types::{Call, Credential, Handle, NewAttributes, Numbers, Reply, SetTime, Stamp};
@@ -11,6 +11,7 @@ use plain_image::read_image;
 use std::alloc::{AllocError, Global};
 use std::test::Fail;
 use store::{Store, Verdict, procedure};
+use worked_messages::NOW;
 
 // The opened store of an image.
 fn opened(alloc: Global, disk: MemDisk) -> Result<Store<MemDisk>, Fail>
