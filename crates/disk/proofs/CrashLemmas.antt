@@ -1,5 +1,6 @@
 -- What the digits choose is what a crash may leave.
-use Rattle.std.proofs.Common.{◌≡◌, ℕ, zero, suc, ◌-◌, ◌<◌, true, false, min, List, [], ◌∷◌, length, map, drop, get_or, refl, sym, subst, arith, if◌then◌else◌, nat_lt}
+use Rattle.std.proofs.Common.{◌≡◌, ℕ, zero, suc, ◌-◌, ◌<◌, true, false, min, List, [], ◌∷◌, length, map, drop}
+use Rattle.std.proofs.Common.{get_or, refl, sym, subst, arith, if◌then◌else◌, nat_lt}
 use Rattle.std.proofs.lemmas.List.{get_or_default}
 use Rattle.std.specs.Prelude.{Contains, slice_index}
 use Rattle.disk.specs.Device.{Content, current, newest}
@@ -8,18 +9,20 @@ use Rattle.disk.specs.Crash.{IsCrashImage, IsAtRest}
 use Rattle.disk.specs.Memory.{Blocks, Past, device_of}
 use Rattle.disk.proofs.MemoryLemmas.{current_now}
 
-picked : (place : ℕ) (contents : List Content) → 0 < length contents → Contains contents (pick place contents)
-picked place contents some =
-    let i : ℕ = min place (length contents - 1) in
+picked : (index : ℕ) (contents : List Content) → 0 < length contents → Contains contents (pick index contents)
+picked index contents some =
+    let i : ℕ = min index (length contents - 1) in
     let h : i < length contents = omega arith in
-    (i, h, get_or_default contents i (pick place contents) [] h)
+    (i, h, get_or_default contents i (pick index contents) [] h)
 
--- the next block takes some place, and the others the digits that are left
+-- the next block takes some content, and the others the digits that are left
 chosen_cons : (digits : List ℕ) (contents : List Content) (rest : Blocks)
-    → (place : ℕ) × (left : List ℕ) × (chosen digits (contents ∷ rest) ≡ pick place contents ∷ chosen left rest)
+    → (index : ℕ) × (left : List ℕ)
+    × (chosen digits (contents ∷ rest) ≡ pick index contents ∷ chosen left rest)
 chosen_cons digits contents rest =
-    elim (nat_lt 1 (length contents)) as (λ b. (place : ℕ) × (left : List ℕ)
-    × ((if b then pick (slice_index digits 0) contents ∷ chosen (drop 1 digits) rest else pick 0 contents ∷ chosen digits rest) ≡ pick place contents ∷ chosen left rest))
+    elim (nat_lt 1 (length contents)) as (λ b. (index : ℕ) × (left : List ℕ)
+    × ((if b then pick (slice_index digits 0) contents ∷ chosen (drop 1 digits) rest
+    else pick 0 contents ∷ chosen digits rest) ≡ pick index contents ∷ chosen left rest))
     [ true ↦ (slice_index digits 0, drop 1 digits, refl) | false ↦ (0, digits, refl) ]
 
 abbrev alone : List Content → Blocks
@@ -30,17 +33,23 @@ chosen_at : (digits : List ℕ) (now : Blocks) (block : ℕ) → block < length 
     → Contains (get_or now block []) (newest (get_or (alone (chosen digits now)) block []))
 chosen_at digits [] block h some = absurd (omega (arith, h))
 chosen_at digits (contents ∷ rest) zero h some =
-    let (place, left, e) = chosen_cons digits contents rest in
-    subst (λ (image : List Content). Contains contents (newest (get_or (alone image) 0 []))) (sym e) (picked place contents some)
+    let (index, left, e) = chosen_cons digits contents rest in
+    subst (λ (image : List Content). Contains contents (newest (get_or (alone image) 0 []))) (sym e)
+    (picked index contents some)
 chosen_at digits (contents ∷ rest) (suc block) h some =
-    let (place, left, e) = chosen_cons digits contents rest in
-    subst (λ (image : List Content). Contains (get_or rest block []) (newest (get_or (alone image) (suc block) []))) (sym e) (chosen_at left rest block (omega (arith, h)) some)
+    let (index, left, e) = chosen_cons digits contents rest in
+    subst (λ (image : List Content). Contains (get_or rest block [])
+    (newest (get_or (alone image) (suc block) []))) (sym e)
+    (chosen_at left rest block (omega (arith, h)) some)
 
 pub chosen_image : (digits : List ℕ) (now : Blocks) (past : Past)
     → ((block : ℕ) → block < length now → 0 < length (get_or now block []))
-    → IsCrashImage (device_of now past) (length past) (λ block. newest (current (device_of (alone (chosen digits now)) []) block))
+    → IsCrashImage (device_of now past) (length past)
+    (λ block. newest (current (device_of (alone (chosen digits now)) []) block))
 chosen_image digits now past some block h =
-    subst (λ (contents : List Content). Contains contents (newest (get_or (alone (chosen digits now)) block []))) (sym (current_now now past block)) (chosen_at digits now block h (some block h))
+    subst (λ (contents : List Content). Contains contents
+    (newest (get_or (alone (chosen digits now)) block []))) (sym (current_now now past block))
+    (chosen_at digits now block h (some block h))
 
 alone_one : (image : List Content) (block : ℕ) → block < length (alone image)
     → length (get_or (alone image) block []) ≡ 1

@@ -1,25 +1,28 @@
 -- What one more call makes of a device in memory.
-use Rattle.std.proofs.Common.{◌≡◌, ◌≢◌, ℕ, zero, suc, ◌+◌, ◌≤◌, Bool, true, false, ◌||◌, ◌&&◌, List, [], ◌∷◌, ◌++◌, length, get_or, refl, sym, subst, ◌∙◌, ap, arith, inl, inr, Result, Ok, Err, is_ok, is_err, if◌then◌else◌, cond}
+use Rattle.std.proofs.Common.{◌≡◌, ◌≢◌, ℕ, zero, suc, ◌+◌, ◌≤◌, Bool, true, false, ◌||◌, ◌&&◌, List, [], ◌∷◌}
+use Rattle.std.proofs.Common.{◌++◌, length, get_or, refl, sym, subst, ◌∙◌, ap, arith, inl, inr, Result, Ok}
+use Rattle.std.proofs.Common.{Err, is_ok, is_err, if◌then◌else◌, cond}
 use Rattle.std.proofs.lemmas.List.{length-append}
 use Rattle.std.proofs.lemmas.List.Folds.{list_any-append}
 use Rattle.std.proofs.lemmas.List.Sums.{sum_by-append}
 use Rattle.std.proofs.Math.Bool.{or-false}
 use Rattle.std.proofs.lemmas.Bool.{true≢false, false≢true}
-use Rattle.disk.specs.Device.{is_on, settled}
+use Rattle.disk.specs.Device.{is_on, newest_alone}
 use Rattle.std.specs.Prelude.{count_by}
 use Rattle.std.specs.List.{list_any}
 use Rattle.disk.specs.declared.device.Failed.{Failed}
 use Rattle.disk.specs.declared.block.BlockNo.{BlockNo}
 use Rattle.disk.specs.declared.block.Side.{Side}
-use Rattle.disk.specs.declared.noted.Call.{Call}
-use Rattle.disk.specs.declared.noted.Call.TheVariants.{Read, Write, Barrier}
-use Rattle.disk.specs.declared.noted.Noted.{Noted}
-use Rattle.disk.specs.Device.{Content, Device, current, OneLater, CountsFailure, HasRead, HasWritten, HasSettled, Appends, Settles}
-use Rattle.disk.specs.Noted.{is_failure, spoils}
+use Rattle.disk.specs.declared.call_record.Call.{Call}
+use Rattle.disk.specs.declared.call_record.Call.TheVariants.{Read, Write, Barrier}
+use Rattle.disk.specs.declared.call_record.CallRecord.{CallRecord}
+use Rattle.disk.specs.Device.{Content, Device, current, OneLater, CountsFailure, HasRead, HasWritten}
+use Rattle.disk.specs.Device.{HasSettled, Appends, Settles}
+use Rattle.disk.specs.CallRecord.{is_failure, spoils}
 use Rattle.disk.specs.Memory.{Blocks, Past, held_at, device_of}
 
-held_before : (now new : Blocks) (past : Past) (n : Noted) (moment : ℕ) → moment ≤ length past
-    → held_at new (past ++ (now, n) ∷ []) moment ≡ held_at now past moment
+held_before : (now new : Blocks) (past : Past) (n : CallRecord) (clock : ℕ) → clock ≤ length past
+    → held_at new (past ++ (now, n) ∷ []) clock ≡ held_at now past clock
 held_before now new [] n zero h = refl
 held_before now new [] n (suc m) h = absurd (omega (arith, h))
 held_before now new (e ∷ past) n zero h = refl
@@ -29,20 +32,20 @@ held_now : (now : Blocks) (past : Past) → held_at now past (length past) ≡ n
 held_now now [] = refl
 held_now now (e ∷ past) = held_now now past
 
-held_after : (now new : Blocks) (past : Past) (n : Noted)
+held_after : (now new : Blocks) (past : Past) (n : CallRecord)
     → held_at new (past ++ (now, n) ∷ []) (length (past ++ (now, n) ∷ [])) ≡ new
 held_after now new past n = held_now new (past ++ (now, n) ∷ [])
 
-later : (now new : Blocks) (past : Past) (n : Noted) → length new ≡ length now
+later : (now new : Blocks) (past : Past) (n : CallRecord) → length new ≡ length now
     → OneLater (device_of now past) (device_of new (past ++ (now, n) ∷ []))
 later now new past n same = record {
   size = same;
   clock = length-append past ((now, n) ∷ []);
-  past = λ moment block h. ap (λ (bs : Blocks). get_or bs block []) (held_before now new past n moment h);
+  past = λ clock block h. ap (λ (bs : Blocks). get_or bs block []) (held_before now new past n clock h);
 }
 
 -- the contents after one more call are the new ones
-pub current_after : (now new : Blocks) (past : Past) (n : Noted) (block : ℕ)
+pub current_after : (now new : Blocks) (past : Past) (n : CallRecord) (block : ℕ)
     → current (device_of new (past ++ (now, n) ∷ [])) block ≡ get_or new block []
 current_after now new past n block = ap (λ (bs : Blocks). get_or bs block []) (held_after now new past n)
 
@@ -50,76 +53,93 @@ pub current_now : (now : Blocks) (past : Past) (block : ℕ)
     → current (device_of now past) block ≡ get_or now block []
 current_now now past block = ap (λ (bs : Blocks). get_or bs block []) (held_now now past)
 
-counted : (p : Blocks × Noted → Bool) (past : Past) (e : Blocks × Noted)
+counted : (p : Blocks × CallRecord → Bool) (past : Past) (e : Blocks × CallRecord)
     → count_by p (past ++ e ∷ []) ≡ count_by p past + cond (p e) 1 0
 counted p past e = grind (arith, sum_by-append (λ x. cond (p x) 1 0) past (e ∷ []))
 
-pub counts : (now new : Blocks) (past : Past) (c : Call) (r : Result Unit Failed) → CountsFailure (device_of now past) (device_of new (past ++ (now, record { call = c; result = r }) ∷ [])) r
+pub counts : (now new : Blocks) (past : Past) (c : Call) (r : Result Unit Failed)
+    → CountsFailure (device_of now past) (device_of new (past ++ (now, record { call = c; result = r }) ∷ []))
+    r
 counts now new past c (Ok x) =
     let h = counted (λ e. is_failure e.1) past (now, record { call = c; result = Ok x }) in omega (arith, h)
 counts now new past c (Err x) = counted (λ e. is_failure e.1) past (now, record { call = c; result = Err x })
 
-any_after : (p : Blocks × Noted → Bool) (past : Past) (e : Blocks × Noted)
+any_after : (p : Blocks × CallRecord → Bool) (past : Past) (e : Blocks × CallRecord)
     → list_any p (past ++ e ∷ []) ≡ (list_any p past || p e)
-any_after p past e = list_any-append p past (e ∷ []) ∙ ap (λ (b : Bool). list_any p past || b) (or-false (p e))
+any_after p past e = list_any-append p past (e ∷ [])
+    ∙ ap (λ (b : Bool). list_any p past || b) (or-false (p e))
 
 -- a fact of the device, where it is made of equal parts
 pub moved : (P : Device → Type 0) (now now' : Blocks) (past past' : Past) → now' ≡ now → past' ≡ past
     → P (device_of now past) → P (device_of now' past')
 moved P now now' past past' e f h =
-    subst (λ (b : Blocks). P (device_of b past')) (sym e) (subst (λ (q : Past). P (device_of now q)) (sym f) h)
+    subst (λ (b : Blocks). P (device_of b past')) (sym e)
+    (subst (λ (q : Past). P (device_of now q)) (sym f) h)
 
 no_write : (x : Bool) (r : Result Unit Failed) → (x || (is_err r && false)) ≡ x
 no_write x (Ok u) = or-false x
 no_write x (Err u) = or-false x
 
-pub has_read : (now : Blocks) (past : Past) (b : BlockNo) (r : Result Unit Failed) → HasRead (device_of now past) (device_of now (past ++ (now, record { call = Read b; result = r }) ∷ []))
+pub has_read : (now : Blocks) (past : Past) (b : BlockNo) (r : Result Unit Failed)
+    → HasRead (device_of now past) (device_of now (past ++ (now, record { call = Read b; result = r }) ∷ []))
 has_read now past b r =
-    let n : Noted = record { call = Read b; result = r } in
+    let n : CallRecord = record { call = Read b; result = r } in
     record {
       later = later now now past n refl;
       contents = λ block. current_after now now past n block ∙ sym (current_now now past block);
-      spoiled = λ block. any_after (λ e. spoils block e.1) past (now, n) ∙ no_write (list_any (λ e. spoils block e.1) past) r;
+      spoiled = λ block. any_after (λ e. spoils block e.1) past (now, n)
+          ∙ no_write (list_any (λ e. spoils block e.1) past) r;
     }
 
 appends : (old old' new new' : List Content) (content : Content) (r : Result Unit Failed) → old' ≡ old
     → new' ≡ new → Appends old content r new → Appends old' content r new'
 appends old old' new new' content (Ok u) e f h = f ∙ h ∙ ap (λ (l : List Content). l ++ content ∷ []) (sym e)
 appends old old' new new' content (Err u) e f (inl h) = inl (f ∙ h ∙ sym e)
-appends old old' new new' content (Err u) e f (inr h) = inr (f ∙ h ∙ ap (λ (l : List Content). l ++ content ∷ []) (sym e))
+appends old old' new new' content (Err u) e f (inr h) =
+    inr (f ∙ h ∙ ap (λ (l : List Content). l ++ content ∷ []) (sym e))
 
 pub has_written : (now new : Blocks) (past : Past) (b : BlockNo) (content : Content) (r : Result Unit Failed)
     → length new ≡ length now → Appends (get_or now b.0 []) content r (get_or new b.0 [])
     → ((other : ℕ) → other ≢ b.0 → get_or new other [] ≡ get_or now other [])
-    → HasWritten (device_of now past) b.0 content r (device_of new (past ++ (now, record { call = Write b; result = r }) ∷ []))
+    → HasWritten (device_of now past) b.0 content r
+    (device_of new (past ++ (now, record { call = Write b; result = r }) ∷ []))
 has_written now new past b content r same h others =
-    let n : Noted = record { call = Write b; result = r } in
+    let n : CallRecord = record { call = Write b; result = r } in
     record {
       later = later now new past n same;
-      written = appends (get_or now b.0 []) (current (device_of now past) b.0) (get_or new b.0 []) (current (device_of new (past ++ (now, n) ∷ [])) b.0) content r (current_now now past b.0) (current_after now new past n b.0) h;
-      others = λ other ne. current_after now new past n other ∙ others other ne ∙ sym (current_now now past other);
+      written = appends (get_or now b.0 []) (current (device_of now past) b.0) (get_or new b.0 [])
+          (current (device_of new (past ++ (now, n) ∷ [])) b.0) content r (current_now now past b.0)
+          (current_after now new past n b.0) h;
+      others = λ other ne. current_after now new past n other ∙ others other ne
+          ∙ sym (current_now now past other);
       spoiled = λ block. any_after (λ e. spoils block e.1) past (now, n);
     }
 
 settles : (side : Side) (block : ℕ) (old old' new new' : List Content) (r : Result Unit Failed) → old' ≡ old
     → new' ≡ new → Settles side block old r new → Settles side block old' r new'
-settles side block old old' new new' (Ok u) e f h = f ∙ h ∙ ap (λ (l : List Content). if is_on side block then settled l else l) (sym e)
+settles side block old old' new new' (Ok u) e f h = f ∙ h
+    ∙ ap (λ (l : List Content). if is_on side block then newest_alone l else l) (sym e)
 settles side block old old' new new' (Err u) e f h = f ∙ h ∙ sym e
 
 pub has_settled : (now new : Blocks) (past : Past) (side : Side) (r : Result Unit Failed)
     → length new ≡ length now
     → ((block : ℕ) → Settles side block (get_or now block []) r (get_or new block []))
-    → HasSettled (device_of now past) side r (device_of new (past ++ (now, record { call = Barrier side; result = r }) ∷ []))
+    → HasSettled (device_of now past) side r
+    (device_of new (past ++ (now, record { call = Barrier side; result = r }) ∷ []))
 has_settled now new past side r same h =
-    let n : Noted = record { call = Barrier side; result = r } in
+    let n : CallRecord = record { call = Barrier side; result = r } in
     record {
       later = later now new past n same;
-      contents = λ block. settles side block (get_or now block []) (current (device_of now past) block) (get_or new block []) (current (device_of new (past ++ (now, n) ∷ [])) block) r (current_now now past block) (current_after now new past n block) (h block);
-      spoiled = λ block. any_after (λ e. spoils block e.1) past (now, n) ∙ no_write (list_any (λ e. spoils block e.1) past) r;
+      contents = λ block. settles side block (get_or now block []) (current (device_of now past) block)
+          (get_or new block []) (current (device_of new (past ++ (now, n) ∷ [])) block) r
+          (current_now now past block) (current_after now new past n block) (h block);
+      spoiled = λ block. any_after (λ e. spoils block e.1) past (now, n)
+          ∙ no_write (list_any (λ e. spoils block e.1) past) r;
     }
 
 pub settles_if_ok : (side : Side) (block : ℕ) (old new : List Content) (r : Result Unit Failed)
-    → is_ok r ≡ true → new ≡ (if is_on side block then settled old else old) → Settles side block old r new
+    → is_ok r ≡ true → new ≡ (if is_on side block then newest_alone old else old)
+    → Settles side block old r new
 settles_if_ok side block old new (Ok u) h e = e
 settles_if_ok side block old new (Err u) h e = absurd (false≢true h)
 

@@ -1,6 +1,10 @@
 -- Why the order of two calls that may overlap doesn't matter.
-use Rattle.std.proofs.Common.{◌≡◌, ◌≢◌, ℕ, ◌+◌, ◌-◌, ◌<◌, ◌≤◌, Bool, true, false, ◌||◌, ◌&&◌, List, [], length, drop, get_or, refl, sym, subst, ◌∙◌, ap, arith, Result, Ok, Err, is_err, if◌then◌else◌, cond, nat_le, nat_eq, inl, inr}
-use Rattle.std.proofs.lemmas.Bool.{true≢false, false≢true, eq-eqb, ne_eqb, eqb-true, eqb-false, le-leb, lt-leb, cases_Bool, and_parts, or_cases, and_left, and_right, ltb-true, le-ltb, leb-true}
+use Rattle.std.proofs.Common.{◌≡◌, ◌≢◌, ℕ, ◌+◌, ◌-◌, ◌<◌, ◌≤◌, Bool, true, false, ◌||◌, ◌&&◌, List, []}
+use Rattle.std.proofs.Common.{length, drop, get_or, refl, sym, subst, ◌∙◌, ap, arith, Result, Ok, Err, is_err}
+use Rattle.std.proofs.Common.{if◌then◌else◌, cond, nat_le, nat_eq, inl, inr}
+use Rattle.std.proofs.lemmas.Bool.{true≢false, false≢true, eq-eqb, ne_eqb, eqb-true, eqb-false, le-leb}
+use Rattle.std.proofs.lemmas.Bool.{lt-leb, cases_Bool, and_parts, or_cases, and_left, and_right, ltb-true}
+use Rattle.std.proofs.lemmas.Bool.{le-ltb, leb-true}
 use Rattle.std.proofs.lemmas.List.{get_or-drop, length-drop}
 use Rattle.std.proofs.Math.Bool.{or-false}
 use Rattle.std.specs.Prelude.{OnOk, nat_lt}
@@ -8,7 +12,8 @@ use Rattle.limits.specs.declared.TheConstants.{LOG_HEADER_BLOCK, START_BLOCK}
 use Rattle.disk.specs.declared.block.Side.{Side}
 use Rattle.disk.specs.declared.block.Side.TheVariants.{Log, Home}
 use Rattle.disk.specs.declared.device.Failed.{Failed}
-use Rattle.disk.specs.Device.{Content, Device, current, newest, settled, side_of, is_on, OneLater, CountsFailure, Appends, Settles}
+use Rattle.disk.specs.Device.{Content, Device, current, newest, newest_alone, side_of, is_on, OneLater}
+use Rattle.disk.specs.Device.{CountsFailure, Appends, Settles}
 use Rattle.disk.specs.Overlap.{DeviceCall, reads, writes, settles, Brings, Makes, MayOverlap, Alike, Swapped}
 
 -- the blocks whose contents the call may change
@@ -27,7 +32,7 @@ spoils (settles side) r k = false
 abbrev Leaves : DeviceCall → Result Unit Failed → List Content → List Content → Type 0
 Leaves (reads block bytes) r old new = new ≡ old
 Leaves (writes block bytes) r old new = Appends old bytes r new
-Leaves (settles side) (Ok _) old new = new ≡ settled old
+Leaves (settles side) (Ok _) old new = new ≡ newest_alone old
 Leaves (settles side) (Err _) old new = new ≡ old
 
 abbrev Answers : Device → DeviceCall → Result Unit Failed → Type 0
@@ -46,12 +51,12 @@ record Changes (old : Device) (call : DeviceCall) (r : Result Unit Failed) (new 
 
 settles_at : (side : Side) (k : ℕ) (r : Result Unit Failed) (old new : List Content) → is_on side k ≡ true
     → Settles side k old r new → Leaves (settles side) r old new
-settles_at side k (Ok u) old new on h = h ∙ ap (λ (t : Bool). if t then settled old else old) on
+settles_at side k (Ok u) old new on h = h ∙ ap (λ (t : Bool). if t then newest_alone old else old) on
 settles_at side k (Err u) old new on h = h
 
 settles_off : (side : Side) (k : ℕ) (r : Result Unit Failed) (old new : List Content) → is_on side k ≡ false
     → Settles side k old r new → new ≡ old
-settles_off side k (Ok u) old new off h = h ∙ ap (λ (t : Bool). if t then settled old else old) off
+settles_off side k (Ok u) old new off h = h ∙ ap (λ (t : Bool). if t then newest_alone old else old) off
 settles_off side k (Err u) old new off h = h
 
 settles_from : (side : Side) (k : ℕ) (r : Result Unit Failed) (old new : List Content)
@@ -59,8 +64,8 @@ settles_from : (side : Side) (k : ℕ) (r : Result Unit Failed) (old new : List 
     → Settles side k old r new
 settles_from side k (Ok u) old new off on =
     elim (cases_Bool (is_on side k)) [
-      | inl t ↦ on t ∙ sym (ap (λ (t : Bool). if t then settled old else old) t)
-      | inr f ↦ off f ∙ sym (ap (λ (t : Bool). if t then settled old else old) f)
+      | inl t ↦ on t ∙ sym (ap (λ (t : Bool). if t then newest_alone old else old) t)
+      | inr f ↦ off f ∙ sym (ap (λ (t : Bool). if t then newest_alone old else old) f)
     ]
 settles_from side k (Err u) old new off on = elim (cases_Bool (is_on side k)) [ inl t ↦ on t | inr f ↦ off f ]
 
@@ -78,7 +83,8 @@ changes old (writes block bytes) r new (write, failure) = record {
   later = write.later;
   failure = failure;
   others = λ k h. write.others k (eqb-false k block h);
-  own = λ k h. subst (λ (n : ℕ). Appends (current old n) bytes r (current new n)) (sym (eqb-true k block h)) write.written;
+  own = λ k h. subst (λ (n : ℕ). Appends (current old n) bytes r (current new n)) (sym (eqb-true k block h))
+      write.written;
   spoiled = write.spoiled;
   answer = tt;
 }
@@ -93,9 +99,34 @@ changes old (settles side) r new (settle, failure) = record {
 
 makes : (old : Device) (call : DeviceCall) (r : Result Unit Failed) (new : Device) → Changes old call r new
     → Makes old call r new
-makes old (reads block bytes) r new h = (record { later = h.later; contents = λ k. h.others k refl; spoiled = λ k. h.spoiled k ∙ or-false (old.spoiled k) }, h.failure, h.answer)
-makes old (writes block bytes) r new h = (record { later = h.later; written = h.own block (eq-eqb block block refl); others = λ k ne. h.others k (ne_eqb k block ne); spoiled = h.spoiled }, h.failure)
-makes old (settles side) r new h = (record { later = h.later; contents = λ k. settles_from side k r (current old k) (current new k) (h.others k) (h.own k); spoiled = λ k. h.spoiled k ∙ or-false (old.spoiled k) }, h.failure)
+makes old (reads block bytes) r new h = (
+  record {
+    later = h.later;
+    contents = λ k. h.others k refl;
+    spoiled = λ k. h.spoiled k
+        ∙ or-false (old.spoiled k);
+  },
+  h.failure,
+  h.answer,
+)
+makes old (writes block bytes) r new h = (
+  record {
+    later = h.later;
+    written = h.own block (eq-eqb block block refl);
+    others = λ k ne. h.others k (ne_eqb k block ne);
+    spoiled = h.spoiled;
+  },
+  h.failure,
+)
+makes old (settles side) r new h = (
+  record {
+    later = h.later;
+    contents = λ k. settles_from side k r (current old k) (current new k) (h.others k) (h.own k);
+    spoiled =
+        λ k. h.spoiled k ∙ or-false (old.spoiled k);
+  },
+  h.failure,
+)
 
 -- one more failure, or none
 abbrev counted : Result Unit Failed → ℕ
@@ -107,7 +138,7 @@ next d lists failures spoiled = record {
   size = d.size;
   clock = d.clock + 1;
   failures = failures;
-  contents = λ moment k. if nat_le moment d.clock then d.contents moment k else lists k;
+  contents = λ clock k. if nat_le clock d.clock then d.contents clock k else lists k;
   spoiled = spoiled;
 }
 
@@ -116,13 +147,14 @@ next_later : (d : Device) (lists : ℕ → List Content) (failures : ℕ) (spoil
 next_later d lists failures spoiled = record {
   size = refl;
   clock = refl;
-  past = λ moment k h. ap (λ (t : Bool). if t then d.contents moment k else lists k) (le-leb moment d.clock h);
+  past = λ clock k h. ap (λ (t : Bool). if t then d.contents clock k else lists k) (le-leb clock d.clock h);
 }
 
 next_current : (d : Device) (lists : ℕ → List Content) (failures : ℕ) (spoiled : ℕ → Bool) (k : ℕ)
     → current (next d lists failures spoiled) k ≡ lists k
 next_current d lists failures spoiled k =
-    ap (λ (t : Bool). if t then d.contents (d.clock + 1) k else lists k) (lt-leb (d.clock + 1) d.clock (omega arith))
+    ap (λ (t : Bool). if t then d.contents (d.clock + 1) k
+    else lists k) (lt-leb (d.clock + 1) d.clock (omega arith))
 
 counts_next : (d : Device) (lists : ℕ → List Content) (spoiled : ℕ → Bool) (r : Result Unit Failed)
     → CountsFailure d (next d lists (d.failures + counted r) spoiled) r
@@ -134,7 +166,7 @@ failures_of : (old new : Device) (r : Result Unit Failed) → CountsFailure old 
 failures_of old new (Ok u) h = omega (arith, h)
 failures_of old new (Err u) h = h
 
-newest_settled : (contents : List Content) → newest (settled contents) ≡ newest contents
+newest_settled : (contents : List Content) → newest (newest_alone contents) ≡ newest contents
 newest_settled contents =
     let n : ℕ = length contents - 1 in
     let len : length (drop n contents) ≡ length contents - n = length-drop n contents in
@@ -148,11 +180,13 @@ record Keeps (old new : Device) (k : ℕ) : Type 0 where
 
 brings_back : (old new : Device) (k : ℕ) (bytes : Content) (r : Result Unit Failed) → Keeps old new k
     → Brings new k bytes r → Brings old k bytes r
-brings_back old new k bytes r keeps h clean = subst (λ (c : Content). OnOk r (bytes ≡ c)) keeps.brings (h (keeps.clean ∙ clean))
+brings_back old new k bytes r keeps h clean =
+    subst (λ (c : Content). OnOk r (bytes ≡ c)) keeps.brings (h (keeps.clean ∙ clean))
 
 brings_on : (old new : Device) (k : ℕ) (bytes : Content) (r : Result Unit Failed) → Keeps old new k
     → Brings old k bytes r → Brings new k bytes r
-brings_on old new k bytes r keeps h clean = subst (λ (c : Content). OnOk r (bytes ≡ c)) (sym keeps.brings) (h (sym keeps.clean ∙ clean))
+brings_on old new k bytes r keeps h clean =
+    subst (λ (c : Content). OnOk r (bytes ≡ c)) (sym keeps.brings) (h (sym keeps.clean ∙ clean))
 
 -- the first call writes no block that the other reads
 abbrev Spares : DeviceCall → DeviceCall → Type 0
@@ -173,22 +207,33 @@ settle_keeps side (Err u) old new h = ap newest h
 
 keeps : (old new : Device) (call : DeviceCall) (r : Result Unit Failed) (k : ℕ) (bytes : Content)
     → Changes old call r new → Spares call (reads k bytes) → Keeps old new k
-keeps old new (reads block x) r k bytes h spares = record { brings = ap newest (h.others k refl); clean = h.spoiled k ∙ or-false (old.spoiled k) }
-keeps old new (writes block x) r k bytes h spares = record { brings = ap newest (h.others k (ne_eqb k block spares)); clean = h.spoiled k ∙ no_spoil (old.spoiled k) (nat_eq k block) r (ne_eqb k block spares) }
+keeps old new (reads block x) r k bytes h spares = record {
+  brings = ap newest (h.others k refl);
+  clean = h.spoiled k ∙ or-false (old.spoiled k);
+}
+keeps old new (writes block x) r k bytes h spares = record {
+  brings = ap newest (h.others k (ne_eqb k block spares));
+  clean = h.spoiled k ∙ no_spoil (old.spoiled k) (nat_eq k block) r (ne_eqb k block spares);
+}
 keeps old new (settles side) r k bytes h spares = record {
-  brings = elim (cases_Bool (is_on side k)) [ inl t ↦ settle_keeps side r (current old k) (current new k) (h.own k t) | inr f ↦ ap newest (h.others k f) ];
+  brings = elim (cases_Bool (is_on side k)) [
+    | inl t ↦ settle_keeps side r (current old k) (current new k) (h.own k t)
+    | inr f ↦ ap newest (h.others k f)
+  ];
   clean = h.spoiled k ∙ or-false (old.spoiled k);
 }
 
 answers_back : (old new : Device) (call other : DeviceCall) (r s : Result Unit Failed)
     → Changes old call r new → Spares call other → Answers new other s → Answers old other s
-answers_back old new call (reads k bytes) r s h spares a = brings_back old new k bytes s (keeps old new call r k bytes h spares) a
+answers_back old new call (reads k bytes) r s h spares a =
+    brings_back old new k bytes s (keeps old new call r k bytes h spares) a
 answers_back old new call (writes k bytes) r s h spares a = tt
 answers_back old new call (settles side) r s h spares a = tt
 
 answers_on : (old new : Device) (call other : DeviceCall) (r s : Result Unit Failed) → Changes old call r new
     → Spares call other → Answers old other s → Answers new other s
-answers_on old new call (reads k bytes) r s h spares a = brings_on old new k bytes s (keeps old new call r k bytes h spares) a
+answers_on old new call (reads k bytes) r s h spares a =
+    brings_on old new k bytes s (keeps old new call r k bytes h spares) a
 answers_on old new call (writes k bytes) r s h spares a = tt
 answers_on old new call (settles side) r s h spares a = tt
 
@@ -208,9 +253,13 @@ record Apart (first second : DeviceCall) : Type 0 where
 untouched : (first second : DeviceCall) → Apart first second → (k : ℕ) → touches second k ≡ true
     → touches first k ≡ false
 untouched first second apart k h =
-    elim (cases_Bool (touches first k)) [ inl t ↦ absurd (true≢false (sym h ∙ apart.disjoint k t)) | inr f ↦ f ]
+    elim (cases_Bool (touches first k)) [
+      | inl t ↦ absurd (true≢false (sym h ∙ apart.disjoint k t))
+      | inr f ↦ f
+    ]
 
-module _ (old middle new : Device) (first second : DeviceCall) (r s : Result Unit Failed) (one : Changes old first r middle) (two : Changes middle second s new) (apart : Apart first second) where
+module _ (old middle new : Device) (first second : DeviceCall) (r s : Result Unit Failed)
+    (one : Changes old first r middle) (two : Changes middle second s new) (apart : Apart first second) where
   abbrev lists : ℕ → List Content
   lists k = if touches second k then current new k else current old k
 
@@ -218,13 +267,15 @@ module _ (old middle new : Device) (first second : DeviceCall) (r s : Result Uni
   between = next old lists (old.failures + counted s) (λ k. old.spoiled k || spoils second s k)
 
   abbrev end : Device
-  end = next between (λ k. current new k) (between.failures + counted r) (λ k. between.spoiled k || spoils first r k)
+  end = next between (λ k. current new k) (between.failures + counted r) (λ k. between.spoiled k
+      || spoils first r k)
 
   between_at : (k : ℕ) → current between k ≡ lists k
   between_at k = next_current old lists (old.failures + counted s) (λ k. old.spoiled k || spoils second s k) k
 
   end_at : (k : ℕ) → current end k ≡ current new k
-  end_at k = next_current between (λ k. current new k) (between.failures + counted r) (λ k. between.spoiled k || spoils first r k) k
+  end_at k = next_current between (λ k. current new k) (between.failures + counted r) (λ k. between.spoiled k
+      || spoils first r k) k
 
   lists_at : (k : ℕ) (t : Bool) → touches second k ≡ t
       → lists k ≡ (if t then current new k else current old k)
@@ -238,14 +289,16 @@ module _ (old middle new : Device) (first second : DeviceCall) (r s : Result Uni
     own = λ k h.
         let same : current middle k ≡ current old k = one.others k (untouched first second apart k h) in
         subst (λ (c : List Content). Leaves second s c (current between k)) same
-        (subst (λ (c : List Content). Leaves second s (current middle k) c) (sym (between_at k ∙ lists_at k true h)) (two.own k h));
+        (subst (λ (c : List Content). Leaves second s (current middle k) c)
+        (sym (between_at k ∙ lists_at k true h)) (two.own k h));
     spoiled = λ k. refl;
     answer = answers_back old middle first second r s one apart.first_spares two.answer;
   }
 
   first_second : Changes between first r end
   first_second = record {
-    later = next_later between (λ k. current new k) (between.failures + counted r) (λ k. between.spoiled k || spoils first r k);
+    later = next_later between (λ k. current new k) (between.failures + counted r) (λ k. between.spoiled k
+        || spoils first r k);
     failure = counts_next between (λ k. current new k) (λ k. between.spoiled k || spoils first r k) r;
     others = λ k h. elim (cases_Bool (touches second k)) [
       | inl t ↦ end_at k ∙ sym (between_at k ∙ lists_at k true t)
@@ -253,8 +306,10 @@ module _ (old middle new : Device) (first second : DeviceCall) (r s : Result Uni
     ];
     own = λ k h.
         let f : touches second k ≡ false = apart.disjoint k h in
-        subst (λ (c : List Content). Leaves first r c (current end k)) (sym (between_at k ∙ lists_at k false f))
-        (subst (λ (c : List Content). Leaves first r (current old k) c) (sym (end_at k ∙ two.others k f)) (one.own k h));
+        subst (λ (c : List Content). Leaves first r c (current end k))
+        (sym (between_at k ∙ lists_at k false f))
+        (subst (λ (c : List Content). Leaves first r (current old k) c) (sym (end_at k ∙ two.others k f))
+        (one.own k h));
     spoiled = λ k. refl;
     answer = answers_on old between second first s r second_first apart.second_spares one.answer;
   }
@@ -263,13 +318,21 @@ module _ (old middle new : Device) (first second : DeviceCall) (r s : Result Uni
   same = record {
     size = two.later.size ∙ one.later.size;
     clock = two.later.clock ∙ ap (λ (n : ℕ). n + 1) one.later.clock;
-    failures = let f = failures_of old middle r one.failure in let g = failures_of middle new s two.failure in omega (arith, f, g);
+    failures = let f = failures_of old middle r one.failure in let g = failures_of middle new s two.failure in
+        omega (arith, f, g);
     contents = λ k. sym (end_at k);
-    spoiled = λ k. two.spoiled k ∙ ap (λ (b : Bool). b || spoils second s k) (one.spoiled k) ∙ last_two (old.spoiled k) (spoils first r k) (spoils second s k);
+    spoiled = λ k. two.spoiled k ∙ ap (λ (b : Bool). b || spoils second s k) (one.spoiled k)
+        ∙ last_two (old.spoiled k) (spoils first r k) (spoils second s k);
   }
 
   swapped : Swapped old first second r s new
-  swapped = record { between = between; end = end; second_first = makes old second s between second_first; first_second = makes between first r end first_second; same = same }
+  swapped = record {
+    between = between;
+    end = end;
+    second_first = makes old second s between second_first;
+    first_second = makes between first r end first_second;
+    same = same;
+  }
 
 log_not_home : (k : ℕ) → is_on Log k ≡ true → is_on Home k ≡ false
 log_not_home k h =
@@ -281,8 +344,10 @@ log_not_home k h =
 home_not_log : (k : ℕ) → is_on Home k ≡ true → is_on Log k ≡ false
 home_not_log k h =
     elim (or_cases (nat_lt k LOG_HEADER_BLOCK) (nat_le START_BLOCK k) h) [
-      | inl low ↦ and_left (nat_le LOG_HEADER_BLOCK k) (nat_lt k START_BLOCK) (lt-leb LOG_HEADER_BLOCK k (ltb-true k LOG_HEADER_BLOCK low))
-      | inr high ↦ and_right (nat_le LOG_HEADER_BLOCK k) (nat_lt k START_BLOCK) (le-ltb k START_BLOCK (leb-true START_BLOCK k high))
+      | inl low ↦ and_left (nat_le LOG_HEADER_BLOCK k) (nat_lt k START_BLOCK)
+          (lt-leb LOG_HEADER_BLOCK k (ltb-true k LOG_HEADER_BLOCK low))
+      | inr high ↦ and_right (nat_le LOG_HEADER_BLOCK k) (nat_lt k START_BLOCK)
+          (le-ltb k START_BLOCK (leb-true START_BLOCK k high))
     ]
 
 sides_apart : (one other : Side) → one ≢ other → (k : ℕ) → is_on one k ≡ true → is_on other k ≡ false
@@ -293,16 +358,46 @@ sides_apart Home Home ne k h = absurd (ne refl)
 
 apart : (first second : DeviceCall) → MayOverlap first second → Apart first second
 apart (reads a x) (reads b y) h = record { disjoint = λ k t. refl; first_spares = tt; second_spares = tt }
-apart (reads a x) (writes b y) h = record { disjoint = λ k t. absurd (false≢true t); first_spares = tt; second_spares = h }
-apart (reads a x) (settles side) h = record { disjoint = λ k t. absurd (false≢true t); first_spares = tt; second_spares = tt }
-apart (writes a x) (reads b y) h = record { disjoint = λ k t. refl; first_spares = λ e. h (sym e); second_spares = tt }
-apart (writes a x) (writes b y) h = record { disjoint = λ k t. ne_eqb k b (λ e. h (ap side_of (sym (eqb-true k a t) ∙ e))); first_spares = tt; second_spares = tt }
-apart (writes a x) (settles side) h = record { disjoint = λ k t. ap (λ (n : ℕ). is_on side n) (eqb-true k a t) ∙ h; first_spares = tt; second_spares = tt }
+apart (reads a x) (writes b y) h = record {
+  disjoint = λ k t. absurd (false≢true t);
+  first_spares = tt;
+  second_spares = h;
+}
+apart (reads a x) (settles side) h = record {
+  disjoint = λ k t. absurd (false≢true t);
+  first_spares = tt;
+  second_spares = tt;
+}
+apart (writes a x) (reads b y) h = record {
+  disjoint = λ k t. refl;
+  first_spares = λ e. h (sym e);
+  second_spares = tt;
+}
+apart (writes a x) (writes b y) h = record {
+  disjoint = λ k t. ne_eqb k b (λ e. h (ap side_of (sym (eqb-true k a t) ∙ e)));
+  first_spares = tt;
+  second_spares = tt;
+}
+apart (writes a x) (settles side) h = record {
+  disjoint = λ k t. ap (λ (n : ℕ). is_on side n) (eqb-true k a t) ∙ h;
+  first_spares = tt;
+  second_spares = tt;
+}
 apart (settles side) (reads b y) h = record { disjoint = λ k t. refl; first_spares = tt; second_spares = tt }
-apart (settles side) (writes b y) h = record { disjoint = λ k t. ne_eqb k b (λ e. true≢false (sym t ∙ ap (λ (n : ℕ). is_on side n) e ∙ h)); first_spares = tt; second_spares = tt }
-apart (settles side) (settles other) h = record { disjoint = sides_apart side other h; first_spares = tt; second_spares = tt }
+apart (settles side) (writes b y) h = record {
+  disjoint = λ k t. ne_eqb k b (λ e. true≢false (sym t ∙ ap (λ (n : ℕ). is_on side n) e ∙ h));
+  first_spares = tt;
+  second_spares = tt;
+}
+apart (settles side) (settles other) h = record {
+  disjoint = sides_apart side other h;
+  first_spares = tt;
+  second_spares = tt;
+}
 
 pub commute : (old middle new : Device) (first second : DeviceCall) (r s : Result Unit Failed)
     → Makes old first r middle → Makes middle second s new → MayOverlap first second
     → Swapped old first second r s new
-commute old middle new first second r s one two may = swapped old middle new first second r s (changes old first r middle one) (changes middle second s new two) (apart first second may)
+commute old middle new first second r s one two may =
+    swapped old middle new first second r s (changes old first r middle one) (changes middle second s new two)
+    (apart first second may)

@@ -6,9 +6,9 @@ use Rattle.disk.specs.Device.{Content, Device, current}
 abbrev pub Image : Type 0
 Image = ℕ → Content
 
--- a crash at the moment leaves this image: of each block one of its contents then, each by itself
+-- a crash at this clock leaves this image: of each block one of its contents then, each by itself
 abbrev pub IsCrashImage : Device → ℕ → Image → Type 0
-IsCrashImage d moment image = (block : ℕ) → block < d.size → Contains (d.contents moment block) (image block)
+IsCrashImage d clock image = (block : ℕ) → block < d.size → Contains (d.contents clock block) (image block)
 
 -- each block has one content, and no write has failed: so a device is when it is opened, whatever was before
 pub record IsAtRest (d : Device) : Type 0 where

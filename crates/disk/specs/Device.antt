@@ -1,5 +1,8 @@
--- The disk model: the contents that each block may have, at each moment, and what a call of the device does to them.
-use Rattle.std.specs.Prelude.{◌≡◌, ◌≢◌, ℕ, ◌+◌, ◌-◌, ◌≤◌, Bool, ◌||◌, ◌&&◌, if◌then◌else◌, nat_lt, nat_le, nat_eq, List, [], ◌∷◌, ◌++◌, length, drop, slice_index_or, Result, Ok, Err, is_err, ◌⊎◌}
+-- The disk model: the contents that each block may have, at each count of calls, and what a call of the
+-- device does to them.
+use Rattle.std.specs.Prelude.{◌≡◌, ◌≢◌, ℕ, ◌+◌, ◌-◌, ◌≤◌, Bool, ◌||◌, ◌&&◌, if◌then◌else◌, nat_lt, nat_le}
+use Rattle.std.specs.Prelude.{nat_eq, List, [], ◌∷◌, ◌++◌, length, drop, slice_index_or, Result, Ok, Err}
+use Rattle.std.specs.Prelude.{is_err, ◌⊎◌}
 use Rattle.limits.specs.declared.TheConstants.{LOG_HEADER_BLOCK, START_BLOCK}
 use Rattle.disk.specs.declared.block.Side.{Side}
 use Rattle.disk.specs.declared.block.Side.TheVariants.{Log, Home}
@@ -9,7 +12,7 @@ use Rattle.disk.specs.declared.device.Failed.{Failed}
 abbrev pub Content : Type 0
 Content = List ℕ
 
--- A device and its past. A moment is the count of the calls made before it.
+-- A device and its past. The clock is the count of the calls made so far.
 pub record Device : Type 0 where
   -- the count of its blocks
   pub size : ℕ
@@ -17,7 +20,7 @@ pub record Device : Type 0 where
   pub clock : ℕ
   -- the count of those that failed
   pub failures : ℕ
-  -- at a moment, for a block: the contents that a crash may leave, the newest last
+  -- at a clock, for a block: the contents that a crash may leave, the newest last
   pub contents : ℕ → ℕ → List Content
   -- a write of the block has failed
   pub spoiled : ℕ → Bool
@@ -31,8 +34,8 @@ abbrev pub newest : List Content → Content
 newest contents = slice_index_or contents (length contents - 1) []
 
 -- the last of a list of contents, alone
-abbrev pub settled : List Content → List Content
-settled contents = drop (length contents - 1) contents
+abbrev pub newest_alone : List Content → List Content
+newest_alone contents = drop (length contents - 1) contents
 
 -- blocks 1 to 512 are on the log side, block 0 and those from 513 on are on the home side
 abbrev pub side_of : ℕ → Side
@@ -47,7 +50,7 @@ is_on Home block = nat_lt block LOG_HEADER_BLOCK || nat_le START_BLOCK block
 pub record OneLater (old new : Device) : Type 0 where
   pub size : new.size ≡ old.size
   pub clock : new.clock ≡ old.clock + 1
-  pub past : (moment block : ℕ) → moment ≤ old.clock → new.contents moment block ≡ old.contents moment block
+  pub past : (clock block : ℕ) → clock ≤ old.clock → new.contents clock block ≡ old.contents clock block
 
 -- a call counts a failure just where it answers that it failed
 abbrev pub CountsFailure : Device → Device → Result Unit Failed → Type 0
@@ -66,7 +69,8 @@ Appends old content (Ok _) new = new ≡ old ++ content ∷ []
 Appends old content (Err _) new = (new ≡ old) ⊎ (new ≡ old ++ content ∷ [])
 
 -- after a write, made or failed: no other block has changed
-pub record HasWritten (old : Device) (block : ℕ) (content : Content) (result : Result Unit Failed) (new : Device) : Type 0 where
+pub record HasWritten (old : Device) (block : ℕ) (content : Content) (result : Result Unit Failed)
+    (new : Device) : Type 0 where
   pub later : OneLater old new
   pub written : Appends (current old block) content result (current new block)
   pub others : (other : ℕ) → other ≢ block → current new other ≡ current old other
@@ -74,7 +78,7 @@ pub record HasWritten (old : Device) (block : ℕ) (content : Content) (result :
 
 -- what a barrier does to the contents of a block: a failed one does nothing
 abbrev pub Settles : Side → ℕ → List Content → Result Unit Failed → List Content → Type 0
-Settles side block old (Ok _) new = new ≡ (if is_on side block then settled old else old)
+Settles side block old (Ok _) new = new ≡ (if is_on side block then newest_alone old else old)
 Settles side block old (Err _) new = new ≡ old
 
 -- after a barrier, made or failed

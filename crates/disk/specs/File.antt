@@ -1,10 +1,11 @@
 -- A device over a file, read off what its blocks held when it was opened and the calls since.
-use Rattle.std.specs.Prelude.{◌≡◌, ℕ, Bool, false, List, [], ◌∷◌, ◌++◌, length, take, count_by, nat_eq, ◌&&◌, if◌then◌else◌, Result, Ok, Err, is_err}
+use Rattle.std.specs.Prelude.{◌≡◌, ℕ, Bool, false, List, [], ◌∷◌, ◌++◌, length, take, count_by, nat_eq, ◌&&◌}
+use Rattle.std.specs.Prelude.{if◌then◌else◌, Result, Ok, Err, is_err}
 use Rattle.std.specs.List.{list_any}
 use Rattle.disk.specs.declared.device.Failed.{Failed}
 use Rattle.disk.specs.declared.file_disk.FileCall.{FileCall}
 use Rattle.disk.specs.declared.file_disk.FileCall.TheVariants.{Read, Write, Barrier}
-use Rattle.disk.specs.Device.{Content, Device, newest, settled, is_on}
+use Rattle.disk.specs.Device.{Content, Device, newest, newest_alone, is_on}
 
 -- the calls so far, each with its result
 abbrev pub Calls : Type 0
@@ -13,14 +14,16 @@ Calls = List (FileCall × Result Unit Failed)
 -- what a call does to the contents of a block: a write that failed counts as made
 abbrev pub effect : ℕ → FileCall → Result Unit Failed → List Content → List Content
 effect block (Read at bytes) result contents = contents
-effect block (Write at bytes) result contents = if nat_eq block at.0 then contents ++ bytes.value ∷ [] else contents
-effect block (Barrier side) (Ok _) contents = if is_on side block then settled contents else contents
+effect block (Write at bytes) result contents = if nat_eq block at.0 then contents ++ bytes.value ∷ []
+    else contents
+effect block (Barrier side) (Ok _) contents = if is_on side block then newest_alone contents else contents
 effect block (Barrier side) (Err _) contents = contents
 
 -- the contents of a block after these calls
-abbrev pub after : ℕ → List Content → Calls → List Content
-after block contents [] = contents
-after block contents (call ∷ calls) = after block (effect block call.0 call.1 contents) calls
+abbrev pub contents_after : ℕ → List Content → Calls → List Content
+contents_after block contents [] = contents
+contents_after block contents (call ∷ calls) =
+    contents_after block (effect block call.0 call.1 contents) calls
 
 -- it was a write of the block, which failed
 abbrev pub spoils_block : ℕ → FileCall → Result Unit Failed → Bool
@@ -38,16 +41,18 @@ file_device first size calls = record {
   size = size;
   clock = length calls;
   failures = count_by (λ call. is_err call.1) calls;
-  contents = λ moment block. after block (first block ∷ []) (take moment calls);
+  contents = λ clock block. contents_after block (first block ∷ []) (take clock calls);
   spoiled = λ block. is_spoiled block calls;
 }
 
 -- a read that brings the newest content, unless a write of its block had failed
-abbrev pub IsAnswered : (ℕ → Content) → Calls → FileCall → Type 0
-IsAnswered first earlier (Read at bytes) = is_spoiled at.0 earlier ≡ false → bytes.value ≡ newest (after at.0 (first at.0 ∷ []) earlier)
-IsAnswered first earlier (Write at bytes) = Unit
-IsAnswered first earlier (Barrier side) = Unit
+abbrev pub IsExplainedCall : (ℕ → Content) → Calls → FileCall → Type 0
+IsExplainedCall first earlier (Read at bytes) = is_spoiled at.0 earlier ≡ false
+    → bytes.value ≡ newest (contents_after at.0 (first at.0 ∷ []) earlier)
+IsExplainedCall first earlier (Write at bytes) = Unit
+IsExplainedCall first earlier (Barrier side) = Unit
 
 -- what the blocks held when the file was opened explains what each read brought
 abbrev pub IsExplained : (ℕ → Content) → Calls → Type 0
-IsExplained first calls = (earlier later : Calls) (call : FileCall) → calls ≡ earlier ++ (call, Ok tt) ∷ later → IsAnswered first earlier call
+IsExplained first calls = (earlier later : Calls) (call : FileCall) → calls ≡ earlier ++ (call, Ok tt) ∷ later
+    → IsExplainedCall first earlier call

@@ -1,7 +1,7 @@
 pub mod Device
 pub mod Crash
 pub mod Choice
-pub mod Noted
+pub mod CallRecord
 pub mod Memory
 pub mod File
 pub mod Overlap

@@ -3,8 +3,8 @@ use Rattle.std.specs.Prelude.{ℕ, ◌+◌, List, [], map, length, slice_index_o
 use Rattle.std.specs.List.{list_any}
 use Rattle.disk.specs.Device.{Content, Device, current, newest}
 use Rattle.disk.specs.Crash.{Image}
-use Rattle.disk.specs.Noted.{is_failure, spoils}
-use Rattle.disk.specs.declared.noted.Noted.{Noted}
+use Rattle.disk.specs.CallRecord.{is_failure, spoils}
+use Rattle.disk.specs.declared.call_record.CallRecord.{CallRecord}
 use Rattle.disk.specs.declared.mem_disk.MemDisk.{MemDisk}
 
 -- the contents of each block, in the order of the blocks
@@ -13,18 +13,18 @@ Blocks = List (List Content)
 
 -- what the blocks held before each call, with the call
 abbrev pub Past : Type 0
-Past = List (Blocks × Noted)
+Past = List (Blocks × CallRecord)
 
--- at a moment of the past what was held then, and from the last call on what is held now
+-- at a clock of the past what was held then, and from the last call on what is held now
 abbrev pub held_at : Blocks → Past → ℕ → Blocks
-held_at now past moment = slice_index_or (map (λ e. e.0) past) moment now
+held_at now past clock = slice_index_or (map (λ e. e.0) past) clock now
 
 abbrev pub device_of : Blocks → Past → Device
 device_of now past = record {
   size = length now;
   clock = length past;
   failures = count_by (λ e. is_failure e.1) past;
-  contents = λ moment block. slice_index_or (held_at now past moment) block [];
+  contents = λ clock block. slice_index_or (held_at now past clock) block [];
   spoiled = λ block. list_any (λ e. spoils block e.1) past;
 }
 

@@ -2,7 +2,8 @@
 use Rattle.std.specs.Prelude.{◌≡◌, ◌≢◌, ℕ, false, Result, OnOk}
 use Rattle.disk.specs.declared.block.Side.{Side}
 use Rattle.disk.specs.declared.device.Failed.{Failed}
-use Rattle.disk.specs.Device.{Content, Device, current, newest, side_of, is_on, CountsFailure, HasRead, HasWritten, HasSettled}
+use Rattle.disk.specs.Device.{Content, Device, current, newest, side_of, is_on, CountsFailure, HasRead}
+use Rattle.disk.specs.Device.{HasWritten, HasSettled}
 
 -- a read with the bytes that it brings, a write with its bytes, or a barrier
 pub data DeviceCall : Type 0 where
@@ -16,11 +17,14 @@ Brings d block bytes result = d.spoiled block ≡ false → OnOk result (bytes �
 
 -- the call may have this result, and leads from the old device to the new
 abbrev pub Makes : Device → DeviceCall → Result Unit Failed → Device → Type 0
-Makes old (reads block bytes) result new = HasRead old new × CountsFailure old new result × Brings old block bytes result
-Makes old (writes block bytes) result new = HasWritten old block bytes result new × CountsFailure old new result
+Makes old (reads block bytes) result new = HasRead old new × CountsFailure old new result
+    × Brings old block bytes result
+Makes old (writes block bytes) result new = HasWritten old block bytes result new
+    × CountsFailure old new result
 Makes old (settles side) result new = HasSettled old side result new × CountsFailure old new result
 
--- Two calls that may overlap: two reads, a read and a barrier, a read and a write of different blocks, and calls of different sides.
+-- Two calls that may overlap: two reads, a read and a barrier, a read and a write of different blocks, and
+-- calls of different sides.
 abbrev pub MayOverlap : DeviceCall → DeviceCall → Type 0
 MayOverlap (reads one x) (reads other y) = Unit
 MayOverlap (reads one x) (writes other y) = one ≢ other
@@ -40,8 +44,10 @@ pub record Alike (one other : Device) : Type 0 where
   pub contents : (block : ℕ) → current one block ≡ current other block
   pub spoiled : (block : ℕ) → one.spoiled block ≡ other.spoiled block
 
--- there are devices on the way and at the end by which the calls come in the other order, with the same results
-pub record Swapped (old : Device) (first second : DeviceCall) (r s : Result Unit Failed) (new : Device) : Type 0 where
+-- there are devices on the way and at the end by which the calls come in the other order, with the same
+-- results
+pub record Swapped (old : Device) (first second : DeviceCall) (r s : Result Unit Failed) (new : Device) : Type
+    0 where
   pub between : Device
   pub end : Device
   pub second_first : Makes old second s between

@@ -77,7 +77,8 @@ impl Block {
     /// Puts bytes at an offset, and leaves the others.
     pub fn put(&mut self, offset: usize, bytes: &[u8])
         requires { offset + length bytes.now ≤ BLOCK_BYTES }
-        ensures bytes { self.new ≡ take offset self.old ++ bytes.now ++ drop (offset + length bytes.now) self.old }
+        ensures bytes { self.new ≡ take offset self.old ++ bytes.now
+            ++ drop (offset + length bytes.now) self.old }
         ensures len { length self.new ≡ BLOCK_BYTES }
     {
         self.bytes[offset..offset + bytes.len()].copy_from_slice(bytes);

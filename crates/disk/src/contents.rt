@@ -1,6 +1,6 @@
 //! The contents that one block may have.
 ghost use Rattle.std.specs.Prelude.{◌≡◌, ◌<◌, ◌-◌, [], ◌∷◌, ◌++◌, min, is_ok, length, IfOk, if◌then◌else◌};
-ghost use Rattle.disk.specs.Device.{newest, settled};
+ghost use Rattle.disk.specs.Device.{newest, newest_alone};
 ghost use Rattle.disk.specs.Choice.{pick};
 
 use crate::Block;
@@ -58,20 +58,20 @@ impl Contents {
     }
 
     /// Keeps the newest alone.
-    pub fn settle(&mut self)
-        ensures { self.new ≡ settled self.old }
+    pub fn keep_newest(&mut self)
+        ensures { self.new ≡ newest_alone self.old }
     {
         let last = self.blocks.len() - 1;
-        self.keep(last);
+        self.keep_one(last);
     }
 
-    /// Keeps one alone: that of this place, or where there are fewer the newest.
-    pub fn keep(&mut self, place: usize)
-        ensures kept { self.new ≡ pick place self.old ∷ [] }
+    /// Keeps one alone: that of this index, or where there are fewer the newest.
+    pub fn keep_one(&mut self, index: usize)
+        ensures kept { self.new ≡ pick index self.old ∷ [] }
         ensures some { 0 < length self.old }
     {
         let last = self.blocks.len() - 1;
-        self.blocks.swap(0, place.min(last));
+        self.blocks.swap(0, index.min(last));
         self.blocks.truncate(1);
     }
 

@@ -8,11 +8,11 @@ use crate::{Block, BlockNo, Side};
 #[derive(Clone, Copy, Debug, PartialEq, Eq)]
 pub struct Failed;
 
-/// A device that may stop at any moment. Whatever it does, `device` tells the calls that were made of it and the
-/// contents that each block may have by them. That what it reads agrees with them is `keeps_model`, which a device
-/// in memory always does and nobody can prove of a file.
+/// A device that may stop at any time. Whatever it does, `device` tells the calls that were made of it and
+/// the contents that each block may have by them. That what it reads agrees with them is `keeps_model`, which
+/// a device in memory always does and nobody can prove of a file.
 pub trait CrashDisk {
-    /// The calls so far, as the contents that each block may have had at each moment.
+    /// The calls so far, as the contents that each block may have had at each count of calls.
     ghost device: { Self → Device };
 
     /// What has been read so far agrees with `device`.

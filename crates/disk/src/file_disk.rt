@@ -26,8 +26,8 @@ pub trait BlockFile: Drop {
     fn settle(&self) -> io::Result<()>;
 }
 
-// A proof at this type alone speaks of a file that held zeros, as a new one does. One that is to speak of each file
-// stays over any `F: BlockFile`.
+// A proof at this type alone speaks of a file that held zeros, as a new one does. One that is to speak of
+// each file stays over any `F: BlockFile`.
 impl BlockFile for File {
     ghost use Rattle.std.specs.Prelude.{replicate};
 
@@ -85,8 +85,8 @@ impl<F: BlockFile> FileDisk<F> {
         }
     }
 
-    /// Opens a file of blocks, and settles it first. Its blocks are the whole ones of its length, up to the greatest
-    /// number of them.
+    /// Opens a file of blocks, and settles it first. Its blocks are the whole ones of its length, up to the
+    /// greatest number of them.
     pub fn open<R: Files<File = F>>(rt: &R, path: &str) -> io::Result<FileDisk<F>>
     where
         F: OpenFile,
@@ -99,8 +99,8 @@ impl<F: BlockFile> FileDisk<F> {
         Ok(FileDisk::over(file, blocks.min(u64::from(u32::MAX)) as u32))
     }
 
-    /// Opens or makes a file, gives it this many blocks and settles it. Blocks that it had stay, and new ones are
-    /// zeros.
+    /// Opens or makes a file, gives it this many blocks and settles it. Blocks that it had stay, and new ones
+    /// are zeros.
     pub fn create<R: Files<File = F>>(rt: &R, path: &str, blocks: u32) -> io::Result<FileDisk<F>>
     where
         F: OpenFile,

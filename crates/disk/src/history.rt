@@ -1,9 +1,9 @@
-//! The calls of a device in memory, with what it held before each. They are kept in `http_server`'s `Log`, a list for
-//! proofs alone that takes no memory: nothing else of that crate is used.
+//! The calls of a device in memory, with what it held before each. They are kept in `http_server`'s `Log`, a
+//! list for proofs alone that takes no memory: nothing else of that crate is used.
 ghost use Rattle.std.specs.Prelude.{◌≡◌, ◌-◌, ◌^◌, [], ◌∷◌, ◌++◌, min, length};
 
+use crate::call_record::CallRecord;
 use crate::contents::Contents;
-use crate::noted::Noted;
 use http_server::Log;
 use std::snapshot::Snapshot;
 
@@ -11,7 +11,7 @@ use std::snapshot::Snapshot;
 #[derive(Drop)]
 pub struct History {
     calls: u64,
-    past: Log<Snapshot<Vec<Contents>>, Noted>,
+    past: Log<Snapshot<Vec<Contents>>, CallRecord>,
     ghost counted: { calls ≡ min (length past.items) (2 ^ 64 - 1) },
 }
 
@@ -27,7 +27,7 @@ impl History {
     }
 
     /// The calls and one more, before which the blocks held this.
-    pub fn and(&self, before: &Snapshot<Vec<Contents>>, noted: &Noted) -> History
+    pub fn and(&self, before: &Snapshot<Vec<Contents>>, noted: &CallRecord) -> History
         ensures { result.past.items ≡ self.now.past.items ++ (before.now, noted.now) ∷ [] }
     {
         History {

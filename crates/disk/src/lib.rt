@@ -1,14 +1,14 @@
-//! A device of blocks that may stop at any moment: what it promises, one in memory, and one over a file.
+//! A device of blocks that may stop at any time: what it promises, one in memory, and one over a file.
 #![tactic(auto)]
 
 mod block;
+mod call_record;
 mod contents;
 mod device;
 mod file_disk;
 mod history;
 mod laws;
 mod mem_disk;
-mod noted;
 
 pub use block::{Block, BlockNo, Side};
 pub use device::{CrashDisk, Failed};

@@ -1,12 +1,13 @@
 //! A device in memory, for tests and for what is proved of every run. It can be made to fail and to crash.
-ghost use Rattle.std.specs.Prelude.{◌≡◌, ℕ, ◌<◌, ◌^◌, ◌-◌, ◌↔◌, min, length, [], ◌∷◌, map, replicate, Contains, IsTrue, slice_index, slice_index_or, IfOk, if◌then◌else◌};
+ghost use Rattle.std.specs.Prelude.{◌≡◌, ℕ, ◌<◌, ◌^◌, ◌-◌, ◌↔◌, min, length, [], ◌∷◌, map, replicate};
+ghost use Rattle.std.specs.Prelude.{Contains, IsTrue, slice_index, slice_index_or, IfOk, if◌then◌else◌};
 ghost use Rattle.limits.specs.declared.TheConstants.{BLOCK_BYTES};
-ghost use Rattle.disk.specs.Device.{is_on, settled};
+ghost use Rattle.disk.specs.Device.{is_on, newest_alone};
 ghost use Rattle.disk.specs.Choice.{chosen};
 
+use crate::call_record::{Call, CallRecord};
 use crate::contents::Contents;
 use crate::history::History;
-use crate::noted::{Call, Noted};
 use crate::{Block, BlockNo, CrashDisk, Failed, Side};
 use std::alloc::{AllocError, Global};
 use std::snapshot::Snapshot;
@@ -52,8 +53,8 @@ impl MemDisk {
         self.fails.extend_from_slice(calls)
     }
 
-    /// What a crash leaves: of each block one of its contents. Each block that has several, in the order of the
-    /// blocks, takes the next digit as the place of its content.
+    /// What a crash leaves: of each block one of its contents. Each block that has several, in the order of
+    /// the blocks, takes the next digit as the index of its content.
     pub fn crash(self, digits: &[u32]) -> MemDisk
         ensures chosen { blocks_of result ≡ map (λ c. c ∷ []) (chosen digits.now (blocks_of self)) }
         ensures image { IsCrashImage (memory_device self) (memory_device self).clock (image_of result) }
@@ -128,11 +129,12 @@ impl MemDisk {
 
     // Notes a call, before which the blocks held this.
     fn note(&mut self, before: &Snapshot<Vec<Contents>>, call: Call, outcome: Result<(), Failed>)
-        ensures past { past_of self.new ≡ past_of self.old ++ (before.now.value.items, record { call = call; result = outcome }) ∷ [] }
+        ensures past { past_of self.new ≡ past_of self.old
+            ++ (before.now.value.items, record { call = call; result = outcome }) ∷ [] }
         ensures blocks { blocks_of self.new ≡ blocks_of self.old }
         ensures fails { to_fail self.new ≡ to_fail self.old }
     {
-        let noted = Noted {
+        let noted = CallRecord {
             call,
             result: outcome,
         };
@@ -171,7 +173,8 @@ impl CrashDisk for MemDisk {
         result
     }
 
-    // A write that is to fail is made all the same, where it finds room. One that finds none fails and changes nothing.
+    // A write that is to fail is made all the same, where it finds room. One that finds none fails and
+    // changes nothing.
     fn write(&mut self, block: BlockNo, content: &Block) -> Result<(), Failed>
         requires { block.0 < (memory_device self.old).size }
         ensures call { HasWritten (memory_device self.old) block.0 content.now result (memory_device self.new) }
@@ -225,21 +228,22 @@ fn zeros(alloc: Global, count: u32) -> Result<Vec<Contents>, AllocError>
 fn choose(blocks: &mut [Contents], digits: &[u32])
     ensures chosen { blocks.new ≡ map (λ c. c ∷ []) (chosen digits.now blocks.old) }
     ensures len { length blocks.new ≡ length blocks.old }
-    ensures filled { (block : ℕ) → block < length blocks.old → 0 < length (slice_index_or blocks.old block []) }
+    ensures filled { (block : ℕ) → block < length blocks.old
+        → 0 < length (slice_index_or blocks.old block []) }
 {
     let mut next = 0;
     for index in 0..blocks.len() {
         if blocks[index].count() > 1 {
-            blocks[index].keep(place(digits, next));
+            blocks[index].keep_one(digit_at(digits, next));
             next += 1;
         } else {
-            blocks[index].keep(0);
+            blocks[index].keep_one(0);
         }
     }
 }
 
-// The digit at a place, or 0 where there is none.
-fn place(digits: &[u32], at: usize) -> usize
+// The digit at an index, or 0 where there is none.
+fn digit_at(digits: &[u32], at: usize) -> usize
     ensures { result ≡ slice_index digits.now at }
 {
     if at < digits.len() {
@@ -253,12 +257,12 @@ fn place(digits: &[u32], at: usize) -> usize
 fn settle(blocks: &mut [Contents], side: Side)
     requires { length blocks.old < 2 ^ 32 }
     ensures contents { (block : ℕ) → slice_index_or blocks.new block []
-        ≡ (if is_on side block then settled (slice_index_or blocks.old block []) else slice_index_or blocks.old block []) }
+        ≡ (if is_on side block then newest_alone (slice_index_or blocks.old block []) else slice_index_or blocks.old block []) }
     ensures len { length blocks.new ≡ length blocks.old }
 {
     for index in 0..blocks.len() {
         if BlockNo(index as u32).side() == side {
-            blocks[index].settle();
+            blocks[index].keep_newest();
         }
     }
 }

@@ -1,5 +1,7 @@
 -- The files of a fresh image, who owns its blocks, and what its bitmaps mark.
-use Rattle.std.proofs.Common.{◌≡◌, ℕ, zero, suc, ◌+◌, ◌/◌, ◌<◌, ◌≤◌, inl, inr, Bool, true, false, cond, ◌||◌, List, [], ◌++◌, Some, None, Ok, nat_eq, nat_lt, nat_le, count_by, refl, sym, ap, ◌∙◌, subst, arith}
+use Rattle.std.proofs.Common.{◌≡◌, ℕ, zero, suc, ◌+◌, ◌/◌, ◌<◌, ◌≤◌, inl, inr, Bool, true, false, cond, ◌||◌}
+use Rattle.std.proofs.Common.{List, [], ◌++◌, Some, None, Ok, nat_eq, nat_lt, nat_le, count_by, refl, sym, ap}
+use Rattle.std.proofs.Common.{◌∙◌, subst, arith}
 use Rattle.std.specs.Cmp.{nat_cmp_total}
 use Rattle.std.specs.Cmp.Lexicographic.{slice_cmp}
 use Rattle.std.specs.FinMap.{empty, get-insert, get-empty, len-empty}
@@ -21,7 +23,7 @@ use Rattle.layout.specs.Fields.{four_at, numbers_at}
 use Rattle.layout.specs.Fresh.{IsFresh, root_inode, is_outside}
 use Rattle.layout.specs.InodeForm.{fields_of}
 use Rattle.layout.specs.Owners.{IsMarked, owned, owned_by, is_used, is_marked_block, is_marked_inode}
-use Rattle.layout.specs.Places.{IsLawful, inode_bitmap_at, data_at}
+use Rattle.layout.specs.Geometry.{IsLawful, inode_bitmap_at, data_at}
 use Rattle.layout.specs.Stands.{geometry_of}
 use Rattle.layout.proofs.FreshBits.{bit_is}
 use Rattle.layout.proofs.FreshInodes.{free_inode, free_at, root_at}
@@ -32,7 +34,7 @@ module _ (g : Geometry) (image : Image) (moment : Moment) where
   root_kept : IsDirectory g image (root_inode moment)
   unfolding numbers_of named_in
   root_kept = record {
-    mapped = record { places = refl; used = refl };
+    mapped = record { numbers = refl; used = refl };
     spans = refl;
     slots = λ k d less. absurd (omega (arith, less));
     once = len-empty (slice_cmp nat_cmp) DirectoryEntry;
@@ -64,9 +66,11 @@ module _ (g : Geometry) (image : Image) (moment : Moment) where
 
 -- ---- lists and tests
 
-no_parts : (f : ℕ → List ℕ) (a n : ℕ) → ((k : ℕ) → k < a + n → f k ≡ []) → flat_map f (range_with_len a n) ≡ []
+no_parts : (f : ℕ → List ℕ) (a n : ℕ) → ((k : ℕ) → k < a + n → f k ≡ [])
+    → flat_map f (range_with_len a n) ≡ []
 no_parts f a zero none = refl
-no_parts f a (suc n) none = λ i. none a (omega arith) i ++ no_parts f (a + 1) n (λ k less. none k (omega (arith, less))) i
+no_parts f a (suc n) none = λ i. none a (omega arith) i
+    ++ no_parts f (a + 1) n (λ k less. none k (omega (arith, less))) i
 
 not_below : (a b : ℕ) → b ≤ a → nat_lt a b ≡ false
 not_below a b less = elim (leb_tells (suc a) b) [ inl is ↦ absurd (omega (arith, is.1)) | inr isnt ↦ isnt.0 ]
@@ -85,7 +89,8 @@ at_least : (n : ℕ) → (n ≡ 0 → ⊥) → 1 ≤ n
 at_least n some = elim (cases_lt 0 n) [ inl is ↦ is | inr none ↦ absurd (some (omega (arith, none))) ]
 
 least : (n : ℕ) → n < 2 → (n ≡ 1 → ⊥) → n ≡ 0
-least n low not = elim (cases_eq n 0) [ inl is ↦ is | inr some ↦ absurd (not (omega (arith, low, at_least n some))) ]
+least n low not =
+    elim (cases_eq n 0) [ inl is ↦ is | inr some ↦ absurd (not (omega (arith, low, at_least n some))) ]
 
 or_false : (a : Bool) → (a || false) ≡ a
 or_false true = refl
@@ -95,7 +100,8 @@ or_true : (a : Bool) → (a || true) ≡ true
 or_true true = refl
 or_true false = refl
 
-module _ (g : Geometry) (moment : Moment) (image : Image) (lawful : IsLawful g.blocks g.inodes) (now : SoundTime moment) (fresh : IsFresh g moment image) where
+module _ (g : Geometry) (moment : Moment) (image : Image) (lawful : IsLawful g.blocks g.inodes)
+    (now : SoundTime moment) (fresh : IsFresh g moment image) where
   one_below : 1 < g.inodes
   one_below = let few = lawful.1.0 in omega (arith, few)
 
@@ -110,31 +116,41 @@ module _ (g : Geometry) (moment : Moment) (image : Image) (lawful : IsLawful g.b
 
   -- ---- files
 
-  pub kept : (number : ℕ) → number < g.inodes → IsFile g image (inode_at g image number)
-  kept number less = elim (cases_eq number 1) [
+  pub mapped : (number : ℕ) → number < g.inodes → IsFile g image (inode_at g image number)
+  mapped number less = elim (cases_eq number 1) [
     | inl is ↦ subst (IsFile g image) (sym (root_there number is)) (root_kept g image moment)
     | inr not ↦ subst (IsFile g image) (sym (free_is number less not)) (free_kept g image moment)
   ]
 
-  in_tree : (number : ℕ) → node_at (format_tree (geometry_of g) moment) number ≡ cond (eq_by_cmp nat_cmp number ROOT) (Some (format_root moment)) None
-  in_tree number = get-insert nat_cmp_total empty ROOT (format_root moment) number ∙ ap (cond (eq_by_cmp nat_cmp number ROOT) (Some (format_root moment))) (get-empty nat_cmp number)
+  in_tree : (number : ℕ)
+      → node_at (format_tree (geometry_of g) moment) number
+      ≡ cond (eq_by_cmp nat_cmp number ROOT) (Some (format_root moment)) None
+  in_tree number = get-insert nat_cmp_total empty ROOT (format_root moment) number
+      ∙ ap (cond (eq_by_cmp nat_cmp number ROOT) (Some (format_root moment))) (get-empty nat_cmp number)
 
-  file_below : (number : ℕ) → number < g.inodes → file_at g image number ≡ file_of g.inodes image (inode_at g image number)
+  file_below : (number : ℕ) → number < g.inodes
+      → file_at g image number ≡ file_of g.inodes image (inode_at g image number)
   unfolding file_at
-  file_below number less = ap (λ b. cond b (file_of g.inodes image (inode_at g image number)) None) (lt-ltb number g.inodes less)
+  file_below number less =
+      ap (λ b. cond b (file_of g.inodes image (inode_at g image number)) None) (lt-ltb number g.inodes less)
 
   file_past : (number : ℕ) → g.inodes ≤ number → file_at g image number ≡ None
   unfolding file_at
-  file_past number past = ap (λ b. cond b (file_of g.inodes image (inode_at g image number)) None) (not_below number g.inodes past)
+  file_past number past =
+      ap (λ b. cond b (file_of g.inodes image (inode_at g image number)) None)
+      (not_below number g.inodes past)
 
-  file_root : (number : ℕ) → number ≡ 1 → node_at (format_tree (geometry_of g) moment) number ≡ file_at g image number
+  file_root : (number : ℕ) → number ≡ 1
+      → node_at (format_tree (geometry_of g) moment) number ≡ file_at g image number
   file_root number is =
       in_tree number ∙ ap (λ n. cond (eq_by_cmp nat_cmp n ROOT) (Some (format_root moment)) None) is
-      ∙ sym (file_below number (omega (arith, is, one_below)) ∙ ap (file_of g.inodes image) (root_there number is) ∙ root_file g image moment)
+      ∙ sym (file_below number (omega (arith, is, one_below))
+      ∙ ap (file_of g.inodes image) (root_there number is) ∙ root_file g image moment)
 
   file_other : (number : ℕ) → (number ≡ 1 → ⊥) → file_at g image number ≡ None
   file_other number not = elim (cases_lt number g.inodes) [
-    | inl less ↦ file_below number less ∙ ap (file_of g.inodes image) (free_is number less not) ∙ no_file g image moment
+    | inl less ↦ file_below number less ∙ ap (file_of g.inodes image) (free_is number less not)
+        ∙ no_file g image moment
     | inr past ↦ file_past number past
   ]
 
@@ -142,7 +158,9 @@ module _ (g : Geometry) (moment : Moment) (image : Image) (lawful : IsLawful g.b
   files number = elim (cases_eq number 1) [
     | inl is ↦ file_root number is
     | inr not ↦
-        in_tree number ∙ ap (λ b. cond b (Some (format_root moment)) None) (not_equal number ROOT not (eq_by_cmp nat_cmp number ROOT) refl)
+        in_tree number
+        ∙ ap (λ b. cond b (Some (format_root moment)) None)
+        (not_equal number ROOT not (eq_by_cmp nat_cmp number ROOT) refl)
         ∙ sym (file_other number not)
   ]
 
@@ -160,9 +178,11 @@ module _ (g : Geometry) (moment : Moment) (image : Image) (lawful : IsLawful g.b
 
   -- ---- bitmaps
 
-  block_marks : (number : ℕ) → is_outside (data_at g.blocks g.inodes) g.blocks number ≡ is_marked_block g image number
+  block_marks : (number : ℕ)
+      → is_outside (data_at g.blocks g.inodes) g.blocks number ≡ is_marked_block g image number
   block_marks number =
-      sym (ap (λ list. is_outside (data_at g.blocks g.inodes) g.blocks number || list_any (λ one. nat_eq one number) list) none_owned
+      sym (ap (λ list. is_outside (data_at g.blocks g.inodes) g.blocks number
+      || list_any (λ one. nat_eq one number) list) none_owned
       ∙ or_false (is_outside (data_at g.blocks g.inodes) g.blocks number))
 
   root_marked : (number : ℕ) → number ≡ 1 → is_marked_inode g image number ≡ true
@@ -178,7 +198,8 @@ module _ (g : Geometry) (moment : Moment) (image : Image) (lawful : IsLawful g.b
 
   free_marked : (number : ℕ) → 2 ≤ number → number < g.inodes → is_marked_inode g image number ≡ false
   free_marked number more less =
-      ap (λ inode. nat_eq number 0 || nat_le g.inodes number || is_used inode) (free_is number less (λ is. omega (arith, more, is)))
+      ap (λ inode. nat_eq number 0 || nat_le g.inodes number || is_used inode)
+      (free_is number less (λ is. omega (arith, more, is)))
       ∙ ap (λ used. nat_eq number 0 || nat_le g.inodes number || used) (free_unused g image moment)
       ∙ or_false (nat_eq number 0 || nat_le g.inodes number)
       ∙ (λ i. not_same number 0 (omega (arith, more)) i || not_le g.inodes number less i)
@@ -192,18 +213,23 @@ module _ (g : Geometry) (moment : Moment) (image : Image) (lawful : IsLawful g.b
   inode_marks number = elim (cases_lt number 2) [
     | inl low ↦ ap (λ b. b || nat_le g.inodes number) (lt-ltb number 2 low) ∙ sym (low_marked number low)
     | inr more ↦ (elim (cases_lt number g.inodes) [
-      | inl less ↦ (λ i. not_below number 2 more i || not_le g.inodes number less i) ∙ sym (free_marked number more less)
-      | inr past ↦ ap (λ b. nat_lt number 2 || b) (le-leb g.inodes number past) ∙ or_true (nat_lt number 2) ∙ sym (past_marked number past)
+      | inl less ↦ (λ i. not_below number 2 more i || not_le g.inodes number less i)
+          ∙ sym (free_marked number more less)
+      | inr past ↦ ap (λ b. nat_lt number 2 || b) (le-leb g.inodes number past) ∙ or_true (nat_lt number 2)
+          ∙ sym (past_marked number past)
     ])
   ]
 
   pub marked : IsMarked g image
   marked = record {
-    once = λ number. let none : count_by (λ one. nat_eq one number) (owned g image) ≡ 0 = ap (count_by (λ one. nat_eq one number)) none_owned in omega (arith, none);
+    once = λ number. let none : count_by (λ one. nat_eq one number) (owned g image) ≡ 0 =
+        ap (count_by (λ one. nat_eq one number)) none_owned in omega (arith, none);
     blocks_marked = λ number less.
-        bit_is image FIRST_HOME_BLOCK number (is_outside (data_at g.blocks g.inodes) g.blocks) (fresh.blocks (number / BITS_PER_BLOCK) (omega (arith, less)))
+        bit_is image FIRST_HOME_BLOCK number (is_outside (data_at g.blocks g.inodes) g.blocks)
+        (fresh.blocks (number / BITS_PER_BLOCK) (omega (arith, less)))
         ∙ block_marks number;
     inodes_marked = λ number less.
-        bit_is image (inode_bitmap_at g.blocks) number (is_outside (ROOT + 1) g.inodes) (fresh.inodes (number / BITS_PER_BLOCK) (omega (arith, less)))
+        bit_is image (inode_bitmap_at g.blocks) number (is_outside (ROOT + 1) g.inodes)
+        (fresh.inodes (number / BITS_PER_BLOCK) (omega (arith, less)))
         ∙ inode_marks number;
   }

@@ -3,23 +3,28 @@ use Rattle.std.proofs.Common.{◌≡◌, ℕ, zero, suc, ◌+◌, ◌*◌, List,
 use Rattle.layout.specs.Fields.{four_at, numbers_at}
 
 -- one number more
-pub more : (count place : ℕ) (bytes : List ℕ) → numbers_at (suc count) place bytes ≡ numbers_at count place bytes ++ four_at (place + 4 * count) bytes ∷ []
+pub more : (count offset : ℕ) (bytes : List ℕ)
+    → numbers_at (suc count) offset bytes ≡ numbers_at count offset bytes
+    ++ four_at (offset + 4 * count) bytes ∷ []
 unfolding numbers_at
-more zero place bytes = ap (λ p. four_at p bytes ∷ []) (omega arith)
-more (suc count) place bytes =
-    ap (λ rest. four_at place bytes ∷ rest) (more count (place + 4) bytes ∙ ap (λ p. numbers_at count (place + 4) bytes ++ four_at p bytes ∷ []) (omega arith))
+more zero offset bytes = ap (λ p. four_at p bytes ∷ []) (omega arith)
+more (suc count) offset bytes =
+    ap (λ rest. four_at offset bytes ∷ rest) (more count (offset + 4) bytes
+    ∙ ap (λ p. numbers_at count (offset + 4) bytes ++ four_at p bytes ∷ []) (omega arith))
 
-pub numbers-length : (count place : ℕ) (bytes : List ℕ) → length (numbers_at count place bytes) ≡ count
+pub numbers-length : (count offset : ℕ) (bytes : List ℕ) → length (numbers_at count offset bytes) ≡ count
 unfolding numbers_at
-numbers-length zero place bytes = refl
-numbers-length (suc count) place bytes = ap suc (numbers-length count (place + 4) bytes)
+numbers-length zero offset bytes = refl
+numbers-length (suc count) offset bytes = ap suc (numbers-length count (offset + 4) bytes)
 
-pub no_numbers : (place : ℕ) (bytes : List ℕ) → numbers_at 0 place bytes ≡ []
+pub no_numbers : (offset : ℕ) (bytes : List ℕ) → numbers_at 0 offset bytes ≡ []
 unfolding numbers_at
-no_numbers place bytes = refl
+no_numbers offset bytes = refl
 
-pub one_more : (count : ℕ) (bytes : List ℕ) → numbers_at (count + 1) 0 bytes ≡ numbers_at count 0 bytes ++ four_at (4 * count) bytes ∷ []
+pub one_more : (count : ℕ) (bytes : List ℕ) → numbers_at (count + 1) 0 bytes ≡ numbers_at count 0 bytes
+    ++ four_at (4 * count) bytes ∷ []
 one_more count bytes =
     let next : count + 1 ≡ suc count = omega arith in
     let there : 0 + 4 * count ≡ 4 * count = omega arith in
-    ap (λ n. numbers_at n 0 bytes) next ∙ more count 0 bytes ∙ ap (λ p. numbers_at count 0 bytes ++ four_at p bytes ∷ []) there
+    ap (λ n. numbers_at n 0 bytes) next ∙ more count 0 bytes
+    ∙ ap (λ p. numbers_at count 0 bytes ++ four_at p bytes ∷ []) there

@@ -1,5 +1,7 @@
 -- The file that an inode and its blocks are.
-use Rattle.std.specs.Prelude.{◌≡◌, ℕ, ◌*◌, ◌/◌, true, cond, not, ◌||◌, List, ◌++◌, nat_eq, nat_lt, take, drop, length, replicate, get_or, filter, All, IsOk, Option, Some, None, Result, Ok, Err}
+use Rattle.std.specs.Prelude.{◌≡◌, ℕ, ◌*◌, ◌/◌, true, cond, not, ◌||◌, List, ◌++◌, nat_eq, nat_lt, take, drop}
+use Rattle.std.specs.Prelude.{length, replicate, get_or, filter, All, IsOk, Option, Some, None, Result, Ok}
+use Rattle.std.specs.Prelude.{Err}
 use Rattle.std.specs.List.{flat_map, filter_map, list_all, list_any, range_with_len}
 use Rattle.std.specs.Ordering.{nat_cmp}
 use Rattle.std.specs.FinMap as map
@@ -15,16 +17,18 @@ use Rattle.layout.specs.declared.inode.InodeKind.{InodeKind}
 use Rattle.layout.specs.declared.inode.InodeKind.TheVariants as kinds
 use Rattle.layout.specs.declared.slot.Slot.{Slot}
 use Rattle.layout.specs.Fields.{numbers_at, is_zeros}
-use Rattle.layout.specs.InodeForm.{read_inode, is_place, names_first}
-use Rattle.layout.specs.Places.{inode_block, inode_place}
+use Rattle.layout.specs.InodeForm.{read_inode, is_data_block_or_none, names_first}
+use Rattle.layout.specs.Geometry.{inode_block, inode_offset}
 use Rattle.layout.specs.SlotForm.{read_slot}
 
--- the numbers of the blocks of all indexes, 0 where no block is kept: the direct ones, then those of the indirect block
+-- the numbers of the blocks of all indexes, 0 where no block is mapped: the direct ones, then those of the
+-- indirect block
 unfoldable pub numbers_of : Image → Inode → List ℕ
 numbers_of blocks inode =
-    inode.direct ++ cond (nat_eq inode.indirect 0) (replicate INDIRECT_INDEXES 0) (numbers_at INDIRECT_INDEXES 0 (blocks inode.indirect))
+    inode.direct ++ cond (nat_eq inode.indirect 0) (replicate INDIRECT_INDEXES 0)
+    (numbers_at INDIRECT_INDEXES 0 (blocks inode.indirect))
 
--- the bytes of an index: zeros where no block is kept
+-- the bytes of an index: zeros where no block is mapped
 abbrev pub content_of : Image → ℕ → List ℕ
 content_of blocks number = cond (nat_eq number 0) (replicate BLOCK_BYTES 0) (blocks number)
 
@@ -32,9 +36,11 @@ content_of blocks number = cond (nat_eq number 0) (replicate BLOCK_BYTES 0) (blo
 unfoldable pub bytes_of : Image → List ℕ → List ℕ
 bytes_of blocks numbers = flat_map (content_of blocks) numbers
 
--- the indexes at which a block is kept
-unfoldable pub kept_of : List ℕ → set.FinSet nat_cmp
-kept_of numbers = set.from_list (filter (λ index. not (nat_eq (get_or numbers index 0) 0)) (range_with_len 0 (length numbers)))
+-- the indexes at which a block is mapped
+unfoldable pub mapped_of : List ℕ → set.FinSet nat_cmp
+mapped_of numbers =
+    set.from_list
+    (filter (λ index. not (nat_eq (get_or numbers index 0) 0)) (range_with_len 0 (length numbers)))
 
 -- how many blocks a directory spans
 abbrev pub span_of : Inode → ℕ
@@ -45,7 +51,9 @@ abbrev pub SLOT_SIZE : ℕ
 SLOT_SIZE = BLOCK_BYTES / SLOTS_PER_BLOCK
 
 unfoldable pub slot_bytes : Image → Inode → ℕ → List ℕ
-slot_bytes blocks inode slot = take SLOT_SIZE (drop (SLOT_SIZE * slot) (bytes_of blocks (take (span_of inode) (numbers_of blocks inode))))
+slot_bytes blocks inode slot =
+    take SLOT_SIZE
+    (drop (SLOT_SIZE * slot) (bytes_of blocks (take (span_of inode) (numbers_of blocks inode))))
 
 -- the numbers of a directory's slots
 abbrev pub slots_of : Inode → List ℕ
@@ -53,13 +61,14 @@ slots_of inode = range_with_len 0 (SLOTS_PER_BLOCK * span_of inode)
 
 -- the entry in a slot, under its name
 abbrev pub entry_in : ℕ → Result (Option Slot) LayoutFault → Option (List ℕ × DirectoryEntry)
-entry_in place (Ok (Some slot)) = Some (slot.name, record { number = slot.number; slot = place })
-entry_in place (Ok None) = None
-entry_in place (Err fault) = None
+entry_in index (Ok (Some slot)) = Some (slot.name, record { number = slot.number; slot = index })
+entry_in index (Ok None) = None
+entry_in index (Err fault) = None
 
 -- the entries of a directory in the order of their slots
 unfoldable pub named_in : ℕ → Image → Inode → List (List ℕ × DirectoryEntry)
-named_in inodes blocks inode = filter_map (λ place. entry_in place (read_slot inodes (slot_bytes blocks inode place))) (slots_of inode)
+named_in inodes blocks inode =
+    filter_map (λ index. entry_in index (read_slot inodes (slot_bytes blocks inode index))) (slots_of inode)
 
 abbrev pub entries_in : ℕ → Image → Inode → Entries
 entries_in inodes blocks inode = map.from_entries (named_in inodes blocks inode)
@@ -67,10 +76,12 @@ entries_in inodes blocks inode = map.from_entries (named_in inodes blocks inode)
 -- what is in a regular file, in a directory, and in a link, whose target lies in its first block
 abbrev pub regular_in : Image → Inode → Body
 regular_in blocks inode =
-    model.Regular (take inode.size (bytes_of blocks (numbers_of blocks inode))) (kept_of (numbers_of blocks inode))
+    model.Regular (take inode.size (bytes_of blocks (numbers_of blocks inode)))
+    (mapped_of (numbers_of blocks inode))
 
 abbrev pub directory_in : ℕ → Image → Inode → Body
-directory_in inodes blocks inode = model.Directory (entries_in inodes blocks inode) (span_of inode) inode.parent
+directory_in inodes blocks inode =
+    model.Directory (entries_in inodes blocks inode) (span_of inode) inode.parent
 
 abbrev pub link_in : Image → Inode → Body
 link_in blocks inode = model.Link (take inode.size (bytes_of blocks (take 1 inode.direct)))
@@ -104,27 +115,31 @@ file_of inodes blocks (Err fault) = None
 -- the inode of a number
 unfoldable pub inode_at : Geometry → Image → ℕ → Result Inode LayoutFault
 inode_at g blocks number =
-    read_inode g.blocks g.inodes (take INODE_BYTES (drop (inode_place number) (blocks (inode_block g.blocks g.inodes number))))
+    read_inode g.blocks g.inodes
+    (take INODE_BYTES (drop (inode_offset number) (blocks (inode_block g.blocks g.inodes number))))
 
 -- the file of a number: none past the last inode
 unfoldable pub file_at : Geometry → Image → ℕ → Option Node
-file_at g blocks number = cond (nat_lt number g.inodes) (file_of g.inodes blocks (inode_at g blocks number)) None
+file_at g blocks number =
+    cond (nat_lt number g.inodes) (file_of g.inodes blocks (inode_at g blocks number)) None
 
--- The numbers in an indirect block are those of data blocks, and it is held only where it has one.
+-- The numbers in an indirect block are those of data blocks, and it is used only where it has one.
 pub record IsMapped (g : Geometry) (blocks : Image) (inode : Inode) : Type 0 where
-  pub places : list_all (is_place g.blocks g.inodes) (numbers_of blocks inode) ≡ true
-  pub used : nat_eq inode.indirect 0 || list_any (λ number. not (nat_eq number 0)) (drop (length inode.direct) (numbers_of blocks inode)) ≡ true
+  pub numbers : list_all (is_data_block_or_none g.blocks g.inodes) (numbers_of blocks inode) ≡ true
+  pub used : nat_eq inode.indirect 0
+      || list_any (λ number. not (nat_eq number 0)) (drop (length inode.direct) (numbers_of blocks inode))
+      ≡ true
 
 -- a regular file's bytes past its size are zero
 pub record IsRegular (g : Geometry) (blocks : Image) (inode : Inode) : Type 0 where
   pub mapped : IsMapped g blocks inode
   pub zeros : is_zeros (drop inode.size (bytes_of blocks (numbers_of blocks inode))) ≡ true
 
--- a directory keeps each block that it spans and no other, its slots are slots, and no name is in two of them
+-- a directory has each block that it spans and no other, its slots are slots, and no name is in two of them
 pub record IsDirectory (g : Geometry) (blocks : Image) (inode : Inode) : Type 0 where
   pub mapped : IsMapped g blocks inode
   pub spans : names_first (span_of inode) (numbers_of blocks inode) ≡ true
-  pub slots : All (λ place. IsOk (read_slot g.inodes (slot_bytes blocks inode place))) (slots_of inode)
+  pub slots : All (λ index. IsOk (read_slot g.inodes (slot_bytes blocks inode index))) (slots_of inode)
   pub once : map.len (entries_in g.inodes blocks inode) ≡ length (named_in g.inodes blocks inode)
 
 -- behind a link's target its block is zero
@@ -132,13 +147,13 @@ pub record IsLink (blocks : Image) (inode : Inode) : Type 0 where
   pub zeros : is_zeros (drop inode.size (bytes_of blocks (take 1 inode.direct))) ≡ true
 
 -- an inode's blocks are as its kind has them
-abbrev pub IsKept : Geometry → Image → InodeKind → Inode → Type 0
-IsKept g blocks kinds.Free inode = Unit {0}
-IsKept g blocks kinds.Regular inode = IsRegular g blocks inode
-IsKept g blocks kinds.Directory inode = IsDirectory g blocks inode
-IsKept g blocks kinds.Link inode = IsLink blocks inode
+abbrev pub IsOfKind : Geometry → Image → InodeKind → Inode → Type 0
+IsOfKind g blocks kinds.Free inode = Unit {0}
+IsOfKind g blocks kinds.Regular inode = IsRegular g blocks inode
+IsOfKind g blocks kinds.Directory inode = IsDirectory g blocks inode
+IsOfKind g blocks kinds.Link inode = IsLink blocks inode
 
 -- it is an inode, and its blocks are as its kind has them
 abbrev pub IsFile : Geometry → Image → Result Inode LayoutFault → Type 0
-IsFile g blocks (Ok inode) = IsKept g blocks inode.kind inode
+IsFile g blocks (Ok inode) = IsOfKind g blocks inode.kind inode
 IsFile g blocks (Err fault) = ⊥

@@ -3,18 +3,18 @@ use Rattle.std.specs.Prelude.{ℕ, zero, suc, ◌+◌, Bool, List, [], ◌∷◌
 use Rattle.std.specs.Int.{w32, w64, from_le_bytes, to_le_bytes}
 use Rattle.std.specs.List.{flat_map, list_all}
 
--- the number that the 4 bytes from a place on spell
+-- the number that the 4 bytes from an offset on spell
 unfoldable pub four_at : ℕ → List ℕ → ℕ
-four_at place bytes = from_le_bytes w32 (drop place bytes)
+four_at offset bytes = from_le_bytes w32 (drop offset bytes)
 
--- the number that the 8 bytes from a place on spell
+-- the number that the 8 bytes from an offset on spell
 unfoldable pub eight_at : ℕ → List ℕ → ℕ
-eight_at place bytes = from_le_bytes w64 (drop place bytes)
+eight_at offset bytes = from_le_bytes w64 (drop offset bytes)
 
--- so many numbers of 4 bytes, one behind another from a place on
+-- so many numbers of 4 bytes, one behind another from an offset on
 unfoldable pub numbers_at : ℕ → ℕ → List ℕ → List ℕ
-numbers_at zero place bytes = []
-numbers_at (suc count) place bytes = four_at place bytes ∷ numbers_at count (place + 4) bytes
+numbers_at zero offset bytes = []
+numbers_at (suc count) offset bytes = four_at offset bytes ∷ numbers_at count (offset + 4) bytes
 
 -- a number in 4 bytes
 unfoldable pub four_bytes : ℕ → List ℕ

@@ -1,16 +1,22 @@
 -- The inode: what the disk has of a file in 128 bytes.
-use Rattle.std.specs.Prelude.{ℕ, ◌+◌, ◌/◌, ◌%◌, Bool, true, cond, not, ◌&&◌, ◌||◌, List, ◌++◌, nat_eq, nat_le, nat_lt, take, drop, min, Option, Some, None, Result, Ok, Err}
+use Rattle.std.specs.Prelude.{ℕ, ◌+◌, ◌/◌, ◌%◌, Bool, true, cond, not, ◌&&◌, ◌||◌, List, ◌++◌, nat_eq, nat_le}
+use Rattle.std.specs.Prelude.{nat_lt, take, drop, min, Option, Some, None, Result, Ok, Err}
 use Rattle.std.specs.List.{list_all}
-use Rattle.limits.specs.declared.TheConstants.{BLOCK_BYTES, DIRECT_INDEXES, LARGEST_FILE, MODE_BITS, MOST_LINKS, NANOSECONDS, TARGET_BYTES}
+use Rattle.limits.specs.declared.TheConstants.{BLOCK_BYTES, DIRECT_INDEXES, LARGEST_FILE, MODE_BITS}
+use Rattle.limits.specs.declared.TheConstants.{MOST_LINKS, NANOSECONDS, TARGET_BYTES}
 use Rattle.nfs_types.specs.declared.ctx.Moment.{Moment}
 use Rattle.layout.specs.declared.fault.LayoutFault.{LayoutFault}
 use Rattle.layout.specs.declared.fault.LayoutFault.TheVariants.{Range}
 use Rattle.layout.specs.declared.inode.Inode.{Inode}
 use Rattle.layout.specs.declared.inode.InodeKind.{InodeKind}
 use Rattle.layout.specs.declared.inode.InodeKind.TheVariants.{Free, Regular, Directory, Link}
-use Rattle.layout.specs.declared.inode_fields.TheConstants.{KIND_AT, MODE_AT, UID_AT, GID_AT, NLINK_AT, GAP_AT, SIZE_AT, ATIME_AT, MTIME_AT, CTIME_AT, BOOT_AT, TRANSACTION_AT, PARENT_AT, FLAGS_AT, VERIFIER_AT, DIRECT_AT, INDIRECT_AT, END_GAP_AT}
-use Rattle.layout.specs.Fields.{four_at, eight_at, numbers_at, four_bytes, eight_bytes, number_bytes, is_zeros}
-use Rattle.layout.specs.Places.{is_data}
+use Rattle.layout.specs.declared.inode_fields.TheConstants.{KIND_AT, MODE_AT, UID_AT, GID_AT, NLINK_AT}
+use Rattle.layout.specs.declared.inode_fields.TheConstants.{GAP_AT, SIZE_AT, ATIME_AT, MTIME_AT, CTIME_AT}
+use Rattle.layout.specs.declared.inode_fields.TheConstants.{BOOT_AT, TRANSACTION_AT, PARENT_AT, FLAGS_AT}
+use Rattle.layout.specs.declared.inode_fields.TheConstants.{VERIFIER_AT, DIRECT_AT, INDIRECT_AT, END_GAP_AT}
+use Rattle.layout.specs.Fields.{four_at, eight_at, numbers_at, four_bytes, eight_bytes, number_bytes}
+use Rattle.layout.specs.Fields.{is_zeros}
+use Rattle.layout.specs.Geometry.{is_data}
 
 -- the kind of a number: those of RFC 1813, section 2.5, and 0 for an inode that no file has
 abbrev pub kind_of_number : ℕ → Option InodeKind
@@ -28,13 +34,13 @@ number_of_kind Link = 5
 
 -- a time: seconds, then nanoseconds
 abbrev pub time_at : ℕ → ℕ → List ℕ → Moment
-time_at place behind bytes = record { seconds = four_at place bytes; nanoseconds = four_at behind bytes }
+time_at offset behind bytes = record { seconds = four_at offset bytes; nanoseconds = four_at behind bytes }
 
 -- whether a file has a create verifier stands apart from the verifier
 abbrev pub verifier_of : ℕ → ℕ → Option ℕ
 verifier_of flags verifier = cond (nat_eq flags 1) (Some verifier) None
 
--- the fields of an inode, each at its place in the bytes
+-- the fields of an inode, each at its offset in the bytes
 unfoldable pub fields_of : InodeKind → List ℕ → Inode
 fields_of kind bytes = record {
   kind = kind;
@@ -58,11 +64,12 @@ abbrev pub rest_is_zero : InodeKind → List ℕ → Bool
 rest_is_zero Free bytes = is_zeros bytes
 rest_is_zero _ bytes =
     nat_eq (four_at GAP_AT bytes) 0 && nat_eq (four_at END_GAP_AT bytes) 0
-    && (nat_eq (four_at FLAGS_AT bytes) 1 || nat_eq (four_at FLAGS_AT bytes) 0 && nat_eq (eight_at VERIFIER_AT bytes) 0)
+    && (nat_eq (four_at FLAGS_AT bytes) 1 || nat_eq (four_at FLAGS_AT bytes) 0
+    && nat_eq (eight_at VERIFIER_AT bytes) 0)
 
 -- no block, or a data block
-abbrev pub is_place : ℕ → ℕ → ℕ → Bool
-is_place blocks inodes number = nat_eq number 0 || is_data blocks inodes number
+abbrev pub is_data_block_or_none : ℕ → ℕ → ℕ → Bool
+is_data_block_or_none blocks inodes number = nat_eq number 0 || is_data blocks inodes number
 
 abbrev pub is_time : Moment → Bool
 is_time time = nat_lt time.nanoseconds NANOSECONDS
@@ -70,9 +77,10 @@ is_time time = nat_lt time.nanoseconds NANOSECONDS
 -- the first numbers are those of blocks, and the others of none
 abbrev pub names_first : ℕ → List ℕ → Bool
 names_first count numbers =
-    list_all (λ number. not (nat_eq number 0)) (take count numbers) && list_all (λ number. nat_eq number 0) (drop count numbers)
+    list_all (λ number. not (nat_eq number 0)) (take count numbers)
+    && list_all (λ number. nat_eq number 0) (drop count numbers)
 
--- what each file's inode keeps to
+-- what each file's inode satisfies
 abbrev pub is_sound_file : Inode → Bool
 is_sound_file inode =
     nat_le inode.mode MODE_BITS && nat_le 1 inode.nlink && nat_le inode.nlink MOST_LINKS
@@ -81,21 +89,23 @@ is_sound_file inode =
 -- each block that it names is a data block
 abbrev pub is_sound_map : ℕ → ℕ → Inode → Bool
 is_sound_map blocks inodes inode =
-    list_all (is_place blocks inodes) inode.direct && is_place blocks inodes inode.indirect
+    list_all (is_data_block_or_none blocks inodes) inode.direct
+    && is_data_block_or_none blocks inodes inode.indirect
 
--- a regular file keeps any blocks, up to the size of the largest
+-- a regular file has any blocks, up to the size of the largest
 abbrev pub is_sound_regular : Inode → Bool
 is_sound_regular inode = nat_le inode.size LARGEST_FILE && nat_eq inode.parent 0
 
--- a directory has two links at least, and keeps each block that it spans and no other
+-- a directory has two links at least, and has each block that it spans and no other
 abbrev pub is_sound_directory : ℕ → Inode → Bool
 is_sound_directory inodes inode =
     nat_le 2 inode.nlink && nat_le inode.size LARGEST_FILE && nat_eq (inode.size % BLOCK_BYTES) 0
     && nat_lt 0 inode.parent && nat_lt inode.parent inodes
     && names_first (min (inode.size / BLOCK_BYTES) DIRECT_INDEXES) inode.direct
-    && (cond (nat_lt DIRECT_INDEXES (inode.size / BLOCK_BYTES)) (not (nat_eq inode.indirect 0)) (nat_eq inode.indirect 0))
+    && (cond (nat_lt DIRECT_INDEXES (inode.size / BLOCK_BYTES)) (not (nat_eq inode.indirect 0))
+    (nat_eq inode.indirect 0))
 
--- a link keeps one block, with its target
+-- a link has one block, with its target
 abbrev pub is_sound_link : Inode → Bool
 is_sound_link inode =
     nat_le 1 inode.size && nat_le inode.size TARGET_BYTES && nat_eq inode.parent 0
@@ -104,10 +114,12 @@ is_sound_link inode =
 -- an inode of a kind that shows nothing wrong by itself
 abbrev pub is_sound_kind : ℕ → ℕ → InodeKind → Inode → Bool
 is_sound_kind blocks inodes Free inode = true
-is_sound_kind blocks inodes Regular inode = is_sound_file inode && is_sound_map blocks inodes inode && is_sound_regular inode
+is_sound_kind blocks inodes Regular inode = is_sound_file inode && is_sound_map blocks inodes inode
+    && is_sound_regular inode
 is_sound_kind blocks inodes Directory inode =
     is_sound_file inode && is_sound_map blocks inodes inode && is_sound_directory inodes inode
-is_sound_kind blocks inodes Link inode = is_sound_file inode && is_sound_map blocks inodes inode && is_sound_link inode
+is_sound_kind blocks inodes Link inode = is_sound_file inode && is_sound_map blocks inodes inode
+    && is_sound_link inode
 
 unfoldable pub is_sound_inode : ℕ → ℕ → Inode → Bool
 is_sound_inode blocks inodes inode = is_sound_kind blocks inodes inode.kind inode
@@ -115,7 +127,8 @@ is_sound_inode blocks inodes inode = is_sound_kind blocks inodes inode.kind inod
 abbrev pub inode_of_kind : ℕ → ℕ → Option InodeKind → List ℕ → Result Inode LayoutFault
 inode_of_kind blocks inodes None bytes = Err Range
 inode_of_kind blocks inodes (Some kind) bytes =
-    cond (rest_is_zero kind bytes && is_sound_inode blocks inodes (fields_of kind bytes)) (Ok (fields_of kind bytes)) (Err Range)
+    cond (rest_is_zero kind bytes && is_sound_inode blocks inodes (fields_of kind bytes))
+    (Ok (fields_of kind bytes)) (Err Range)
 
 -- the inode that 128 bytes are in an image of these sizes
 unfoldable pub read_inode : ℕ → ℕ → List ℕ → Result Inode LayoutFault

@@ -1,5 +1,6 @@
 -- The slot of a directory: a name and the number of the file that it names.
-use Rattle.std.specs.Prelude.{ℕ, ◌+◌, Bool, cond, ◌&&◌, List, nat_eq, nat_le, nat_lt, take, drop, Option, Some, None, Result, Ok, Err}
+use Rattle.std.specs.Prelude.{ℕ, ◌+◌, Bool, cond, ◌&&◌, List, nat_eq, nat_le, nat_lt, take, drop, Option}
+use Rattle.std.specs.Prelude.{Some, None, Result, Ok, Err}
 use Rattle.limits.specs.declared.TheConstants.{NAME_BYTES}
 use Rattle.layout.specs.declared.fault.LayoutFault.{LayoutFault}
 use Rattle.layout.specs.declared.fault.LayoutFault.TheVariants.{Range}
@@ -9,16 +10,21 @@ use Rattle.layout.specs.Fields.{four_at, is_zeros}
 
 -- the name and the number of a slot that is in use
 abbrev pub slot_of : List ℕ → Slot
-slot_of bytes = record { number = four_at NUMBER_AT bytes; name = take (four_at COUNT_AT bytes) (drop NAME_AT bytes) }
+slot_of bytes = record {
+  number = four_at NUMBER_AT bytes;
+  name = take (four_at COUNT_AT bytes) (drop NAME_AT bytes);
+}
 
--- the number is that of an inode of the image, the name's length is lawful, and nothing but zeros is behind the name
+-- the number is that of an inode of the image, the name's length is lawful, and nothing but zeros is behind
+-- the name
 abbrev pub is_sound_slot : ℕ → List ℕ → Bool
 is_sound_slot inodes bytes =
-    nat_lt (four_at NUMBER_AT bytes) inodes && nat_le 1 (four_at COUNT_AT bytes) && nat_le (four_at COUNT_AT bytes) NAME_BYTES
+    nat_lt (four_at NUMBER_AT bytes) inodes && nat_le 1 (four_at COUNT_AT bytes)
+    && nat_le (four_at COUNT_AT bytes) NAME_BYTES
     && is_zeros (drop (NAME_AT + four_at COUNT_AT bytes) bytes)
 
--- The slot that 128 bytes are in an image of so many inodes; a free one is nothing but zeros. The characters of a
--- name aren't looked at.
+-- The slot that 128 bytes are in an image of so many inodes; a free one is nothing but zeros. The characters
+-- of a name aren't looked at.
 unfoldable pub read_slot : ℕ → List ℕ → Result (Option Slot) LayoutFault
 read_slot inodes bytes =
     cond (nat_eq (four_at NUMBER_AT bytes) 0)

@@ -1,12 +1,14 @@
 -- The super block: how large the image is, and how often it was opened.
-use Rattle.std.specs.Prelude.{◌≡◌, ℕ, ◌-◌, Bool, true, ◌&&◌, List, [], ◌∷◌, ◌++◌, nat_eq, take, drop, replicate}
+use Rattle.std.specs.Prelude.{◌≡◌, ℕ, ◌-◌, Bool, true, ◌&&◌, List, [], ◌∷◌, ◌++◌, nat_eq, take, drop}
+use Rattle.std.specs.Prelude.{replicate}
 use Rattle.limits.specs.declared.TheConstants.{BLOCK_BYTES, FORMAT_VERSION}
 use Rattle.layout.specs.declared.fault.LayoutFault.{LayoutFault}
 use Rattle.layout.specs.declared.fault.LayoutFault.TheVariants.{Magic, Version, Range}
 use Rattle.layout.specs.declared.super_block.Super.{Super}
-use Rattle.layout.specs.declared.super_block.TheConstants.{VERSION_AT, BLOCKS_AT, INODES_AT, GAP_AT, BOOT_AT, REST_AT}
+use Rattle.layout.specs.declared.super_block.TheConstants.{VERSION_AT, BLOCKS_AT, INODES_AT, GAP_AT, BOOT_AT}
+use Rattle.layout.specs.declared.super_block.TheConstants.{REST_AT}
 use Rattle.layout.specs.Fields.{four_at, eight_at, four_bytes, eight_bytes, is_zeros}
-use Rattle.layout.specs.Places.{IsLawful}
+use Rattle.layout.specs.Geometry.{IsLawful}
 
 -- `NFSJRNL1`
 abbrev pub MAGIC_BYTES : List ℕ
@@ -47,7 +49,8 @@ IsNoSuper bytes Range = HasMagic bytes × HasVersion bytes × (HasSizes bytes �
 -- what of its bytes isn't zero always
 unfoldable pub super_head : Super → List ℕ
 super_head super =
-    MAGIC_BYTES ++ four_bytes FORMAT_VERSION ++ four_bytes super.geometry.blocks ++ four_bytes super.geometry.inodes
+    MAGIC_BYTES ++ four_bytes FORMAT_VERSION ++ four_bytes super.geometry.blocks
+    ++ four_bytes super.geometry.inodes
     ++ four_bytes 0 ++ eight_bytes super.boot
 
 -- the bytes that a super block gets

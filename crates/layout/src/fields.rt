@@ -4,33 +4,33 @@ ghost use Rattle.layout.specs.Fields.{four_at, eight_at, four_bytes, eight_bytes
 
 use std::alloc::AllocError;
 
-/// The number in the 4 bytes from a place on.
-pub(crate) fn four_at(bytes: &[u8], place: usize) -> u32
-    requires { place + 4 ≤ length bytes.now }
-    ensures { result ≡ four_at place bytes.now }
+/// The number in the 4 bytes from an offset on.
+pub(crate) fn four_at(bytes: &[u8], offset: usize) -> u32
+    requires { offset + 4 ≤ length bytes.now }
+    ensures { result ≡ four_at offset bytes.now }
 {
     u32::from_le_bytes([
-        bytes[place],
-        bytes[place + 1],
-        bytes[place + 2],
-        bytes[place + 3],
+        bytes[offset],
+        bytes[offset + 1],
+        bytes[offset + 2],
+        bytes[offset + 3],
     ])
 }
 
-/// The number in the 8 bytes from a place on.
-pub(crate) fn eight_at(bytes: &[u8], place: usize) -> u64
-    requires { place + 8 ≤ length bytes.now }
-    ensures { result ≡ eight_at place bytes.now }
+/// The number in the 8 bytes from an offset on.
+pub(crate) fn eight_at(bytes: &[u8], offset: usize) -> u64
+    requires { offset + 8 ≤ length bytes.now }
+    ensures { result ≡ eight_at offset bytes.now }
 {
     u64::from_le_bytes([
-        bytes[place],
-        bytes[place + 1],
-        bytes[place + 2],
-        bytes[place + 3],
-        bytes[place + 4],
-        bytes[place + 5],
-        bytes[place + 6],
-        bytes[place + 7],
+        bytes[offset],
+        bytes[offset + 1],
+        bytes[offset + 2],
+        bytes[offset + 3],
+        bytes[offset + 4],
+        bytes[offset + 5],
+        bytes[offset + 6],
+        bytes[offset + 7],
     ])
 }
 

@@ -6,23 +6,26 @@ ghost use Rattle.model.specs.Sound.{SoundTime};
 ghost use Rattle.nfs_types.specs.declared.ctx.Moment.{Moment};
 ghost use Rattle.layout.specs.declared.geometry.Geometry.{Geometry};
 ghost use Rattle.layout.specs.Fresh.{IsFresh, fresh};
-ghost use Rattle.layout.specs.Places.{IsLawful};
+ghost use Rattle.layout.specs.Geometry.{IsLawful};
 ghost use Rattle.layout.specs.Stands.{Stands, geometry_of};
 ghost use Rattle.layout.specs.SuperForm.{IsSuper, super_bytes};
 ghost use Rattle.layout.specs.declared.super_block.Super.{Super};
 
 /// The blocks of a fresh image stand for the tree with the root alone.
 pub fn a_fresh_image_stands_for_the_format_tree()
-    ensures { (g : Geometry) (moment : Moment) (image : Image) → IsLawful g.blocks g.inodes → SoundTime moment → IsFresh g moment image
+    ensures { (g : Geometry) (moment : Moment) (image : Image) → IsLawful g.blocks g.inodes → SoundTime moment
+        → IsFresh g moment image
         → Stands g image (format_tree (geometry_of g) moment) }
 {}
 
 /// There is a fresh image of each lawful size.
 pub fn there_is_a_fresh_image()
-    ensures { (g : Geometry) (moment : Moment) → IsLawful g.blocks g.inodes → IsFresh g moment (fresh g moment) }
+    ensures { (g : Geometry) (moment : Moment) → IsLawful g.blocks g.inodes
+        → IsFresh g moment (fresh g moment) }
 {}
 
 /// The bytes that a super block gets are those of this super block.
 pub fn a_super_block_is_its_bytes()
-    ensures { (s : Super) → IsLawful s.geometry.blocks s.geometry.inodes → s.boot < 2 ^ 64 → IsSuper (super_bytes s) s }
+    ensures { (s : Super) → IsLawful s.geometry.blocks s.geometry.inodes → s.boot < 2 ^ 64
+        → IsSuper (super_bytes s) s }
 {}

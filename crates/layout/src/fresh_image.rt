@@ -20,7 +20,8 @@ pub struct FreshImage {
     made: Moment,
     super_block: Vec<u8>,
     root: Vec<u8>,
-    pub ghost super_block_spelled: { super_block.items ≡ super_bytes (record { geometry = geometry; boot = 0 }) },
+    pub ghost super_block_spelled: { super_block.items
+        ≡ super_bytes (record { geometry = geometry; boot = 0 }) },
     pub ghost root_spelled: { root.items ≡ root_block made },
     pub ghost super_block_len: { length super_block.items ≡ BLOCK_BYTES },
     pub ghost root_len: { length root.items ≡ BLOCK_BYTES },
@@ -130,9 +131,9 @@ fn put_bitmap(block: &mut Block, part: u32, below: u32, past: u32)
 {
     let first = BITS_PER_BLOCK as u64 * part as u64;
     put_zeros(block);
-    'bytes: for place in 0..BLOCK_BYTES {
-        let byte = byte_of(first + 8 * place as u64, below as u64, past as u64);
-        block.put(place, &[byte]);
+    'bytes: for index in 0..BLOCK_BYTES {
+        let byte = byte_of(first + 8 * index as u64, below as u64, past as u64);
+        block.put(index, &[byte]);
     }
 }
 

@@ -1,7 +1,9 @@
 //! Where the parts of an image lie.
 ghost use Rattle.std.specs.Prelude.{◌≡◌, ◌+◌, ◌-◌, ◌<◌, ◌≤◌, IfOk, IfErr};
 ghost use Rattle.limits.specs.declared.TheConstants.{MOST_BLOCKS, INODE_BYTES};
-ghost use Rattle.layout.specs.Places.{IsLawful, IsLawfulSize, IsLawfulCount, bitmap_blocks, inode_bitmap_at, table_at, data_at, is_data, inode_block, inode_place};
+ghost use Rattle.layout.specs.Geometry.{IsLawful, IsLawfulSize, IsLawfulCount, bitmap_blocks};
+ghost use Rattle.layout.specs.Geometry.{inode_bitmap_at, table_at, data_at, is_data, inode_block};
+ghost use Rattle.layout.specs.Geometry.{inode_offset};
 
 use disk::BlockNo;
 use limits::{
@@ -20,8 +22,8 @@ pub enum GeometryFault {
     Inodes,
 }
 
-/// How many blocks and inodes an image has, from which follows where its parts lie: behind the log the bitmap of
-/// blocks, the bitmap of inodes, the table of inodes and the data.
+/// How many blocks and inodes an image has, from which follows where its parts lie: behind the log the bitmap
+/// of blocks, the bitmap of inodes, the table of inodes and the data.
 #[derive(Clone, Copy, Debug, PartialEq, Eq)]
 pub struct Geometry {
     pub blocks: u32,
@@ -35,7 +37,8 @@ impl Geometry {
         ensures ok { IfOk result (λ g. (g.blocks ≡ blocks) × (g.inodes ≡ inodes) × IsLawful blocks inodes) }
         ensures err { IfErr result (λ _. IsLawful blocks inodes → ⊥) }
         ensures size { result ≡ Err GeometryFault.Size → IsLawfulSize blocks → ⊥ }
-        ensures count { result ≡ Err GeometryFault.Inodes → IsLawfulSize blocks × (IsLawfulCount blocks inodes → ⊥) }
+        ensures count { result ≡ Err GeometryFault.Inodes → IsLawfulSize blocks
+            × (IsLawfulCount blocks inodes → ⊥) }
     {
         if blocks < LEAST_BLOCKS || blocks > MOST_BLOCKS {
             return Err(GeometryFault::Size);
@@ -95,7 +98,7 @@ impl Geometry {
     pub fn inode_addr(&self, number: u32) -> Addr
         requires { number < self.now.inodes }
         ensures block { result.block.0 ≡ inode_block self.now.blocks self.now.inodes number }
-        ensures offset { result.offset ≡ inode_place number }
+        ensures offset { result.offset ≡ inode_offset number }
         ensures len { result.len ≡ INODE_BYTES }
     {
         Addr {

@@ -4,7 +4,7 @@ ghost use Rattle.std.specs.Prelude.{◌≡◌, ◌≤◌, length, IfOk};
 use crate::fields::four_at;
 use crate::inode_bytes::{put_head, put_middle, put_tail};
 use crate::inode_fields::{KIND_AT, fields_of, kind_of_number, rest_is_zero};
-use crate::numbers::count_kept;
+use crate::numbers::count_mapped;
 use crate::{Geometry, LayoutFault};
 use limits::{DIRECT_INDEXES, INODE_BYTES};
 use nfs_types::{Moment, Stamp};
@@ -19,7 +19,7 @@ pub enum InodeKind {
     Link,
 }
 
-/// An inode. Its numbers of blocks are 0 where the file keeps none.
+/// An inode. Its numbers of blocks are 0 where the file has none.
 #[derive(Clone, Copy, Debug, PartialEq, Eq)]
 pub struct Inode {
     pub kind: InodeKind,
@@ -71,10 +71,10 @@ impl Inode {
     }
 
     /// How many blocks it names directly.
-    pub fn directly_held(&self) -> u32
+    pub fn directly_used(&self) -> u32
         ensures { result ≤ DIRECT_INDEXES }
     {
-        count_kept(&self.direct)
+        count_mapped(&self.direct)
     }
 
     /// The inode with another mode, changed at the moment.

@@ -1,7 +1,8 @@
 //! The bytes of an inode.
 ghost use Rattle.std.specs.Prelude.{◌≡◌, ◌+◌, ◌*◌, ◌++◌, length, OnOk};
 ghost use Rattle.layout.specs.Fields.{number_bytes};
-ghost use Rattle.layout.specs.InodeForm.{number_of_kind, time_bytes, verifier_bytes, head_bytes, middle_bytes, tail_bytes};
+ghost use Rattle.layout.specs.InodeForm.{number_of_kind, time_bytes, verifier_bytes, head_bytes};
+ghost use Rattle.layout.specs.InodeForm.{middle_bytes, tail_bytes};
 
 use crate::fields::{put_eight, put_four};
 use crate::{Inode, InodeKind};

@@ -61,14 +61,14 @@ pub(crate) fn kind_of_number(number: u32) -> Option<InodeKind>
     }
 }
 
-// The time at a place.
-fn time_at(bytes: &[u8], place: usize) -> Moment
-    requires { place + 8 ≤ length bytes.now }
-    ensures { result ≡ time_at place (place + 4) bytes.now }
+// The time at an offset.
+fn time_at(bytes: &[u8], offset: usize) -> Moment
+    requires { offset + 8 ≤ length bytes.now }
+    ensures { result ≡ time_at offset (offset + 4) bytes.now }
 {
     Moment {
-        seconds: four_at(bytes, place),
-        nanoseconds: four_at(bytes, place + 4),
+        seconds: four_at(bytes, offset),
+        nanoseconds: four_at(bytes, offset + 4),
     }
 }
 
@@ -96,7 +96,7 @@ fn direct_of(bytes: &[u8]) -> [u32; DIRECT_INDEXES]
     ]
 }
 
-/// The fields, each from its place.
+/// The fields, each from its offset.
 pub(crate) fn fields_of(kind: InodeKind, bytes: &[u8]) -> Inode
     requires { length bytes.now ≡ INODE_BYTES }
     ensures { result ≡ fields_of kind bytes.now }

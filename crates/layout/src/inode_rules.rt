@@ -1,7 +1,9 @@
 //! What an inode shows by itself.
 ghost use Rattle.std.specs.Prelude.{◌≡◌, ◌≤◌, not, nat_eq, length};
 ghost use Rattle.std.specs.List.{list_all};
-ghost use Rattle.layout.specs.InodeForm.{is_place, is_time, names_first, is_sound_file, is_sound_map, is_sound_regular, is_sound_directory, is_sound_link, is_sound_kind, is_sound_inode};
+ghost use Rattle.layout.specs.InodeForm.{is_data_block_or_none, is_time, names_first, is_sound_file};
+ghost use Rattle.layout.specs.InodeForm.{is_sound_map, is_sound_regular, is_sound_directory, is_sound_link};
+ghost use Rattle.layout.specs.InodeForm.{is_sound_kind, is_sound_inode};
 
 use crate::{Geometry, Inode, InodeKind};
 use limits::{
@@ -10,8 +12,8 @@ use limits::{
 use nfs_types::Moment;
 
 /// Whether the number is that of no block, or of a data block.
-pub(crate) fn is_place(geometry: &Geometry, number: u32) -> bool
-    ensures { result ≡ is_place geometry.now.blocks geometry.now.inodes number }
+pub(crate) fn is_data_block_or_none(geometry: &Geometry, number: u32) -> bool
+    ensures { result ≡ is_data_block_or_none geometry.now.blocks geometry.now.inodes number }
 {
     number == 0 || geometry.is_data(number)
 }
@@ -23,11 +25,11 @@ fn is_time(time: &Moment) -> bool
 }
 
 /// Whether each number is that of no block, or of a data block.
-pub(crate) fn are_places(geometry: &Geometry, numbers: &[u32]) -> bool
-    ensures { result ≡ list_all (is_place geometry.now.blocks geometry.now.inodes) numbers.now }
+pub(crate) fn are_data_blocks_or_none(geometry: &Geometry, numbers: &[u32]) -> bool
+    ensures { result ≡ list_all (is_data_block_or_none geometry.now.blocks geometry.now.inodes) numbers.now }
 {
     for number in numbers {
-        if !is_place(geometry, *number) {
+        if !is_data_block_or_none(geometry, *number) {
             return false;
         }
     }
@@ -56,7 +58,7 @@ fn names_first(count: usize, numbers: &[u32]) -> bool
 }
 
 impl Inode {
-    // What each file's inode keeps to.
+    // What each file's inode satisfies.
     fn is_sound_file(&self) -> bool
         ensures { result ≡ is_sound_file self.now }
     {
@@ -71,7 +73,8 @@ impl Inode {
     fn is_sound_map(&self, geometry: &Geometry) -> bool
         ensures { result ≡ is_sound_map geometry.now.blocks geometry.now.inodes self.now }
     {
-        are_places(geometry, &self.direct) && is_place(geometry, self.indirect)
+        are_data_blocks_or_none(geometry, &self.direct)
+            && is_data_block_or_none(geometry, self.indirect)
     }
 
     fn is_sound_regular(&self) -> bool

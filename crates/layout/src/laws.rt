@@ -7,5 +7,6 @@ ghost use Rattle.layout.specs.Stands.{Stands};
 
 /// Two trees that the same blocks stand for are equal.
 pub fn blocks_stand_for_one_tree()
-    ensures { (g : Geometry) (blocks : Image) (one other : Tree) → Stands g blocks one → Stands g blocks other → one ≡ other }
+    ensures { (g : Geometry) (blocks : Image) (one other : Tree) → Stands g blocks one → Stands g blocks other
+        → one ≡ other }
 {}

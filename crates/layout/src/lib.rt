@@ -1,5 +1,5 @@
-//! How files are spelled in blocks: where the parts of an image lie, inodes, slots of directories, indirect blocks, and the
-//! tree that blocks stand for.
+//! How files are spelled in blocks: where the parts of an image lie, inodes, slots of directories, indirect
+//! blocks, and the tree that blocks stand for.
 #![tactic(auto)]
 
 mod fault;

@@ -3,16 +3,16 @@ ghost use Rattle.std.specs.Prelude.{◌≡◌, ◌≤◌, true, false, length, I
 ghost use Rattle.std.specs.List.{list_all};
 ghost use Rattle.limits.specs.declared.TheConstants.{BLOCK_BYTES, INDIRECT_INDEXES};
 ghost use Rattle.layout.specs.Fields.{numbers_at};
-ghost use Rattle.layout.specs.InodeForm.{is_place};
+ghost use Rattle.layout.specs.InodeForm.{is_data_block_or_none};
 
 use crate::fields::four_at;
-use crate::inode_rules::are_places;
+use crate::inode_rules::are_data_blocks_or_none;
 use crate::{Geometry, LayoutFault};
 use limits::{BLOCK_BYTES, INDIRECT_INDEXES};
 use std::alloc::{AllocError, Global};
 use std::marker::Model;
 
-/// The numbers of an indirect block, 0 where no block is kept.
+/// The numbers of an indirect block, 0 where no block is mapped.
 #[derive(Drop)]
 pub struct Numbers {
     numbers: Vec<u32>,
@@ -30,7 +30,8 @@ impl Model for Numbers {
 }
 
 impl Numbers {
-    /// Reads an indirect block of an image of this geometry. It is refused where a number isn't that of a data block.
+    /// Reads an indirect block of an image of this geometry. It is refused where a number isn't that of a
+    /// data block.
     pub fn read(
         alloc: Global,
         geometry: &Geometry,
@@ -38,24 +39,28 @@ impl Numbers {
     ) -> Result<Result<Numbers, LayoutFault>, AllocError>
         requires { length bytes.now ≡ BLOCK_BYTES }
         ensures ok { IfOk result (λ read. IfOk read (λ n. n ≡ numbers_at INDIRECT_INDEXES 0 bytes.now)) }
-        ensures places { IfOk result (λ read. IfOk read (λ n. list_all (is_place geometry.now.blocks geometry.now.inodes) n ≡ true)) }
-        ensures refused { IfOk result (λ read. IfErr read (λ _. list_all (is_place geometry.now.blocks geometry.now.inodes) (numbers_at INDIRECT_INDEXES 0 bytes.now) ≡ false)) }
+        ensures places { IfOk result
+            (λ read. IfOk read (λ n. list_all (is_data_block_or_none geometry.now.blocks geometry.now.inodes)
+            n ≡ true)) }
+        ensures refused { IfOk result
+            (λ read. IfErr read (λ _. list_all (is_data_block_or_none geometry.now.blocks geometry.now.inodes)
+            (numbers_at INDIRECT_INDEXES 0 bytes.now) ≡ false)) }
     {
         let mut numbers = Vec::with_capacity(alloc, INDIRECT_INDEXES)?;
         'indexes: for index in 0..INDIRECT_INDEXES {
             numbers.push(four_at(bytes, 4 * index))?;
         }
-        if !are_places(geometry, &numbers) {
+        if !are_data_blocks_or_none(geometry, &numbers) {
             return Ok(Err(LayoutFault::Range));
         }
         Ok(Ok(Numbers { numbers }))
     }
 
-    /// How many blocks it keeps.
-    pub fn kept(&self) -> u32
+    /// How many blocks it maps.
+    pub fn mapped(&self) -> u32
         ensures { result ≤ INDIRECT_INDEXES }
     {
-        count_kept(&self.numbers)
+        count_mapped(&self.numbers)
     }
 
     /// The numbers.
@@ -67,15 +72,15 @@ impl Numbers {
 }
 
 /// How many of these numbers are those of blocks.
-pub(crate) fn count_kept(numbers: &[u32]) -> u32
+pub(crate) fn count_mapped(numbers: &[u32]) -> u32
     requires { length numbers.now ≤ INDIRECT_INDEXES }
     ensures { result ≤ length numbers.now }
 {
-    let mut kept = 0;
+    let mut mapped = 0;
     for number in numbers {
         if *number != 0 {
-            kept += 1;
+            mapped += 1;
         }
     }
-    kept
+    mapped
 }

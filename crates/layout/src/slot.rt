@@ -30,8 +30,8 @@ impl Slot {
     ghost use Rattle.layout.specs.SlotForm.{read_slot};
     ghost use Rattle.layout.specs.declared.slot.TheConstants.{SLOT_BYTES};
 
-    /// Reads a slot of an image of so many inodes: None where it is free. It is refused by what it shows by itself,
-    /// but for the characters of the name.
+    /// Reads a slot of an image of so many inodes: None where it is free. It is refused by what it shows by
+    /// itself, but for the characters of the name.
     pub fn read(
         alloc: Global,
         inodes: u32,

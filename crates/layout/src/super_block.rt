@@ -1,5 +1,6 @@
 //! The super block.
-ghost use Rattle.std.specs.Prelude.{◌≡◌, ◌+◌, ◌++◌, ◌≤◌, ◌↔◌, length, IfOk, IfErr, IfSome, IfNone, OnOk, IsTrue};
+ghost use Rattle.std.specs.Prelude.{◌≡◌, ◌+◌, ◌++◌, ◌≤◌, ◌↔◌, length, IfOk, IfErr, IfSome, IfNone, OnOk};
+ghost use Rattle.std.specs.Prelude.{IsTrue};
 ghost use Rattle.limits.specs.declared.TheConstants.{BLOCK_BYTES};
 ghost use Rattle.layout.specs.SuperForm.{HasMagic, HasSizes, is_unused_zero, super_head};
 ghost use Rattle.layout.specs.Fields.{four_at};
@@ -71,7 +72,8 @@ impl Super {
 // The sizes, if they are lawful and what isn't used is zero.
 fn geometry_in(bytes: &[u8]) -> Option<Geometry>
     requires { length bytes.now ≡ BLOCK_BYTES }
-    ensures some { IfSome result (λ g. HasSizes bytes.now × (g.blocks ≡ four_at BLOCKS_AT bytes.now) × (g.inodes ≡ four_at INODES_AT bytes.now)) }
+    ensures some { IfSome result (λ g. HasSizes bytes.now × (g.blocks ≡ four_at BLOCKS_AT bytes.now)
+        × (g.inodes ≡ four_at INODES_AT bytes.now)) }
     ensures none { IfNone result (HasSizes bytes.now → ⊥) }
 {
     let geometry = Geometry::new(four_at(bytes, BLOCKS_AT), four_at(bytes, INODES_AT)).ok()?;

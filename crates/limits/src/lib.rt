@@ -108,8 +108,8 @@ pub const PIECE_BYTES: usize = 4096;
 
 /// The most blocks that a transaction changes.
 pub const CHANGED_BLOCKS: usize = 64;
-/// The most commits that an open store keeps in memory once it has settled: where there are more, what is logged is
-/// brought home.
+/// The most commits that an open store keeps in memory once it has settled: where there are more, what is
+/// logged is brought home.
 pub const MOST_KEPT_COMMITS: usize = 64;
 
 const _: () = prove!(FILE_INDEXES == DIRECT_INDEXES + INDIRECT_INDEXES);

@@ -16,29 +16,53 @@ use Rattle.model.specs.SetAttr.{SetOrLeft, SetFound, with_attributes, refusal}
 use Rattle.model.specs.Step.{step}
 
 -- what two answers to one call have in common
-pub record Same (outcome other : Result (Unit {0}) Status) (told tells : WeakCacheData) (next last : Tree) : Type 0 where
+pub record Same (outcome other : Result (Unit {0}) Status) (told tells : WeakCacheData)
+    (next last : Tree) : Type 0 where
   pub outcome_is : outcome ≡ other
   pub told_is : told ≡ tells
   pub next_is : next ≡ last
 
-set_or_left : (tree : Tree) (number : ℕ) (node new : Node) (status : Option Status) (outcome other : Result (Unit {0}) Status) (told tells : WeakCacheData) (next last : Tree)
-    → SetOrLeft tree number node new status outcome told next → SetOrLeft tree number node new status other tells last → Same outcome other told tells next last
+set_or_left : (tree : Tree) (number : ℕ) (node new : Node) (status : Option Status)
+    (outcome other : Result (Unit {0}) Status) (told tells : WeakCacheData) (next last : Tree)
+    → SetOrLeft tree number node new status outcome told next
+    → SetOrLeft tree number node new status other tells last → Same outcome other told tells next last
 set_or_left tree number node new None outcome other told tells next last a b =
-    record { outcome_is = a.done ∙ sym b.done; told_is = a.parts ∙ sym b.parts; next_is = a.changed ∙ sym b.changed }
+    record {
+      outcome_is = a.done ∙ sym b.done;
+      told_is = a.parts ∙ sym b.parts;
+      next_is = a.changed ∙ sym b.changed;
+    }
 set_or_left tree number node new (Some status) outcome other told tells next last a b =
-    record { outcome_is = a.refused ∙ sym b.refused; told_is = a.parts ∙ sym b.parts; next_is = a.unchanged ∙ sym b.unchanged }
+    record {
+      outcome_is = a.refused ∙ sym b.refused;
+      told_is = a.parts ∙ sym b.parts;
+      next_is = a.unchanged ∙ sym b.unchanged;
+    }
 
-set_found : (tree : Tree) (ctx : Ctx) (wanted : NewAttributes) (guard : Option Moment) (found : Result (ℕ × Node) Status) (outcome other : Result (Unit {0}) Status) (told tells : WeakCacheData) (next last : Tree)
-    → SetFound tree ctx wanted guard found outcome told next → SetFound tree ctx wanted guard found other tells last → Same outcome other told tells next last
+set_found : (tree : Tree) (ctx : Ctx) (wanted : NewAttributes) (guard : Option Moment)
+    (found : Result (ℕ × Node) Status) (outcome other : Result (Unit {0}) Status) (told tells : WeakCacheData)
+    (next last : Tree)
+    → SetFound tree ctx wanted guard found outcome told next
+    → SetFound tree ctx wanted guard found other tells last → Same outcome other told tells next last
 set_found tree ctx wanted guard (Ok found) outcome other told tells next last a b =
-    set_or_left tree found.0 found.1 (with_attributes ctx.moment wanted found.1) (refusal ctx wanted guard found.1) outcome other told tells next last a b
+    set_or_left tree found.0 found.1 (with_attributes ctx.moment wanted found.1)
+    (refusal ctx wanted guard found.1) outcome other told tells next last a b
 set_found tree ctx wanted guard (Err status) outcome other told tells next last a b =
-    record { outcome_is = a.refused ∙ sym b.refused; told_is = a.parts ∙ sym b.parts; next_is = a.unchanged ∙ sym b.unchanged }
+    record {
+      outcome_is = a.refused ∙ sym b.refused;
+      told_is = a.parts ∙ sym b.parts;
+      next_is = a.unchanged ∙ sym b.unchanged;
+    }
 
-pub determined : (tree next other : Tree) (ctx : Ctx) (object : Handle) (wanted : NewAttributes) (guard : Option Moment) (one another : Reply)
-    → step tree ctx (call.SetAttr object wanted guard) one next → step tree ctx (call.SetAttr object wanted guard) another other → (one ≡ another) × (next ≡ other)
-determined tree next other ctx object wanted guard (reply.SetAttr outcome told) (reply.SetAttr result tells) a b =
-    let same : Same outcome result told tells next other = set_found tree ctx wanted guard (find_file tree object.bytes) outcome result told tells next other a b in
+pub determined : (tree next other : Tree) (ctx : Ctx) (object : Handle) (wanted : NewAttributes)
+    (guard : Option Moment) (one another : Reply)
+    → step tree ctx (call.SetAttr object wanted guard) one next
+    → step tree ctx (call.SetAttr object wanted guard) another other → (one ≡ another) × (next ≡ other)
+determined tree next other ctx object wanted guard (reply.SetAttr outcome told) (reply.SetAttr result tells) a
+    b =
+    let same : Same outcome result told tells next other =
+    set_found tree ctx wanted guard (find_file tree object.bytes) outcome result told tells next other a
+    b in
     (λ i. reply.SetAttr (same.outcome_is i) (same.told_is i), same.next_is)
 determined tree next other ctx object wanted guard (reply.SetAttr outcome told) _ a b = absurd b
 determined tree next other ctx object wanted guard _ _ a b = absurd a

@@ -1,19 +1,21 @@
 -- The tree of a fresh image is sound.
-use Rattle.std.proofs.Common.{◌≡◌, ℕ, ◌+◌, sym, ap, subst, ◌∙◌, refl, List, [], Some, sum_by, count_by, All, IsSome, nat_eq, arith, lit<, lit≤, zero-add}
+use Rattle.std.proofs.Common.{◌≡◌, ℕ, ◌+◌, sym, ap, subst, ◌∙◌, refl, List, [], Some, sum_by, count_by, All}
+use Rattle.std.proofs.Common.{IsSome, nat_eq, arith, lit<, lit≤, zero-add}
 use Rattle.std.specs.Cmp.Lexicographic.{slice_cmp}
 use Rattle.std.specs.Ordering.{nat_cmp}
 use Rattle.std.specs.FinMap.{empty, entries, get, get-empty}
 use Rattle.limits.specs.declared.TheConstants.{ROOT}
 use Rattle.nfs_types.specs.declared.ctx.Moment.{Moment}
 use Rattle.model.specs.Node.{Node, DirectoryEntry}
-use Rattle.model.specs.Tree.{Geometry, Tree, node_at, held}
+use Rattle.model.specs.Tree.{Geometry, Tree, node_at, used}
 use Rattle.model.specs.Cost.{cost}
 use Rattle.model.specs.Names.{names_of, names_in, child_directories, is_directory_at}
 use Rattle.model.specs.Sound.{Sound, SoundAt, SoundNode, SoundEntries, SoundGeometry, SoundTime}
 use Rattle.model.specs.Format.{format_tree, format_root}
 use Rattle.model.proofs.Maps.{entries-empty, entries-one, get-one, only_one}
 
-no_entry : (name : List ℕ) (entry : DirectoryEntry) {A : Type 0} → get (empty {X = DirectoryEntry} {R = slice_cmp nat_cmp}) name ≡ Some entry → A
+no_entry : (name : List ℕ) (entry : DirectoryEntry) {A : Type 0}
+    → get (empty {X = DirectoryEntry} {R = slice_cmp nat_cmp}) name ≡ Some entry → A
 no_entry name entry e = let none = get-empty {X = DirectoryEntry} (slice_cmp nat_cmp) name in cc
 
 none : entries (empty {X = DirectoryEntry} {R = slice_cmp nat_cmp}) ≡ []
@@ -41,13 +43,14 @@ module _ (geometry : Geometry) (moment : Moment) where
   unnamed number = ap (count_by (λ entry. nat_eq entry.1.number number)) none
 
   nameless : (number : ℕ) → names_of tree number ≡ 0
-  nameless number = ap (sum_by (λ entry. names_in number entry.1.body)) (entries-one ROOT root) ∙ zero-add _ ∙ unnamed number
+  nameless number = ap (sum_by (λ entry. names_in number entry.1.body)) (entries-one ROOT root) ∙ zero-add _
+      ∙ unnamed number
 
   childless : child_directories tree root.body ≡ 0
   childless = ap (count_by (λ entry. is_directory_at (node_at tree entry.1.number))) none
 
-  nothing_held : held tree ≡ 0
-  nothing_held = ap (sum_by (λ entry. cost entry.1.body)) (entries-one ROOT root)
+  nothing_used : used tree ≡ 0
+  nothing_used = ap (sum_by (λ entry. cost entry.1.body)) (entries-one ROOT root)
 
   sound_root : SoundTime moment → SoundNode root
   sound_root time = record {
@@ -68,7 +71,8 @@ module _ (geometry : Geometry) (moment : Moment) where
     least = lit< tt;
     most = let enough = fits.inodes in omega arith;
     itself = sound_root time;
-    names = subst (All (λ entry. IsSome (node_at tree entry.1.number))) (sym none) (λ k entry below. absurd (omega arith));
+    names = subst (All (λ entry. IsSome (node_at tree entry.1.number))) (sym none)
+        (λ k entry below. absurd (omega arith));
     links = λ no. cc;
     directory = λ _. record {
       counted = ap (λ n. 2 + n) (sym childless);
@@ -87,7 +91,8 @@ module _ (geometry : Geometry) (moment : Moment) where
     root_stamp = refl;
     files = λ number node is.
         let only = only_one ROOT number root node is in
-        let here : SoundAt tree number root = subst (λ n. SoundAt tree n root) (sym only.0) (at_root fits time) in
+        let here : SoundAt tree number root =
+        subst (λ n. SoundAt tree n root) (sym only.0) (at_root fits time) in
         subst (SoundAt tree number) (sym only.1) here;
-    room = let held_is = nothing_held in omega arith;
+    room = let used_is = nothing_used in omega arith;
   }

@@ -16,4 +16,5 @@ pub record Entry : Type 0 where
 -- the entries of a history, one step after another, lead from a tree to a tree
 abbrev pub after : Tree → List Entry → Tree → Type 0
 after tree [] next = next ≡ tree
-after tree (entry ∷ entries) next = (middle : Tree) × step tree entry.ctx entry.call entry.reply middle × after middle entries next
+after tree (entry ∷ entries) next = (middle : Tree) × step tree entry.ctx entry.call entry.reply middle
+    × after middle entries next

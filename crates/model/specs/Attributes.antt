@@ -11,13 +11,13 @@ use Rattle.model.specs.Cost.{cost}
 
 -- the kind of a file
 abbrev pub kind_of : Body → FileKind
-kind_of (Regular bytes kept) = kinds.Regular
+kind_of (Regular bytes mapped) = kinds.Regular
 kind_of (Directory entries span parent) = kinds.Directory
 kind_of (Link target) = kinds.Link
 
 -- the size in bytes: a directory's is that of the blocks that it spans
 abbrev pub size_of : Body → ℕ
-size_of (Regular bytes kept) = length bytes
+size_of (Regular bytes mapped) = length bytes
 size_of (Directory entries span parent) = BLOCK_BYTES * span
 size_of (Link target) = length target
 
@@ -45,7 +45,10 @@ before_change node = record { size = size_of node.body; mtime = node.mtime; ctim
 
 -- a file that was old and is new after the call
 abbrev pub change_of : ℕ → Node → Node → WeakCacheData
-change_of number old new = record { before = Some (before_change old); after = Some (attributes_of number new) }
+change_of number old new = record {
+  before = Some (before_change old);
+  after = Some (attributes_of number new);
+}
 
 -- nothing is told of a file
 abbrev pub untold : WeakCacheData

@@ -2,7 +2,7 @@
 use Rattle.std.specs.Prelude.{Bool, true, false, not, ◌&&◌, is_none}
 use Rattle.nfs_types.specs.declared.attributes.NewAttributes.{NewAttributes}
 use Rattle.nfs_types.specs.declared.attributes.SetTime.{SetTime}
-use Rattle.nfs_types.specs.declared.attributes.SetTime.TheVariants.{Keep, Server, Client}
+use Rattle.nfs_types.specs.declared.attributes.SetTime.TheVariants.{Unchanged, Server, Client}
 use Rattle.nfs_types.specs.declared.call.Call.{Call}
 use Rattle.nfs_types.specs.declared.call.Call.TheVariants as call
 use Rattle.nfs_types.specs.declared.call.Stability.{Stability}
@@ -11,15 +11,16 @@ use Rattle.nfs_types.specs.declared.reply.Reply.{Reply}
 use Rattle.nfs_types.specs.declared.status.Status.TheVariants as status
 use Rattle.model.specs.Refused.{refused}
 
-abbrev pub is_kept : SetTime → Bool
-is_kept Keep = true
-is_kept Server = false
-is_kept (Client time) = false
+abbrev pub is_unchanged : SetTime → Bool
+is_unchanged Unchanged = true
+is_unchanged Server = false
+is_unchanged (Client time) = false
 
 -- no attribute but the mode is given
 abbrev pub sets_only_mode : NewAttributes → Bool
 sets_only_mode wanted =
-    is_none wanted.uid && is_none wanted.gid && is_none wanted.size && is_kept wanted.atime && is_kept wanted.mtime
+    is_none wanted.uid && is_none wanted.gid && is_none wanted.size && is_unchanged wanted.atime
+    && is_unchanged wanted.mtime
 
 -- the calls that the sequential server has a step for so far
 abbrev pub has_step : Call → Bool
@@ -46,7 +47,8 @@ has_step (call.FsInfo _) = false
 has_step (call.PathConf _) = false
 has_step (call.Commit _ _ _) = false
 
--- The calls that are served so far: each begins a transaction of its own. NULL has no rules, as it does nothing.
+-- The calls that are served so far: each begins a transaction of its own. NULL has no rules, as it does
+-- nothing.
 abbrev pub has_rules : Call → Bool
 has_rules (call.GetAttr _) = true
 has_rules (call.SetAttr _ attributes _) = sets_only_mode attributes
@@ -80,7 +82,8 @@ is_unstable Unstable = true
 is_unstable DataSync = false
 is_unstable FileSync = false
 
--- the calls that are answered, with refusals too, only once what they changed is stable (RFC 1813, section 4.8)
+-- the calls that are answered, with refusals too, only once what they changed is stable (RFC 1813, section
+-- 4.8)
 abbrev pub is_answered_stable : Call → Bool
 is_answered_stable (call.SetAttr _ _ _) = true
 is_answered_stable (call.Write _ _ _ stability _) = not (is_unstable stability)

@@ -1,6 +1,7 @@
--- Which file a handle names. A handle is a number in 4 bytes and a stamp in twice 8 (RFC 1813, section 2.5, leaves
--- its form to the server).
-use Rattle.std.specs.Prelude.{ℕ, Bool, cond, ◌&&◌, List, length, take, drop, nat_eq, nat_lt, Option, Some, None, Result, Ok, Err}
+-- Which file a handle names. A handle is a number in 4 bytes and a stamp in twice 8 (RFC 1813, section 2.5,
+-- leaves its form to the server).
+use Rattle.std.specs.Prelude.{ℕ, Bool, cond, ◌&&◌, List, length, take, drop, nat_eq, nat_lt, Option, Some}
+use Rattle.std.specs.Prelude.{None, Result, Ok, Err}
 use Rattle.std.specs.Int.{w32, w64, from_be_bytes}
 use Rattle.limits.specs.declared.TheConstants.{HANDLE_BYTES}
 use Rattle.nfs_types.specs.declared.handle.Stamp.{Stamp}
@@ -15,7 +16,10 @@ number_in handle = from_be_bytes w32 (take 4 handle)
 
 -- the stamp behind it
 abbrev pub stamp_in : List ℕ → Stamp
-stamp_in handle = record { boot = from_be_bytes w64 (take 8 (drop 4 handle)); transaction = from_be_bytes w64 (drop 12 handle) }
+stamp_in handle = record {
+  boot = from_be_bytes w64 (take 8 (drop 4 handle));
+  transaction = from_be_bytes w64 (drop 12 handle);
+}
 
 -- two stamps are one
 abbrev pub same_stamp : Stamp → Stamp → Bool
@@ -30,8 +34,8 @@ abbrev pub stamped : ℕ → Stamp → Option Node → Result (ℕ × Node) Stat
 stamped number stamp None = Err status.Stale
 stamped number stamp (Some node) = cond (same_stamp stamp node.stamp) (Ok (number, node)) (Err status.Stale)
 
--- The file that a handle names, with its number. What can't be a handle of this server is BADHANDLE; one that names
--- no file, or an earlier file of the number, is STALE (RFC 1813, section 2.6).
+-- The file that a handle names, with its number. What can't be a handle of this server is BADHANDLE; one that
+-- names no file, or an earlier file of the number, is STALE (RFC 1813, section 2.6).
 abbrev pub find_file : Tree → List ℕ → Result (ℕ × Node) Status
 find_file tree handle =
     cond (nat_eq (length handle) HANDLE_BYTES && is_number tree (number_in handle))

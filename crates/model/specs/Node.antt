@@ -1,4 +1,4 @@
--- Files as they are for the server, whatever they are kept in.
+-- Files as they are for the server, whatever they lie in.
 use Rattle.std.specs.Prelude.{ℕ, List, Option}
 use Rattle.std.specs.Cmp.Lexicographic.{slice_cmp}
 use Rattle.std.specs.Ordering.{nat_cmp}
@@ -16,15 +16,15 @@ pub record DirectoryEntry : Type 0 where
 abbrev pub Entries : Type 0
 Entries = FinMap (slice_cmp nat_cmp) DirectoryEntry
 
--- What is in a file: of a regular one its bytes, and the indexes of the blocks that it keeps; of a directory its
+-- What is in a file: of a regular one its bytes, and the indexes at which it has a block; of a directory its
 -- entries, how many blocks it spans, and the directory that names it; of a link its target.
 pub data Body : Type 0 where
   Regular : List ℕ → FinSet nat_cmp → Body
   Directory : Entries → ℕ → ℕ → Body
   Link : List ℕ → Body
 
--- A file with its attributes (RFC 1813, section 2.6), the stamp of its handle, and the verifier that an exclusive
--- CREATE gave it (section 3.3.8).
+-- A file with its attributes (RFC 1813, section 2.6), the stamp of its handle, and the verifier that an
+-- exclusive CREATE gave it (section 3.3.8).
 pub record Node : Type 0 where
   pub mode : ℕ
   pub uid : ℕ

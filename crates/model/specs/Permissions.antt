@@ -18,13 +18,14 @@ class_of caller node = cond (nat_eq caller.uid node.uid) OWNER_CLASS (cond (is_o
 
 -- whether the caller has the right: uid 0 has each
 abbrev pub has_right : ℕ → Credential → Node → Bool
-has_right right caller node = is_superuser caller || not (nat_eq (bit_and node.mode (right * class_of caller node)) 0)
+has_right right caller node =
+    is_superuser caller || not (nat_eq (bit_and node.mode (right * class_of caller node)) 0)
 
 -- uid 0, or the file's owner
 abbrev pub acts_as_owner : Credential → Node → Bool
 acts_as_owner caller node = is_superuser caller || nat_eq caller.uid node.uid
 
--- Of a regular file: its owner may write it and set its size whatever its mode says, so that a file that was made
--- and opened can be written (RFC 1813, section 4.4).
+-- Of a regular file: its owner may write it and set its size whatever its mode says, so that a file that was
+-- made and opened can be written (RFC 1813, section 4.4).
 abbrev pub may_write_file : Credential → Node → Bool
 may_write_file caller node = has_right WRITE_RIGHT caller node || nat_eq caller.uid node.uid

@@ -7,8 +7,8 @@ use Rattle.nfs_types.specs.declared.reply.Reply.TheVariants as reply
 use Rattle.nfs_types.specs.declared.status.Status.{Status}
 use Rattle.model.specs.Attributes.{untold}
 
--- The reply of a call's own procedure with this status, and with nothing told of any file (RFC 1813, section 3.3).
--- NULL has no status.
+-- The reply of a call's own procedure with this status, and with nothing told of any file (RFC 1813, section
+-- 3.3). NULL has no status.
 abbrev pub refused : Status → Call → Reply
 refused status call.Null = reply.Null
 refused status (call.GetAttr _) = reply.GetAttr (Err status)

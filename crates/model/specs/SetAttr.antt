@@ -1,11 +1,13 @@
 -- SETATTR (RFC 1813, section 3.3.2).
-use Rattle.std.specs.Prelude.{◌≡◌, ℕ, ◌-◌, ◌*◌, Bool, true, false, cond, not, ◌&&◌, ◌||◌, List, [], ◌∷◌, ◌++◌, length, take, replicate, nat_eq, nat_le, nat_lt, is_some, bit_and, Option, Some, None, unwrap_or, Result, Ok, Err}
+use Rattle.std.specs.Prelude.{◌≡◌, ℕ, ◌-◌, ◌*◌, Bool, true, false, cond, not, ◌&&◌, ◌||◌, List, [], ◌∷◌, ◌++◌}
+use Rattle.std.specs.Prelude.{length, take, replicate, nat_eq, nat_le, nat_lt, is_some, bit_and, Option, Some}
+use Rattle.std.specs.Prelude.{None, unwrap_or, Result, Ok, Err}
 use Rattle.std.specs.Ordering.{nat_cmp}
 use Rattle.std.specs.FinSet.{FinSet, retain}
 use Rattle.limits.specs.declared.TheConstants.{BLOCK_BYTES, LARGEST_FILE, MODE_BITS, NANOSECONDS, WRITE_RIGHT}
 use Rattle.nfs_types.specs.declared.attributes.NewAttributes.{NewAttributes}
 use Rattle.nfs_types.specs.declared.attributes.SetTime.{SetTime}
-use Rattle.nfs_types.specs.declared.attributes.SetTime.TheVariants.{Keep, Server, Client}
+use Rattle.nfs_types.specs.declared.attributes.SetTime.TheVariants.{Unchanged, Server, Client}
 use Rattle.nfs_types.specs.declared.attributes.WeakCacheData.{WeakCacheData}
 use Rattle.nfs_types.specs.declared.ctx.Credential.{Credential}
 use Rattle.nfs_types.specs.declared.ctx.Ctx.{Ctx}
@@ -26,12 +28,12 @@ given (Some value) test = test value
 abbrev pub is_client : SetTime → Bool
 is_client (Client time) = true
 is_client Server = false
-is_client Keep = false
+is_client Unchanged = false
 
 abbrev pub is_server : SetTime → Bool
 is_server Server = true
 is_server (Client time) = false
-is_server Keep = false
+is_server Unchanged = false
 
 abbrev pub same_moment : Moment → Moment → Bool
 same_moment a b = nat_eq a.seconds b.seconds && nat_eq a.nanoseconds b.nanoseconds
@@ -40,10 +42,10 @@ same_moment a b = nat_eq a.seconds b.seconds && nat_eq a.nanoseconds b.nanosecon
 abbrev pub is_no_time : SetTime → Bool
 is_no_time (Client time) = nat_le NANOSECONDS time.nanoseconds
 is_no_time Server = false
-is_no_time Keep = false
+is_no_time Unchanged = false
 
 abbrev pub is_regular : Body → Bool
-is_regular (Regular bytes kept) = true
+is_regular (Regular bytes mapped) = true
 is_regular (Directory entries span parent) = false
 is_regular (Link target) = false
 
@@ -60,12 +62,14 @@ is_invalid wanted node =
 abbrev pub needs_owner : NewAttributes → Bool
 needs_owner wanted = is_some wanted.mode || is_client wanted.atime || is_client wanted.mtime
 
--- only uid 0 gives a file away; its owner may give it to a group of the owner's; what stays as it is hurts nobody
+-- only uid 0 gives a file away; its owner may give it to a group of the owner's; what stays as it is hurts
+-- nobody
 abbrev pub is_given_away : Credential → NewAttributes → Node → Bool
 is_given_away caller wanted node =
     not (is_superuser caller)
     && (given wanted.uid (λ uid. not (nat_eq uid node.uid))
-    || given wanted.gid (λ gid. not (nat_eq gid node.gid || nat_eq caller.uid node.uid && is_own_group caller gid)))
+    || given wanted.gid (λ gid. not (nat_eq gid node.gid || nat_eq caller.uid node.uid
+    && is_own_group caller gid)))
 
 -- what is the owner's alone to do
 abbrev pub is_not_permitted : Credential → NewAttributes → Node → Bool
@@ -75,7 +79,8 @@ is_not_permitted caller wanted node =
 -- times of the server's are set by the owner or who may write, a size by who may write the file
 abbrev pub is_no_access : Credential → NewAttributes → Node → Bool
 is_no_access caller wanted node =
-    (is_server wanted.atime || is_server wanted.mtime) && not (acts_as_owner caller node || has_right WRITE_RIGHT caller node)
+    (is_server wanted.atime || is_server wanted.mtime)
+    && not (acts_as_owner caller node || has_right WRITE_RIGHT caller node)
     || is_some wanted.size && not (may_write_file caller node)
 
 -- the status of the first test that says yes
@@ -95,14 +100,14 @@ refusal ctx wanted guard node = first_of_tests (
 
 -- what a time becomes
 abbrev pub set_time : Moment → SetTime → Moment → Moment
-set_time moment Keep old = old
+set_time moment Unchanged old = old
 set_time moment Server old = moment
 set_time moment (Client time) old = time
 
--- a size that is given changes the file, so that a time of change that the call keeps becomes the server's
+-- a size that is given changes the file, so that a time of change that the call leaves becomes the server's
 abbrev pub with_size : Option ℕ → SetTime → SetTime
 with_size None time = time
-with_size (Some size) Keep = Server
+with_size (Some size) Unchanged = Server
 with_size (Some size) Server = Server
 with_size (Some size) (Client time) = Client time
 
@@ -110,18 +115,20 @@ with_size (Some size) (Client time) = Client time
 abbrev pub resized : ℕ → List ℕ → List ℕ
 resized size bytes = take size bytes ++ replicate (size - length bytes) 0
 
--- a cut drops the indexes that lie at or past the new end; growth keeps what was kept and no more
-abbrev pub kept_of_size : ℕ → List ℕ → FinSet nat_cmp → FinSet nat_cmp
-kept_of_size size bytes kept = cond (nat_lt size (length bytes)) (retain kept (λ index. nat_lt (index * BLOCK_BYTES) size)) kept
+-- a cut drops the indexes that lie at or past the new end; growth maps what was mapped and no more
+abbrev pub mapped_of_size : ℕ → List ℕ → FinSet nat_cmp → FinSet nat_cmp
+mapped_of_size size bytes mapped =
+    cond (nat_lt size (length bytes)) (retain mapped (λ index. nat_lt (index * BLOCK_BYTES) size)) mapped
 
 -- a regular file of the size that is given
 abbrev pub with_length : Option ℕ → Body → Body
 with_length None body = body
-with_length (Some size) (Regular bytes kept) = Regular (resized size bytes) (kept_of_size size bytes kept)
+with_length (Some size) (Regular bytes mapped) =
+    Regular (resized size bytes) (mapped_of_size size bytes mapped)
 with_length (Some size) (Directory entries span parent) = Directory entries span parent
 with_length (Some size) (Link target) = Link target
 
--- of a mode only the bits count that a file keeps
+-- of a mode only the bits count that a file has
 abbrev pub mode_of : Option ℕ → ℕ → ℕ
 mode_of None old = old
 mode_of (Some mode) old = bit_and mode MODE_BITS
@@ -139,35 +146,43 @@ with_attributes moment wanted node = record node {
 }
 
 -- No file was found: nothing is told of one, and nothing changes.
-pub record NotFound (tree : Tree) (status : Status) (outcome : Result (Unit {0}) Status) (object : WeakCacheData) (next : Tree) : Type 0 where
+pub record NotFound (tree : Tree) (status : Status) (outcome : Result (Unit {0}) Status)
+    (object : WeakCacheData) (next : Tree) : Type 0 where
   pub refused : outcome ≡ Err status
   pub parts : object ≡ untold
   pub unchanged : next ≡ tree
 
 -- The file was found and stays as it is: its attributes are told, before and after the call the same.
-pub record LeftAlone (tree : Tree) (number : ℕ) (node : Node) (status : Status) (outcome : Result (Unit {0}) Status) (object : WeakCacheData) (next : Tree) : Type 0 where
+pub record LeftAlone (tree : Tree) (number : ℕ) (node : Node) (status : Status)
+    (outcome : Result (Unit {0}) Status) (object : WeakCacheData) (next : Tree) : Type 0 where
   pub refused : outcome ≡ Err status
   pub parts : object ≡ change_of number node node
   pub unchanged : next ≡ tree
 
 -- The file became another, and nothing else changed.
-pub record Changed (tree : Tree) (number : ℕ) (node new : Node) (outcome : Result (Unit {0}) Status) (object : WeakCacheData) (next : Tree) : Type 0 where
+pub record Changed (tree : Tree) (number : ℕ) (node new : Node) (outcome : Result (Unit {0}) Status)
+    (object : WeakCacheData) (next : Tree) : Type 0 where
   pub done : outcome ≡ Ok tt
   pub parts : object ≡ change_of number node new
   pub changed : next ≡ with_node tree number new
 
 -- a file that was found is left alone where a test says so, and else has its attributes set
-abbrev pub SetOrLeft : Tree → ℕ → Node → Node → Option Status → Result (Unit {0}) Status → WeakCacheData → Tree → Type 0
+abbrev pub SetOrLeft : Tree → ℕ → Node → Node → Option Status → Result (Unit {0}) Status → WeakCacheData
+    → Tree → Type 0
 SetOrLeft tree number node new None outcome object next = Changed tree number node new outcome object next
-SetOrLeft tree number node new (Some status) outcome object next = LeftAlone tree number node status outcome object next
+SetOrLeft tree number node new (Some status) outcome object next =
+    LeftAlone tree number node status outcome object next
 
 -- the tests on the handle come before all others
-abbrev pub SetFound : Tree → Ctx → NewAttributes → Option Moment → Result (ℕ × Node) Status → Result (Unit {0}) Status → WeakCacheData → Tree → Type 0
+abbrev pub SetFound : Tree → Ctx → NewAttributes → Option Moment → Result (ℕ × Node) Status
+    → Result (Unit {0}) Status → WeakCacheData → Tree → Type 0
 SetFound tree ctx wanted guard (Err status) outcome object next = NotFound tree status outcome object next
 SetFound tree ctx wanted guard (Ok found) outcome object next =
-    SetOrLeft tree found.0 found.1 (with_attributes ctx.moment wanted found.1) (refusal ctx wanted guard found.1) outcome object next
+    SetOrLeft tree found.0 found.1 (with_attributes ctx.moment wanted found.1)
+    (refusal ctx wanted guard found.1) outcome object next
 
 -- the attributes of the file that the handle names are set, or it is said why not
-abbrev pub SetAttrStep : Tree → Ctx → List ℕ → NewAttributes → Option Moment → Result (Unit {0}) Status → WeakCacheData → Tree → Type 0
+abbrev pub SetAttrStep : Tree → Ctx → List ℕ → NewAttributes → Option Moment → Result (Unit {0}) Status
+    → WeakCacheData → Tree → Type 0
 SetAttrStep tree ctx handle wanted guard outcome object next =
     SetFound tree ctx wanted guard (find_file tree handle) outcome object next

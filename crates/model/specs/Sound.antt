@@ -1,17 +1,22 @@
 -- Which trees the server may have.
-use Rattle.std.specs.Prelude.{◌≡◌, ◌≢◌, ℕ, ◌+◌, ◌*◌, ◌/◌, ◌%◌, ◌^◌, ◌<◌, ◌≤◌, true, false, List, [], ◌∷◌, length, get_or, All, Contains, Some, IfSome, IsSome}
+use Rattle.std.specs.Prelude.{◌≡◌, ◌≢◌, ℕ, ◌+◌, ◌*◌, ◌/◌, ◌%◌, ◌^◌, ◌<◌, ◌≤◌, true, false, List, [], ◌∷◌}
+use Rattle.std.specs.Prelude.{length, get_or, All, Contains, Some, IfSome, IsSome}
 use Rattle.std.specs.Ordering.{nat_cmp}
 use Rattle.std.specs.FinMap as map
 use Rattle.std.specs.FinSet as set
-use Rattle.limits.specs.declared.TheConstants.{ROOT, BLOCK_BYTES, FILE_INDEXES, INODES_PER_BLOCK, LARGEST_FILE, LEAST_DATA_BLOCKS, LEAST_INODES, MODE_BITS, MOST_BLOCKS, MOST_INODES, MOST_LINKS, NAME_BYTES, NANOSECONDS, SLOTS_PER_BLOCK, TARGET_BYTES}
+use Rattle.limits.specs.declared.TheConstants.{ROOT, BLOCK_BYTES, FILE_INDEXES, INODES_PER_BLOCK}
+use Rattle.limits.specs.declared.TheConstants.{LARGEST_FILE, LEAST_DATA_BLOCKS, LEAST_INODES, MODE_BITS}
+use Rattle.limits.specs.declared.TheConstants.{MOST_BLOCKS, MOST_INODES, MOST_LINKS, NAME_BYTES, NANOSECONDS}
+use Rattle.limits.specs.declared.TheConstants.{SLOTS_PER_BLOCK, TARGET_BYTES}
 use Rattle.nfs_types.specs.declared.attributes.NewAttributes.{NewAttributes}
 use Rattle.nfs_types.specs.declared.attributes.SetTime.{SetTime}
-use Rattle.nfs_types.specs.declared.attributes.SetTime.TheVariants.{Keep, Server, Client}
+use Rattle.nfs_types.specs.declared.attributes.SetTime.TheVariants.{Unchanged, Server, Client}
 use Rattle.nfs_types.specs.declared.ctx.Moment.{Moment}
 use Rattle.nfs_types.specs.declared.handle.Stamp.{Stamp}
 use Rattle.model.specs.Node.{Node, Body, DirectoryEntry, Entries, Regular, Directory, Link}
-use Rattle.model.specs.Tree.{Geometry, Tree, node_at, held}
-use Rattle.model.specs.Names.{names_of, child_directories, is_directory, ancestor, entries_of, names_in, parent_of}
+use Rattle.model.specs.Tree.{Geometry, Tree, node_at, used}
+use Rattle.model.specs.Names.{names_of, child_directories, is_directory, ancestor, entries_of, names_in}
+use Rattle.model.specs.Names.{parent_of}
 
 -- each item is a byte
 abbrev pub AreBytes : List ℕ → Type 0
@@ -34,7 +39,7 @@ pub record SoundName (name : List ℕ) : Type 0 where
   pub not_itself : name ≢ DOT ∷ []
   pub not_parent : name ≢ DOT ∷ DOT ∷ []
 
--- a time as it is kept
+-- a time as a file has it
 pub record SoundTime (time : Moment) : Type 0 where
   pub seconds : time.seconds < 2 ^ 32
   pub nanoseconds : time.nanoseconds < NANOSECONDS
@@ -43,20 +48,23 @@ pub record SoundStamp (stamp : Stamp) : Type 0 where
   pub boot : stamp.boot < 2 ^ 64
   pub transaction : stamp.transaction < 2 ^ 64
 
--- The bytes of a regular file: no more than the largest file has, and zero wherever no block is kept. An index may
--- be kept past the size.
-pub record SoundBytes (bytes : List ℕ) (kept : set.FinSet nat_cmp) : Type 0 where
+-- The bytes of a regular file: no more than the largest file has, and zero wherever no block is mapped. An
+-- index may be mapped past the size.
+pub record SoundBytes (bytes : List ℕ) (mapped : set.FinSet nat_cmp) : Type 0 where
   pub each : AreBytes bytes
   pub size : length bytes ≤ LARGEST_FILE
-  pub indexes : (index : ℕ) → set.contains kept index ≡ true → index < FILE_INDEXES
-  pub zeros : (place : ℕ) → set.contains kept (place / BLOCK_BYTES) ≡ false → get_or bytes place 0 ≡ 0
+  pub indexes : (index : ℕ) → set.contains mapped index ≡ true → index < FILE_INDEXES
+  pub zeros : (offset : ℕ) → set.contains mapped (offset / BLOCK_BYTES) ≡ false → get_or bytes offset 0 ≡ 0
 
--- The entries of a directory: under lawful names, each in a slot of its own among those that the directory spans.
+-- The entries of a directory: under lawful names, each in a slot of its own among those that the directory
+-- spans.
 pub record SoundEntries (entries : Entries) (span : ℕ) : Type 0 where
   pub blocks : span ≤ FILE_INDEXES
   pub names : (name : List ℕ) (entry : DirectoryEntry) → map.get entries name ≡ Some entry → SoundName name
-  pub slots : (name : List ℕ) (entry : DirectoryEntry) → map.get entries name ≡ Some entry → entry.slot < SLOTS_PER_BLOCK * span
-  pub distinct : (one other : List ℕ) (a b : DirectoryEntry) → map.get entries one ≡ Some a → map.get entries other ≡ Some b → a.slot ≡ b.slot → one ≡ other
+  pub slots : (name : List ℕ) (entry : DirectoryEntry) → map.get entries name ≡ Some entry
+      → entry.slot < SLOTS_PER_BLOCK * span
+  pub distinct : (one other : List ℕ) (a b : DirectoryEntry) → map.get entries one ≡ Some a
+      → map.get entries other ≡ Some b → a.slot ≡ b.slot → one ≡ other
 
 -- the target of a link
 pub record SoundTarget (target : List ℕ) : Type 0 where
@@ -65,7 +73,7 @@ pub record SoundTarget (target : List ℕ) : Type 0 where
   pub short : length target ≤ TARGET_BYTES
 
 abbrev pub SoundBody : Body → Type 0
-SoundBody (Regular bytes kept) = SoundBytes bytes kept
+SoundBody (Regular bytes mapped) = SoundBytes bytes mapped
 SoundBody (Directory entries span parent) = SoundEntries entries span
 SoundBody (Link target) = SoundTarget target
 
@@ -107,14 +115,15 @@ pub record SoundChild (tree : Tree) (number : ℕ) (body : Body) : Type 0 where
   pub parent_is : node_at tree (parent_of body) ≡ Some parent
   pub by_parent : names_in number parent.body ≡ 1
 
--- A directory has its own name, its `.`, and the `..` of each directory in it as links, and is reached from the root.
+-- A directory has its own name, its `.`, and the `..` of each directory in it as links, and is reached from
+-- the root.
 pub record SoundDirectoryLinks (tree : Tree) (number : ℕ) (node : Node) : Type 0 where
   pub counted : node.nlink ≡ 2 + child_directories tree node.body
   pub root : number ≡ ROOT → SoundRoot tree node.body
   pub child : number ≢ ROOT → SoundChild tree number node.body
   pub reached : (steps : ℕ) × (ancestor tree steps number ≡ ROOT)
 
--- A file in its place in the tree.
+-- A file where it stands in the tree.
 pub record SoundAt (tree : Tree) (number : ℕ) (node : Node) : Type 0 where
   pub least : 0 < number
   pub most : number < tree.geometry.inodes
@@ -123,8 +132,8 @@ pub record SoundAt (tree : Tree) (number : ℕ) (node : Node) : Type 0 where
   pub links : is_directory node.body ≡ false → SoundFileLinks tree number node
   pub directory : is_directory node.body ≡ true → SoundDirectoryLinks tree number node
 
--- A tree that the server may have: its root is a directory that no transaction made, each of its files is sound, and
--- they hold no more blocks than there are.
+-- A tree that the server may have: its root is a directory that no transaction made, each of its files is
+-- sound, and they use no more blocks than there are.
 pub record Sound (tree : Tree) : Type 0 where
   pub geometry : SoundGeometry tree.geometry
   pub root : Node
@@ -132,13 +141,13 @@ pub record Sound (tree : Tree) : Type 0 where
   pub root_directory : is_directory root.body ≡ true
   pub root_stamp : root.stamp ≡ record { boot = 0; transaction = 0 }
   pub files : (number : ℕ) (node : Node) → node_at tree number ≡ Some node → SoundAt tree number node
-  pub room : held tree ≤ tree.geometry.data_blocks
+  pub room : used tree ≤ tree.geometry.data_blocks
 
 -- a time of the client's as a call can spell it, whose nanoseconds the server still has to test
 abbrev pub FitsTime : SetTime → Type 0
 FitsTime (Client time) = time.seconds < 2 ^ 32
 FitsTime Server = Unit {0}
-FitsTime Keep = Unit {0}
+FitsTime Unchanged = Unit {0}
 
 -- the attributes of a call as it can spell them: users, groups and seconds have 32 bits
 pub record FitsAttributes (wanted : NewAttributes) : Type 0 where

@@ -5,7 +5,7 @@ use Rattle.std.specs.FinMap.{FinMap, get, insert, entries}
 use Rattle.model.specs.Node.{Node}
 use Rattle.model.specs.Cost.{cost}
 
--- how many blocks there are for what files hold, and above which number no file's number lies
+-- how many blocks there are for what is in files, and above which number no file's number lies
 pub record Geometry : Type 0 where
   pub data_blocks : ℕ
   pub inodes : ℕ
@@ -23,15 +23,15 @@ node_at tree number = get tree.nodes number
 abbrev pub with_node : Tree → ℕ → Node → Tree
 with_node tree number node = record { geometry = tree.geometry; nodes = insert tree.nodes number node }
 
--- the blocks that the files hold together
-abbrev pub held : Tree → ℕ
-held tree = sum_by (λ entry. cost entry.1.body) (entries tree.nodes)
+-- the blocks that the files use together
+abbrev pub used : Tree → ℕ
+used tree = sum_by (λ entry. cost entry.1.body) (entries tree.nodes)
 
--- the data blocks that no file holds
+-- the data blocks that no file uses
 abbrev pub free : Tree → ℕ
-free tree = tree.geometry.data_blocks - held tree
+free tree = tree.geometry.data_blocks - used tree
 
--- the blocks that the file of a number holds
+-- the blocks that the file of a number uses
 abbrev pub cost_at : Option Node → ℕ
 cost_at None = 0
 cost_at (Some node) = cost node.body

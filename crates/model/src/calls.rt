@@ -8,5 +8,6 @@ ghost use Rattle.model.specs.Step.{step};
 
 /// The reply to a call that isn't served is no step of the sequential server.
 pub fn an_unsupported_call_is_no_step()
-    ensures { (tree next : Tree) (ctx : Ctx) (refused : Call) → step tree ctx refused (unsupported refused) next → ⊥ }
+    ensures { (tree next : Tree) (ctx : Ctx) (refused : Call)
+        → step tree ctx refused (unsupported refused) next → ⊥ }
 {}

@@ -7,7 +7,8 @@ ghost use Rattle.model.specs.Find.{find_file};
 
 /// The handle that is made of a file's number and stamp names that file.
 pub fn a_files_handle_names_it()
-    ensures { (tree : Tree) (number : ℕ) (node : Node) → 0 < number → number < tree.geometry.inodes → number < 2 ^ 32
+    ensures { (tree : Tree) (number : ℕ) (node : Node) → 0 < number → number < tree.geometry.inodes
+        → number < 2 ^ 32
         → node.stamp.boot < 2 ^ 64 → node.stamp.transaction < 2 ^ 64 → node_at tree number ≡ Some node
         → find_file tree (handle_bytes number node.stamp) ≡ Ok (number, node) }
 {}

@@ -11,5 +11,6 @@ pub fn an_empty_history_leads_nowhere()
 /// A history leads where its second part leads from where its first part leads.
 pub fn histories_join()
     ensures { (tree next : Tree) (first second : List Entry)
-        → after tree (first ++ second) next ↔ ((middle : Tree) × after tree first middle × after middle second next) }
+        → after tree (first ++ second) next
+        ↔ ((middle : Tree) × after tree first middle × after middle second next) }
 {}

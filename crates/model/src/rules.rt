@@ -3,7 +3,7 @@ ghost use Rattle.std.specs.Prelude.{◌≡◌, ◌≢◌, ℕ, ◌<◌, ◌^◌,
 ghost use Rattle.limits.specs.declared.TheConstants.{MODE_BITS, WRITE_RIGHT};
 ghost use Rattle.nfs_types.specs.Handle.{handle_bytes};
 ghost use Rattle.nfs_types.specs.declared.attributes.NewAttributes.{NewAttributes};
-ghost use Rattle.nfs_types.specs.declared.attributes.SetTime.TheVariants.{Keep};
+ghost use Rattle.nfs_types.specs.declared.attributes.SetTime.TheVariants.{Unchanged};
 ghost use Rattle.nfs_types.specs.declared.call.Call.TheVariants as call;
 ghost use Rattle.nfs_types.specs.declared.ctx.Credential.{Credential};
 ghost use Rattle.nfs_types.specs.declared.ctx.Ctx.{Ctx};
@@ -22,27 +22,39 @@ ghost use Rattle.model.specs.Tree.{Tree, node_at, with_node};
 
 /// A handle with the number of a file and another stamp, as that of an earlier file has, is STALE.
 pub fn another_stamp_is_stale()
-    ensures { (tree : Tree) (number : ℕ) (stamp : Stamp) (node : Node) → 0 < number → number < tree.geometry.inodes → number < 2 ^ 32
-        → stamp.boot < 2 ^ 64 → stamp.transaction < 2 ^ 64 → node_at tree number ≡ Some node → stamp ≢ node.stamp
+    ensures { (tree : Tree) (number : ℕ) (stamp : Stamp) (node : Node) → 0 < number
+        → number < tree.geometry.inodes → number < 2 ^ 32
+        → stamp.boot < 2 ^ 64 → stamp.transaction < 2 ^ 64 → node_at tree number ≡ Some node
+        → stamp ≢ node.stamp
         → find_file tree (handle_bytes number stamp) ≡ Err status.Stale }
 {}
 
-/// A SETATTR whose guard isn't the time of the last change is answered NOT_SYNC, whatever else it asks for and whoever
-/// asks, and changes nothing.
+/// A SETATTR whose guard isn't the time of the last change is answered NOT_SYNC, whatever else it asks for
+/// and whoever asks, and changes nothing.
 pub fn the_guard_comes_first()
-    ensures { (tree next : Tree) (ctx : Ctx) (object : Handle) (wanted : NewAttributes) (time : Moment) (number : ℕ) (node : Node) (reply : Reply)
+    ensures { (tree next : Tree) (ctx : Ctx) (object : Handle) (wanted : NewAttributes) (time : Moment)
+        (number : ℕ) (node : Node) (reply : Reply)
         → find_file tree object.bytes ≡ Ok (number, node) → time ≢ node.ctime
         → step tree ctx (call.SetAttr object wanted (Some time)) reply next
         → (reply ≡ replies.SetAttr (Err status.NotSync) (change_of number node node)) × (next ≡ tree) }
 {}
 
-/// A SETATTR of the mode alone by uid 0 or the owner sets the bits of a mode and the time of the last change, and nothing
-/// else.
+/// A SETATTR of the mode alone by uid 0 or the owner sets the bits of a mode and the time of the last change,
+/// and nothing else.
 pub fn a_mode_alone_is_set()
     ensures { (tree next : Tree) (ctx : Ctx) (object : Handle) (mode number : ℕ) (node : Node) (reply : Reply)
         → find_file tree object.bytes ≡ Ok (number, node) → acts_as_owner ctx.credential node ≡ true
-        → step tree ctx (call.SetAttr object (record { mode = Some mode; uid = None; gid = None; size = None; atime = Keep; mtime = Keep }) None) reply next
-        → (reply ≡ replies.SetAttr (Ok tt) (change_of number node (record node { mode = bit_and mode MODE_BITS; ctime = ctx.moment })))
+        → step tree ctx
+        (call.SetAttr object (record {
+          mode = Some mode;
+          uid = None;
+          gid = None;
+          size = None;
+          atime = Unchanged;
+          mtime = Unchanged;
+        }) None) reply next
+        → (reply ≡ replies.SetAttr (Ok tt)
+        (change_of number node (record node { mode = bit_and mode MODE_BITS; ctime = ctx.moment })))
         × (next ≡ with_node tree number (record node { mode = bit_and mode MODE_BITS; ctime = ctx.moment })) }
 {}
 

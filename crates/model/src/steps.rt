@@ -27,7 +27,8 @@ pub fn getattr_is_determined()
 
 /// A SETATTR has one reply and one next tree.
 pub fn setattr_is_determined()
-    ensures { (tree next other : Tree) (ctx : Ctx) (object : Handle) (wanted : NewAttributes) (guard : Option Moment)
+    ensures { (tree next other : Tree) (ctx : Ctx) (object : Handle) (wanted : NewAttributes)
+        (guard : Option Moment)
         (reply another : Reply)
         → step tree ctx (call.SetAttr object wanted guard) reply next
         → step tree ctx (call.SetAttr object wanted guard) another other
@@ -36,7 +37,8 @@ pub fn setattr_is_determined()
 
 /// A SETATTR keeps a sound tree sound.
 pub fn setattr_keeps_trees_sound()
-    ensures { (tree next : Tree) (ctx : Ctx) (object : Handle) (wanted : NewAttributes) (guard : Option Moment) (reply : Reply)
+    ensures { (tree next : Tree) (ctx : Ctx) (object : Handle) (wanted : NewAttributes)
+        (guard : Option Moment) (reply : Reply)
         → Sound tree → SoundTime ctx.moment → FitsAttributes wanted
         → step tree ctx (call.SetAttr object wanted guard) reply next → Sound next }
 {}

@@ -42,7 +42,7 @@ pub struct Attributes {
 /// What is to become of a time (`set_atime`, `set_mtime`).
 #[derive(Clone, Copy, Debug, PartialEq, Eq)]
 pub enum SetTime {
-    Keep,
+    Unchanged,
     Server,
     Client(Moment),
 }

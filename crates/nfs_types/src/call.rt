@@ -4,7 +4,7 @@ use crate::{DeviceNumber, Handle, Moment, NewAttributes, Octets};
 
 /// A name in a directory (`diropargs3`).
 #[derive(Drop)]
-pub struct Place {
+pub struct DirectoryName {
     pub directory: Handle,
     pub name: Octets,
 }
@@ -50,7 +50,7 @@ pub enum Call {
         guard: Option<Moment>,
     },
     Lookup {
-        place: Place,
+        name: DirectoryName,
     },
     Access {
         object: Handle,
@@ -72,35 +72,35 @@ pub enum Call {
         bytes: Octets,
     },
     Create {
-        place: Place,
+        name: DirectoryName,
         how: CreateHow,
     },
     MkDir {
-        place: Place,
+        name: DirectoryName,
         attributes: NewAttributes,
     },
     SymLink {
-        place: Place,
+        name: DirectoryName,
         attributes: NewAttributes,
         target: Octets,
     },
     MkNod {
-        place: Place,
+        name: DirectoryName,
         special: SpecialFile,
     },
     Remove {
-        place: Place,
+        name: DirectoryName,
     },
     RmDir {
-        place: Place,
+        name: DirectoryName,
     },
     Rename {
-        source: Place,
-        target: Place,
+        source: DirectoryName,
+        target: DirectoryName,
     },
     Link {
         file: Handle,
-        place: Place,
+        name: DirectoryName,
     },
     ReadDir {
         directory: Handle,

@@ -1,5 +1,5 @@
 //! Who calls, and when: what a procedure knows besides its arguments.
-use crate::Numbers;
+use crate::NumberList;
 
 /// A time: seconds since 1970 and nanoseconds below 1,000,000,000 (RFC 1813, section 2.5, `nfstime3`).
 /// A client may send more nanoseconds, so the type takes any.
@@ -15,7 +15,7 @@ pub struct Moment {
 pub struct Credential {
     pub uid: u32,
     pub gid: u32,
-    pub gids: Numbers,
+    pub gids: NumberList,
 }
 
 /// What a procedure is run with: the caller, the moment of the call, the boot number of the store and the

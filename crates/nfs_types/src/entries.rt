@@ -7,7 +7,7 @@ use std::marker::Model;
 
 /// A name, the number of the file that it names, and the cookie that the next listing goes on from.
 #[derive(Clone, Drop)]
-pub struct Entry {
+pub struct ListedEntry {
     pub number: u64,
     pub name: Octets,
     pub cookie: u64,
@@ -15,7 +15,7 @@ pub struct Entry {
 
 /// An entry with what READDIRPLUS tells of its file.
 #[derive(Clone, Drop)]
-pub struct EntryPlus {
+pub struct ListedEntryPlus {
     pub number: u64,
     pub name: Octets,
     pub cookie: u64,
@@ -25,37 +25,37 @@ pub struct EntryPlus {
 
 /// Entries in the order of their cookies.
 #[derive(Drop)]
-pub struct Entries {
-    entries: Vec<Entry>,
+pub struct ListedEntries {
+    entries: Vec<ListedEntry>,
 }
 
-impl Model for Entries {
+impl Model for ListedEntries {
     ghost use Rattle.std.specs.Prelude.{List};
-    ghost use Rattle.nfs_types.specs.declared.entries.Entry.{Entry};
+    ghost use Rattle.nfs_types.specs.declared.entries.ListedEntry.{ListedEntry};
 
-    ghost Value = { List Entry };
+    ghost Value = { List ListedEntry };
 
     ghost view = { λ e. e.entries.items };
 }
 
-impl Clone for Entries {
+impl Clone for ListedEntries {
     ghost is_clone = { λ entries copy. copy ≡ entries };
 
-    fn clone(&self) -> Result<Entries, AllocError> {
-        Ok(Entries {
+    fn clone(&self) -> Result<ListedEntries, AllocError> {
+        Ok(ListedEntries {
             entries: self.entries.clone()?,
         })
     }
 }
 
-impl Entries {
-    pub fn new(entries: Vec<Entry>) -> Entries
+impl ListedEntries {
+    pub fn new(entries: Vec<ListedEntry>) -> ListedEntries
         ensures { result ≡ entries.items }
     {
-        Entries { entries }
+        ListedEntries { entries }
     }
 
-    pub fn as_slice(&self) -> &[Entry]
+    pub fn as_slice(&self) -> &[ListedEntry]
         ensures { result.now ≡ self.now }
     {
         &self.entries
@@ -64,37 +64,37 @@ impl Entries {
 
 /// Entries of READDIRPLUS in the order of their cookies.
 #[derive(Drop)]
-pub struct EntriesPlus {
-    entries: Vec<EntryPlus>,
+pub struct ListedEntriesPlus {
+    entries: Vec<ListedEntryPlus>,
 }
 
-impl Model for EntriesPlus {
+impl Model for ListedEntriesPlus {
     ghost use Rattle.std.specs.Prelude.{List};
-    ghost use Rattle.nfs_types.specs.declared.entries.EntryPlus.{EntryPlus};
+    ghost use Rattle.nfs_types.specs.declared.entries.ListedEntryPlus.{ListedEntryPlus};
 
-    ghost Value = { List EntryPlus };
+    ghost Value = { List ListedEntryPlus };
 
     ghost view = { λ e. e.entries.items };
 }
 
-impl Clone for EntriesPlus {
+impl Clone for ListedEntriesPlus {
     ghost is_clone = { λ entries copy. copy ≡ entries };
 
-    fn clone(&self) -> Result<EntriesPlus, AllocError> {
-        Ok(EntriesPlus {
+    fn clone(&self) -> Result<ListedEntriesPlus, AllocError> {
+        Ok(ListedEntriesPlus {
             entries: self.entries.clone()?,
         })
     }
 }
 
-impl EntriesPlus {
-    pub fn new(entries: Vec<EntryPlus>) -> EntriesPlus
+impl ListedEntriesPlus {
+    pub fn new(entries: Vec<ListedEntryPlus>) -> ListedEntriesPlus
         ensures { result ≡ entries.items }
     {
-        EntriesPlus { entries }
+        ListedEntriesPlus { entries }
     }
 
-    pub fn as_slice(&self) -> &[EntryPlus]
+    pub fn as_slice(&self) -> &[ListedEntryPlus]
         ensures { result.now ≡ self.now }
     {
         &self.entries

@@ -15,12 +15,12 @@ mod status;
 pub use attributes::{
     Attributes, DeviceNumber, FileKind, NewAttributes, SetTime, WeakCacheAttributes, WeakCacheData,
 };
-pub use call::{Call, CreateHow, Place, SpecialFile, Stability};
+pub use call::{Call, CreateHow, DirectoryName, SpecialFile, Stability};
 pub use ctx::{Credential, Ctx, Moment};
-pub use entries::{Entries, EntriesPlus, Entry, EntryPlus};
+pub use entries::{ListedEntries, ListedEntriesPlus, ListedEntry, ListedEntryPlus};
 pub use handle::{Handle, Stamp};
 pub use mount::{MountCall, MountReply};
-pub use octets::{Numbers, Octets};
+pub use octets::{NumberList, Octets};
 pub use reply::{
     Created, FileSystemInfo, FileSystemSpace, Listed, ListedPlus, Looked, PathLimits, ReadBytes,
     Reply, Written,

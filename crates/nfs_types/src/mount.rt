@@ -1,6 +1,6 @@
 //! The calls and replies of MOUNT version 3 (RFC 1813, appendix I) that this server has.
 
-use crate::{Handle, Numbers, Octets};
+use crate::{Handle, NumberList, Octets};
 
 /// A call of program 100005, version 3. A path is at most 1,024 bytes.
 #[derive(Drop)]
@@ -14,7 +14,7 @@ pub enum MountCall {
 #[derive(Drop)]
 pub enum MountReply {
     Null,
-    Mounted { root: Handle, flavors: Numbers },
+    Mounted { root: Handle, flavors: NumberList },
     Refused { status: u32 },
     Unmounted,
 }

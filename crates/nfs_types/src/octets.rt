@@ -49,11 +49,11 @@ impl Octets {
 
 /// A list of numbers of 32 bits: further groups of a caller, or flavors of authentication.
 #[derive(Clone, Drop)]
-pub struct Numbers {
+pub struct NumberList {
     numbers: Vec<u32>,
 }
 
-impl Model for Numbers {
+impl Model for NumberList {
     ghost use Rattle.std.specs.Prelude.{List, ℕ};
 
     ghost Value = { List ℕ };
@@ -61,11 +61,11 @@ impl Model for Numbers {
     ghost view = { λ n. n.numbers.items };
 }
 
-impl Numbers {
-    pub fn new(numbers: Vec<u32>) -> Numbers
+impl NumberList {
+    pub fn new(numbers: Vec<u32>) -> NumberList
         ensures { result ≡ numbers.items }
     {
-        Numbers { numbers }
+        NumberList { numbers }
     }
 
     pub fn as_slice(&self) -> &[u32]

@@ -4,7 +4,8 @@
 ghost use Rattle.std.specs.Prelude.{◌≡◌};
 
 use crate::{
-    Attributes, Entries, EntriesPlus, Handle, Moment, Octets, Stability, Status, WeakCacheData,
+    Attributes, Handle, ListedEntries, ListedEntriesPlus, Moment, Octets, Stability, Status,
+    WeakCacheData,
 };
 use std::alloc::AllocError;
 
@@ -42,7 +43,7 @@ pub struct Created {
 #[derive(Clone, Drop)]
 pub struct Listed {
     pub verifier: u64,
-    pub entries: Entries,
+    pub entries: ListedEntries,
     pub eof: bool,
 }
 
@@ -50,7 +51,7 @@ pub struct Listed {
 #[derive(Clone, Drop)]
 pub struct ListedPlus {
     pub verifier: u64,
-    pub entries: EntriesPlus,
+    pub entries: ListedEntriesPlus,
     pub eof: bool,
 }
 

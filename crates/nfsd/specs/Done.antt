@@ -6,7 +6,7 @@ use Rattle.clap.specs.Words.{Text}
 use Rattle.nfsd_words.specs.declared.Args.{Args}
 use Rattle.nfsd_words.specs.declared.Args.TheVariants.{Format, Once}
 use Rattle.nfsd_words.specs.Words.{WordsAsk}
-use Rattle.layout.specs.Places.{data_at}
+use Rattle.layout.specs.Geometry.{data_at}
 use Rattle.nfsd.specs.Faults.{as_line}
 
 -- `formatted N blocks I inodes D data`, where D blocks follow the table of inodes
@@ -16,7 +16,8 @@ formatted_line blocks inodes = as_line (codes "formatted " ++ decimal blocks ++ 
 
 -- what was asked for has been done, and this is printed of it
 abbrev pub HasPrinted : Args → Option (List ℕ) → Option (List ℕ) → Type 0
-HasPrinted (Format image blocks inodes time) before later = Appends before later (formatted_line blocks inodes)
+HasPrinted (Format image blocks inodes time) before later =
+    Appends before later (formatted_line blocks inodes)
 HasPrinted (Once image time) before later = ⊤
 
 -- the arguments ask for something that has been done

@@ -2,7 +2,7 @@
 ghost use Rattle.std.specs.Prelude.{◌≡◌, ◌≢◌, ◌≤◌, ◌-◌, IfErr, IfOk, IfSome, OnOk, map};
 ghost use Rattle.std.specs.Io.KnownBytes.{Appends};
 ghost use Rattle.nfsd_words.specs.Words.{HasMeaning};
-ghost use Rattle.layout.specs.Places.{data_at};
+ghost use Rattle.layout.specs.Geometry.{data_at};
 ghost use Rattle.nfsd.specs.Done.{IsDone, formatted_line};
 ghost use Rattle.nfsd.specs.Faults.{fault_line, status_of};
 
@@ -43,7 +43,8 @@ where
 
 // Tells a fault.
 fn tell<E: Write>(faults: &mut E, fault: &Fault) -> io::Result<()>
-    ensures { OnOk result (IfSome (fault_line fault.now) (Appends (E.contents faults.old) (E.contents faults.new))) }
+    ensures { OnOk result
+        (IfSome (fault_line fault.now) (Appends (E.contents faults.old) (E.contents faults.new))) }
 {
     write!(faults, "{fault}")
 }
@@ -55,8 +56,10 @@ where
     R::File: BlockFile,
     I: Read,
     O: Write,
-    ensures done { OnOk result (IsDone (map (λ word. word.now) line.now) (O.contents writer.old) (O.contents writer.new)) }
-    ensures meaning { IfErr result (λ fault. status_of fault ≢ 2 → HasMeaning (map (λ word. word.now) line.now)) }
+    ensures done { OnOk result
+        (IsDone (map (λ word. word.now) line.now) (O.contents writer.old) (O.contents writer.new)) }
+    ensures meaning { IfErr result (λ fault. status_of fault ≢ 2
+        → HasMeaning (map (λ word. word.now) line.now)) }
 {
     match words(rt.alloc(), line).map_err(Fault::Words)? {
         Args::Format {
@@ -75,7 +78,8 @@ where
 // Prints the counts of an image that was made.
 fn print<O: Write>(writer: &mut O, blocks: u32, inodes: u32, data_blocks: u32) -> Result<(), Fault>
     requires { data_blocks ≡ blocks - data_at blocks inodes }
-    ensures { OnOk result (Appends (O.contents writer.old) (O.contents writer.new) (formatted_line blocks inodes)) }
+    ensures { OnOk result
+        (Appends (O.contents writer.old) (O.contents writer.new) (formatted_line blocks inodes)) }
 {
     writeln!(
         writer,

@@ -1,5 +1,5 @@
-//! Tests of the program: its arguments, its files and its exit statuses. What goes through the layers below it
-//! is tested in `rows`.
+//! Tests of the program: its arguments, its files and its exit statuses. What goes through the layers below
+//! it is tested in `rows`.
 
 mod arguments;
 mod first_path;

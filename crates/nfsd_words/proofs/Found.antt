@@ -10,13 +10,16 @@ use Rattle.clap.specs.declared.ArgMatches.{ArgMatches}
 use Rattle.nfsd_words.specs.Words.{IsNumber}
 
 -- a text that `get_str` gave stands first in its row
-pub text_found : (m : ArgMatches) (id : Text) (r : Option (Bor Text)) (x : Bor Text) → option_map (λ s. s.now) r ≡ first_value (found_of m) id
+pub text_found : (m : ArgMatches) (id : Text) (r : Option (Bor Text)) (x : Bor Text)
+    → option_map (λ s. s.now) r ≡ first_value (found_of m) id
     → r ≡ Some x → first_of id (rows_of (found_of m)) ≡ Some x.now
-text_found m id r x gives is = sym (first_value-rows (found_of m) id) ∙ sym gives ∙ ap (option_map (λ s. s.now)) is
+text_found m id r x gives is = sym (first_value-rows (found_of m) id) ∙ sym gives
+    ∙ ap (option_map (λ s. s.now)) is
 
 -- what reading a number of 32 bits gives
 abbrev pub u32_gives : List ℕ → Result ℕ ParseIntError → Type 0
-u32_gives text r = ParsesUnsigned 32 10 text r × ExplainsUnsignedError 10 text r × HasUnsignedDigitsIfOk text r
+u32_gives text r = ParsesUnsigned 32 10 text r × ExplainsUnsignedError 10 text r
+    × HasUnsignedDigitsIfOk text r
 
 -- a number that `get_one` gave is spelled by its row
 pub number_found : (m : ArgMatches) (id : Text) (r : Option ℕ) (n : ℕ)
@@ -25,7 +28,8 @@ pub number_found : (m : ArgMatches) (id : Text) (r : Option ℕ) (n : ℕ)
     → r ≡ Some n → IsNumber (rows_of (found_of m)) id n
 number_found m id r n none value is = go (one_text (found_of m) id) refl
   where
-    spelled : (t : List ℕ) → one_text (found_of m) id ≡ Some t → ReadsOne u32_gives t (Some n) → IsNumber (rows_of (found_of m)) id n
+    spelled : (t : List ℕ) → one_text (found_of m) id ≡ Some t → ReadsOne u32_gives t (Some n)
+        → IsNumber (rows_of (found_of m)) id n
     spelled t e read =
         let parsed = read.0 in
         let row : one_of id (rows_of (found_of m)) ≡ Some t = sym (one_text-rows (found_of m) id) ∙ e in

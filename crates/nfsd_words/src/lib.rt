@@ -29,8 +29,8 @@ pub enum Args<'a> {
     },
 }
 
-/// Reads the arguments of a command line, of which the first is the program's name. A value that should have been
-/// there and isn't is reported as missing; that this never comes is tested and not proved.
+/// Reads the arguments of a command line, of which the first is the program's name. A value that should have
+/// been there and isn't is reported as missing; that this never comes is tested and not proved.
 pub fn words<'a>(alloc: Global, line: &'a [&'a str]) -> Result<Args<'a>, Error>
     ensures asked { IfOk result (WordsAsk (map (λ word. word.now) line.now)) }
     ensures lawful { IfOk result (λ _. fault_of whole_program (map (λ word. word.now) line.now) ≡ []) }

@@ -1,5 +1,6 @@
 -- The parts of a file, as the definition of decoding has them.
-use Rattle.std.proofs.Common.{◌≡◌, ℕ, zero, suc, ◌+◌, ◌*◌, inl, inr, cond, nat_eq, List, [], ◌∷◌, ◌++◌, take, drop, replicate, refl, ap, ◌∙◌, arith}
+use Rattle.std.proofs.Common.{◌≡◌, ℕ, zero, suc, ◌+◌, ◌*◌, inl, inr, cond, nat_eq, List, [], ◌∷◌, ◌++◌, take}
+use Rattle.std.proofs.Common.{drop, replicate, refl, ap, ◌∙◌, arith}
 use Rattle.std.specs.List.{flat_map, range_with_len}
 use Rattle.std.proofs.lemmas.Bool.Decides.{eqb_tells}
 use Rattle.std.proofs.lemmas.Grind.{flat_map-append}
@@ -11,28 +12,37 @@ use Rattle.layout.specs.declared.inode.Inode.{Inode}
 use Rattle.layout.specs.Decode.{bytes_of, content_of, inode_at, numbers_of}
 use Rattle.layout.specs.Fields.{numbers_at}
 use Rattle.layout.specs.InodeForm.{read_inode}
-use Rattle.layout.specs.Places.{inode_block, inode_place}
+use Rattle.layout.specs.Geometry.{inode_block, inode_offset}
 use Rattle.model.specs.Node.{DirectoryEntry}
 use Rattle.layout.specs.Decode.{SLOT_SIZE}
-use Rattle.plain_image.specs.Held.{if_used, used_below}
-use Rattle.plain_image.specs.Named.{entries_below, one_entry}
+use Rattle.plain_image.specs.PlainFile.{if_used, used_below}
+use Rattle.plain_image.specs.PlainName.{entries_below, one_entry}
 
--- what is read from the inode's place
-pub inode_there : (g : Geometry) (image : Image) (number : ℕ) → inode_at g image number ≡ read_inode g.blocks g.inodes (take INODE_BYTES (drop (inode_place number) (image (inode_block g.blocks g.inodes number))))
+-- what is read at the inode's offset
+pub inode_there : (g : Geometry) (image : Image) (number : ℕ)
+    → inode_at g image number
+    ≡ read_inode g.blocks g.inodes
+    (take INODE_BYTES (drop (inode_offset number) (image (inode_block g.blocks g.inodes number))))
 unfolding inode_at
 inode_there g image number = refl
 
 -- a file without an indirect block
-pub direct_only : (image : Image) (inode : Inode) → inode.indirect ≡ 0 → numbers_of image inode ≡ inode.direct ++ replicate INDIRECT_INDEXES 0
+pub direct_only : (image : Image) (inode : Inode) → inode.indirect ≡ 0
+    → numbers_of image inode ≡ inode.direct ++ replicate INDIRECT_INDEXES 0
 unfolding numbers_of
-direct_only image inode none = ap (λ n. inode.direct ++ cond (nat_eq n 0) (replicate INDIRECT_INDEXES 0) (numbers_at INDIRECT_INDEXES 0 (image inode.indirect))) none
+direct_only image inode none =
+    ap (λ n. inode.direct
+    ++ cond (nat_eq n 0) (replicate INDIRECT_INDEXES 0)
+    (numbers_at INDIRECT_INDEXES 0 (image inode.indirect))) none
 
 -- a file with one
-pub with_indirect : (image : Image) (inode : Inode) → (inode.indirect ≡ 0 → ⊥) → numbers_of image inode ≡ inode.direct ++ numbers_at INDIRECT_INDEXES 0 (image inode.indirect)
+pub with_indirect : (image : Image) (inode : Inode) → (inode.indirect ≡ 0 → ⊥)
+    → numbers_of image inode ≡ inode.direct ++ numbers_at INDIRECT_INDEXES 0 (image inode.indirect)
 unfolding numbers_of
 with_indirect image inode some = elim (eqb_tells inode.indirect 0) [
   | inl is ↦ absurd (some is.1)
-  | inr isnt ↦ ap (λ b. inode.direct ++ cond b (replicate INDIRECT_INDEXES 0) (numbers_at INDIRECT_INDEXES 0 (image inode.indirect))) isnt.0
+  | inr isnt ↦ ap (λ b. inode.direct
+      ++ cond b (replicate INDIRECT_INDEXES 0) (numbers_at INDIRECT_INDEXES 0 (image inode.indirect))) isnt.0
 ]
 
 pub no_bytes : (image : Image) → bytes_of image [] ≡ []
@@ -40,30 +50,36 @@ unfolding bytes_of
 no_bytes image = refl
 
 -- the bytes are those of each number in turn
-pub in_turn : (image : Image) (numbers : List ℕ) → bytes_of image numbers ≡ flat_map (content_of image) numbers
+pub in_turn : (image : Image) (numbers : List ℕ)
+    → bytes_of image numbers ≡ flat_map (content_of image) numbers
 unfolding bytes_of
 in_turn image numbers = refl
 
 -- one number more
-pub one_more : (image : Image) (numbers : List ℕ) (number : ℕ) → bytes_of image (numbers ++ number ∷ []) ≡ bytes_of image numbers ++ content_of image number
+pub one_more : (image : Image) (numbers : List ℕ) (number : ℕ)
+    → bytes_of image (numbers ++ number ∷ []) ≡ bytes_of image numbers ++ content_of image number
 unfolding bytes_of
 one_more image numbers number =
-    flat_map-append (content_of image) numbers (number ∷ []) ∙ ap (λ l. flat_map (content_of image) numbers ++ l) (append-nil (content_of image number))
+    flat_map-append (content_of image) numbers (number ∷ [])
+    ∙ ap (λ l. flat_map (content_of image) numbers ++ l) (append-nil (content_of image number))
 
 -- ---- the files of a table
 
 more_range : (a n : ℕ) → range_with_len a (suc n) ≡ range_with_len a n ++ (a + n) ∷ []
 more_range a zero = ap (λ k. k ∷ []) (omega arith)
-more_range a (suc n) = ap (λ l. a ∷ l) (more_range (a + 1) n ∙ ap (λ k. range_with_len (a + 1) n ++ k ∷ []) (omega arith))
+more_range a (suc n) =
+    ap (λ l. a ∷ l) (more_range (a + 1) n ∙ ap (λ k. range_with_len (a + 1) n ++ k ∷ []) (omega arith))
 
 pub none_below : (g : Geometry) (image : Image) → used_below g image 0 ≡ []
 none_below g image = refl
 
-pub one_below : (g : Geometry) (image : Image) (count : ℕ) → used_below g image (count + 1) ≡ used_below g image count ++ if_used g image count
+pub one_below : (g : Geometry) (image : Image) (count : ℕ)
+    → used_below g image (count + 1) ≡ used_below g image count ++ if_used g image count
 one_below g image count =
     let next : count + 1 ≡ suc count = omega arith in
     let at : 0 + count ≡ count = omega arith in
-    ap (used_below g image) next ∙ ap (flat_map (if_used g image)) (more_range 0 count ∙ ap (λ k. range_with_len 0 count ++ k ∷ []) at)
+    ap (used_below g image) next
+    ∙ ap (flat_map (if_used g image)) (more_range 0 count ∙ ap (λ k. range_with_len 0 count ++ k ∷ []) at)
     ∙ flat_map-append (if_used g image) (range_with_len 0 count) (count ∷ [])
     ∙ ap (λ l. used_below g image count ++ l) (append-nil (if_used g image count))
 
@@ -73,11 +89,14 @@ pub no_entries : (inodes : ℕ) (bytes : List ℕ) → entries_below inodes byte
 no_entries inodes bytes = refl
 
 pub one_slot : (inodes : ℕ) (bytes : List ℕ) (count : ℕ)
-    → entries_below inodes bytes (count + 1) ≡ entries_below inodes bytes count ++ one_entry inodes count (take SLOT_SIZE (drop (SLOT_SIZE * count) bytes))
+    → entries_below inodes bytes (count + 1) ≡ entries_below inodes bytes count
+    ++ one_entry inodes count (take SLOT_SIZE (drop (SLOT_SIZE * count) bytes))
 one_slot inodes bytes count =
     let next : count + 1 ≡ suc count = omega arith in
     let at : 0 + count ≡ count = omega arith in
-    let slot : ℕ → List (List ℕ × DirectoryEntry) = λ place. one_entry inodes place (take SLOT_SIZE (drop (SLOT_SIZE * place) bytes)) in
-    ap (entries_below inodes bytes) next ∙ ap (flat_map slot) (more_range 0 count ∙ ap (λ k. range_with_len 0 count ++ k ∷ []) at)
+    let slot : ℕ → List (List ℕ × DirectoryEntry) =
+    λ index. one_entry inodes index (take SLOT_SIZE (drop (SLOT_SIZE * index) bytes)) in
+    ap (entries_below inodes bytes) next
+    ∙ ap (flat_map slot) (more_range 0 count ∙ ap (λ k. range_with_len 0 count ++ k ∷ []) at)
     ∙ flat_map-append slot (range_with_len 0 count) (count ∷ [])
     ∙ ap (λ l. entries_below inodes bytes count ++ l) (append-nil (slot count))

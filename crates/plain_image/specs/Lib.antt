@@ -1,2 +1,2 @@
-pub mod Held
-pub mod Named
+pub mod PlainFile
+pub mod PlainName

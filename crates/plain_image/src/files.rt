@@ -3,9 +3,9 @@ ghost use Rattle.std.specs.Prelude.{◌≡◌, ◌<◌, ◌++◌, IfOk, OnOk, Al
 ghost use Rattle.limits.specs.declared.TheConstants.{SUPER_BLOCK};
 ghost use Rattle.disk.specs.Memory.{image_of};
 ghost use Rattle.layout.specs.SuperForm.{IsSuper};
-ghost use Rattle.plain_image.specs.Held.{IsDecoded, IsFileOf, if_used, numbers_in, used_below};
+ghost use Rattle.plain_image.specs.PlainFile.{IsDecoded, IsFileOf, if_used, numbers_in, used_below};
 
-use crate::parts::{block_of, bytes_of, held, inode_of, names_of, numbers_of};
+use crate::parts::{block_of, bytes_of, count_mapped, inode_of, names_of, numbers_of};
 use crate::{ImageFault, PlainName};
 use disk::MemDisk;
 use layout::{Geometry, Inode, InodeKind, Super};
@@ -21,7 +21,7 @@ pub enum PlainContent {
     Target(Octets),
 }
 
-/// A file: its number, its inode, how many blocks it keeps besides an indirect one, and what is in it.
+/// A file: its number, its inode, how many blocks it maps besides an indirect one, and what is in it.
 #[derive(Drop)]
 pub struct PlainFile {
     pub number: u32,
@@ -70,7 +70,7 @@ fn file_of(
     Ok(PlainFile {
         number,
         inode,
-        blocks: held(&numbers),
+        blocks: count_mapped(&numbers),
         content,
     })
 }
@@ -84,8 +84,10 @@ fn push_file(
     files: &mut Vec<PlainFile>,
 ) -> Result<(), ImageFault>
     requires { number < geometry.now.inodes }
-    ensures decoded { OnOk result (All (IsDecoded geometry.now (image_of disk.now)) files.old.items → All (IsDecoded geometry.now (image_of disk.now)) files.new.items) }
-    ensures numbers { OnOk result (numbers_in files.new.items ≡ numbers_in files.old.items ++ if_used geometry.now (image_of disk.now) number) }
+    ensures decoded { OnOk result (All (IsDecoded geometry.now (image_of disk.now)) files.old.items
+        → All (IsDecoded geometry.now (image_of disk.now)) files.new.items) }
+    ensures numbers { OnOk result (numbers_in files.new.items ≡ numbers_in files.old.items
+        ++ if_used geometry.now (image_of disk.now) number) }
 {
     let inode = inode_of(disk, geometry, number)?;
     if inode.kind != InodeKind::Free {
@@ -97,9 +99,14 @@ fn push_file(
 
 /// Reads all files of an image, or says what stands in the way. It doesn't look at the bitmaps.
 pub fn read_image(alloc: Global, disk: &MemDisk) -> Result<PlainImage, ImageFault>
-    ensures head { IfOk result (λ image. IsSuper (image_of disk.now SUPER_BLOCK) (record { geometry = image.geometry; boot = image.boot })) }
+    ensures head { IfOk result
+        (λ image. IsSuper (image_of disk.now SUPER_BLOCK) (record {
+          geometry = image.geometry;
+          boot = image.boot;
+        })) }
     ensures decoded { IfOk result (λ image. All (IsDecoded image.geometry (image_of disk.now)) image.files.items) }
-    ensures all { IfOk result (λ image. numbers_in image.files.items ≡ used_below image.geometry (image_of disk.now) image.geometry.inodes) }
+    ensures all { IfOk result (λ image. numbers_in image.files.items
+        ≡ used_below image.geometry (image_of disk.now) image.geometry.inodes) }
 {
     let Super { geometry, boot } = Super::read(block_of(disk, SUPER_BLOCK)?)?;
     let mut files = Vec::new(alloc);

@@ -1,5 +1,5 @@
-//! A plain reader of images: it reads all files of a device in memory into lists, for tests to look at. It looks at the
-//! blocks at home alone, so what the log holds is to be installed first.
+//! A plain reader of images: it reads all files of a device in memory into lists, for tests to look at. It
+//! looks at the blocks at home alone, so what the log holds is to be installed first.
 #![tactic(auto)]
 
 mod fault;

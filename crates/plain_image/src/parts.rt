@@ -5,7 +5,7 @@ ghost use Rattle.disk.specs.Memory.{image_of, memory_device};
 ghost use Rattle.model.specs.SetAttr.{resized};
 ghost use Rattle.layout.specs.Fields.{numbers_at};
 ghost use Rattle.layout.specs.declared.slot.TheConstants.{SLOT_BYTES};
-ghost use Rattle.plain_image.specs.Named.{entries_in, entries_of, one_entry};
+ghost use Rattle.plain_image.specs.PlainName.{entries_in, entries_of, one_entry};
 ghost use Rattle.layout.specs.Decode.{bytes_of, content_of, inode_at, numbers_of};
 
 use crate::ImageFault;
@@ -66,7 +66,7 @@ fn indirect(
     Ok(numbers)
 }
 
-/// The numbers of a file's blocks, index by index, 0 where none is kept.
+/// The numbers of a file's blocks, index by index, 0 where none is mapped.
 pub(crate) fn numbers_of(
     alloc: Global,
     disk: &MemDisk,
@@ -87,7 +87,7 @@ pub(crate) fn numbers_of(
 }
 
 /// How many of the numbers are those of blocks.
-pub(crate) fn held(numbers: &[u32]) -> usize
+pub(crate) fn count_mapped(numbers: &[u32]) -> usize
     ensures { result ≡ count_by (λ number. not (nat_eq number 0)) numbers.now }
 {
     numbers.iter().filter(|number| **number != 0).count()
@@ -126,16 +126,17 @@ pub(crate) fn bytes_of(
 fn push_name(
     alloc: Global,
     inodes: u32,
-    place: u32,
+    index: u32,
     part: &[u8],
     names: &mut Vec<PlainName>,
 ) -> Result<(), ImageFault>
     requires { length part.now ≡ SLOT_BYTES }
-    ensures { OnOk result (entries_of names.new.items ≡ entries_of names.old.items ++ one_entry inodes place part.now) }
+    ensures { OnOk result (entries_of names.new.items ≡ entries_of names.old.items
+        ++ one_entry inodes index part.now) }
 {
     if let Some(slot) = Slot::read(alloc, inodes, part)?? {
         let Slot { number, name } = slot;
-        let slot = place;
+        let slot = index;
         let name = PlainName { name, number, slot };
         names.push(name).map_err(AllocError::from)?;
     }
@@ -155,12 +156,12 @@ pub(crate) fn names_of(
     }
     let mut names = Vec::new(alloc);
     let slots = (bytes.len() / SLOT_BYTES) as u32;
-    'places: for place in 0..slots {
-        let from = SLOT_BYTES * place as usize;
+    'each_slot: for index in 0..slots {
+        let from = SLOT_BYTES * index as usize;
         push_name(
             alloc,
             inodes,
-            place,
+            index,
             &bytes[from..from + SLOT_BYTES],
             &mut names,
         )?;

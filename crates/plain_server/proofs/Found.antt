@@ -1,5 +1,7 @@
 -- What the list of files shows of the tree that it stands for.
-use Rattle.std.proofs.Common.{rules, ◌≡◌, ℕ, zero, suc, ◌+◌, ◌<◌, sym, ap, ◌∙◌, refl, Bool, true, false, cond, List, [], ◌∷◌, length, get_or, set, map, position, nat_eq, Option, Some, None, Result, arith}
+use Rattle.std.proofs.Common.{rules, ◌≡◌, ℕ, zero, suc, ◌+◌, ◌<◌, sym, ap, ◌∙◌, refl, Bool, true, false, cond}
+use Rattle.std.proofs.Common.{List, [], ◌∷◌, length, get_or, set, map, position, nat_eq, Option, Some, None}
+use Rattle.std.proofs.Common.{Result, arith}
 use Rattle.nfs_types.specs.declared.status.Status.{Status}
 use Rattle.std.proofs.lemmas.List.{get_or_default}
 use Rattle.std.specs.List.{position_from}
@@ -27,117 +29,145 @@ taken : (b : Bool) (v : Node) (o : Option Node) → b ≡ true → cond b (Some 
 taken true v o e = refl
 taken false v o e = cc
 
-pub find_at : (xs : List NumberedNode) (place : ℕ) (n : NumberedNode) → place < length xs → get_or xs place n ≡ n
-    → ((k : ℕ) → k < place → nat_eq n.number (get_or xs k n).number ≡ false)
+pub find_at : (xs : List NumberedNode) (index : ℕ) (n : NumberedNode) → index < length xs
+    → get_or xs index n ≡ n
+    → ((k : ℕ) → k < index → nat_eq n.number (get_or xs k n).number ≡ false)
     → map.find nat_cmp n.number (map numbered xs) ≡ Some (node_of n.node)
-find_at [] place n inside here first = absurd (omega arith)
+find_at [] index n inside here first = absurd (omega arith)
 find_at (x ∷ xs) zero n inside here first =
-    taken (eq n.number x.number) (node_of x.node) (map.find nat_cmp n.number (map numbered xs)) (ap (λ m. eq n.number m.number) here ∙ itself n.number)
+    taken (eq n.number x.number) (node_of x.node) (map.find nat_cmp n.number (map numbered xs))
+    (ap (λ m. eq n.number m.number) here ∙ itself n.number)
     ∙ ap (λ m. Some (node_of m.node)) here
-find_at (x ∷ xs) (suc place) n inside here first =
-    skipped (eq n.number x.number) (node_of x.node) (map.find nat_cmp n.number (map numbered xs)) (unsigned_tied n.number x.number ∙ first 0 (omega arith))
-    ∙ find_at xs place n (omega arith) here (λ k below. first (suc k) (omega arith))
+find_at (x ∷ xs) (suc index) n inside here first =
+    skipped (eq n.number x.number) (node_of x.node) (map.find nat_cmp n.number (map numbered xs))
+    (unsigned_tied n.number x.number ∙ first 0 (omega arith))
+    ∙ find_at xs index n (omega arith) here (λ k below. first (suc k) (omega arith))
 
 neither : (b : Bool) (i : ℕ) (o : Option ℕ) → cond b (Some i) o ≡ None → (b ≡ false) × (o ≡ None)
 neither true i o e = cc
 neither false i o e = (refl, e)
 
-find_none : (xs : List NumberedNode) (q i : ℕ) → position_from (λ n. nat_eq q n.number) i xs ≡ None → map.find nat_cmp q (map numbered xs) ≡ None
+find_none : (xs : List NumberedNode) (q i : ℕ) → position_from (λ n. nat_eq q n.number) i xs ≡ None
+    → map.find nat_cmp q (map numbered xs) ≡ None
 find_none [] q i none = refl
 find_none (x ∷ xs) q i none =
     let both = neither (nat_eq q x.number) i (position_from (λ n. nat_eq q n.number) (i + 1) xs) none in
-    skipped (eq q x.number) (node_of x.node) (map.find nat_cmp q (map numbered xs)) (unsigned_tied q x.number ∙ both.0)
+    skipped (eq q x.number) (node_of x.node) (map.find nat_cmp q (map numbered xs)) (unsigned_tied q x.number
+    ∙ both.0)
     ∙ find_none xs q (i + 1) both.1
 
 -- a number that stands nowhere is no file's
-pub absent : (tree : PlainTree) (number : ℕ) → position (λ n. nat_eq number n.number) tree.nodes.items ≡ None → node_at (tree_of tree) number ≡ None
+pub absent : (tree : PlainTree) (number : ℕ) → position (λ n. nat_eq number n.number) tree.nodes.items ≡ None
+    → node_at (tree_of tree) number ≡ None
 absent tree number none =
     map.get-from_entries nat_cmp_total (map numbered tree.nodes.items) number
-    ∙ find_none tree.nodes.items number 0 (sym (position_from-zero (λ n. nat_eq number n.number) tree.nodes.items) ∙ none)
+    ∙ find_none tree.nodes.items number 0
+    (sym (position_from-zero (λ n. nat_eq number n.number) tree.nodes.items) ∙ none)
 
 -- the first file of a number
-pub record First (tree : PlainTree) (number place : ℕ) (file : NumberedNode) : Type 0 where
+pub record First (tree : PlainTree) (number index : ℕ) (file : NumberedNode) : Type 0 where
   pub number_is : number ≡ file.number
-  pub inside : place < length tree.nodes.items
-  pub here : get_or tree.nodes.items place file ≡ file
-  pub first : (k : ℕ) → k < place → nat_eq file.number (get_or tree.nodes.items k file).number ≡ false
+  pub inside : index < length tree.nodes.items
+  pub here : get_or tree.nodes.items index file ≡ file
+  pub first : (k : ℕ) → k < index → nat_eq file.number (get_or tree.nodes.items k file).number ≡ false
   pub got : node_at (tree_of tree) number ≡ Some (node_of file.node)
 
 same_number : (a b : ℕ) → nat_eq a b ≡ true → a ≡ b
 same_number a b e = search rules
 
-pub first_of : (tree : PlainTree) (number place : ℕ) (file : NumberedNode) → position (λ n. nat_eq number n.number) tree.nodes.items ≡ Some place
-    → file ≡ get_or tree.nodes.items place file → First tree number place file
-first_of tree number place file is here =
-    let at = position-Some (λ n. nat_eq number n.number) tree.nodes.items place file is in
+pub first_of : (tree : PlainTree) (number index : ℕ) (file : NumberedNode)
+    → position (λ n. nat_eq number n.number) tree.nodes.items ≡ Some index
+    → file ≡ get_or tree.nodes.items index file → First tree number index file
+first_of tree number index file is here =
+    let at = position-Some (λ n. nat_eq number n.number) tree.nodes.items index file is in
     let number_is : number ≡ file.number = same_number number _ at.1 ∙ ap (λ n. n.number) (sym here) in
-    let first : (k : ℕ) → k < place → nat_eq file.number (get_or tree.nodes.items k file).number ≡ false =
+    let first : (k : ℕ) → k < index → nat_eq file.number (get_or tree.nodes.items k file).number ≡ false =
     λ k below. ap (λ q. nat_eq q (get_or tree.nodes.items k file).number) (sym number_is) ∙ at.2 k below in
     record {
       number_is = number_is;
       inside = at.0;
       here = sym here;
       first = first;
-      got = ap (node_at (tree_of tree)) number_is ∙ map.get-from_entries nat_cmp_total (map numbered tree.nodes.items) file.number
-          ∙ find_at tree.nodes.items place file at.0 (sym here) first;
+      got = ap (node_at (tree_of tree)) number_is
+          ∙ map.get-from_entries nat_cmp_total (map numbered tree.nodes.items) file.number
+          ∙ find_at tree.nodes.items index file at.0 (sym here) first;
     }
 
-shadowed : (a b : Bool) (v w : Node) (o : Option Node) → a ≡ b → cond a (Some v) o ≡ cond a (Some v) (cond b (Some w) o)
+shadowed : (a b : Bool) (v w : Node) (o : Option Node) → a ≡ b
+    → cond a (Some v) o ≡ cond a (Some v) (cond b (Some w) o)
 shadowed true b v w o e = refl
 shadowed false true v w o e = cc
 shadowed false false v w o e = refl
 
-swapped : (a b : Bool) (v w : Node) (o : Option Node) → (a ≡ true → b ≡ false) → cond b (Some w) (cond a (Some v) o) ≡ cond a (Some v) (cond b (Some w) o)
+swapped : (a b : Bool) (v w : Node) (o : Option Node) → (a ≡ true → b ≡ false)
+    → cond b (Some w) (cond a (Some v) o) ≡ cond a (Some v) (cond b (Some w) o)
 swapped true true v w o h = let no = h refl in cc
 swapped true false v w o h = refl
 swapped false b v w o h = refl
 
 -- the first file of a number, replaced by another of that number
-find_set : (xs : List NumberedNode) (place : ℕ) (n m : NumberedNode) (q : ℕ) → m.number ≡ n.number → place < length xs → get_or xs place n ≡ n
-    → ((k : ℕ) → k < place → nat_eq n.number (get_or xs k n).number ≡ false)
-    → map.find nat_cmp q (map numbered (set xs place m)) ≡ cond (eq q n.number) (Some (node_of m.node)) (map.find nat_cmp q (map numbered xs))
-find_set [] place n m q same inside here first = absurd (omega arith)
+find_set : (xs : List NumberedNode) (index : ℕ) (n m : NumberedNode) (q : ℕ) → m.number ≡ n.number
+    → index < length xs → get_or xs index n ≡ n
+    → ((k : ℕ) → k < index → nat_eq n.number (get_or xs k n).number ≡ false)
+    → map.find nat_cmp q (map numbered (set xs index m))
+    ≡ cond (eq q n.number) (Some (node_of m.node)) (map.find nat_cmp q (map numbered xs))
+find_set [] index n m q same inside here first = absurd (omega arith)
 find_set (x ∷ xs) zero n m q same inside here first =
     ap (λ k. cond (eq q k) (Some (node_of m.node)) (map.find nat_cmp q (map numbered xs))) same
-    ∙ shadowed (eq q n.number) (eq q x.number) (node_of m.node) (node_of x.node) (map.find nat_cmp q (map numbered xs)) (ap (λ y. eq q y.number) (sym here))
-find_set (x ∷ xs) (suc place) n m q same inside here first =
-    ap (cond (eq q x.number) (Some (node_of x.node))) (find_set xs place n m q same (omega arith) here (λ k below. first (suc k) (omega arith)))
-    ∙ swapped (eq q n.number) (eq q x.number) (node_of m.node) (node_of x.node) (map.find nat_cmp q (map numbered xs))
-    (λ is. ap (λ k. eq k x.number) (eq_by_cmp-is q n.number is) ∙ unsigned_tied n.number x.number ∙ first 0 (omega arith))
+    ∙ shadowed (eq q n.number) (eq q x.number) (node_of m.node) (node_of x.node)
+    (map.find nat_cmp q (map numbered xs)) (ap (λ y. eq q y.number) (sym here))
+find_set (x ∷ xs) (suc index) n m q same inside here first =
+    ap (cond (eq q x.number) (Some (node_of x.node)))
+    (find_set xs index n m q same (omega arith) here (λ k below. first (suc k) (omega arith)))
+    ∙ swapped (eq q n.number) (eq q x.number) (node_of m.node) (node_of x.node)
+    (map.find nat_cmp q (map numbered xs))
+    (λ is. ap (λ k. eq k x.number) (eq_by_cmp-is q n.number is) ∙ unsigned_tied n.number x.number
+    ∙ first 0 (omega arith))
 
-pub replaced : (xs : List NumberedNode) (place : ℕ) (n m : NumberedNode) → m.number ≡ n.number → place < length xs → get_or xs place n ≡ n
-    → ((k : ℕ) → k < place → nat_eq n.number (get_or xs k n).number ≡ false)
-    → map.from_entries {R = nat_cmp} (map numbered (set xs place m)) ≡ map.insert (map.from_entries (map numbered xs)) n.number (node_of m.node)
-replaced xs place n m same inside here first =
+pub replaced : (xs : List NumberedNode) (index : ℕ) (n m : NumberedNode) → m.number ≡ n.number
+    → index < length xs → get_or xs index n ≡ n
+    → ((k : ℕ) → k < index → nat_eq n.number (get_or xs k n).number ≡ false)
+    → map.from_entries {R = nat_cmp} (map numbered (set xs index m))
+    ≡ map.insert (map.from_entries (map numbered xs)) n.number (node_of m.node)
+replaced xs index n m same inside here first =
     map.same_map nat_cmp_total map.nat_cmp-IsAntisymmetric _ _ (λ q.
-    map.get-from_entries nat_cmp_total (map numbered (set xs place m)) q
-    ∙ find_set xs place n m q same inside here first
-    ∙ ap (cond (eq q n.number) (Some (node_of m.node))) (sym (map.get-from_entries nat_cmp_total (map numbered xs) q))
+    map.get-from_entries nat_cmp_total (map numbered (set xs index m)) q
+    ∙ find_set xs index n m q same inside here first
+    ∙ ap (cond (eq q n.number) (Some (node_of m.node)))
+    (sym (map.get-from_entries nat_cmp_total (map numbered xs) q))
     ∙ sym (map.get-insert nat_cmp_total (map.from_entries (map numbered xs)) n.number (node_of m.node) q))
 
-same_there : (m : map.FinMap nat_cmp Node) (k q : ℕ) (v : Node) (b : Bool) → eq q k ≡ b → map.get m k ≡ Some v → cond b (Some v) (map.get m q) ≡ map.get m q
+same_there : (m : map.FinMap nat_cmp Node) (k q : ℕ) (v : Node) (b : Bool) → eq q k ≡ b → map.get m k ≡ Some v
+    → cond b (Some v) (map.get m q) ≡ map.get m q
 same_there m k q v true is got = sym got ∙ ap (map.get m) (sym (eq_by_cmp-is q k is))
 same_there m k q v false is got = refl
 
 -- to put in what is there changes nothing
 insert_same : (m : map.FinMap nat_cmp Node) (k : ℕ) (v : Node) → map.get m k ≡ Some v → map.insert m k v ≡ m
 insert_same m k v got =
-    map.same_map nat_cmp_total map.nat_cmp-IsAntisymmetric _ _ (λ q. map.get-insert nat_cmp_total m k v q ∙ same_there m k q v (eq q k) refl got)
+    map.same_map nat_cmp_total map.nat_cmp-IsAntisymmetric _ _ (λ q. map.get-insert nat_cmp_total m k v q
+    ∙ same_there m k q v (eq q k) refl got)
 
-module _ (tree : PlainTree) (place : ℕ) (found : Result (ℕ × Node) Status) (at : StandsAt tree.nodes.items place found) where
-  -- what is read at the place
-  pub read_is : (old : NumberedNode) → old ≡ get_or tree.nodes.items place old → old ≡ at.file
-  read_is old is = is ∙ get_or_default tree.nodes.items place old at.file at.inside ∙ at.here
+module _ (tree : PlainTree) (index : ℕ) (found : Result (ℕ × Node) Status)
+    (at : StandsAt tree.nodes.items index found) where
+  -- what is read at the index
+  pub read_is : (old : NumberedNode) → old ≡ get_or tree.nodes.items index old → old ≡ at.file
+  read_is old is = is ∙ get_or_default tree.nodes.items index old at.file at.inside ∙ at.here
 
   abbrev files : map.FinMap nat_cmp Node
   files = map.from_entries (map numbered tree.nodes.items)
 
-  -- the files with another at the place
-  pub changed : (m : NumberedNode) → m.number ≡ at.file.number → map.from_entries {R = nat_cmp} (map numbered (set tree.nodes.items place m)) ≡ map.insert files at.file.number (node_of m.node)
-  changed m same = replaced tree.nodes.items place at.file m same at.inside at.here at.first
+  -- the files with another at the index
+  pub changed : (m : NumberedNode) → m.number ≡ at.file.number
+      → map.from_entries {R = nat_cmp} (map numbered (set tree.nodes.items index m))
+      ≡ map.insert files at.file.number (node_of m.node)
+  changed m same = replaced tree.nodes.items index at.file m same at.inside at.here at.first
 
-  -- the files with the same at the place
-  pub put_back : (m : NumberedNode) → m.number ≡ at.file.number → node_of m.node ≡ node_of at.file.node → map.from_entries {R = nat_cmp} (map numbered (set tree.nodes.items place m)) ≡ files
+  -- the files with the same at the index
+  pub put_back : (m : NumberedNode) → m.number ≡ at.file.number → node_of m.node ≡ node_of at.file.node
+      → map.from_entries {R = nat_cmp} (map numbered (set tree.nodes.items index m)) ≡ files
   put_back m number node =
       changed m number ∙ ap (map.insert files at.file.number) node
-      ∙ insert_same files at.file.number (node_of at.file.node) (map.get-from_entries nat_cmp_total (map numbered tree.nodes.items) at.file.number ∙ find_at tree.nodes.items place at.file at.inside at.here at.first)
+      ∙ insert_same files at.file.number (node_of at.file.node)
+      (map.get-from_entries nat_cmp_total (map numbered tree.nodes.items) at.file.number
+      ∙ find_at tree.nodes.items index at.file at.inside at.here at.first)

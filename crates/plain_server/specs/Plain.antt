@@ -1,5 +1,6 @@
 -- Which tree the plain structs of this crate stand for.
-use Rattle.std.specs.Prelude.{◌≡◌, ℕ, ◌<◌, Bool, true, false, nat_eq, List, map, length, get_or, Result, Ok, Err}
+use Rattle.std.specs.Prelude.{◌≡◌, ℕ, ◌<◌, Bool, true, false, nat_eq, List, map, length, get_or, Result, Ok}
+use Rattle.std.specs.Prelude.{Err}
 use Rattle.std.specs.FinMap.{from_entries}
 use Rattle.nfs_types.specs.declared.call.Call.{Call}
 use Rattle.nfs_types.specs.declared.call.Call.TheVariants as call
@@ -17,8 +18,9 @@ abbrev pub entry_of : PlainEntry → List ℕ × DirectoryEntry
 entry_of entry = (entry.name, record { number = entry.number; slot = entry.slot })
 
 abbrev pub body_of : PlainBody → Body
-body_of (plain.Regular bytes kept) = Regular bytes.items kept
-body_of (plain.Directory entries span parent) = Directory (from_entries (map entry_of entries.items)) span parent
+body_of (plain.Regular bytes mapped) = Regular bytes.items mapped
+body_of (plain.Directory entries span parent) =
+    Directory (from_entries (map entry_of entries.items)) span parent
 body_of (plain.Link target) = Link target
 
 abbrev pub node_of : PlainNode → Node
@@ -45,15 +47,15 @@ tree_of tree = record {
   nodes = from_entries (map numbered tree.nodes.items);
 }
 
--- what stands at a place of the list is what was found
-pub record StandsAt (nodes : List NumberedNode) (place : ℕ) (found : Result (ℕ × Node) Status) : Type 0 where
+-- what stands at an index of the list is what was found
+pub record StandsAt (nodes : List NumberedNode) (index : ℕ) (found : Result (ℕ × Node) Status) : Type 0 where
   pub file : NumberedNode
-  pub inside : place < length nodes
-  pub here : get_or nodes place file ≡ file
-  pub first : (before : ℕ) → before < place → nat_eq file.number (get_or nodes before file).number ≡ false
+  pub inside : index < length nodes
+  pub here : get_or nodes index file ≡ file
+  pub first : (before : ℕ) → before < index → nat_eq file.number (get_or nodes before file).number ≡ false
   pub is : found ≡ Ok (numbered file)
 
--- a place in the list, or why there is none
+-- an index of the list, or why there is none
 abbrev pub Locates : List NumberedNode → Result ℕ Status → Result (ℕ × Node) Status → Type 0
-Locates nodes (Ok place) found = StandsAt nodes place found
+Locates nodes (Ok index) found = StandsAt nodes index found
 Locates nodes (Err status) found = found ≡ Err status

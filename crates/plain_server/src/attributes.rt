@@ -12,7 +12,7 @@ fn set_time(moment: &Moment, time: &SetTime, old: &Moment) -> Moment
     ensures { result ≡ set_time moment.now time.now old.now }
 {
     match time {
-        SetTime::Keep => *old,
+        SetTime::Unchanged => *old,
         SetTime::Server => *moment,
         SetTime::Client(time) => *time,
     }
@@ -23,7 +23,7 @@ fn with_size(size: &Option<u64>, time: &SetTime) -> SetTime
     ensures { result ≡ with_size size.now time.now }
 {
     match (size, time) {
-        (Some(_), SetTime::Keep) => SetTime::Server,
+        (Some(_), SetTime::Unchanged) => SetTime::Server,
         _ => *time,
     }
 }
@@ -45,13 +45,13 @@ fn set_length(body: &mut PlainBody, size: &Option<u64>) -> Result<(), AllocError
     let Some(size) = size else {
         return Ok(());
     };
-    let PlainBody::Regular { bytes, kept } = body else {
+    let PlainBody::Regular { bytes, mapped } = body else {
         return Ok(());
     };
     let old = bytes.len() as u64;
     bytes.resize(*size as usize, 0)?;
     if *size < old {
-        kept.cut(*size);
+        mapped.cut(*size);
     }
     Ok(())
 }

@@ -3,14 +3,14 @@
 #![tactic(auto)]
 
 mod attributes;
-mod kept;
+mod mapped;
 mod node;
 mod permissions;
 mod refusal;
 mod server;
 mod tree;
 
-pub use kept::Kept;
+pub use mapped::MappedIndexes;
 pub use node::{PlainBody, PlainEntry, PlainNode};
 pub use server::{PlainFault, serve};
 pub use tree::{NumberedNode, PlainTree};

@@ -4,7 +4,7 @@ ghost use Rattle.model.specs.Attributes.{attributes_of, before_change, kind_of, 
 ghost use Rattle.model.specs.Cost.{cost};
 ghost use Rattle.plain_server.specs.Plain.{body_of, node_of};
 
-use crate::Kept;
+use crate::MappedIndexes;
 use limits::{BLOCK_BYTES, DIRECT_INDEXES, FILE_SYSTEM};
 use nfs_types::{Attributes, DeviceNumber, FileKind, Moment, Octets, Stamp, WeakCacheAttributes};
 
@@ -21,7 +21,7 @@ pub struct PlainEntry {
 pub enum PlainBody {
     Regular {
         bytes: Vec<u8>,
-        kept: Kept,
+        mapped: MappedIndexes,
     },
     Directory {
         entries: Vec<PlainEntry>,
@@ -70,12 +70,12 @@ impl PlainBody {
         }
     }
 
-    /// The bytes of the blocks that the file holds.
+    /// The bytes of the blocks that the file uses.
     pub fn used(&self) -> u64
         ensures { result ≡ BLOCK_BYTES * cost (body_of self.now) }
     {
         let blocks = match self {
-            PlainBody::Regular { kept, .. } => kept.cost(),
+            PlainBody::Regular { mapped, .. } => mapped.cost(),
             PlainBody::Directory { span, .. } => {
                 *span as u64
                     + if *span as usize > DIRECT_INDEXES {

@@ -1,6 +1,7 @@
 //! What a caller may do with a file (RFC 1813, sections 2.6 and 4.4).
 ghost use Rattle.std.specs.Prelude.{◌≡◌, ◌≤◌};
-ghost use Rattle.model.specs.Permissions.{acts_as_owner, class_of, has_right, is_own_group, is_superuser, may_write_file};
+ghost use Rattle.model.specs.Permissions.{acts_as_owner, class_of, has_right, is_own_group, is_superuser};
+ghost use Rattle.model.specs.Permissions.{may_write_file};
 ghost use Rattle.limits.specs.declared.TheConstants.{WRITE_RIGHT};
 ghost use Rattle.plain_server.specs.Plain.{node_of};
 

@@ -1,6 +1,8 @@
 //! Why the attributes of a file aren't set (RFC 1813, section 3.3.2).
 ghost use Rattle.std.specs.Prelude.{◌≡◌, ◌||◌, ◌&&◌, not, nat_eq, nat_lt};
-ghost use Rattle.model.specs.SetAttr.{fails_guard, given, is_client, is_given_away, is_invalid, is_no_access, is_no_time, is_not_permitted, is_server, needs_owner, refusal, same_moment};
+ghost use Rattle.model.specs.SetAttr.{fails_guard, given, is_client, is_given_away, is_invalid, is_no_access};
+ghost use Rattle.model.specs.SetAttr.{is_no_time, is_not_permitted, is_server, needs_owner, refusal};
+ghost use Rattle.model.specs.SetAttr.{same_moment};
 ghost use Rattle.model.specs.Permissions.{is_own_group};
 ghost use Rattle.plain_server.specs.Plain.{node_of};
 
@@ -26,7 +28,7 @@ fn is_no_time(time: &SetTime) -> bool
 {
     match time {
         SetTime::Client(moment) => moment.nanoseconds >= NANOSECONDS,
-        SetTime::Server | SetTime::Keep => false,
+        SetTime::Server | SetTime::Unchanged => false,
     }
 }
 

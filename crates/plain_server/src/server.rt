@@ -79,8 +79,8 @@ pub fn serve(tree: &mut PlainTree, ctx: &Ctx, call: &Call) -> Result<Reply, Plai
 fn get_attributes(tree: &PlainTree, object: &Handle) -> Result<Attributes, Status>
     ensures { result ≡ attributes_found (find_file (tree_of tree.now) object.now.bytes) }
 {
-    let place = tree.find(object)?;
-    let file = &tree.nodes[place];
+    let index = tree.find(object)?;
+    let file = &tree.nodes[index];
     Ok(file.node.attributes(file.number))
 }
 
@@ -91,11 +91,12 @@ fn set_found(
     wanted: &NewAttributes,
     guard: &Option<Moment>,
 ) -> Result<SetReply, AllocError>
-    ensures step { IfOk result (λ reply. SetAttrStep (tree_of tree.old) ctx.now object.now.bytes wanted.now guard.now reply.outcome reply.object (tree_of tree.new)) }
+    ensures step { IfOk result (λ reply. SetAttrStep (tree_of tree.old) ctx.now object.now.bytes wanted.now
+        guard.now reply.outcome reply.object (tree_of tree.new)) }
     ensures err { OnErr result (tree_of tree.new ≡ tree_of tree.old) }
 {
-    let place = match tree.find(object) {
-        Ok(place) => place,
+    let index = match tree.find(object) {
+        Ok(index) => index,
         Err(status) => {
             return Ok(SetReply {
                 outcome: Err(status),
@@ -106,7 +107,7 @@ fn set_found(
             });
         }
     };
-    let file = &mut tree.nodes[place];
+    let file = &mut tree.nodes[index];
     let before = Some(file.node.before_change());
     let outcome = match refusal(ctx, wanted, guard, &file.node) {
         Some(status) => Err(status),

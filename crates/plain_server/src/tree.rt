@@ -33,7 +33,8 @@ impl PlainTree {
         inodes: u32,
         moment: Moment,
     ) -> Result<PlainTree, AllocError>
-        ensures { IfOk result (λ tree. tree_of tree ≡ format_tree (record { data_blocks = data_blocks; inodes = inodes }) moment) }
+        ensures { IfOk result (λ tree. tree_of tree
+            ≡ format_tree (record { data_blocks = data_blocks; inodes = inodes }) moment) }
     {
         let root = PlainNode {
             mode: ROOT_MODE,
@@ -80,12 +81,12 @@ impl PlainTree {
         ensures { Locates self.now.nodes.items result
             (find_file (tree_of self.now) (handle_bytes number (record { boot = boot; transaction = transaction }))) }
     {
-        let Some(place) = self.position_of(number) else {
+        let Some(index) = self.position_of(number) else {
             return Err(Status::Stale);
         };
-        let file = &self.nodes[place];
+        let file = &self.nodes[index];
         if boot == file.node.stamp.boot && transaction == file.node.stamp.transaction {
-            Ok(place)
+            Ok(index)
         } else {
             Err(Status::Stale)
         }

@@ -1,10 +1,12 @@
 -- What is read spells the message, and a message that is spelled is read.
-use Rattle.std.proofs.Common.{◌≡◌, ℕ, ◌⊎◌, inl, inr, List, ◌++◌, length, Option, Some, None, Result, Ok, Err, refl, sym, ap, subst, ◌∙◌}
+use Rattle.std.proofs.Common.{◌≡◌, ℕ, ◌⊎◌, inl, inr, List, ◌++◌, length, Option, Some, None, Result, Ok, Err}
+use Rattle.std.proofs.Common.{refl, sym, ap, subst, ◌∙◌}
 use Rattle.std.specs.Prelude.{◌==◌, IfSome, IfNone}
 use Rattle.std.specs.Result.{result_ok}
 use Rattle.std.proofs.lemmas.Bool.{eqb-true}
 use Rattle.std.proofs.lemmas.List.{nil_from_length}
-use Rattle.session_wire.specs.declared.rpc.numbers.TheConstants.{CALL, RPC_VERSION, NFS_PROGRAM, NFS_VERSION, AUTH_NONE, AUTH_SYS}
+use Rattle.session_wire.specs.declared.rpc.constants.TheConstants.{CALL, RPC_VERSION, NFS_PROGRAM}
+use Rattle.session_wire.specs.declared.rpc.constants.TheConstants.{NFS_VERSION, AUTH_NONE, AUTH_SYS}
 use Rattle.session_wire.specs.declared.message.MessageCredential.{MessageCredential}
 use Rattle.session_wire.specs.declared.message.MessageCredential.TheVariants.{Nobody, Caller}
 use Rattle.session_wire.specs.declared.message.CallMessage.{CallMessage}
@@ -17,12 +19,15 @@ use Rattle.session_wire.specs.ReadingReplies.{reply_of}
 use Rattle.session_wire.specs.Reading.{◌>>=◌, Reads}
 use Rattle.session_wire.specs.Headers.{opening_at, header_at}
 use Rattle.session_wire.specs.Credentials.{System, caller_at}
-use Rattle.session_wire.specs.Calls.{procedure_of, procedure_number, called, arguments, CredentialFits, call_bytes, SpellsCall}
+use Rattle.session_wire.specs.Calls.{procedure_of, procedure_number, called, arguments, CredentialFits}
+use Rattle.session_wire.specs.Calls.{call_bytes, SpellsCall}
 use Rattle.session_wire.specs.ReadingCalls.{call_of}
 use Rattle.session_wire.proofs.Coded.{IsBytes, bind_ok, holds_ok}
 use Rattle.session_wire.proofs.CodedCalls.{call_takes, call_again, procedure_again, procedure_takes}
-use Rattle.session_wire.proofs.CodedHeaders.{openings, headings, opening_bytes, heading_bytes, caller_takes, caller_again, flavor_of, body_of}
-use Rattle.session_wire.proofs.CallLaws.{opening_of, heading_of, parted, opens, heads, body_bytes, same_opening, same_heading, joined_parts}
+use Rattle.session_wire.proofs.CodedHeaders.{openings, headings, opening_bytes, heading_bytes, caller_takes}
+use Rattle.session_wire.proofs.CodedHeaders.{caller_again, flavor_of, body_of}
+use Rattle.session_wire.proofs.CallLaws.{opening_of, heading_of, parted, opens, heads, body_bytes}
+use Rattle.session_wire.proofs.CallLaws.{same_opening, same_heading, joined_parts}
 use Rattle.session_wire.proofs.CodedReplies.{chosen}
 use Rattle.session_wire.proofs.ReplyLaws.{read_reply, reply_takes, reply_again}
 use Rattle.plain_wire.specs.Messages.{wanted, numbered, credential_of, message_of}
@@ -38,18 +43,27 @@ found m = Ok m
 found_is : (x y : MessageCredential) → found x ≡ found y → x ≡ y
 found_is x y e = cc
 
-credential_takes : (flavor : ℕ) (body : List ℕ) (m : MessageCredential) → IsBytes body → credential_of flavor body ≡ Ok m → IsCredential flavor body m
+credential_takes : (flavor : ℕ) (body : List ℕ) (m : MessageCredential) → IsBytes body
+    → credential_of flavor body ≡ Ok m → IsCredential flavor body m
 unfolding credential_of
 credential_takes flavor body m fits e =
     elim (chosen (flavor == AUTH_NONE) _ _ (Ok m) e) [
       | inl none ↦
           let h = holds_ok (length body == 0) Value (Ok Nobody) m none.1 in
-          subst (λ (x : MessageCredential). IsCredential flavor body x) (found_is Nobody m h.1) (record { flavor_is = eqb-true flavor 0 none.0; body_is = nil_from_length body (eqb-true _ _ h.0); fits = tt })
+          subst (λ (x : MessageCredential). IsCredential flavor body x) (found_is Nobody m h.1)
+          (record {
+            flavor_is = eqb-true flavor 0 none.0;
+            body_is = nil_from_length body (eqb-true _ _ h.0);
+            fits = tt;
+          })
       | inr some ↦
-          let h = holds_ok (flavor == AUTH_SYS) Value (caller_at body >>= λ s. Ok (Caller s.stamp s.machine s.caller)) m some.1 in
+          let h = holds_ok (flavor == AUTH_SYS) Value
+          (caller_at body >>= λ s. Ok (Caller s.stamp s.machine s.caller)) m some.1 in
           let a = bind_ok (caller_at body) (λ s. Ok (Caller s.stamp s.machine s.caller)) m h.1 in
           let t = caller_takes body a.0 fits a.1 in
-          subst (λ (x : MessageCredential). IsCredential flavor body x) (found_is (Caller a.0.stamp a.0.machine a.0.caller) m a.2) (record { flavor_is = eqb-true flavor 1 h.0; body_is = t.0; fits = t.1 })
+          subst (λ (x : MessageCredential). IsCredential flavor body x)
+          (found_is (Caller a.0.stamp a.0.machine a.0.caller) m a.2)
+          (record { flavor_is = eqb-true flavor 1 h.0; body_is = t.0; fits = t.1 })
     ]
 
 credential_again : (m : MessageCredential) → CredentialFits m → credential_of (flavor_of m) (body_of m) ≡ Ok m
@@ -72,7 +86,8 @@ read_message m = Ok m
 message_is : (x y : CallMessage) → read_message x ≡ read_message y → x ≡ y
 message_is x y e = cc
 
-pub message_takes : (bytes : List ℕ) (m : CallMessage) → IsBytes bytes → message_of bytes ≡ Ok m → SpellsCall bytes m
+pub message_takes : (bytes : List ℕ) (m : CallMessage) → IsBytes bytes → message_of bytes ≡ Ok m
+    → SpellsCall bytes m
 unfolding message_of
 message_takes bytes m fits e =
     let o = bind_ok (opening_at bytes) _ m e in
@@ -89,17 +104,48 @@ message_takes bytes m fits e =
     let v = call_takes p.0 h.0.1 a.0 u.0.rest_fits a.1 in
     let body_fits : IsBytes h.0.0.body = body_bytes h.0.0 h.0.1 (subst IsBytes u.0.parts t.0.rest_fits) in
     let w = credential_takes h.0.0.flavor h.0.0.body c.0 body_fits c.1 in
-    let made : CallMessage = record { xid = o.0.0.xid; credential = c.0; verifier = record { flavor = h.0.0.verifier_flavor; body = h.0.0.verifier }; call = a.0 } in
-    let number : h.0.0.procedure ≡ procedure_number (called a.0) = procedure_takes h.0.0.procedure p.0 (numbered_is (procedure_of h.0.0.procedure) p.0 p.1) ∙ ap procedure_number (sym v.procedure) in
-    let opening_same : opening_bytes o.0.0 ≡ opening_bytes (opening_of made) = same_opening o.0.0 CALL RPC_VERSION (wanted_is o.0.0.kind CALL k.0 k.1) (wanted_is o.0.0.rpc_version RPC_VERSION r.0 r.1) in
-    let heading_same : heading_bytes h.0.0 ≡ heading_bytes (heading_of made) = same_heading h.0.0 NFS_PROGRAM NFS_VERSION (procedure_number (called a.0)) (flavor_of c.0) (body_of c.0) (wanted_is h.0.0.program NFS_PROGRAM g.0 g.1) (wanted_is h.0.0.version NFS_VERSION n.0 n.1) number w.flavor_is w.body_is in
-    let spelled : bytes ≡ call_bytes made = t.0.parts ∙ ap (λ (x : List ℕ). opening_bytes o.0.0 ++ x) (u.0.parts ∙ ap (λ (x : List ℕ). heading_bytes h.0.0 ++ x) v.spelled) ∙ joined_parts (opening_bytes o.0.0) (opening_bytes (opening_of made)) (heading_bytes h.0.0) (heading_bytes (heading_of made)) (arguments a.0) opening_same heading_same ∙ sym (parted made) in
-    subst (λ (x : CallMessage). SpellsCall bytes x) (message_is made m a.2) (record { xid = t.1.xid; credential_fits = w.fits; verifier_flavor = u.1.verifier_flavor; verifier_body = u.1.verifier; call_fits = v.fits; spelled = spelled })
+    let made : CallMessage =
+    record {
+      xid = o.0.0.xid;
+      credential = c.0;
+      verifier = record { flavor = h.0.0.verifier_flavor; body = h.0.0.verifier };
+      call = a.0;
+    } in
+    let number : h.0.0.procedure ≡ procedure_number (called a.0) =
+    procedure_takes h.0.0.procedure p.0 (numbered_is (procedure_of h.0.0.procedure) p.0 p.1)
+    ∙ ap procedure_number (sym v.procedure) in
+    let opening_same : opening_bytes o.0.0 ≡ opening_bytes (opening_of made) =
+    same_opening o.0.0 CALL RPC_VERSION (wanted_is o.0.0.kind CALL k.0 k.1)
+    (wanted_is o.0.0.rpc_version RPC_VERSION r.0 r.1) in
+    let heading_same : heading_bytes h.0.0 ≡ heading_bytes (heading_of made) =
+    same_heading h.0.0 NFS_PROGRAM NFS_VERSION (procedure_number (called a.0)) (flavor_of c.0)
+    (body_of c.0) (wanted_is h.0.0.program NFS_PROGRAM g.0 g.1)
+    (wanted_is h.0.0.version NFS_VERSION n.0 n.1) number w.flavor_is w.body_is in
+    let spelled : bytes ≡ call_bytes made = t.0.parts
+    ∙ ap (λ (x : List ℕ). opening_bytes o.0.0 ++ x) (u.0.parts
+    ∙ ap (λ (x : List ℕ). heading_bytes h.0.0 ++ x) v.spelled)
+    ∙ joined_parts (opening_bytes o.0.0) (opening_bytes (opening_of made)) (heading_bytes h.0.0)
+    (heading_bytes (heading_of made)) (arguments a.0) opening_same heading_same ∙ sym (parted made) in
+    subst (λ (x : CallMessage). SpellsCall bytes x) (message_is made m a.2)
+    (record {
+      xid = t.1.xid;
+      credential_fits = w.fits;
+      verifier_flavor = u.1.verifier_flavor;
+      verifier_body = u.1.verifier;
+      call_fits = v.fits;
+      spelled = spelled;
+    })
 
 pub message_again : (bytes : List ℕ) (m : CallMessage) → SpellsCall bytes m → message_of bytes ≡ Ok m
 unfolding message_of
 message_again bytes m s =
-    rw (opens bytes m s, heads bytes m s, procedure_again (called m.call), credential_again m.credential s.credential_fits, call_again m.call s.call_fits) refl
+    rw (
+      opens bytes m s,
+      heads bytes m s,
+      procedure_again (called m.call),
+      credential_again m.credential s.credential_fits,
+      call_again m.call s.call_fits,
+    ) refl
 
 apart : (m : CallMessage) (e : XdrFault) → read_message m ≡ Err e → ⊥
 apart m e h = absurd cc
@@ -107,14 +153,18 @@ apart m e h = absurd cc
 reply_apart : (m : ReplyMessage) (e : XdrFault) → read_reply m ≡ Err e → ⊥
 reply_apart m e h = absurd cc
 
-pub none_spelled : (bytes : List ℕ) (e : XdrFault) → (message_of bytes ≡ Err e) ⊎ (e ≡ NoMemory) → (e ≡ NoMemory → ⊥) → (m : CallMessage) → SpellsCall bytes m → ⊥
+pub none_spelled : (bytes : List ℕ) (e : XdrFault) → (message_of bytes ≡ Err e) ⊎ (e ≡ NoMemory)
+    → (e ≡ NoMemory → ⊥) → (m : CallMessage) → SpellsCall bytes m → ⊥
 none_spelled bytes e (inl refused) not_memory m s = apart m e (sym (message_again bytes m s) ∙ refused)
 none_spelled bytes e (inr memory) not_memory m s = not_memory memory
 
-pub reply_found : (p : Procedure) (bytes : List ℕ) (r : Result ReplyMessage XdrFault) → IsBytes bytes → Reads (λ m. m) r (reply_of p bytes) → IfSome (result_ok r) (λ m. SpellsReply p bytes m)
+pub reply_found : (p : Procedure) (bytes : List ℕ) (r : Result ReplyMessage XdrFault) → IsBytes bytes
+    → Reads (λ m. m) r (reply_of p bytes) → IfSome (result_ok r) (λ m. SpellsReply p bytes m)
 reply_found p bytes (Ok m) fits e = reply_takes p bytes m fits e
 reply_found p bytes (Err d) fits e = tt
 
-pub reply_none : (p : Procedure) (bytes : List ℕ) (r : Result ReplyMessage XdrFault) → Reads (λ m. m) r (reply_of p bytes) → IfNone (result_ok r) ((m : ReplyMessage) → SpellsReply p bytes m → ⊥)
+pub reply_none : (p : Procedure) (bytes : List ℕ) (r : Result ReplyMessage XdrFault)
+    → Reads (λ m. m) r (reply_of p bytes)
+    → IfNone (result_ok r) ((m : ReplyMessage) → SpellsReply p bytes m → ⊥)
 reply_none p bytes (Ok m) e = tt
 reply_none p bytes (Err d) e = λ m s. reply_apart m d (sym (reply_again p bytes m s) ∙ e)

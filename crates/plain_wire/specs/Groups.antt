@@ -8,7 +8,14 @@ abbrev pub owned : Owned → Ownership
 owned o = record { kind = o.kind; mode = o.mode; nlink = o.nlink; uid = o.uid; gid = o.gid }
 
 abbrev pub sized : Sized → Extent
-sized e = record { size = e.size; used = e.used; major = e.device.major; minor = e.device.minor; file_system = e.file_system; number = e.number }
+sized e = record {
+  size = e.size;
+  used = e.used;
+  major = e.device.major;
+  minor = e.device.minor;
+  file_system = e.file_system;
+  number = e.number;
+}
 
 abbrev pub timed : Timed → Times
 timed t = record { atime = t.atime; mtime = t.mtime; ctime = t.ctime }

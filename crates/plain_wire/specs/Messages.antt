@@ -1,6 +1,7 @@
 -- Reading a call message from left to right (RFC 5531, section 9).
 use Rattle.std.specs.Prelude.{ℕ, List, Option, Some, None, Result, Ok, Err, length, ◌==◌, if◌then◌else◌}
-use Rattle.session_wire.specs.declared.rpc.numbers.TheConstants.{CALL, RPC_VERSION, NFS_PROGRAM, NFS_VERSION, AUTH_NONE, AUTH_SYS}
+use Rattle.session_wire.specs.declared.rpc.constants.TheConstants.{CALL, RPC_VERSION, NFS_PROGRAM}
+use Rattle.session_wire.specs.declared.rpc.constants.TheConstants.{NFS_VERSION, AUTH_NONE, AUTH_SYS}
 use Rattle.session_wire.specs.declared.message.MessageCredential.{MessageCredential}
 use Rattle.session_wire.specs.declared.message.MessageCredential.TheVariants.{Nobody, Caller}
 use Rattle.session_wire.specs.declared.message.CallMessage.{CallMessage}
@@ -39,4 +40,9 @@ message_of bytes = do
   procedure ← numbered (procedure_of header.0.procedure)
   credential ← credential_of header.0.flavor header.0.body
   call ← call_of procedure header.1
-  Ok (record { xid = opening.0.xid; credential = credential; verifier = record { flavor = header.0.verifier_flavor; body = header.0.verifier }; call = call })
+  Ok (record {
+    xid = opening.0.xid;
+    credential = credential;
+    verifier = record { flavor = header.0.verifier_flavor; body = header.0.verifier };
+    call = call;
+  })

@@ -2,7 +2,10 @@
 ghost use Rattle.std.specs.Prelude.{◌≡◌};
 ghost use Rattle.session_wire.specs.Reading.{Reads};
 ghost use Rattle.plain_wire.specs.Groups.{owned, sized, timed};
-ghost use Rattle.session_wire.specs.ReadingReplies.{this_at, versions_at, status_of, kind_of, kind_at, ownership_at, extent_at, times_at, attributes_at, optional_attributes_at, weak_cache_attributes_at, before_at, weak_cache_at, outcome_at, got_at};
+ghost use Rattle.session_wire.specs.ReadingReplies.{this_at, versions_at, status_of, kind_of, kind_at};
+ghost use Rattle.session_wire.specs.ReadingReplies.{ownership_at, extent_at, times_at, attributes_at};
+ghost use Rattle.session_wire.specs.ReadingReplies.{optional_attributes_at, weak_cache_attributes_at};
+ghost use Rattle.session_wire.specs.ReadingReplies.{before_at, weak_cache_at, outcome_at, get_attr_at};
 
 use nfs_types::{
     Attributes, DeviceNumber, FileKind, Moment, Status, WeakCacheAttributes, WeakCacheData,
@@ -244,9 +247,9 @@ pub fn read_outcome(reader: &mut Reader) -> Result<Result<(), Status>, XdrFault>
 }
 
 /// The result of GETATTR.
-#[tactic(auto, unfolding(session_wire::specs::ReadingReplies::got_at))]
-pub fn read_got(reader: &mut Reader) -> Result<Result<Attributes, Status>, XdrFault>
-    ensures { Reads (λ x. (x, reader.new)) result (got_at reader.old) }
+#[tactic(auto, unfolding(session_wire::specs::ReadingReplies::get_attr_at))]
+pub fn read_get_attr(reader: &mut Reader) -> Result<Result<Attributes, Status>, XdrFault>
+    ensures { Reads (λ x. (x, reader.new)) result (get_attr_at reader.old) }
 {
     match read_outcome(reader)? {
         Ok(()) => Ok(Ok(read_attributes(reader)?)),

@@ -5,7 +5,7 @@ ghost use Rattle.session_wire.specs.Reading.{Reads};
 ghost use Rattle.session_wire.specs.Replies.{SpellsReply};
 ghost use Rattle.session_wire.specs.ReadingReplies.{accepted_at, denied_at, state_of, result_at, reply_of};
 
-use crate::items::{expect, read_got, read_outcome, read_versions, read_weak_cache};
+use crate::items::{expect, read_get_attr, read_outcome, read_versions, read_weak_cache};
 use nfs_types::Reply;
 use session_wire::nfs_codec::Procedure;
 use session_wire::rpc::{NFS_VERSION, REPLY, RPC_VERSION, Refusal};
@@ -89,7 +89,7 @@ fn read_result(procedure: Procedure, reader: &mut Reader) -> Result<Reply, XdrFa
     match procedure {
         Procedure::Null => Ok(Reply::Null),
         Procedure::GetAttr => {
-            let outcome = read_got(reader)?;
+            let outcome = read_get_attr(reader)?;
             Ok(Reply::GetAttr { outcome })
         }
         Procedure::SetAttr => {

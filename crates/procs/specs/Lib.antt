@@ -1,2 +1,2 @@
-pub mod Seen
-pub mod Told
+pub mod Snap
+pub mod FoundFile

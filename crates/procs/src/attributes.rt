@@ -3,18 +3,18 @@ ghost use Rattle.std.specs.Prelude.{◌≡◌, ◌*◌};
 ghost use Rattle.model.specs.Attributes.{attributes_of, before_change, change_of, kind_of, size_of};
 ghost use Rattle.model.specs.Node.{Body};
 ghost use Rattle.layout.specs.Decode.{node_with};
-ghost use Rattle.procs.specs.Told.{file_kind, IsBodyOf};
+ghost use Rattle.procs.specs.FoundFile.{file_kind, IsBodyOf};
 
 use layout::{Inode, InodeKind};
 use limits::{BLOCK_BYTES, FILE_SYSTEM};
 use nfs_types::{Attributes, DeviceNumber, FileKind, WeakCacheAttributes, WeakCacheData};
 
-/// A file that was found: its number, its inode, and how many blocks it holds.
+/// A file that was found: its number, its inode, and how many blocks it uses.
 #[derive(Clone, Copy, Debug, PartialEq, Eq)]
-pub(crate) struct Found {
+pub(crate) struct FoundFile {
     pub(crate) number: u32,
     pub(crate) inode: Inode,
-    pub(crate) held: u32,
+    pub(crate) used: u32,
 }
 
 fn file_kind(kind: InodeKind) -> FileKind
@@ -27,10 +27,11 @@ fn file_kind(kind: InodeKind) -> FileKind
     }
 }
 
-impl Found {
+impl FoundFile {
     /// The attributes of the file.
     pub(crate) fn attributes(&self) -> Attributes
-        ensures { (body : Body) → IsBodyOf self.now body → result ≡ attributes_of self.now.number (node_with self.now.inode body) }
+        ensures { (body : Body) → IsBodyOf self.now body
+            → result ≡ attributes_of self.now.number (node_with self.now.inode body) }
     {
         Attributes {
             kind: file_kind(self.inode.kind),
@@ -39,7 +40,7 @@ impl Found {
             uid: self.inode.uid,
             gid: self.inode.gid,
             size: self.inode.size,
-            used: BLOCK_BYTES as u64 * self.held as u64,
+            used: BLOCK_BYTES as u64 * self.used as u64,
             device: DeviceNumber { major: 0, minor: 0 },
             file_system: FILE_SYSTEM,
             number: self.number as u64,
@@ -51,7 +52,8 @@ impl Found {
 
     /// The file as it is before a change.
     pub(crate) fn before_change(&self) -> WeakCacheAttributes
-        ensures { (body : Body) → IsBodyOf self.now body → result ≡ before_change (node_with self.now.inode body) }
+        ensures { (body : Body) → IsBodyOf self.now body
+            → result ≡ before_change (node_with self.now.inode body) }
     {
         WeakCacheAttributes {
             size: self.inode.size,
@@ -61,9 +63,11 @@ impl Found {
     }
 
     /// The file before and after a change.
-    pub(crate) fn change_to(&self, new: &Found) -> WeakCacheData
+    pub(crate) fn change_to(&self, new: &FoundFile) -> WeakCacheData
         requires { new.now.number ≡ self.now.number }
-        ensures { (body : Body) → IsBodyOf self.now body → IsBodyOf new.now body → result ≡ change_of self.now.number (node_with self.now.inode body) (node_with new.now.inode body) }
+        ensures { (body : Body) → IsBodyOf self.now body → IsBodyOf new.now body
+            → result ≡ change_of self.now.number (node_with self.now.inode body)
+            (node_with new.now.inode body) }
     {
         WeakCacheData {
             before: Some(self.before_change()),

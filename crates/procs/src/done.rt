@@ -8,8 +8,8 @@ use nfs_types::Reply;
 use std::alloc::AllocError;
 use txn::{Change, Object};
 
-/// A finished plan: the reply, the objects that were read for it, those that it writes, and the counts of the image
-/// that it was worked out for. It writes no more blocks than a transaction changes.
+/// A finished plan: the reply, the objects that were read for it, those that it writes, and the counts of the
+/// image that it was worked out for. It writes no more blocks than a transaction changes.
 #[derive(Drop)]
 pub struct Done {
     reply: Reply,
@@ -21,7 +21,7 @@ pub struct Done {
 }
 
 impl Done {
-    ghost use Rattle.procs.specs.Seen.{IsDoneFor};
+    ghost use Rattle.procs.specs.Snap.{IsDoneFor};
 
     /// What comes of a call, worked out from all that was read.
     pub(crate) fn new(snap: &Snap, reply: Reply, written: Vec<Object>) -> Result<Done, AllocError>

@@ -1,9 +1,9 @@
 //! The file that a handle names.
 ghost use Rattle.std.specs.Prelude.{◌≡◌, ◌+◌, ◌<◌, ◌≤◌, length, IfErr, IfOk};
 ghost use Rattle.limits.specs.declared.TheConstants.{INDIRECT_INDEXES};
-ghost use Rattle.procs.specs.Seen.{IsNew};
+ghost use Rattle.procs.specs.Snap.{IsNew};
 
-use crate::attributes::Found;
+use crate::attributes::FoundFile;
 use crate::snap::Snap;
 use crate::stop::Stop;
 use disk::BlockNo;
@@ -23,9 +23,9 @@ fn bytes_at(snap: &Snap, addr: Addr) -> Result<&[u8], Stop>
     }
 }
 
-// How many blocks the indirect block of this number keeps, and itself.
-fn held_by(alloc: Global, snap: &Snap, indirect: u32) -> Result<u32, Stop>
-    ensures ok { IfOk result (λ held. held ≤ INDIRECT_INDEXES + 1) }
+// How many blocks the indirect block of this number maps, and itself.
+fn used_by(alloc: Global, snap: &Snap, indirect: u32) -> Result<u32, Stop>
+    ensures ok { IfOk result (λ used. used ≤ INDIRECT_INDEXES + 1) }
     ensures err { IfErr result (λ stop. IsNew snap.now stop) }
 {
     if indirect == 0 {
@@ -33,7 +33,7 @@ fn held_by(alloc: Global, snap: &Snap, indirect: u32) -> Result<u32, Stop>
     }
     let bytes = bytes_at(snap, Addr::whole(BlockNo(indirect)))?;
     match Numbers::read(alloc, &snap.geometry, bytes)? {
-        Ok(numbers) => Ok(numbers.kept() + 1),
+        Ok(numbers) => Ok(numbers.mapped() + 1),
         Err(_) => Err(Stop::Io),
     }
 }
@@ -47,13 +47,13 @@ fn inode_of(snap: &Snap, number: u32) -> Result<Inode, Stop>
     Inode::read(&snap.geometry, bytes).map_err(|_| Stop::Io)
 }
 
-/// The file that a handle names, or why there is none: BADHANDLE for what can't be a handle of this server, STALE
-/// for a file that is no more (RFC 1813, section 2.6).
+/// The file that a handle names, or why there is none: BADHANDLE for what can't be a handle of this server,
+/// STALE for a file that is no more (RFC 1813, section 2.6).
 pub(crate) fn find(
     alloc: Global,
     snap: &Snap,
     handle: &Handle,
-) -> Result<Result<Found, Status>, Stop>
+) -> Result<Result<FoundFile, Status>, Stop>
     ensures err { IfErr result (λ stop. IsNew snap.now stop) }
     ensures ok { IfOk result (λ found. IfOk found (λ f. f.number < snap.now.geometry.inodes)) }
 {
@@ -67,10 +67,10 @@ pub(crate) fn find(
     if inode.kind == InodeKind::Free || inode.stamp != stamp {
         return Ok(Err(Status::Stale));
     }
-    let held = inode.directly_held() + held_by(alloc, snap, inode.indirect)?;
-    Ok(Ok(Found {
+    let used = inode.directly_used() + used_by(alloc, snap, inode.indirect)?;
+    Ok(Ok(FoundFile {
         number,
         inode,
-        held,
+        used,
     }))
 }

@@ -11,7 +11,8 @@ const UNTOLD: WeakCacheData = WeakCacheData {
     after: None,
 };
 
-/// The reply of the call's own procedure with this status and without any optional part (RFC 1813, section 3.3).
+/// The reply of the call's own procedure with this status and without any optional part (RFC 1813, section
+/// 3.3).
 pub fn refused_reply(call: &Call, status: Status) -> Reply
     ensures { result ≡ refused status call.now }
 {

@@ -1,14 +1,14 @@
 //! Which calls are served.
 ghost use Rattle.std.specs.Prelude.{◌≡◌};
-ghost use Rattle.model.specs.Calls.{has_rules, sets_only_mode, is_kept, is_answered_stable, is_unstable};
+ghost use Rattle.model.specs.Calls.{has_rules, sets_only_mode, is_unchanged, is_answered_stable, is_unstable};
 
 use nfs_types::{Call, NewAttributes, SetTime, Stability};
 
-fn is_kept(time: &SetTime) -> bool
-    ensures { result ≡ is_kept time.now }
+fn is_unchanged(time: &SetTime) -> bool
+    ensures { result ≡ is_unchanged time.now }
 {
     match time {
-        SetTime::Keep => true,
+        SetTime::Unchanged => true,
         SetTime::Server | SetTime::Client(_) => false,
     }
 }
@@ -19,11 +19,12 @@ fn sets_only_mode(wanted: &NewAttributes) -> bool
     wanted.uid.is_none()
         && wanted.gid.is_none()
         && wanted.size.is_none()
-        && is_kept(&wanted.atime)
-        && is_kept(&wanted.mtime)
+        && is_unchanged(&wanted.atime)
+        && is_unchanged(&wanted.mtime)
 }
 
-/// Whether the call is served so far: GETATTR, and SETATTR of no more than the mode (RFC 1813, sections 3.3.1 and 3.3.2).
+/// Whether the call is served so far: GETATTR, and SETATTR of no more than the mode (RFC 1813, sections 3.3.1
+/// and 3.3.2).
 pub fn has_rules(call: &Call) -> bool
     ensures { result ≡ has_rules call.now }
 {

@@ -1,6 +1,6 @@
 //! What has been read for a call so far.
 ghost use Rattle.std.specs.Prelude.{◌≡◌, false, true, ◌∷◌, [], ◌++◌, length, IfSome, IfNone, OnOk};
-ghost use Rattle.procs.specs.Seen.{HasRoom, is_seen, same_addr};
+ghost use Rattle.procs.specs.Snap.{HasRoom, is_seen, same_addr};
 
 use disk::BlockNo;
 use layout::Geometry;
@@ -8,7 +8,8 @@ use objects::Addr;
 use std::alloc::{AllocError, Global};
 use txn::Object;
 
-/// The geometry of the image, the objects that were read so far in their order, and the blocks that were claimed.
+/// The geometry of the image, the objects that were read so far in their order, and the blocks that were
+/// claimed.
 #[derive(Drop)]
 pub struct Snap {
     pub(crate) geometry: Geometry,
@@ -45,7 +46,8 @@ impl Snap {
     pub fn add(&mut self, addr: Addr, bytes: Vec<u8>)
         requires len { length bytes.items ≡ addr.len }
         requires room { HasRoom self.old }
-        ensures objects { self.new.objects.items ≡ self.old.objects.items ++ record { addr = addr; bytes = bytes.items } ∷ [] }
+        ensures objects { self.new.objects.items ≡ self.old.objects.items
+            ++ record { addr = addr; bytes = bytes.items } ∷ [] }
         ensures geometry { self.new.geometry ≡ self.old.geometry }
         ensures claims { self.new.claims.items ≡ self.old.claims.items }
     {

@@ -2,7 +2,8 @@
 use objects::Addr;
 use std::alloc::AllocError;
 
-/// What stands in a plan's way: an object that wasn't read yet, one that the layout refuses, or want of memory.
+/// What stands in a plan's way: an object that wasn't read yet, one that the layout refuses, or want of
+/// memory.
 #[derive(Clone, Copy, Debug, PartialEq, Eq)]
 pub enum Stop {
     Need(Addr),

@@ -1,9 +1,9 @@
 //! Plans: what a call needs next, or what comes of it.
 ghost use Rattle.std.specs.Prelude.{◌≡◌, true, ◌<◌, IfErr, IfOk};
 ghost use Rattle.model.specs.Calls.{has_rules, sets_only_mode};
-ghost use Rattle.procs.specs.Seen.{IsNew, IsPlanFor, IsDoneFor};
+ghost use Rattle.procs.specs.Snap.{IsNew, IsPlanFor, IsDoneFor};
 
-use crate::attributes::Found;
+use crate::attributes::FoundFile;
 use crate::done::Done;
 use crate::find::find;
 use crate::next::Plan;
@@ -48,7 +48,7 @@ fn left(
 }
 
 // The change of an inode, with its reply.
-fn changed(alloc: Global, snap: &Snap, old: &Found, new: &Found) -> Result<Done, AllocError>
+fn changed(alloc: Global, snap: &Snap, old: &FoundFile, new: &FoundFile) -> Result<Done, AllocError>
     requires number { new.now.number < snap.now.geometry.inodes }
     requires same { new.now.number ≡ old.now.number }
     ensures { IfOk result (λ done. IsDoneFor snap.now done) }
@@ -131,8 +131,9 @@ fn work(alloc: Global, ctx: &Ctx, call: &Call, snap: &Snap) -> Result<Done, Stop
     }
 }
 
-/// What a call needs next, or what comes of it, by what was read so far. It asks for one object at a time, and
-/// begins anew each time. An object that the layout refuses makes it IO, with nothing told and nothing written.
+/// What a call needs next, or what comes of it, by what was read so far. It asks for one object at a time,
+/// and begins anew each time. An object that the layout refuses makes it IO, with nothing told and nothing
+/// written.
 pub fn plan(alloc: Global, ctx: &Ctx, call: &Call, snap: &Snap) -> Plan
     requires { has_rules call.now ≡ true }
     ensures { IsPlanFor snap.now result }

@@ -1,11 +1,11 @@
-//! From a stream of calls to a stream of replies (RFC 5531): each record is read, its call is served by one thread, and
-//! its reply is written. The bytes of messages are `session_wire`'s.
+//! From a stream of calls to a stream of replies (RFC 5531): each record is read, its call is served by one
+//! thread, and its reply is written. The bytes of messages are `session_wire`'s.
 #![tactic(auto)]
 
 mod serving;
 
-pub use serving::{SessionFault, answer_to, serve};
+pub use serving::{SessionFault, reply_to, serve};
 pub use session_wire::{
-    Answer, CallMessage, Judged, MessageCredential, ReplyBody, ReplyMessage, Verifier, judge,
+    CallMessage, Judged, MessageCredential, ReplyBody, ReplyMessage, RpcReply, Verifier, judge,
     nfs_codec, reply_bytes, rpc, xdr,
 };

@@ -1,14 +1,14 @@
 //! Serving a stream: the calls of its records, one after the other, and their replies.
 ghost use Rattle.std.specs.Prelude.{◌≡◌, ◌<◌, ◌↔◌, IsTrue, IsSome, IfOk, None, length};
 ghost use Rattle.session_wire.specs.Replies.{IsSpellable, body_of};
-ghost use Rattle.session_wire.specs.Results.{IsServed};
+ghost use Rattle.session_wire.specs.Results.{HasSpelling};
 
 use bytes::Bytes;
 use disk::CrashDisk;
 use limits::{MOST_READS, PIECE_BYTES};
 use nfs_types::{Moment, Reply};
 use session_wire::rpc::{Records, Refusal, RpcFault};
-use session_wire::{Answer, Judged, judge, reply_bytes};
+use session_wire::{Judged, RpcReply, judge, reply_bytes};
 use std::alloc::Global;
 use std::io::{Read, Write};
 use store::{Store, Verdict, procedure, settle};
@@ -37,9 +37,9 @@ pub enum SessionFault {
     Device = 6,
 }
 
-/// Answers the records of a stream in their order, each call at the moment, and gives the count of the replies. At the
-/// end of the input everything is settled. The records before a fault are answered, and then, but after Output, what
-/// can be settled is settled too.
+/// Answers the records of a stream in their order, each call at the moment, and gives the count of the
+/// replies. At the end of the input everything is settled. The records before a fault are answered, and then,
+/// but after Output, what can be settled is settled too.
 pub fn serve<D: CrashDisk, R: Read, W: Write>(
     alloc: Global,
     store: &mut Store<D>,
@@ -89,13 +89,13 @@ fn serve_all<D: CrashDisk, R: Read, W: Write>(
         records
             .feed(&piece[..read])
             .map_err(|_| SessionFault::NoMemory)?;
-        count = answer_whole(alloc, store, &mut records, writer, moment, count)?;
+        count = serve_records(alloc, store, &mut records, writer, moment, count)?;
     }
     Err(SessionFault::Input)
 }
 
 // Answers the records that have come whole, and counts their replies on.
-fn answer_whole<D: CrashDisk, W: Write>(
+fn serve_records<D: CrashDisk, W: Write>(
     alloc: Global,
     store: &mut Store<D>,
     records: &mut Records,
@@ -108,7 +108,7 @@ fn answer_whole<D: CrashDisk, W: Write>(
 {
     let mut replies = count;
     'records: while let Some(record) = next_record(alloc, records)? {
-        answer(alloc, store, &record, writer, moment)?;
+        serve_record(alloc, store, &record, writer, moment)?;
         replies = replies.saturating_add(1);
     }
     Ok(replies)
@@ -126,7 +126,7 @@ fn next_record(alloc: Global, records: &mut Records) -> Result<Option<Bytes>, Se
 }
 
 // Answers one record.
-fn answer<D: CrashDisk, W: Write>(
+fn serve_record<D: CrashDisk, W: Write>(
     alloc: Global,
     store: &mut Store<D>,
     record: &[u8],
@@ -139,7 +139,7 @@ fn answer<D: CrashDisk, W: Write>(
     match judge(alloc, record) {
         Err(_) => Err(SessionFault::NoMemory),
         Ok(Judged::Closed) => Err(SessionFault::Record),
-        Ok(Judged::Refused { xid, refusal }) => put(alloc, writer, xid, Answer::Refused(refusal)),
+        Ok(Judged::Refused { xid, refusal }) => put(alloc, writer, xid, RpcReply::Refused(refusal)),
         Ok(
             Judged::Call {
                 xid,
@@ -148,19 +148,19 @@ fn answer<D: CrashDisk, W: Write>(
             },
         ) => {
             let verdict = procedure(alloc, store, credential, moment, call);
-            put(alloc, writer, xid, answer_to(&verdict))
+            put(alloc, writer, xid, reply_to(&verdict))
         }
     }
 }
 
-/// What a call is answered by what came of its procedure: its reply, or that a growth was refused.
-pub fn answer_to(verdict: &Verdict) -> Answer<'_>
+/// What a call is answered by what came of its procedure: its reply, or that an allocation failed.
+pub fn reply_to(verdict: &Verdict) -> RpcReply<'_>
     ensures spellable { IsSpellable (body_of result) }
-    ensures no_memory { verdict.now ≡ Verdict.NoMemory → result ≡ Answer.Refused Refusal.SystemError }
+    ensures no_memory { verdict.now ≡ Verdict.NoMemory → result ≡ RpcReply.Refused Refusal.SystemError }
 {
     match verdict {
-        Verdict::Reply(reply) if is_served(reply) => Answer::Done(reply),
-        Verdict::Reply(_) | Verdict::NoMemory => Answer::Refused(Refusal::SystemError),
+        Verdict::Reply(reply) if has_spelling(reply) => RpcReply::Done(reply),
+        Verdict::Reply(_) | Verdict::NoMemory => RpcReply::Refused(Refusal::SystemError),
     }
 }
 
@@ -169,19 +169,19 @@ fn put<W: Write>(
     alloc: Global,
     writer: &mut W,
     xid: u32,
-    answer: Answer<'_>,
+    serve_record: RpcReply<'_>,
 ) -> Result<(), SessionFault>
-    requires { IsSpellable (body_of answer) }
+    requires { IsSpellable (body_of serve_record) }
 {
     let mut bytes = Vec::new(alloc);
-    reply_bytes(alloc, &mut bytes, xid, answer).map_err(|_| SessionFault::NoMemory)?;
+    reply_bytes(alloc, &mut bytes, xid, serve_record).map_err(|_| SessionFault::NoMemory)?;
     writer.write_all(&bytes).map_err(|_| SessionFault::Output)?;
     writer.flush().map_err(|_| SessionFault::Output)
 }
 
-// Whether the reply is one of a procedure that is served so far.
-fn is_served(reply: &Reply) -> bool
-    ensures { IsTrue result ↔ IsServed reply.now }
+// Whether the reply is one that can be spelled so far.
+fn has_spelling(reply: &Reply) -> bool
+    ensures { IsTrue result ↔ HasSpelling reply.now }
 {
     match reply {
         Reply::Null | Reply::GetAttr { .. } | Reply::SetAttr { .. } => true,

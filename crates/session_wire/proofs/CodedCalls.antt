@@ -1,5 +1,6 @@
 -- The arguments of calls that are read are those that were spelled, and the other way round.
-use Rattle.std.proofs.Common.{◌≡◌, ℕ, zero, suc, ◌^◌, ◌<◌, ◌≤◌, List, [], ◌∷◌, ◌++◌, length, Some, Result, Ok, refl, sym, ap, subst, ◌∙◌, append_assoc, arith}
+use Rattle.std.proofs.Common.{◌≡◌, ℕ, zero, suc, ◌^◌, ◌<◌, ◌≤◌, List, [], ◌∷◌, ◌++◌, length, Some, Result, Ok}
+use Rattle.std.proofs.Common.{refl, sym, ap, subst, ◌∙◌, append_assoc, arith}
 use Rattle.std.specs.Prelude.{IfSome}
 use Rattle.std.specs.Int.{w32, w64}
 use Rattle.std.proofs.lemmas.List.{append-nil}
@@ -7,7 +8,7 @@ use Rattle.limits.specs.declared.TheConstants.{MOST_HANDLE_BYTES}
 use Rattle.nfs_types.specs.declared.ctx.Moment.{Moment}
 use Rattle.nfs_types.specs.declared.attributes.NewAttributes.{NewAttributes}
 use Rattle.nfs_types.specs.declared.attributes.SetTime.{SetTime}
-use Rattle.nfs_types.specs.declared.attributes.SetTime.TheVariants.{Keep, Server, Client}
+use Rattle.nfs_types.specs.declared.attributes.SetTime.TheVariants.{Unchanged, Server, Client}
 use Rattle.nfs_types.specs.declared.call.Call.{Call}
 use Rattle.nfs_types.specs.declared.call.Call.TheVariants as calls
 use Rattle.session_wire.specs.declared.nfs_codec.procedure.Procedure.{Procedure}
@@ -15,11 +16,17 @@ use Rattle.session_wire.specs.declared.nfs_codec.procedure.Procedure.TheVariants
 use Rattle.session_wire.specs.declared.xdr.fault.XdrFault.{XdrFault}
 use Rattle.session_wire.specs.Items.{word, double, opaque, optional}
 use Rattle.session_wire.specs.Reading.{number_at, opaque_at, end_at}
-use Rattle.session_wire.specs.Calls.{moment, MomentFits, set_time, SetTimeFits, new_attributes, NewAttributesFit, procedure_of, procedure_number, called, arguments, CallFits}
-use Rattle.session_wire.specs.ReadingCalls.{moment_at, optional_word_at, optional_double_at, guard_at, set_time_of, set_time_at, new_attributes_at, null_of, get_attributes_of, set_attributes_of, call_of}
-use Rattle.session_wire.proofs.Coded.{IsBytes, bind_ok, ok_is, Takes, Takes-then, Coded, words, doubles, strings, optionals}
+use Rattle.session_wire.specs.Calls.{moment, MomentFits, set_time, SetTimeFits, new_attributes}
+use Rattle.session_wire.specs.Calls.{NewAttributesFit, procedure_of, procedure_number, called, arguments}
+use Rattle.session_wire.specs.Calls.{CallFits}
+use Rattle.session_wire.specs.ReadingCalls.{moment_at, optional_word_at, optional_double_at, guard_at}
+use Rattle.session_wire.specs.ReadingCalls.{set_time_of, set_time_at, new_attributes_at, null_of}
+use Rattle.session_wire.specs.ReadingCalls.{get_attributes_of, set_attributes_of, call_of}
+use Rattle.session_wire.proofs.Coded.{IsBytes, bind_ok, ok_is, Takes, Takes-then, Coded, words, doubles}
+use Rattle.session_wire.proofs.Coded.{strings, optionals}
 
-moment_takes : (bytes : List ℕ) (x : Moment) (rest : List ℕ) → IsBytes bytes → moment_at bytes ≡ Ok (x, rest) → Takes bytes (moment x) rest × MomentFits x
+moment_takes : (bytes : List ℕ) (x : Moment) (rest : List ℕ) → IsBytes bytes → moment_at bytes ≡ Ok (x, rest)
+    → Takes bytes (moment x) rest × MomentFits x
 unfolding moment_at
 moment_takes bytes x rest fits e =
     let a1 = bind_ok (number_at w32 bytes) _ (x, rest) e in
@@ -28,13 +35,19 @@ moment_takes bytes x rest fits e =
     let t2 = words.takes a1.0.1 a2.0.0 a2.0.1 t1.0.rest_fits a2.1 in
     let u2 = Takes-then bytes (word a1.0.0) a1.0.1 (word a2.0.0) a2.0.1 t1.0 t2.0 in
     let made : Moment × List ℕ = (record { seconds = a1.0.0; nanoseconds = a2.0.0 }, a2.0.1) in
-    subst (λ (y : Moment × List ℕ). Takes bytes (moment y.0) y.1 × MomentFits y.0) (ok_is made (x, rest) a2.2) (u2, record { seconds = t1.1; nanoseconds = t2.1 })
+    subst (λ (y : Moment × List ℕ). Takes bytes (moment y.0) y.1 × MomentFits y.0) (ok_is made (x, rest) a2.2)
+    (u2, record { seconds = t1.1; nanoseconds = t2.1 })
 
 moment_again : (x : Moment) (rest : List ℕ) → MomentFits x → moment_at (moment x ++ rest) ≡ Ok (x, rest)
 unfolding moment_at
 moment_again x rest fits =
-    let regrouped : moment x ++ rest ≡ (word x.seconds ++ (word x.nanoseconds ++ rest)) = simp append_assoc refl in
-    ap moment_at regrouped ∙ rw (words.again x.seconds (word x.nanoseconds ++ rest) fits.seconds, words.again x.nanoseconds rest fits.nanoseconds) refl
+    let regrouped : moment x ++ rest ≡ (word x.seconds ++ (word x.nanoseconds ++ rest)) =
+    simp append_assoc refl in
+    ap moment_at regrouped
+    ∙ rw (
+      words.again x.seconds (word x.nanoseconds ++ rest) fits.seconds,
+      words.again x.nanoseconds rest fits.nanoseconds,
+    ) refl
 
 pub moments : Coded moment MomentFits moment_at
 moments = record { takes = moment_takes; again = moment_again }
@@ -52,39 +65,47 @@ unfolding guard_at
 guards = optionals moment MomentFits moment_at moments
 
 -- what a selector and what follows it spell
-selected : (bytes : List ℕ) (n : ℕ) (r : List ℕ) (y : SetTime × List ℕ) → Takes bytes (word n) r → set_time_of n r ≡ Ok y → Takes bytes (set_time y.0) y.1 × SetTimeFits y.0
+selected : (bytes : List ℕ) (n : ℕ) (r : List ℕ) (y : SetTime × List ℕ) → Takes bytes (word n) r
+    → set_time_of n r ≡ Ok y → Takes bytes (set_time y.0) y.1 × SetTimeFits y.0
 selected bytes zero r y t e =
-    let made : SetTime × List ℕ = (Keep, r) in
-    subst (λ (z : SetTime × List ℕ). Takes bytes (set_time z.0) z.1 × SetTimeFits z.0) (ok_is made y e) (t, tt)
+    let made : SetTime × List ℕ = (Unchanged, r) in
+    subst (λ (z : SetTime × List ℕ). Takes bytes (set_time z.0) z.1
+    × SetTimeFits z.0) (ok_is made y e) (t, tt)
 selected bytes (suc zero) r y t e =
     let made : SetTime × List ℕ = (Server, r) in
-    subst (λ (z : SetTime × List ℕ). Takes bytes (set_time z.0) z.1 × SetTimeFits z.0) (ok_is made y e) (t, tt)
+    subst (λ (z : SetTime × List ℕ). Takes bytes (set_time z.0) z.1
+    × SetTimeFits z.0) (ok_is made y e) (t, tt)
 selected bytes (suc (suc zero)) r y t e =
     let a = bind_ok (moment_at r) (λ t. Ok (Client t.0, t.1)) y e in
     let u = moments.takes r a.0.0 a.0.1 t.rest_fits a.1 in
     let both = Takes-then bytes (word 2) r (moment a.0.0) a.0.1 t u.0 in
     let made : SetTime × List ℕ = (Client a.0.0, a.0.1) in
-    subst (λ (z : SetTime × List ℕ). Takes bytes (set_time z.0) z.1 × SetTimeFits z.0) (ok_is made y a.2) (both, u.1)
+    subst (λ (z : SetTime × List ℕ). Takes bytes (set_time z.0) z.1 × SetTimeFits z.0) (ok_is made y a.2)
+    (both, u.1)
 selected bytes (suc (suc (suc n))) r y t e = absurd cc
 
-set_time_takes : (bytes : List ℕ) (x : SetTime) (rest : List ℕ) → IsBytes bytes → set_time_at bytes ≡ Ok (x, rest) → Takes bytes (set_time x) rest × SetTimeFits x
+set_time_takes : (bytes : List ℕ) (x : SetTime) (rest : List ℕ) → IsBytes bytes
+    → set_time_at bytes ≡ Ok (x, rest) → Takes bytes (set_time x) rest × SetTimeFits x
 unfolding set_time_at
 set_time_takes bytes x rest fits e =
     let a = bind_ok (number_at w32 bytes) (λ n. set_time_of n.0 n.1) (x, rest) e in
     let t = words.takes bytes a.0.0 a.0.1 fits a.1 in
     selected bytes a.0.0 a.0.1 (x, rest) t.0 a.2
 
-set_time_again : (x : SetTime) (rest : List ℕ) → SetTimeFits x → set_time_at (set_time x ++ rest) ≡ Ok (x, rest)
+set_time_again : (x : SetTime) (rest : List ℕ) → SetTimeFits x
+    → set_time_at (set_time x ++ rest) ≡ Ok (x, rest)
 unfolding set_time_at
-set_time_again Keep rest fits = rw (words.again 0 rest (omega arith)) refl
+set_time_again Unchanged rest fits = rw (words.again 0 rest (omega arith)) refl
 set_time_again Server rest fits = rw (words.again 1 rest (omega arith)) refl
 set_time_again (Client t) rest fits =
-    ap set_time_at (append_assoc (word 2) (moment t) rest) ∙ rw (words.again 2 (moment t ++ rest) (omega arith), moments.again t rest fits) refl
+    ap set_time_at (append_assoc (word 2) (moment t) rest)
+    ∙ rw (words.again 2 (moment t ++ rest) (omega arith), moments.again t rest fits) refl
 
 set_times : Coded set_time SetTimeFits set_time_at
 set_times = record { takes = set_time_takes; again = set_time_again }
 
-new_attribute_takes : (bytes : List ℕ) (x : NewAttributes) (rest : List ℕ) → IsBytes bytes → new_attributes_at bytes ≡ Ok (x, rest) → Takes bytes (new_attributes x) rest × NewAttributesFit x
+new_attribute_takes : (bytes : List ℕ) (x : NewAttributes) (rest : List ℕ) → IsBytes bytes
+    → new_attributes_at bytes ≡ Ok (x, rest) → Takes bytes (new_attributes x) rest × NewAttributesFit x
 unfolding new_attributes_at
 new_attribute_takes bytes x rest fits e =
     let a1 = bind_ok (optional_word_at bytes) _ (x, rest) e in
@@ -100,18 +121,54 @@ new_attribute_takes bytes x rest fits e =
     let a6 = bind_ok (set_time_at a5.0.1) _ (x, rest) a5.2 in
     let t6 = set_times.takes a5.0.1 a6.0.0 a6.0.1 t5.0.rest_fits a6.1 in
     let u2 = Takes-then bytes (optional word a1.0.0) a1.0.1 (optional word a2.0.0) a2.0.1 t1.0 t2.0 in
-    let u3 = Takes-then bytes (optional word a1.0.0 ++ optional word a2.0.0) a2.0.1 (optional word a3.0.0) a3.0.1 u2 t3.0 in
-    let u4 = Takes-then bytes (optional word a1.0.0 ++ optional word a2.0.0 ++ optional word a3.0.0) a3.0.1 (optional double a4.0.0) a4.0.1 u3 t4.0 in
-    let u5 = Takes-then bytes (optional word a1.0.0 ++ optional word a2.0.0 ++ optional word a3.0.0 ++ optional double a4.0.0) a4.0.1 (set_time a5.0.0) a5.0.1 u4 t5.0 in
-    let u6 = Takes-then bytes (optional word a1.0.0 ++ optional word a2.0.0 ++ optional word a3.0.0 ++ optional double a4.0.0 ++ set_time a5.0.0) a5.0.1 (set_time a6.0.0) a6.0.1 u5 t6.0 in
-    let made : NewAttributes × List ℕ = (record { mode = a1.0.0; uid = a2.0.0; gid = a3.0.0; size = a4.0.0; atime = a5.0.0; mtime = a6.0.0 }, a6.0.1) in
-    subst (λ (y : NewAttributes × List ℕ). Takes bytes (new_attributes y.0) y.1 × NewAttributesFit y.0) (ok_is made (x, rest) a6.2) (u6, record { mode = t1.1; uid = t2.1; gid = t3.1; size = t4.1; atime = t5.1; mtime = t6.1 })
+    let u3 = Takes-then bytes (optional word a1.0.0 ++ optional word a2.0.0) a2.0.1 (optional word a3.0.0)
+    a3.0.1 u2 t3.0 in
+    let u4 = Takes-then bytes (optional word a1.0.0 ++ optional word a2.0.0 ++ optional word a3.0.0) a3.0.1
+    (optional double a4.0.0) a4.0.1 u3 t4.0 in
+    let u5 = Takes-then bytes (optional word a1.0.0 ++ optional word a2.0.0 ++ optional word a3.0.0
+    ++ optional double a4.0.0) a4.0.1 (set_time a5.0.0) a5.0.1 u4 t5.0 in
+    let u6 = Takes-then bytes (optional word a1.0.0 ++ optional word a2.0.0 ++ optional word a3.0.0
+    ++ optional double a4.0.0 ++ set_time a5.0.0) a5.0.1 (set_time a6.0.0) a6.0.1 u5 t6.0 in
+    let made : NewAttributes × List ℕ = (
+      record { mode = a1.0.0; uid = a2.0.0; gid = a3.0.0; size = a4.0.0; atime = a5.0.0; mtime = a6.0.0 },
+      a6.0.1,
+    ) in
+    subst (λ (y : NewAttributes × List ℕ). Takes bytes (new_attributes y.0) y.1
+    × NewAttributesFit y.0) (ok_is made (x, rest) a6.2) (
+      u6,
+      record {
+        mode = t1.1;
+        uid = t2.1;
+        gid = t3.1;
+        size = t4.1;
+        atime = t5.1;
+        mtime = t6.1;
+      },
+    )
 
-new_attribute_again : (x : NewAttributes) (rest : List ℕ) → NewAttributesFit x → new_attributes_at (new_attributes x ++ rest) ≡ Ok (x, rest)
+new_attribute_again : (x : NewAttributes) (rest : List ℕ) → NewAttributesFit x
+    → new_attributes_at (new_attributes x ++ rest) ≡ Ok (x, rest)
 unfolding new_attributes_at
 new_attribute_again x rest fits =
-    let regrouped : new_attributes x ++ rest ≡ (optional word x.mode ++ (optional word x.uid ++ (optional word x.gid ++ (optional double x.size ++ (set_time x.atime ++ (set_time x.mtime ++ rest)))))) = simp append_assoc refl in
-    ap new_attributes_at regrouped ∙ rw (optional_words.again x.mode (optional word x.uid ++ (optional word x.gid ++ (optional double x.size ++ (set_time x.atime ++ (set_time x.mtime ++ rest))))) fits.mode, optional_words.again x.uid (optional word x.gid ++ (optional double x.size ++ (set_time x.atime ++ (set_time x.mtime ++ rest)))) fits.uid, optional_words.again x.gid (optional double x.size ++ (set_time x.atime ++ (set_time x.mtime ++ rest))) fits.gid, optional_doubles.again x.size (set_time x.atime ++ (set_time x.mtime ++ rest)) fits.size, set_times.again x.atime (set_time x.mtime ++ rest) fits.atime, set_times.again x.mtime rest fits.mtime) refl
+    let regrouped : new_attributes x
+    ++ rest ≡ (optional word x.mode
+    ++ (optional word x.uid
+    ++ (optional word x.gid
+    ++ (optional double x.size ++ (set_time x.atime ++ (set_time x.mtime ++ rest)))))) = simp append_assoc
+    refl in
+    ap new_attributes_at regrouped
+    ∙ rw (
+      optional_words.again x.mode (optional word x.uid
+          ++ (optional word x.gid
+          ++ (optional double x.size ++ (set_time x.atime ++ (set_time x.mtime ++ rest))))) fits.mode,
+      optional_words.again x.uid (optional word x.gid
+          ++ (optional double x.size ++ (set_time x.atime ++ (set_time x.mtime ++ rest)))) fits.uid,
+      optional_words.again x.gid (optional double x.size
+          ++ (set_time x.atime ++ (set_time x.mtime ++ rest))) fits.gid,
+      optional_doubles.again x.size (set_time x.atime ++ (set_time x.mtime ++ rest)) fits.size,
+      set_times.again x.atime (set_time x.mtime ++ rest) fits.atime,
+      set_times.again x.mtime rest fits.mtime,
+    ) refl
 
 pub new_attributes_coded : Coded new_attributes NewAttributesFit new_attributes_at
 new_attributes_coded = record { takes = new_attribute_takes; again = new_attribute_again }
@@ -138,17 +195,24 @@ answered call = Ok call
 pub answer_is : (x y : Call) → answered x ≡ answered y → x ≡ y
 answer_is x y e = cc
 
-pub call_takes : (p : Procedure) (bytes : List ℕ) (call : Call) → IsBytes bytes → call_of p bytes ≡ Ok call → IsCalled p bytes call
+pub call_takes : (p : Procedure) (bytes : List ℕ) (call : Call) → IsBytes bytes → call_of p bytes ≡ Ok call
+    → IsCalled p bytes call
 unfolding null_of get_attributes_of set_attributes_of
 call_takes Null bytes call fits e =
     let a = bind_ok (end_at bytes) _ call e in
-    subst (λ (c : Call). IsCalled Null bytes c) (answer_is calls.Null call a.2) (record { spelled = end_is bytes a.0 a.1; fits = tt; procedure = refl })
+    subst (λ (c : Call). IsCalled Null bytes c) (answer_is calls.Null call a.2)
+    (record { spelled = end_is bytes a.0 a.1; fits = tt; procedure = refl })
 call_takes GetAttr bytes call fits e =
     let a = bind_ok (opaque_at MOST_HANDLE_BYTES bytes) _ call e in
     let b = bind_ok (end_at a.0.1) _ call a.2 in
     let t = handles.takes bytes a.0.0 a.0.1 fits a.1 in
     let all : bytes ≡ opaque a.0.0 = whole bytes (opaque a.0.0) a.0.1 t.0 (end_is a.0.1 b.0 b.1) in
-    subst (λ (c : Call). IsCalled GetAttr bytes c) (answer_is (calls.GetAttr (record { bytes = a.0.0 })) call b.2) (record { spelled = all; fits = t.1; procedure = refl })
+    subst (λ (c : Call). IsCalled GetAttr bytes c)
+    (answer_is (calls.GetAttr (record { bytes = a.0.0 })) call b.2) (record {
+      spelled = all;
+      fits = t.1;
+      procedure = refl;
+    })
 call_takes SetAttr bytes call fits e =
     let a = bind_ok (opaque_at MOST_HANDLE_BYTES bytes) _ call e in
     let b = bind_ok (new_attributes_at a.0.1) _ call a.2 in
@@ -158,18 +222,31 @@ call_takes SetAttr bytes call fits e =
     let u = new_attributes_coded.takes a.0.1 b.0.0 b.0.1 t.0.rest_fits b.1 in
     let v = guards.takes b.0.1 d.0.0 d.0.1 u.0.rest_fits d.1 in
     let two = Takes-then bytes (opaque a.0.0) a.0.1 (new_attributes b.0.0) b.0.1 t.0 u.0 in
-    let three = Takes-then bytes (opaque a.0.0 ++ new_attributes b.0.0) b.0.1 (optional moment d.0.0) d.0.1 two v.0 in
-    let all : bytes ≡ opaque a.0.0 ++ new_attributes b.0.0 ++ optional moment d.0.0 = whole bytes (opaque a.0.0 ++ new_attributes b.0.0 ++ optional moment d.0.0) d.0.1 three (end_is d.0.1 z.0 z.1) in
-    subst (λ (c : Call). IsCalled SetAttr bytes c) (answer_is (calls.SetAttr (record { bytes = a.0.0 }) b.0.0 d.0.0) call z.2) (record { spelled = all; fits = (t.1, u.1, v.1); procedure = refl })
+    let three = Takes-then bytes (opaque a.0.0 ++ new_attributes b.0.0) b.0.1 (optional moment d.0.0) d.0.1
+    two v.0 in
+    let all : bytes ≡ opaque a.0.0 ++ new_attributes b.0.0 ++ optional moment d.0.0 =
+    whole bytes (opaque a.0.0 ++ new_attributes b.0.0 ++ optional moment d.0.0) d.0.1 three
+    (end_is d.0.1 z.0 z.1) in
+    subst (λ (c : Call). IsCalled SetAttr bytes c)
+    (answer_is (calls.SetAttr (record { bytes = a.0.0 }) b.0.0 d.0.0) call z.2)
+    (record { spelled = all; fits = (t.1, u.1, v.1); procedure = refl })
 
 pub call_again : (call : Call) → CallFits call → call_of (called call) (arguments call) ≡ Ok call
 unfolding null_of get_attributes_of set_attributes_of
 call_again calls.Null fits = refl
 call_again (calls.GetAttr object) fits =
-    ap get_attributes_of (sym (append-nil (opaque object.bytes))) ∙ rw (handles.again object.bytes [] fits) refl
+    ap get_attributes_of (sym (append-nil (opaque object.bytes)))
+    ∙ rw (handles.again object.bytes [] fits) refl
 call_again (calls.SetAttr object attributes guard) fits =
-    let regrouped : opaque object.bytes ++ new_attributes attributes ++ optional moment guard ≡ opaque object.bytes ++ (new_attributes attributes ++ (optional moment guard ++ [])) = simp (append_assoc, append-nil) refl in
-    ap set_attributes_of regrouped ∙ rw (handles.again object.bytes (new_attributes attributes ++ (optional moment guard ++ [])) fits.0, new_attributes_coded.again attributes (optional moment guard ++ []) fits.1, guards.again guard [] fits.2) refl
+    let regrouped : opaque object.bytes ++ new_attributes attributes ++ optional moment guard
+    ≡ opaque object.bytes ++ (new_attributes attributes ++ (optional moment guard ++ [])) =
+    simp (append_assoc, append-nil) refl in
+    ap set_attributes_of regrouped
+    ∙ rw (
+      handles.again object.bytes (new_attributes attributes ++ (optional moment guard ++ [])) fits.0,
+      new_attributes_coded.again attributes (optional moment guard ++ []) fits.1,
+      guards.again guard [] fits.2,
+    ) refl
 call_again call fits = absurd fits
 
 pub procedure_again : (p : Procedure) → procedure_of (procedure_number p) ≡ Some p

@@ -1,5 +1,7 @@
 -- Headers and credentials that are read are those that were spelled, and the other way round.
-use Rattle.std.proofs.Common.{◌≡◌, ℕ, ◌+◌, ◌*◌, ◌^◌, ◌<◌, ◌≤◌, ◌⊎◌, inl, inr, replicate, Bool, true, false, cond, ltb, List, [], ◌∷◌, ◌++◌, length, Result, Ok, Err, refl, sym, ap, subst, ◌∙◌, append_assoc, arith, length-append}
+use Rattle.std.proofs.Common.{◌≡◌, ℕ, ◌+◌, ◌*◌, ◌^◌, ◌<◌, ◌≤◌, ◌⊎◌, inl, inr, replicate, Bool, true, false}
+use Rattle.std.proofs.Common.{cond, ltb, List, [], ◌∷◌, ◌++◌, length, Result, Ok, Err, refl, sym, ap, subst}
+use Rattle.std.proofs.Common.{◌∙◌, append_assoc, arith, length-append}
 use Rattle.std.specs.Prelude.{◌==◌, flat_map}
 use Rattle.std.specs.Int.{w32}
 use Rattle.std.specs.List.{AllByRecursion}
@@ -8,7 +10,7 @@ use Rattle.std.proofs.lemmas.List.{append-nil, nil_from_length, length-replicate
 use Rattle.std.proofs.lemmas.List.Concat.{flat_map-cons}
 use Rattle.limits.specs.declared.TheConstants.{MOST_AUTH_BYTES, MACHINE_NAME_BYTES, MOST_GIDS}
 use Rattle.nfs_types.specs.declared.ctx.Credential.{Credential}
-use Rattle.session_wire.specs.declared.rpc.numbers.TheConstants.{AUTH_NONE, AUTH_SYS}
+use Rattle.session_wire.specs.declared.rpc.constants.TheConstants.{AUTH_NONE, AUTH_SYS}
 use Rattle.session_wire.specs.declared.rpc.header.Opening.{Opening}
 use Rattle.session_wire.specs.declared.rpc.refusal.Refusal.{Refusal}
 use Rattle.session_wire.specs.declared.rpc.refusal.Refusal.TheVariants.{BadCredential, RejectedCredential}
@@ -19,9 +21,11 @@ use Rattle.session_wire.specs.declared.xdr.fault.XdrFault.TheVariants.{Length}
 use Rattle.session_wire.specs.Items.{word, opaque, padding}
 use Rattle.session_wire.specs.Reading.{number_at, opaque_at, end_at}
 use Rattle.session_wire.specs.Headers.{opening_at, Heading, header_at}
-use Rattle.session_wire.specs.Credentials.{numbers_at, gids_at, System, caller_at, caller_or_bad, credential_of, no_caller}
+use Rattle.session_wire.specs.Credentials.{numbers_at, gids_at, System, caller_at, caller_or_bad}
+use Rattle.session_wire.specs.Credentials.{credential_of, no_caller}
 use Rattle.session_wire.specs.Calls.{caller_bytes, CallerFits, credential, CredentialFits, caller_of}
-use Rattle.session_wire.proofs.Coded.{IsBytes, bind_ok, guard_ok, ok_is, Takes, Takes-then, Coded, words, strings, numbers_take, numbers_again}
+use Rattle.session_wire.proofs.Coded.{IsBytes, bind_ok, guard_ok, ok_is, Takes, Takes-then, Coded, words}
+use Rattle.session_wire.proofs.Coded.{strings, numbers_take, numbers_again}
 use Rattle.session_wire.proofs.CodedCalls.{end_is, whole}
 use Rattle.session_wire.proofs.Lengths.{word-length}
 
@@ -36,7 +40,8 @@ pub record OpeningFits (o : Opening) : Type 0 where
   pub rpc_version : o.rpc_version < 2 ^ 32
 
 abbrev pub heading_bytes : Heading → List ℕ
-heading_bytes h = word h.program ++ word h.version ++ word h.procedure ++ word h.flavor ++ opaque h.body ++ word h.verifier_flavor ++ opaque h.verifier
+heading_bytes h = word h.program ++ word h.version ++ word h.procedure ++ word h.flavor ++ opaque h.body
+    ++ word h.verifier_flavor ++ opaque h.verifier
 
 pub record HeadingFits (h : Heading) : Type 0 where
   pub program : h.program < 2 ^ 32
@@ -53,7 +58,8 @@ auths = strings MOST_AUTH_BYTES (omega arith)
 machines : Coded opaque (λ text. length text ≤ MACHINE_NAME_BYTES) (opaque_at MACHINE_NAME_BYTES)
 machines = strings MACHINE_NAME_BYTES (omega arith)
 
-opening_takes : (bytes : List ℕ) (x : Opening) (rest : List ℕ) → IsBytes bytes → opening_at bytes ≡ Ok (x, rest) → Takes bytes (opening_bytes x) rest × OpeningFits x
+opening_takes : (bytes : List ℕ) (x : Opening) (rest : List ℕ) → IsBytes bytes
+    → opening_at bytes ≡ Ok (x, rest) → Takes bytes (opening_bytes x) rest × OpeningFits x
 unfolding opening_at
 opening_takes bytes x rest fits e =
     let a1 = bind_ok (number_at w32 bytes) _ (x, rest) e in
@@ -65,18 +71,34 @@ opening_takes bytes x rest fits e =
     let u2 = Takes-then bytes (word a1.0.0) a1.0.1 (word a2.0.0) a2.0.1 t1.0 t2.0 in
     let u3 = Takes-then bytes (word a1.0.0 ++ word a2.0.0) a2.0.1 (word a3.0.0) a3.0.1 u2 t3.0 in
     let made : Opening × List ℕ = (record { xid = a1.0.0; kind = a2.0.0; rpc_version = a3.0.0 }, a3.0.1) in
-    subst (λ (y : Opening × List ℕ). Takes bytes (opening_bytes y.0) y.1 × OpeningFits y.0) (ok_is made (x, rest) a3.2) (u3, record { xid = t1.1; kind = t2.1; rpc_version = t3.1 })
+    subst (λ (y : Opening × List ℕ). Takes bytes (opening_bytes y.0) y.1
+    × OpeningFits y.0) (ok_is made (x, rest) a3.2) (
+      u3,
+      record {
+        xid = t1.1;
+        kind = t2.1;
+        rpc_version = t3.1;
+      },
+    )
 
-opening_again : (x : Opening) (rest : List ℕ) → OpeningFits x → opening_at (opening_bytes x ++ rest) ≡ Ok (x, rest)
+opening_again : (x : Opening) (rest : List ℕ) → OpeningFits x
+    → opening_at (opening_bytes x ++ rest) ≡ Ok (x, rest)
 unfolding opening_at
 opening_again x rest fits =
-    let regrouped : opening_bytes x ++ rest ≡ (word x.xid ++ (word x.kind ++ (word x.rpc_version ++ rest))) = simp append_assoc refl in
-    ap opening_at regrouped ∙ rw (words.again x.xid (word x.kind ++ (word x.rpc_version ++ rest)) fits.xid, words.again x.kind (word x.rpc_version ++ rest) fits.kind, words.again x.rpc_version rest fits.rpc_version) refl
+    let regrouped : opening_bytes x ++ rest ≡ (word x.xid ++ (word x.kind ++ (word x.rpc_version ++ rest))) =
+    simp append_assoc refl in
+    ap opening_at regrouped
+    ∙ rw (
+      words.again x.xid (word x.kind ++ (word x.rpc_version ++ rest)) fits.xid,
+      words.again x.kind (word x.rpc_version ++ rest) fits.kind,
+      words.again x.rpc_version rest fits.rpc_version,
+    ) refl
 
 pub openings : Coded opening_bytes OpeningFits opening_at
 openings = record { takes = opening_takes; again = opening_again }
 
-heading_takes : (bytes : List ℕ) (x : Heading) (rest : List ℕ) → IsBytes bytes → header_at bytes ≡ Ok (x, rest) → Takes bytes (heading_bytes x) rest × HeadingFits x
+heading_takes : (bytes : List ℕ) (x : Heading) (rest : List ℕ) → IsBytes bytes
+    → header_at bytes ≡ Ok (x, rest) → Takes bytes (heading_bytes x) rest × HeadingFits x
 unfolding header_at
 heading_takes bytes x rest fits e =
     let a1 = bind_ok (number_at w32 bytes) _ (x, rest) e in
@@ -95,18 +117,67 @@ heading_takes bytes x rest fits e =
     let t7 = auths.takes a6.0.1 a7.0.0 a7.0.1 t6.0.rest_fits a7.1 in
     let u2 = Takes-then bytes (word a1.0.0) a1.0.1 (word a2.0.0) a2.0.1 t1.0 t2.0 in
     let u3 = Takes-then bytes (word a1.0.0 ++ word a2.0.0) a2.0.1 (word a3.0.0) a3.0.1 u2 t3.0 in
-    let u4 = Takes-then bytes (word a1.0.0 ++ word a2.0.0 ++ word a3.0.0) a3.0.1 (word a4.0.0) a4.0.1 u3 t4.0 in
-    let u5 = Takes-then bytes (word a1.0.0 ++ word a2.0.0 ++ word a3.0.0 ++ word a4.0.0) a4.0.1 (opaque a5.0.0) a5.0.1 u4 t5.0 in
-    let u6 = Takes-then bytes (word a1.0.0 ++ word a2.0.0 ++ word a3.0.0 ++ word a4.0.0 ++ opaque a5.0.0) a5.0.1 (word a6.0.0) a6.0.1 u5 t6.0 in
-    let u7 = Takes-then bytes (word a1.0.0 ++ word a2.0.0 ++ word a3.0.0 ++ word a4.0.0 ++ opaque a5.0.0 ++ word a6.0.0) a6.0.1 (opaque a7.0.0) a7.0.1 u6 t7.0 in
-    let made : Heading × List ℕ = (record { program = a1.0.0; version = a2.0.0; procedure = a3.0.0; flavor = a4.0.0; body = a5.0.0; verifier_flavor = a6.0.0; verifier = a7.0.0 }, a7.0.1) in
-    subst (λ (y : Heading × List ℕ). Takes bytes (heading_bytes y.0) y.1 × HeadingFits y.0) (ok_is made (x, rest) a7.2) (u7, record { program = t1.1; version = t2.1; procedure = t3.1; flavor = t4.1; body = t5.1; verifier_flavor = t6.1; verifier = t7.1 })
+    let u4 = Takes-then bytes (word a1.0.0 ++ word a2.0.0 ++ word a3.0.0) a3.0.1 (word a4.0.0) a4.0.1 u3
+    t4.0 in
+    let u5 = Takes-then bytes (word a1.0.0 ++ word a2.0.0 ++ word a3.0.0 ++ word a4.0.0) a4.0.1
+    (opaque a5.0.0) a5.0.1 u4 t5.0 in
+    let u6 = Takes-then bytes (word a1.0.0 ++ word a2.0.0 ++ word a3.0.0 ++ word a4.0.0 ++ opaque a5.0.0)
+    a5.0.1 (word a6.0.0) a6.0.1 u5 t6.0 in
+    let u7 = Takes-then bytes (word a1.0.0 ++ word a2.0.0 ++ word a3.0.0 ++ word a4.0.0 ++ opaque a5.0.0
+    ++ word a6.0.0) a6.0.1 (opaque a7.0.0) a7.0.1 u6 t7.0 in
+    let made : Heading × List ℕ = (
+      record {
+        program = a1.0.0;
+        version = a2.0.0;
+        procedure = a3.0.0;
+        flavor = a4.0.0;
+        body = a5.0.0;
+        verifier_flavor = a6.0.0;
+        verifier = a7.0.0;
+      },
+      a7.0.1,
+    ) in
+    subst (λ (y : Heading × List ℕ). Takes bytes (heading_bytes y.0) y.1
+    × HeadingFits y.0) (ok_is made (x, rest) a7.2) (
+      u7,
+      record {
+        program = t1.1;
+        version = t2.1;
+        procedure = t3.1;
+        flavor = t4.1;
+        body = t5.1;
+        verifier_flavor = t6.1;
+        verifier = t7.1;
+      },
+    )
 
-heading_again : (x : Heading) (rest : List ℕ) → HeadingFits x → header_at (heading_bytes x ++ rest) ≡ Ok (x, rest)
+heading_again : (x : Heading) (rest : List ℕ) → HeadingFits x
+    → header_at (heading_bytes x ++ rest) ≡ Ok (x, rest)
 unfolding header_at
 heading_again x rest fits =
-    let regrouped : heading_bytes x ++ rest ≡ (word x.program ++ (word x.version ++ (word x.procedure ++ (word x.flavor ++ (opaque x.body ++ (word x.verifier_flavor ++ (opaque x.verifier ++ rest))))))) = simp append_assoc refl in
-    ap header_at regrouped ∙ rw (words.again x.program (word x.version ++ (word x.procedure ++ (word x.flavor ++ (opaque x.body ++ (word x.verifier_flavor ++ (opaque x.verifier ++ rest)))))) fits.program, words.again x.version (word x.procedure ++ (word x.flavor ++ (opaque x.body ++ (word x.verifier_flavor ++ (opaque x.verifier ++ rest))))) fits.version, words.again x.procedure (word x.flavor ++ (opaque x.body ++ (word x.verifier_flavor ++ (opaque x.verifier ++ rest)))) fits.procedure, words.again x.flavor (opaque x.body ++ (word x.verifier_flavor ++ (opaque x.verifier ++ rest))) fits.flavor, auths.again x.body (word x.verifier_flavor ++ (opaque x.verifier ++ rest)) fits.body, words.again x.verifier_flavor (opaque x.verifier ++ rest) fits.verifier_flavor, auths.again x.verifier rest fits.verifier) refl
+    let regrouped : heading_bytes x
+    ++ rest ≡ (word x.program
+    ++ (word x.version
+    ++ (word x.procedure
+    ++ (word x.flavor ++ (opaque x.body ++ (word x.verifier_flavor ++ (opaque x.verifier ++ rest))))))) =
+    simp append_assoc refl in
+    ap header_at regrouped
+    ∙ rw (
+      words.again x.program (word x.version
+          ++ (word x.procedure
+          ++ (word x.flavor ++ (opaque x.body ++ (word x.verifier_flavor ++ (opaque x.verifier ++ rest))))))
+          fits.program,
+      words.again x.version (word x.procedure
+          ++ (word x.flavor ++ (opaque x.body ++ (word x.verifier_flavor ++ (opaque x.verifier ++ rest)))))
+          fits.version,
+      words.again x.procedure (word x.flavor
+          ++ (opaque x.body ++ (word x.verifier_flavor ++ (opaque x.verifier ++ rest)))) fits.procedure,
+      words.again x.flavor (opaque x.body ++ (word x.verifier_flavor ++ (opaque x.verifier ++ rest)))
+          fits.flavor,
+      auths.again x.body (word x.verifier_flavor ++ (opaque x.verifier ++ rest)) fits.body,
+      words.again x.verifier_flavor (opaque x.verifier ++ rest) fits.verifier_flavor,
+      auths.again x.verifier rest fits.verifier,
+    ) refl
 
 pub headings : Coded heading_bytes HeadingFits header_at
 headings = record { takes = heading_takes; again = heading_again }
@@ -120,7 +191,8 @@ record GidsFit (ns : List ℕ) : Type 0 where
   few : length ns ≤ MOST_GIDS
   each : AllByRecursion (λ n. n < 2 ^ 32) ns
 
-gids_take : (bytes : List ℕ) (ns : List ℕ) (rest : List ℕ) → IsBytes bytes → gids_at bytes ≡ Ok (ns, rest) → Takes bytes (gids ns) rest × GidsFit ns
+gids_take : (bytes : List ℕ) (ns : List ℕ) (rest : List ℕ) → IsBytes bytes → gids_at bytes ≡ Ok (ns, rest)
+    → Takes bytes (gids ns) rest × GidsFit ns
 unfolding gids_at
 gids_take bytes ns rest fits e =
     let a = bind_ok (number_at w32 bytes) _ (ns, rest) e in
@@ -128,14 +200,21 @@ gids_take bytes ns rest fits e =
     let few = guard_ok (ltb MOST_GIDS a.0.0) Length (numbers_at a.0.0 a.0.1) (ns, rest) a.2 in
     let small : a.0.0 ≤ MOST_GIDS = ltb-false _ _ few.0 in
     let u = numbers_take a.0.0 a.0.1 (ns, rest) t.0.rest_fits few.1 in
-    let both = Takes-then bytes (word a.0.0) a.0.1 (flat_map word ns) rest t.0 u.0 in
-    (subst (λ (n : ℕ). Takes bytes (word n ++ flat_map word ns) rest) (sym u.1) both, record { few = omega (arith, u.1, small); each = u.2 })
+    let both = Takes-then bytes (word a.0.0) a.0.1 (flat_map word ns) rest t.0 u.0 in (
+      subst (λ (n : ℕ). Takes bytes (word n ++ flat_map word ns) rest) (sym u.1) both,
+      record { few = omega (arith, u.1, small); each = u.2 },
+    )
 
 gids_again : (ns : List ℕ) (rest : List ℕ) → GidsFit ns → gids_at (gids ns ++ rest) ≡ Ok (ns, rest)
 unfolding gids_at
 gids_again ns rest fits =
     let few : ltb MOST_GIDS (length ns) ≡ false = le-ltb _ _ fits.few in
-    ap gids_at (append_assoc (word (length ns)) (flat_map word ns) rest) ∙ rw (words.again (length ns) (flat_map word ns ++ rest) (omega (arith, fits.few)), few, numbers_again ns rest fits.each) refl
+    ap gids_at (append_assoc (word (length ns)) (flat_map word ns) rest)
+    ∙ rw (
+      words.again (length ns) (flat_map word ns ++ rest) (omega (arith, fits.few)),
+      few,
+      numbers_again ns rest fits.each,
+    ) refl
 
 counted : Coded gids GidsFit gids_at
 counted = record { takes = gids_take; again = gids_again }
@@ -149,7 +228,8 @@ read_system s = Ok s
 pub system_is : (x y : System) → read_system x ≡ read_system y → x ≡ y
 system_is x y e = cc
 
-pub caller_takes : (bytes : List ℕ) (s : System) → IsBytes bytes → caller_at bytes ≡ Ok s → (bytes ≡ system_bytes s) × CallerFits s.stamp s.machine s.caller
+pub caller_takes : (bytes : List ℕ) (s : System) → IsBytes bytes → caller_at bytes ≡ Ok s
+    → (bytes ≡ system_bytes s) × CallerFits s.stamp s.machine s.caller
 unfolding caller_at
 caller_takes bytes s fits e =
     let a1 = bind_ok (number_at w32 bytes) _ s e in
@@ -165,19 +245,51 @@ caller_takes bytes s fits e =
     let t5 = counted.takes a4.0.1 a5.0.0 a5.0.1 t4.0.rest_fits a5.1 in
     let u2 = Takes-then bytes (word a1.0.0) a1.0.1 (opaque a2.0.0) a2.0.1 t1.0 t2.0 in
     let u3 = Takes-then bytes (word a1.0.0 ++ opaque a2.0.0) a2.0.1 (word a3.0.0) a3.0.1 u2 t3.0 in
-    let u4 = Takes-then bytes (word a1.0.0 ++ opaque a2.0.0 ++ word a3.0.0) a3.0.1 (word a4.0.0) a4.0.1 u3 t4.0 in
-    let u5 = Takes-then bytes (word a1.0.0 ++ opaque a2.0.0 ++ word a3.0.0 ++ word a4.0.0) a4.0.1 (gids a5.0.0) a5.0.1 u4 t5.0 in
-    let all = whole bytes (word a1.0.0 ++ opaque a2.0.0 ++ word a3.0.0 ++ word a4.0.0 ++ gids a5.0.0) a5.0.1 u5 (end_is a5.0.1 a6.0 a6.1) in
-    let made : System = record { stamp = a1.0.0; machine = a2.0.0; caller = record { uid = a3.0.0; gid = a4.0.0; gids = a5.0.0 } } in
-    let flat : bytes ≡ system_bytes made = all ∙ sym (append_assoc (word a1.0.0 ++ opaque a2.0.0 ++ word a3.0.0 ++ word a4.0.0) (word (length a5.0.0)) (flat_map word a5.0.0)) in
-    subst (λ (y : System). (bytes ≡ system_bytes y) × CallerFits y.stamp y.machine y.caller) (system_is made s a6.2) (flat, record { stamp_fits = t1.1; machine_fits = t2.1; uid = t3.1; gid = t4.1; few = t5.1.few; gids = t5.1.each })
+    let u4 = Takes-then bytes (word a1.0.0 ++ opaque a2.0.0 ++ word a3.0.0) a3.0.1 (word a4.0.0) a4.0.1 u3
+    t4.0 in
+    let u5 = Takes-then bytes (word a1.0.0 ++ opaque a2.0.0 ++ word a3.0.0 ++ word a4.0.0) a4.0.1
+    (gids a5.0.0) a5.0.1 u4 t5.0 in
+    let all = whole bytes (word a1.0.0 ++ opaque a2.0.0 ++ word a3.0.0 ++ word a4.0.0 ++ gids a5.0.0) a5.0.1
+    u5 (end_is a5.0.1 a6.0 a6.1) in
+    let made : System =
+    record {
+      stamp = a1.0.0;
+      machine = a2.0.0;
+      caller = record { uid = a3.0.0; gid = a4.0.0; gids = a5.0.0 };
+    } in
+    let flat : bytes ≡ system_bytes made = all
+    ∙ sym (append_assoc (word a1.0.0 ++ opaque a2.0.0 ++ word a3.0.0 ++ word a4.0.0)
+    (word (length a5.0.0)) (flat_map word a5.0.0)) in
+    subst (λ (y : System). (bytes ≡ system_bytes y) × CallerFits y.stamp y.machine y.caller)
+    (system_is made s a6.2) (
+      flat,
+      record {
+        stamp_fits = t1.1;
+        machine_fits = t2.1;
+        uid = t3.1;
+        gid = t4.1;
+        few = t5.1.few;
+        gids = t5.1.each;
+      },
+    )
 
 pub caller_again : (s : System) → CallerFits s.stamp s.machine s.caller → caller_at (system_bytes s) ≡ Ok s
 unfolding caller_at
 caller_again s fits =
     let g = s.caller.gids in
-    let regrouped : system_bytes s ≡ word s.stamp ++ (opaque s.machine ++ (word s.caller.uid ++ (word s.caller.gid ++ (gids g ++ [])))) = simp (append_assoc, append-nil) refl in
-    ap caller_at regrouped ∙ rw (words.again s.stamp (opaque s.machine ++ (word s.caller.uid ++ (word s.caller.gid ++ (gids g ++ [])))) fits.stamp_fits, machines.again s.machine (word s.caller.uid ++ (word s.caller.gid ++ (gids g ++ []))) fits.machine_fits, words.again s.caller.uid (word s.caller.gid ++ (gids g ++ [])) fits.uid, words.again s.caller.gid (gids g ++ []) fits.gid, counted.again g [] (record { few = fits.few; each = fits.gids })) refl
+    let regrouped : system_bytes s ≡ word s.stamp
+    ++ (opaque s.machine ++ (word s.caller.uid ++ (word s.caller.gid ++ (gids g ++ [])))) =
+    simp (append_assoc, append-nil) refl in
+    ap caller_at regrouped
+    ∙ rw (
+      words.again s.stamp (opaque s.machine
+          ++ (word s.caller.uid ++ (word s.caller.gid ++ (gids g ++ [])))) fits.stamp_fits,
+      machines.again s.machine (word s.caller.uid ++ (word s.caller.gid ++ (gids g ++ [])))
+          fits.machine_fits,
+      words.again s.caller.uid (word s.caller.gid ++ (gids g ++ [])) fits.uid,
+      words.again s.caller.gid (gids g ++ []) fits.gid,
+      counted.again g [] (record { few = fits.few; each = fits.gids }),
+    ) refl
 
 -- ---- credentials
 
@@ -193,7 +305,8 @@ pub credential_is : (m : MessageCredential) → credential m ≡ word (flavor_of
 credential_is Nobody = refl
 credential_is (Caller stamp machine caller) = refl
 
-pub credential_again : (m : MessageCredential) → CredentialFits m → credential_of (flavor_of m) (body_of m) ≡ Ok (caller_of m)
+pub credential_again : (m : MessageCredential) → CredentialFits m
+    → credential_of (flavor_of m) (body_of m) ≡ Ok (caller_of m)
 credential_again Nobody fits = refl
 credential_again (Caller stamp machine caller) fits =
     let s : System = record { stamp = stamp; machine = machine; caller = caller } in
@@ -201,16 +314,26 @@ credential_again (Caller stamp machine caller) fits =
 
 numbers-length : (ns : List ℕ) → length (flat_map word ns) ≡ 4 * length ns
 numbers-length [] = refl
-numbers-length (n ∷ ns) = rw flat_map-cons (omega (arith, length-append (word n) (flat_map word ns), word-length n, numbers-length ns))
+numbers-length (n ∷ ns) =
+    rw flat_map-cons
+    (omega (arith, length-append (word n) (flat_map word ns), word-length n, numbers-length ns))
 
 opaque-length : (text : List ℕ) → length (opaque text) ≤ length text + 7
 unfolding opaque
-opaque-length text = omega (arith, length-append (word (length text) ++ text) (replicate (padding (length text)) 0), length-append (word (length text)) text, word-length (length text), length-replicate {A = ℕ} (padding (length text)) 0)
+opaque-length text =
+    omega (
+      arith,
+      length-append (word (length text) ++ text) (replicate (padding (length text)) 0),
+      length-append (word (length text)) text,
+      word-length (length text),
+      length-replicate {A = ℕ} (padding (length text)) 0,
+    )
 
 pub body-length : (m : MessageCredential) → CredentialFits m → length (body_of m) ≤ MOST_AUTH_BYTES
 body-length Nobody fits = omega arith
 body-length (Caller stamp machine caller) fits =
-    simp (length-append, word-length) (omega (arith, fits.machine_fits, fits.few, opaque-length machine, numbers-length caller.gids))
+    simp (length-append, word-length)
+    (omega (arith, fits.machine_fits, fits.few, opaque-length machine, numbers-length caller.gids))
 
 pub record IsCredential (flavor : ℕ) (body : List ℕ) (c : Credential) (m : MessageCredential) : Type 0 where
   pub flavor_is : flavor ≡ flavor_of m
@@ -224,30 +347,57 @@ found c = Ok c
 found_is : (x y : Credential) → found x ≡ found y → x ≡ y
 found_is x y e = cc
 
-chosen : (b : Bool) (x y z : Result Credential Refusal) → cond b x y ≡ z → ((b ≡ true) × (x ≡ z)) ⊎ ((b ≡ false) × (y ≡ z))
+chosen : (b : Bool) (x y z : Result Credential Refusal) → cond b x y ≡ z → ((b ≡ true) × (x ≡ z))
+    ⊎ ((b ≡ false) × (y ≡ z))
 chosen true x y z e = inl (refl, e)
 chosen false x y z e = inr (refl, e)
 
-of_system : (body : List ℕ) (r : Result System XdrFault) (c : Credential) → caller_at body ≡ r → IsBytes body → caller_or_bad r ≡ Ok c → (m : MessageCredential) × IsCredential AUTH_SYS body c m
+of_system : (body : List ℕ) (r : Result System XdrFault) (c : Credential) → caller_at body ≡ r → IsBytes body
+    → caller_or_bad r ≡ Ok c → (m : MessageCredential) × IsCredential AUTH_SYS body c m
 of_system body (Ok s) c is fits e =
-    let t = caller_takes body s fits is in
-    (Caller s.stamp s.machine s.caller, record { flavor_is = refl; body_is = t.0; fits = t.1; caller_is = found_is s.caller c e })
+    let t = caller_takes body s fits is in (
+      Caller s.stamp s.machine s.caller,
+      record {
+        flavor_is = refl;
+        body_is = t.0;
+        fits = t.1;
+        caller_is = found_is s.caller c e;
+      },
+    )
 of_system body (Err d) c is fits e = absurd cc
 
-pub credential_takes : (flavor : ℕ) (body : List ℕ) (c : Credential) → IsBytes body → credential_of flavor body ≡ Ok c → (m : MessageCredential) × IsCredential flavor body c m
+pub credential_takes : (flavor : ℕ) (body : List ℕ) (c : Credential) → IsBytes body
+    → credential_of flavor body ≡ Ok c → (m : MessageCredential) × IsCredential flavor body c m
 credential_takes flavor body c fits e =
-    elim (chosen (flavor == 0) (cond (length body == 0) (Ok no_caller) (Err BadCredential)) (cond (flavor == 1) (caller_or_bad (caller_at body)) (Err RejectedCredential)) (Ok c) e) [
+    elim (chosen (flavor == 0) (cond (length body == 0) (Ok no_caller) (Err BadCredential))
+    (cond (flavor == 1) (caller_or_bad (caller_at body)) (Err RejectedCredential)) (Ok c) e) [
       | inl none ↦
           elim (chosen (length body == 0) (Ok no_caller) (Err BadCredential) (Ok c) none.1) [
-            | inl empty ↦ (Nobody, record { flavor_is = eqb-true flavor 0 none.0; body_is = nil_from_length body (eqb-true _ _ empty.0); fits = tt; caller_is = found_is no_caller c empty.1 })
+            | inl empty ↦ (
+              Nobody,
+              record {
+                flavor_is = eqb-true flavor 0 none.0;
+                body_is = nil_from_length body (eqb-true _ _ empty.0);
+                fits = tt;
+                caller_is =
+                    found_is no_caller c empty.1;
+              },
+            )
             | inr bad ↦ absurd (let f : Err BadCredential ≡ Ok c = bad.1 in cc)
           ]
       | inr some ↦
           elim (chosen (flavor == 1) (caller_or_bad (caller_at body)) (Err RejectedCredential) (Ok c) some.1) [
             | inl system ↦
                 let found = of_system body (caller_at body) c refl fits system.1 in
-                let one : flavor ≡ 1 = eqb-true flavor 1 system.0 in
-                (found.0, record { flavor_is = one ∙ found.1.flavor_is; body_is = found.1.body_is; fits = found.1.fits; caller_is = found.1.caller_is })
+                let one : flavor ≡ 1 = eqb-true flavor 1 system.0 in (
+                  found.0,
+                  record {
+                    flavor_is = one ∙ found.1.flavor_is;
+                    body_is = found.1.body_is;
+                    fits = found.1.fits;
+                    caller_is = found.1.caller_is;
+                  },
+                )
             | inr bad ↦ absurd (let f : Err RejectedCredential ≡ Ok c = bad.1 in cc)
           ]
     ]

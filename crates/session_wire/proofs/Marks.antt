@@ -1,12 +1,14 @@
 -- A number of four bytes is the mark of a fragment.
-use Rattle.std.proofs.Common.{◌≡◌, ℕ, ◌%◌, ◌^◌, ◌<◌, Bool, true, false, List, [], ◌++◌, take, drop, sym, ap, ◌∙◌, arith, inl, inr}
+use Rattle.std.proofs.Common.{◌≡◌, ℕ, ◌%◌, ◌^◌, ◌<◌, Bool, true, false, List, [], ◌++◌, take, drop, sym, ap}
+use Rattle.std.proofs.Common.{◌∙◌, arith, inl, inr}
 use Rattle.std.proofs.lemmas.List.{take-append-drop}
 use Rattle.limits.specs.declared.TheConstants.{RECORD_BYTES}
 use Rattle.std.proofs.lemmas.Bool.{cases_lt}
 use Rattle.session_wire.specs.Items.{word}
 use Rattle.session_wire.specs.Records.{mark, IsTooLong}
 
-pub marks : (number n : ℕ) → number < 2 ^ 32 → n ≡ number % 2 ^ 31 → (last : Bool) × (n < 2 ^ 31) × (word number ≡ mark last n)
+pub marks : (number n : ℕ) → number < 2 ^ 32 → n ≡ number % 2 ^ 31 → (last : Bool) × (n < 2 ^ 31)
+    × (word number ≡ mark last n)
 marks number n lt e =
     elim (cases_lt number (2 ^ 31)) [
       | inl below ↦ (false, omega arith, ap word (omega arith))
@@ -14,7 +16,8 @@ marks number n lt e =
     ]
 
 -- bytes that begin with a mark which announces too much
-pub too_long : (bytes front : List ℕ) → front ≡ take 4 bytes → (last : Bool) (n : ℕ) → RECORD_BYTES < n → n < 2 ^ 31 → front ≡ mark last n → IsTooLong bytes
+pub too_long : (bytes front : List ℕ) → front ≡ take 4 bytes → (last : Bool) (n : ℕ) → RECORD_BYTES < n
+    → n < 2 ^ 31 → front ≡ mark last n → IsTooLong bytes
 too_long bytes front e last n long fits is_mark =
     record {
       parts = [];

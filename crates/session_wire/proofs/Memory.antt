@@ -5,14 +5,18 @@ use Rattle.limits.specs.declared.TheConstants.{MOST_HANDLE_BYTES}
 use Rattle.session_wire.specs.declared.nfs_codec.procedure.Procedure.{Procedure}
 use Rattle.session_wire.specs.declared.nfs_codec.procedure.Procedure.TheVariants.{Null, GetAttr, SetAttr}
 use Rattle.session_wire.specs.declared.xdr.fault.XdrFault.{XdrFault}
-use Rattle.session_wire.specs.declared.xdr.fault.XdrFault.TheVariants.{Short, Padding, Value, Length, Left, NoMemory}
+use Rattle.session_wire.specs.declared.xdr.fault.XdrFault.TheVariants.{Short, Padding, Value, Length, Left}
+use Rattle.session_wire.specs.declared.xdr.fault.XdrFault.TheVariants.{NoMemory}
 use Rattle.session_wire.specs.Reading.{◌>>=◌, number_at, flag_of, flag_at, opaque_at, end_at}
-use Rattle.session_wire.specs.ReadingCalls.{moment_at, optional_at, set_time_of, optional_word_at, optional_double_at, guard_at, set_time_at, new_attributes_at, null_of, get_attributes_of, set_attributes_of, call_of}
+use Rattle.session_wire.specs.ReadingCalls.{moment_at, optional_at, set_time_of, optional_word_at}
+use Rattle.session_wire.specs.ReadingCalls.{optional_double_at, guard_at, set_time_at, new_attributes_at}
+use Rattle.session_wire.specs.ReadingCalls.{null_of, get_attributes_of, set_attributes_of, call_of}
 
 abbrev Never : {A : Type 0} → Result A XdrFault → Type 0
 Never r = r ≡ Err NoMemory → ⊥
 
-bind : {A B : Type 0} (r : Result A XdrFault) (f : A → Result B XdrFault) → Never r → ((x : A) → Never (f x)) → Never (r >>= f)
+bind : {A B : Type 0} (r : Result A XdrFault) (f : A → Result B XdrFault) → Never r → ((x : A) → Never (f x))
+    → Never (r >>= f)
 bind (Ok x) f h g e = g x e
 bind (Err d) f h g e = h cc
 
@@ -52,7 +56,9 @@ flag bytes = bind (number_at w32 bytes) _ (number w32 bytes) (λ n. of_flag n.0 
 
 opaque : (bound : ℕ) (bytes : List ℕ) → Never (opaque_at bound bytes)
 unfolding opaque_at
-opaque bound bytes = bind (number_at w32 bytes) _ (number w32 bytes) (λ n. if_never _ _ _ long (if_never _ _ _ short (if_never _ _ _ (ok_never _) nonzero)))
+opaque bound bytes =
+    bind (number_at w32 bytes) _ (number w32 bytes)
+    (λ n. if_never _ _ _ long (if_never _ _ _ short (if_never _ _ _ (ok_never _) nonzero)))
 
 end : (bytes : List ℕ) → Never (end_at bytes)
 end [] = ok_never _
@@ -60,10 +66,15 @@ end (b ∷ bytes) = left
 
 moment : (bytes : List ℕ) → Never (moment_at bytes)
 unfolding moment_at
-moment bytes = bind (number_at w32 bytes) _ (number w32 bytes) (λ s. bind (number_at w32 s.1) _ (number w32 s.1) (λ n. ok_never _))
+moment bytes =
+    bind (number_at w32 bytes) _ (number w32 bytes)
+    (λ s. bind (number_at w32 s.1) _ (number w32 s.1) (λ n. ok_never _))
 
-optional : {A : Type 0} (item : List ℕ → Result (A × List ℕ) XdrFault) → ((bytes : List ℕ) → Never (item bytes)) → (bytes : List ℕ) → Never (optional_at item bytes)
-optional item h bytes = bind (flag_at bytes) _ (flag bytes) (λ b. if_never _ _ _ (bind (item b.1) _ (h b.1) (λ x. ok_never _)) (ok_never _))
+optional : {A : Type 0} (item : List ℕ → Result (A × List ℕ) XdrFault)
+    → ((bytes : List ℕ) → Never (item bytes)) → (bytes : List ℕ) → Never (optional_at item bytes)
+optional item h bytes =
+    bind (flag_at bytes) _ (flag bytes)
+    (λ b. if_never _ _ _ (bind (item b.1) _ (h b.1) (λ x. ok_never _)) (ok_never _))
 
 optional_word : (bytes : List ℕ) → Never (optional_word_at bytes)
 unfolding optional_word_at

@@ -1,17 +1,20 @@
 -- How calls are spelled (RFC 1813, sections 2.5, 2.6 and 3.3; RFC 5531, sections 8.2 and 9, appendix A).
-use Rattle.std.specs.Prelude.{◌≡◌, ◌<◌, ◌≤◌, ◌^◌, ℕ, zero, suc, List, [], ◌++◌, length, flat_map, Option, Some, None, IfSome}
+use Rattle.std.specs.Prelude.{◌≡◌, ◌<◌, ◌≤◌, ◌^◌, ℕ, zero, suc, List, [], ◌++◌, length, flat_map, Option}
+use Rattle.std.specs.Prelude.{Some, None, IfSome}
 use Rattle.std.specs.List.{AllByRecursion}
-use Rattle.limits.specs.declared.TheConstants.{MOST_HANDLE_BYTES, MOST_AUTH_BYTES, MACHINE_NAME_BYTES, MOST_GIDS}
+use Rattle.limits.specs.declared.TheConstants.{MOST_HANDLE_BYTES, MOST_AUTH_BYTES, MACHINE_NAME_BYTES}
+use Rattle.limits.specs.declared.TheConstants.{MOST_GIDS}
 use Rattle.nfs_types.specs.declared.ctx.Moment.{Moment}
 use Rattle.nfs_types.specs.declared.ctx.Credential.{Credential}
 use Rattle.nfs_types.specs.declared.attributes.NewAttributes.{NewAttributes}
 use Rattle.nfs_types.specs.declared.attributes.SetTime.{SetTime}
-use Rattle.nfs_types.specs.declared.attributes.SetTime.TheVariants.{Keep, Server, Client}
+use Rattle.nfs_types.specs.declared.attributes.SetTime.TheVariants.{Unchanged, Server, Client}
 use Rattle.nfs_types.specs.declared.call.Call.{Call}
 use Rattle.nfs_types.specs.declared.call.Call.TheVariants as calls
 use Rattle.session_wire.specs.declared.nfs_codec.procedure.Procedure.{Procedure}
 use Rattle.session_wire.specs.declared.nfs_codec.procedure.Procedure.TheVariants.{Null, GetAttr, SetAttr}
-use Rattle.session_wire.specs.declared.rpc.numbers.TheConstants.{CALL, RPC_VERSION, NFS_PROGRAM, NFS_VERSION, AUTH_NONE, AUTH_SYS}
+use Rattle.session_wire.specs.declared.rpc.constants.TheConstants.{CALL, RPC_VERSION, NFS_PROGRAM}
+use Rattle.session_wire.specs.declared.rpc.constants.TheConstants.{NFS_VERSION, AUTH_NONE, AUTH_SYS}
 use Rattle.session_wire.specs.declared.message.MessageCredential.{MessageCredential}
 use Rattle.session_wire.specs.declared.message.MessageCredential.TheVariants.{Nobody, Caller}
 use Rattle.session_wire.specs.declared.message.CallMessage.{CallMessage}
@@ -30,18 +33,19 @@ pub record MomentFits (t : Moment) : Type 0 where
 
 -- 0 leaves a time, 1 takes the server's, 2 the one that follows (`set_atime`, `set_mtime`)
 abbrev pub set_time : SetTime → List ℕ
-set_time Keep = word 0
+set_time Unchanged = word 0
 set_time Server = word 1
 set_time (Client t) = word 2 ++ moment t
 
 abbrev pub SetTimeFits : SetTime → Type 0
-SetTimeFits Keep = Unit {0}
+SetTimeFits Unchanged = Unit {0}
 SetTimeFits Server = Unit {0}
 SetTimeFits (Client t) = MomentFits t
 
 -- the attributes that a call sets (`sattr3`)
 abbrev pub new_attributes : NewAttributes → List ℕ
-new_attributes a = optional word a.mode ++ optional word a.uid ++ optional word a.gid ++ optional double a.size ++ set_time a.atime ++ set_time a.mtime
+new_attributes a = optional word a.mode ++ optional word a.uid ++ optional word a.gid
+    ++ optional double a.size ++ set_time a.atime ++ set_time a.mtime
 
 pub record NewAttributesFit (a : NewAttributes) : Type 0 where
   pub mode : IfSome a.mode (λ n. n < 2 ^ 32)
@@ -65,7 +69,7 @@ procedure_number Null = 0
 procedure_number GetAttr = 1
 procedure_number SetAttr = 2
 
--- the procedure of a call; those of the others come when they are served
+-- the procedure of a call; those of the others come when they are decoded
 abbrev pub called : Call → Procedure
 called (calls.GetAttr object) = GetAttr
 called (calls.SetAttr object attributes guard) = SetAttr
@@ -74,21 +78,24 @@ called call = Null
 -- a handle is a string of at most 64 bytes (`nfs_fh3`)
 abbrev pub arguments : Call → List ℕ
 arguments (calls.GetAttr object) = opaque object.bytes
-arguments (calls.SetAttr object attributes guard) = opaque object.bytes ++ new_attributes attributes ++ optional moment guard
+arguments (calls.SetAttr object attributes guard) = opaque object.bytes ++ new_attributes attributes
+    ++ optional moment guard
 arguments call = []
 
 -- the calls that have a spelling so far
 abbrev pub CallFits : Call → Type 0
 CallFits calls.Null = Unit {0}
 CallFits (calls.GetAttr object) = length object.bytes ≤ MOST_HANDLE_BYTES
-CallFits (calls.SetAttr object attributes guard) = (length object.bytes ≤ MOST_HANDLE_BYTES) × NewAttributesFit attributes × IfSome guard MomentFits
+CallFits (calls.SetAttr object attributes guard) = (length object.bytes ≤ MOST_HANDLE_BYTES)
+    × NewAttributesFit attributes × IfSome guard MomentFits
 CallFits call = ⊥
 
 -- ---- messages
 
 -- a stamp, the machine's name, the user, the group, and a counted list of further groups
 abbrev pub caller_bytes : ℕ → List ℕ → Credential → List ℕ
-caller_bytes stamp machine caller = word stamp ++ opaque machine ++ word caller.uid ++ word caller.gid ++ word (length caller.gids) ++ flat_map word caller.gids
+caller_bytes stamp machine caller = word stamp ++ opaque machine ++ word caller.uid ++ word caller.gid
+    ++ word (length caller.gids) ++ flat_map word caller.gids
 
 pub record CallerFits (stamp : ℕ) (machine : List ℕ) (caller : Credential) : Type 0 where
   pub stamp_fits : stamp < 2 ^ 32
@@ -112,10 +119,12 @@ abbrev pub caller_of : MessageCredential → Credential
 caller_of Nobody = no_caller
 caller_of (Caller stamp machine caller) = caller
 
--- the one spelling of a call: its number, what it calls, whom it is made for, a verifier of any flavor, the arguments
+-- the one spelling of a call: its number, what it calls, whom it is made for, a verifier of any flavor, the
+-- arguments
 abbrev pub call_bytes : CallMessage → List ℕ
 call_bytes m =
-    word m.xid ++ word CALL ++ word RPC_VERSION ++ word NFS_PROGRAM ++ word NFS_VERSION ++ word (procedure_number (called m.call))
+    word m.xid ++ word CALL ++ word RPC_VERSION ++ word NFS_PROGRAM ++ word NFS_VERSION
+    ++ word (procedure_number (called m.call))
     ++ credential m.credential ++ (word m.verifier.flavor ++ opaque m.verifier.body) ++ arguments m.call
 
 -- the bytes spell the call

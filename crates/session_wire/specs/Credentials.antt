@@ -1,5 +1,6 @@
 -- Whom a call is made for (RFC 5531, section 8.2 and appendix A).
-use Rattle.std.specs.Prelude.{ℕ, zero, suc, List, [], ◌∷◌, length, Result, Ok, Err, nat_lt, ◌==◌, if◌then◌else◌}
+use Rattle.std.specs.Prelude.{ℕ, zero, suc, List, [], ◌∷◌, length, Result, Ok, Err, nat_lt, ◌==◌}
+use Rattle.std.specs.Prelude.{if◌then◌else◌}
 use Rattle.std.specs.Int.{w32}
 use Rattle.limits.specs.declared.TheConstants.{MACHINE_NAME_BYTES, MOST_GIDS, NOBODY}
 use Rattle.nfs_types.specs.declared.ctx.Credential.{Credential}
@@ -42,7 +43,11 @@ caller_at bytes = do
   gid ← number_at w32 uid.1
   gids ← gids_at gid.1
   end ← end_at gids.1
-  Ok (record { stamp = stamp.0; machine = machine.0; caller = record { uid = uid.0; gid = gid.0; gids = gids.0 } })
+  Ok (record {
+    stamp = stamp.0;
+    machine = machine.0;
+    caller = record { uid = uid.0; gid = gid.0; gids = gids.0 };
+  })
 
 -- a call that names nobody is made for this caller
 abbrev pub no_caller : Credential

@@ -26,9 +26,18 @@ pub record Heading : Type 0 where
   pub verifier : List ℕ
 
 abbrev pub heading : Header → Heading
-heading h = record { program = h.program; version = h.version; procedure = h.procedure; flavor = h.flavor; body = h.body.now; verifier_flavor = h.verifier_flavor; verifier = h.verifier.now }
+heading h = record {
+  program = h.program;
+  version = h.version;
+  procedure = h.procedure;
+  flavor = h.flavor;
+  body = h.body.now;
+  verifier_flavor = h.verifier_flavor;
+  verifier = h.verifier.now;
+}
 
--- program, version, procedure, then a credential and a verifier: each a flavor and a string of at most 400 bytes
+-- program, version, procedure, then a credential and a verifier: each a flavor and a string of at most 400
+-- bytes
 unfoldable pub header_at : List ℕ → Result (Heading × List ℕ) XdrFault
 header_at bytes = do
   program ← number_at w32 bytes
@@ -38,4 +47,15 @@ header_at bytes = do
   body ← opaque_at MOST_AUTH_BYTES flavor.1
   verifier_flavor ← number_at w32 body.1
   verifier ← opaque_at MOST_AUTH_BYTES verifier_flavor.1
-  Ok (record { program = program.0; version = version.0; procedure = procedure.0; flavor = flavor.0; body = body.0; verifier_flavor = verifier_flavor.0; verifier = verifier.0 }, verifier.1)
+  Ok (
+    record {
+      program = program.0;
+      version = version.0;
+      procedure = procedure.0;
+      flavor = flavor.0;
+      body = body.0;
+      verifier_flavor = verifier_flavor.0;
+      verifier = verifier.0;
+    },
+    verifier.1,
+  )

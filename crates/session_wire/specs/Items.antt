@@ -1,5 +1,6 @@
 -- How items are spelled, each in a multiple of four bytes (RFC 4506).
-use Rattle.std.specs.Prelude.{ℕ, ◌-◌, ◌%◌, Bool, true, false, List, ◌++◌, length, replicate, Option, Some, None}
+use Rattle.std.specs.Prelude.{ℕ, ◌-◌, ◌%◌, Bool, true, false, List, ◌++◌, length, replicate, Option, Some}
+use Rattle.std.specs.Prelude.{None}
 use Rattle.std.specs.Int.{w32, w64, to_be_bytes}
 
 -- an unsigned number, the greatest byte first (sections 4.2 and 4.5)

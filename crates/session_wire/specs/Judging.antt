@@ -3,10 +3,13 @@ use Rattle.std.specs.Prelude.{◌≡◌, ℕ, List, Option, Some, None, Result, 
 use Rattle.nfs_types.specs.declared.ctx.Credential.{Credential}
 use Rattle.nfs_types.specs.declared.call.Call as types
 use Rattle.session_wire.specs.declared.nfs_codec.procedure.Procedure.{Procedure}
-use Rattle.session_wire.specs.declared.rpc.numbers.TheConstants.{CALL, RPC_VERSION, NFS_PROGRAM, NFS_VERSION}
+use Rattle.session_wire.specs.declared.rpc.constants.TheConstants.{CALL, RPC_VERSION, NFS_PROGRAM}
+use Rattle.session_wire.specs.declared.rpc.constants.TheConstants.{NFS_VERSION}
 use Rattle.session_wire.specs.declared.rpc.header.Opening.{Opening}
 use Rattle.session_wire.specs.declared.rpc.refusal.Refusal.{Refusal}
-use Rattle.session_wire.specs.declared.rpc.refusal.Refusal.TheVariants.{RpcMismatch, ProgramUnavailable, ProgramMismatch, ProcedureUnavailable, GarbageArguments, SystemError}
+use Rattle.session_wire.specs.declared.rpc.refusal.Refusal.TheVariants.{RpcMismatch, ProgramUnavailable}
+use Rattle.session_wire.specs.declared.rpc.refusal.Refusal.TheVariants.{ProgramMismatch, ProcedureUnavailable}
+use Rattle.session_wire.specs.declared.rpc.refusal.Refusal.TheVariants.{GarbageArguments, SystemError}
 use Rattle.session_wire.specs.declared.message.Judged.{Judged}
 use Rattle.session_wire.specs.declared.message.Judged.TheVariants.{Closed, Refused, Call}
 use Rattle.session_wire.specs.declared.xdr.fault.XdrFault.{XdrFault}
@@ -21,7 +24,8 @@ on_arguments xid credential (Err e) = Refused xid GarbageArguments
 
 abbrev pub on_procedure : ℕ → Credential → List ℕ → Option Procedure → Judged
 on_procedure xid credential arguments None = Refused xid ProcedureUnavailable
-on_procedure xid credential arguments (Some procedure) = on_arguments xid credential (call_of procedure arguments)
+on_procedure xid credential arguments (Some procedure) =
+    on_arguments xid credential (call_of procedure arguments)
 
 -- the program first, then its version, the procedure, and at last the arguments
 abbrev pub requested : ℕ → Credential → Heading → List ℕ → Judged
@@ -42,7 +46,8 @@ on_header xid (Err e) = Closed
 abbrev pub on_opening : Result (Opening × List ℕ) XdrFault → Judged
 on_opening (Ok o) =
     if o.0.kind == CALL then
-    (if o.0.rpc_version == RPC_VERSION then on_header o.0.xid (header_at o.1) else Refused o.0.xid RpcMismatch)
+    (if o.0.rpc_version == RPC_VERSION then on_header o.0.xid (header_at o.1)
+    else Refused o.0.xid RpcMismatch)
     else Closed
 on_opening (Err e) = Closed
 

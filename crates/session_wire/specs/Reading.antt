@@ -1,10 +1,12 @@
 -- Reading items from left to right, with the first refusal that is met (RFC 4506).
-use Rattle.std.specs.Prelude.{◌≡◌, ◌⊎◌, ℕ, zero, suc, ◌+◌, Bool, true, false, List, [], ◌∷◌, length, take, drop, Result, Ok, Err, nat_lt, ◌==◌, if◌then◌else◌}
+use Rattle.std.specs.Prelude.{◌≡◌, ◌⊎◌, ℕ, zero, suc, ◌+◌, Bool, true, false, List, [], ◌∷◌, length, take}
+use Rattle.std.specs.Prelude.{drop, Result, Ok, Err, nat_lt, ◌==◌, if◌then◌else◌}
 use Rattle.std.specs.Int.{Width, w32, byte_len, from_be_bytes}
 use Rattle.std.specs.List.{list_all}
 use Rattle.session_wire.specs.Items.{padding}
 use Rattle.session_wire.specs.declared.xdr.fault.XdrFault.{XdrFault}
-use Rattle.session_wire.specs.declared.xdr.fault.XdrFault.TheVariants.{Short, Padding, Value, Length, Left, NoMemory}
+use Rattle.session_wire.specs.declared.xdr.fault.XdrFault.TheVariants.{Short, Padding, Value, Length, Left}
+use Rattle.session_wire.specs.declared.xdr.fault.XdrFault.TheVariants.{NoMemory}
 
 infixl 10 ◌>>=◌
 abbrev pub ◌>>=◌ : {A B : Type 0} → Result A XdrFault → (A → Result B XdrFault) → Result B XdrFault
@@ -28,7 +30,8 @@ GivesWhole {Y} (Err e) read = (read ≡ Err e) ⊎ ((e ≡ NoMemory) × (y : Y) 
 
 -- a number is so many bytes, the greatest first
 abbrev pub number_at : Width → List ℕ → Result (ℕ × List ℕ) XdrFault
-number_at w bytes = if nat_lt (length bytes) (byte_len w) then Err Short else Ok (from_be_bytes w (take (byte_len w) bytes), drop (byte_len w) bytes)
+number_at w bytes = if nat_lt (length bytes) (byte_len w) then Err Short
+    else Ok (from_be_bytes w (take (byte_len w) bytes), drop (byte_len w) bytes)
 
 abbrev pub flag_of : ℕ → List ℕ → Result (Bool × List ℕ) XdrFault
 flag_of zero rest = Ok (false, rest)
@@ -47,7 +50,8 @@ opaque_at bound bytes = do
   n ← number_at w32 bytes
   if nat_lt bound n.0 then Err Length else
       if nat_lt (length n.1) (n.0 + padding n.0) then Err Short else
-      if list_all (λ b. b == 0) (take (padding n.0) (drop n.0 n.1)) then Ok (take n.0 n.1, drop (padding n.0) (drop n.0 n.1)) else Err Padding
+      if list_all (λ b. b == 0) (take (padding n.0) (drop n.0 n.1))
+      then Ok (take n.0 n.1, drop (padding n.0) (drop n.0 n.1)) else Err Padding
 
 -- nothing, where nothing is left
 abbrev pub end_at : List ℕ → Result (Unit {0}) XdrFault

@@ -5,7 +5,7 @@ use Rattle.limits.specs.declared.TheConstants.{MOST_HANDLE_BYTES}
 use Rattle.nfs_types.specs.declared.ctx.Moment.{Moment}
 use Rattle.nfs_types.specs.declared.attributes.NewAttributes.{NewAttributes}
 use Rattle.nfs_types.specs.declared.attributes.SetTime.{SetTime}
-use Rattle.nfs_types.specs.declared.attributes.SetTime.TheVariants.{Keep, Server, Client}
+use Rattle.nfs_types.specs.declared.attributes.SetTime.TheVariants.{Unchanged, Server, Client}
 use Rattle.nfs_types.specs.declared.call.Call.{Call}
 use Rattle.nfs_types.specs.declared.call.Call.TheVariants as calls
 use Rattle.session_wire.specs.declared.nfs_codec.procedure.Procedure.{Procedure}
@@ -20,7 +20,8 @@ moment_at bytes = do
   nanoseconds ← number_at w32 seconds.1
   Ok (record { seconds = seconds.0; nanoseconds = nanoseconds.0 }, nanoseconds.1)
 
-abbrev pub optional_at : {A : Type 0} → (List ℕ → Result (A × List ℕ) XdrFault) → List ℕ → Result (Option A × List ℕ) XdrFault
+abbrev pub optional_at : {A : Type 0} → (List ℕ → Result (A × List ℕ) XdrFault) → List ℕ
+    → Result (Option A × List ℕ) XdrFault
 optional_at item bytes = do
   there ← flag_at bytes
   if there.0 then (item there.1 >>= λ x. Ok (Some x.0, x.1)) else Ok (None, there.1)
@@ -35,7 +36,7 @@ unfoldable pub guard_at : List ℕ → Result (Option Moment × List ℕ) XdrFau
 guard_at bytes = optional_at moment_at bytes
 
 abbrev pub set_time_of : ℕ → List ℕ → Result (SetTime × List ℕ) XdrFault
-set_time_of zero rest = Ok (Keep, rest)
+set_time_of zero rest = Ok (Unchanged, rest)
 set_time_of (suc zero) rest = Ok (Server, rest)
 set_time_of (suc (suc zero)) rest = moment_at rest >>= λ t. Ok (Client t.0, t.1)
 set_time_of (suc (suc (suc n))) rest = Err Value
@@ -53,7 +54,10 @@ new_attributes_at bytes = do
   size ← optional_double_at gid.1
   atime ← set_time_at size.1
   mtime ← set_time_at atime.1
-  Ok (record { mode = mode.0; uid = uid.0; gid = gid.0; size = size.0; atime = atime.0; mtime = mtime.0 }, mtime.1)
+  Ok (
+    record { mode = mode.0; uid = uid.0; gid = gid.0; size = size.0; atime = atime.0; mtime = mtime.0 },
+    mtime.1,
+  )
 
 unfoldable pub null_of : List ℕ → Result Call XdrFault
 null_of bytes = do

@@ -13,9 +13,13 @@ use Rattle.nfs_types.specs.declared.reply.Reply.{Reply}
 use Rattle.nfs_types.specs.declared.reply.Reply.TheVariants as replies
 use Rattle.session_wire.specs.declared.nfs_codec.procedure.Procedure.{Procedure}
 use Rattle.session_wire.specs.declared.nfs_codec.procedure.Procedure.TheVariants.{Null, GetAttr, SetAttr}
-use Rattle.session_wire.specs.declared.rpc.numbers.TheConstants.{REPLY, RPC_VERSION, NFS_VERSION}
+use Rattle.session_wire.specs.declared.rpc.constants.TheConstants.{REPLY, RPC_VERSION, NFS_VERSION}
 use Rattle.session_wire.specs.declared.rpc.refusal.Refusal.{Refusal}
-use Rattle.session_wire.specs.declared.rpc.refusal.Refusal.TheVariants.{RpcMismatch, BadCredential, RejectedCredential, ProgramUnavailable, ProgramMismatch, ProcedureUnavailable, GarbageArguments, SystemError}
+use Rattle.session_wire.specs.declared.rpc.refusal.Refusal.TheVariants.{RpcMismatch, BadCredential}
+use Rattle.session_wire.specs.declared.rpc.refusal.Refusal.TheVariants.{RejectedCredential}
+use Rattle.session_wire.specs.declared.rpc.refusal.Refusal.TheVariants.{ProgramUnavailable, ProgramMismatch}
+use Rattle.session_wire.specs.declared.rpc.refusal.Refusal.TheVariants.{ProcedureUnavailable}
+use Rattle.session_wire.specs.declared.rpc.refusal.Refusal.TheVariants.{GarbageArguments, SystemError}
 use Rattle.session_wire.specs.declared.message.ReplyBody.{ReplyBody}
 use Rattle.session_wire.specs.declared.message.ReplyBody.TheVariants as bodies
 use Rattle.session_wire.specs.declared.message.ReplyMessage.{ReplyMessage}
@@ -29,19 +33,27 @@ use Rattle.session_wire.specs.ReadingCalls.{moment_at, optional_at}
 -- the status of a number but 0 (`nfsstat3`)
 abbrev pub status_of : ℕ → Option Status
 status_of n =
-    if n == 1 then Some statuses.Perm else if n == 2 then Some statuses.NoEnt else if n == 5 then Some statuses.Io else
-    if n == 13 then Some statuses.Acces else if n == 17 then Some statuses.Exist else if n == 20 then Some statuses.NotDir else
-    if n == 21 then Some statuses.IsDir else if n == 22 then Some statuses.Inval else if n == 27 then Some statuses.FBig else
-    if n == 28 then Some statuses.NoSpc else if n == 31 then Some statuses.MLink else if n == 63 then Some statuses.NameTooLong else
-    if n == 66 then Some statuses.NotEmpty else if n == 70 then Some statuses.Stale else if n == 10001 then Some statuses.BadHandle else
-    if n == 10002 then Some statuses.NotSync else if n == 10003 then Some statuses.BadCookie else if n == 10004 then Some statuses.NotSupp else
+    if n == 1 then Some statuses.Perm else if n == 2 then Some statuses.NoEnt else if n == 5
+    then Some statuses.Io else
+    if n == 13 then Some statuses.Acces else if n == 17 then Some statuses.Exist else if n == 20
+    then Some statuses.NotDir else
+    if n == 21 then Some statuses.IsDir else if n == 22 then Some statuses.Inval else if n == 27
+    then Some statuses.FBig else
+    if n == 28 then Some statuses.NoSpc else if n == 31 then Some statuses.MLink else if n == 63
+    then Some statuses.NameTooLong else
+    if n == 66 then Some statuses.NotEmpty else if n == 70 then Some statuses.Stale else if n == 10001
+    then Some statuses.BadHandle else
+    if n == 10002 then Some statuses.NotSync else if n == 10003 then Some statuses.BadCookie
+    else if n == 10004 then Some statuses.NotSupp else
     if n == 10005 then Some statuses.TooSmall else if n == 10006 then Some statuses.ServerFault else None
 
 -- the kind of file of a number (`ftype3`)
 abbrev pub kind_of : ℕ → Option FileKind
 kind_of n =
-    if n == 1 then Some kinds.Regular else if n == 2 then Some kinds.Directory else if n == 3 then Some kinds.BlockDevice else
-    if n == 4 then Some kinds.CharacterDevice else if n == 5 then Some kinds.Link else if n == 6 then Some kinds.Socket else
+    if n == 1 then Some kinds.Regular else if n == 2 then Some kinds.Directory else if n == 3
+    then Some kinds.BlockDevice else
+    if n == 4 then Some kinds.CharacterDevice else if n == 5 then Some kinds.Link else if n == 6
+    then Some kinds.Socket else
     if n == 7 then Some kinds.Fifo else None
 
 abbrev pub listed : {A : Type 0} → Option A → List ℕ → Result (A × List ℕ) XdrFault
@@ -91,7 +103,17 @@ extent_at bytes = do
   minor ← number_at w32 major.1
   file_system ← number_at w64 minor.1
   number ← number_at w64 file_system.1
-  Ok (record { size = size.0; used = used.0; major = major.0; minor = minor.0; file_system = file_system.0; number = number.0 }, number.1)
+  Ok (
+    record {
+      size = size.0;
+      used = used.0;
+      major = major.0;
+      minor = minor.0;
+      file_system = file_system.0;
+      number = number.0;
+    },
+    number.1,
+  )
 
 unfoldable pub times_at : List ℕ → Result (Times × List ℕ) XdrFault
 times_at bytes = do
@@ -101,7 +123,21 @@ times_at bytes = do
   Ok (record { atime = atime.0; mtime = mtime.0; ctime = ctime.0 }, ctime.1)
 
 abbrev pub grouped : Ownership → Extent → Times → Attributes
-grouped o e t = record { kind = o.kind; mode = o.mode; nlink = o.nlink; uid = o.uid; gid = o.gid; size = e.size; used = e.used; device = record { major = e.major; minor = e.minor }; file_system = e.file_system; number = e.number; atime = t.atime; mtime = t.mtime; ctime = t.ctime }
+grouped o e t = record {
+  kind = o.kind;
+  mode = o.mode;
+  nlink = o.nlink;
+  uid = o.uid;
+  gid = o.gid;
+  size = e.size;
+  used = e.used;
+  device = record { major = e.major; minor = e.minor };
+  file_system = e.file_system;
+  number = e.number;
+  atime = t.atime;
+  mtime = t.mtime;
+  ctime = t.ctime;
+}
 
 unfoldable pub attributes_at : List ℕ → Result (Attributes × List ℕ) XdrFault
 attributes_at bytes = do
@@ -133,27 +169,30 @@ weak_cache_at bytes = do
 
 -- OK, or a status
 abbrev pub outcome_of : ℕ → List ℕ → Result (Result (Unit {0}) Status × List ℕ) XdrFault
-outcome_of n rest = if n == 0 then Ok (Ok tt, rest) else (listed (status_of n) rest >>= λ s. Ok (Err s.0, s.1))
+outcome_of n rest = if n == 0 then Ok (Ok tt, rest)
+    else (listed (status_of n) rest >>= λ s. Ok (Err s.0, s.1))
 
 unfoldable pub outcome_at : List ℕ → Result (Result (Unit {0}) Status × List ℕ) XdrFault
 outcome_at bytes = do
   n ← number_at w32 bytes
   outcome_of n.0 n.1
 
-abbrev pub got_of : Result (Unit {0}) Status → List ℕ → Result (Result Attributes Status × List ℕ) XdrFault
-got_of (Ok done) rest = attributes_at rest >>= λ a. Ok (Ok a.0, a.1)
-got_of (Err s) rest = Ok (Err s, rest)
+abbrev pub get_attr_of : Result (Unit {0}) Status → List ℕ
+    → Result (Result Attributes Status × List ℕ) XdrFault
+get_attr_of (Ok done) rest = attributes_at rest >>= λ a. Ok (Ok a.0, a.1)
+get_attr_of (Err s) rest = Ok (Err s, rest)
 
-unfoldable pub got_at : List ℕ → Result (Result Attributes Status × List ℕ) XdrFault
-got_at bytes = do
+unfoldable pub get_attr_at : List ℕ → Result (Result Attributes Status × List ℕ) XdrFault
+get_attr_at bytes = do
   outcome ← outcome_at bytes
-  got_of outcome.0 outcome.1
+  get_attr_of outcome.0 outcome.1
 
 -- the result of a procedure
 abbrev pub result_at : Procedure → List ℕ → Result (Reply × List ℕ) XdrFault
 result_at Null bytes = Ok (replies.Null, bytes)
-result_at GetAttr bytes = got_at bytes >>= λ g. Ok (replies.GetAttr g.0, g.1)
-result_at SetAttr bytes = outcome_at bytes >>= λ o. weak_cache_at o.1 >>= λ w. Ok (replies.SetAttr o.0 w.0, w.1)
+result_at GetAttr bytes = get_attr_at bytes >>= λ g. Ok (replies.GetAttr g.0, g.1)
+result_at SetAttr bytes =
+    outcome_at bytes >>= λ o. weak_cache_at o.1 >>= λ w. Ok (replies.SetAttr o.0 w.0, w.1)
 
 -- ---- messages
 
@@ -201,7 +240,8 @@ denied_at bytes = do
   denied_of reason.0 reason.1
 
 abbrev pub state_of : Procedure → ℕ → List ℕ → Result (ReplyBody × List ℕ) XdrFault
-state_of p state rest = if state == 0 then accepted_at p rest else if state == 1 then denied_at rest else Err Value
+state_of p state rest = if state == 0 then accepted_at p rest else if state == 1 then denied_at rest
+    else Err Value
 
 -- the reply to a procedure that all of these bytes spell
 unfoldable pub reply_of : Procedure → List ℕ → Result ReplyMessage XdrFault

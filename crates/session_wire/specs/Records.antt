@@ -1,5 +1,6 @@
 -- How a stream of bytes is cut into records (RFC 5531, section 11).
-use Rattle.std.specs.Prelude.{◌≡◌, ℕ, ◌+◌, ◌<◌, ◌≤◌, ◌^◌, ◌⊎◌, Bool, true, false, List, [], ◌∷◌, ◌++◌, length, flat_map}
+use Rattle.std.specs.Prelude.{◌≡◌, ℕ, ◌+◌, ◌<◌, ◌≤◌, ◌^◌, ◌⊎◌, Bool, true, false, List, [], ◌∷◌, ◌++◌, length}
+use Rattle.std.specs.Prelude.{flat_map}
 use Rattle.std.specs.List.{AllByRecursion}
 use Rattle.limits.specs.declared.TheConstants.{RECORD_BYTES}
 use Rattle.session_wire.specs.Items.{word}
@@ -25,12 +26,14 @@ pub record IsRecord (bytes content : List ℕ) : Type 0 where
   pub bounded : length content ≤ RECORD_BYTES
 
 abbrev pub BeginsWithRecord : List ℕ → Type 0
-BeginsWithRecord bytes = (text : List ℕ) × (content : List ℕ) × (more : List ℕ) × (bytes ≡ text ++ more) × IsRecord text content
+BeginsWithRecord bytes = (text : List ℕ) × (content : List ℕ) × (more : List ℕ) × (bytes ≡ text ++ more)
+    × IsRecord text content
 
 -- the bytes are whole records of these contents, and a rest that doesn't begin with one
 abbrev pub records : List ℕ → List (List ℕ) → List ℕ → Type 0
 records bytes [] rest = (bytes ≡ rest) × (BeginsWithRecord rest → ⊥)
-records bytes (first ∷ others) rest = (text : List ℕ) × (more : List ℕ) × (bytes ≡ text ++ more) × IsRecord text first × records more others rest
+records bytes (first ∷ others) rest = (text : List ℕ) × (more : List ℕ) × (bytes ≡ text ++ more)
+    × IsRecord text first × records more others rest
 
 -- the marks of the first record announce more than a record may have
 pub record IsTooLong (rest : List ℕ) : Type 0 where
@@ -47,6 +50,8 @@ pub record IsTooLong (rest : List ℕ) : Type 0 where
 abbrev pub GoesOn : List ℕ → Type 0
 GoesOn bytes = (n : ℕ) × (more : List ℕ) × (n < 2 ^ 31) × (bytes ≡ mark false n ++ more)
 
--- a record of one fragment has only begun: less than its mark is there, or fewer bytes than the mark announces
+-- a record of one fragment has only begun: less than its mark is there, or fewer bytes than the mark
+-- announces
 abbrev pub HasBegun : List ℕ → Type 0
-HasBegun bytes = (length bytes < 4) ⊎ ((n : ℕ) × (more : List ℕ) × (n ≤ RECORD_BYTES) × (length more < n) × (bytes ≡ mark true n ++ more))
+HasBegun bytes = (length bytes < 4)
+    ⊎ ((n : ℕ) × (more : List ℕ) × (n ≤ RECORD_BYTES) × (length more < n) × (bytes ≡ mark true n ++ more))

@@ -1,16 +1,20 @@
 -- How replies are spelled (RFC 5531, sections 9 and 11).
 use Rattle.std.specs.Prelude.{◌≡◌, ◌<◌, ◌^◌, ℕ, List, ◌++◌}
-use Rattle.session_wire.specs.declared.rpc.numbers.TheConstants.{REPLY, RPC_VERSION, NFS_VERSION}
+use Rattle.session_wire.specs.declared.rpc.constants.TheConstants.{REPLY, RPC_VERSION, NFS_VERSION}
 use Rattle.session_wire.specs.declared.rpc.refusal.Refusal.{Refusal}
-use Rattle.session_wire.specs.declared.rpc.refusal.Refusal.TheVariants.{RpcMismatch, BadCredential, RejectedCredential, ProgramUnavailable, ProgramMismatch, ProcedureUnavailable, GarbageArguments, SystemError}
-use Rattle.session_wire.specs.declared.message.Answer.{Answer}
-use Rattle.session_wire.specs.declared.message.Answer.TheVariants.{Done, Refused}
+use Rattle.session_wire.specs.declared.rpc.refusal.Refusal.TheVariants.{RpcMismatch, BadCredential}
+use Rattle.session_wire.specs.declared.rpc.refusal.Refusal.TheVariants.{RejectedCredential}
+use Rattle.session_wire.specs.declared.rpc.refusal.Refusal.TheVariants.{ProgramUnavailable, ProgramMismatch}
+use Rattle.session_wire.specs.declared.rpc.refusal.Refusal.TheVariants.{ProcedureUnavailable}
+use Rattle.session_wire.specs.declared.rpc.refusal.Refusal.TheVariants.{GarbageArguments, SystemError}
+use Rattle.session_wire.specs.declared.message.RpcReply.{RpcReply}
+use Rattle.session_wire.specs.declared.message.RpcReply.TheVariants.{Done, Refused}
 use Rattle.session_wire.specs.declared.message.ReplyBody.{ReplyBody}
 use Rattle.session_wire.specs.declared.message.ReplyBody.TheVariants as bodies
 use Rattle.session_wire.specs.Items.{word}
 use Rattle.session_wire.specs.declared.message.ReplyMessage.{ReplyMessage}
 use Rattle.session_wire.specs.declared.nfs_codec.procedure.Procedure.{Procedure}
-use Rattle.session_wire.specs.Results.{IsServed, result_bytes, ReplyFits, answered}
+use Rattle.session_wire.specs.Results.{HasSpelling, result_bytes, ReplyFits, replied_to}
 
 -- an accepted reply up to its status: its verifier is of flavor 0 and empty
 abbrev pub accepted : ℕ → ℕ → List ℕ
@@ -37,13 +41,13 @@ reply_bytes xid (bodies.Done reply) = accepted xid 0 ++ result_bytes reply
 reply_bytes xid (bodies.Refused refusal) = refused xid refusal
 
 -- an answer as the body of a reply
-abbrev pub body_of : Answer → ReplyBody
+abbrev pub body_of : RpcReply → ReplyBody
 body_of (Done reply) = bodies.Done reply.now
 body_of (Refused refusal) = bodies.Refused refusal
 
 -- what has a spelling so far
 abbrev pub IsSpellable : ReplyBody → Type 0
-IsSpellable (bodies.Done reply) = IsServed reply
+IsSpellable (bodies.Done reply) = HasSpelling reply
 IsSpellable (bodies.Refused refusal) = Unit {0}
 
 abbrev pub BodyFits : ReplyBody → Type 0
@@ -51,13 +55,13 @@ BodyFits (bodies.Done reply) = ReplyFits reply
 BodyFits (bodies.Refused refusal) = Unit {0}
 
 -- a refusal may answer any procedure
-abbrev pub Answers : Procedure → ReplyBody → Type 0
-Answers p (bodies.Done reply) = answered reply ≡ p
-Answers p (bodies.Refused refusal) = Unit {0}
+abbrev pub RepliesTo : Procedure → ReplyBody → Type 0
+RepliesTo p (bodies.Done reply) = replied_to reply ≡ p
+RepliesTo p (bodies.Refused refusal) = Unit {0}
 
 -- the bytes spell the reply to a call of this procedure
 pub record SpellsReply (p : Procedure) (bytes : List ℕ) (m : ReplyMessage) : Type 0 where
   pub xid : m.xid < 2 ^ 32
   pub body_fits : BodyFits m.body
-  pub answers : Answers p m.body
+  pub answers : RepliesTo p m.body
   pub spelled : bytes ≡ reply_bytes m.xid m.body

@@ -76,9 +76,9 @@ outcome_status (Ok done) = word 0
 outcome_status (Err s) = word (status_number s)
 
 -- the result of GETATTR (section 3.3.1)
-abbrev pub got : Result Attributes Status → List ℕ
-got (Ok a) = word 0 ++ attributes a
-got (Err s) = word (status_number s)
+abbrev pub get_attr_result : Result Attributes Status → List ℕ
+get_attr_result (Ok a) = word 0 ++ attributes a
+get_attr_result (Err s) = word (status_number s)
 
 -- ---- which values have a spelling
 
@@ -112,21 +112,21 @@ ReplyFits (replies.GetAttr outcome) = IfOk outcome AttributesFit
 ReplyFits (replies.SetAttr outcome object) = WeakCacheFits object
 ReplyFits reply = ⊥
 
--- the procedure that a reply answers; those of the others come when they are served
-abbrev pub answered : Reply → Procedure
-answered (replies.GetAttr outcome) = GetAttr
-answered (replies.SetAttr outcome object) = SetAttr
-answered reply = Null
+-- the procedure that a reply answers; those of the others come when they are decoded
+abbrev pub replied_to : Reply → Procedure
+replied_to (replies.GetAttr outcome) = GetAttr
+replied_to (replies.SetAttr outcome object) = SetAttr
+replied_to reply = Null
 
 -- the replies that have a spelling so far
-abbrev pub IsServed : Reply → Type 0
-IsServed replies.Null = Unit {0}
-IsServed (replies.GetAttr outcome) = Unit {0}
-IsServed (replies.SetAttr outcome object) = Unit {0}
-IsServed reply = ⊥
+abbrev pub HasSpelling : Reply → Type 0
+HasSpelling replies.Null = Unit {0}
+HasSpelling (replies.GetAttr outcome) = Unit {0}
+HasSpelling (replies.SetAttr outcome object) = Unit {0}
+HasSpelling reply = ⊥
 
 -- the result of each procedure (section 3.3)
 abbrev pub result_bytes : Reply → List ℕ
-result_bytes (replies.GetAttr outcome) = got outcome
+result_bytes (replies.GetAttr outcome) = get_attr_result outcome
 result_bytes (replies.SetAttr outcome object) = outcome_status outcome ++ weak_cache object
 result_bytes reply = []

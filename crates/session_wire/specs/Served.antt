@@ -21,9 +21,10 @@ pub record Serving : Type 0 where
   pub boot : ℕ
   pub moment : Moment
 
--- How a stream stands: the tree so far, the least number that the next transaction may have, how many device calls have
--- failed, whether one of them was a write or a barrier since the opening, and whether a counter was found spent. What is
--- between two messages is free: the contract of a server ties the last one to its device and its core.
+-- How a stream stands: the tree so far, the least number that the next transaction may have, how many device
+-- calls have failed, whether one of them was a write or a barrier since the opening, and whether a counter
+-- was found spent. What is between two messages is free: the contract of a server ties the last one to its
+-- device and its core.
 pub record Standing : Type 0 where
   pub tree : Tree
   pub number : ℕ
@@ -31,8 +32,8 @@ pub record Standing : Type 0 where
   pub is_broken : Bool
   pub is_spent : Bool
 
--- What a message may do besides its step: numbers of transactions and failures of the device only rise, a store breaks
--- only as a device call fails, and neither that nor a spent counter is ever taken back.
+-- What a message may do besides its step: numbers of transactions and failures of the device only rise, a
+-- store breaks only as a device call fails, and neither that nor a spent counter is ever taken back.
 pub record IsLater (old new : Standing) : Type 0 where
   pub numbers : old.number ≤ new.number
   pub failures : old.failures ≤ new.failures
@@ -46,12 +47,18 @@ pub record Stays (old new : Standing) : Type 0 where
   pub tree : new.tree ≡ old.tree
 
 -- a step of the sequential server, with a number that no earlier transaction has
-pub record Steps (s : Serving) (old : Standing) (credential : Credential) (call : types.Call) (reply : Reply) (new : Standing) : Type 0 where
+pub record Steps (s : Serving) (old : Standing) (credential : Credential) (call : types.Call) (reply : Reply)
+    (new : Standing) : Type 0 where
   pub later : IsLater old new
   pub number : ℕ
   pub fresh : old.number ≤ number
   pub rising : number < new.number
-  pub step : step old.tree (record { credential = credential; moment = s.moment; boot = s.boot; transaction = number }) call reply new.tree
+  pub step : step old.tree (record {
+    credential = credential;
+    moment = s.moment;
+    boot = s.boot;
+    transaction = number;
+  }) call reply new.tree
 
 -- a device call failed for this message, or the store was broken before
 abbrev pub HasFailed : Standing → Standing → Type 0
@@ -61,31 +68,39 @@ HasFailed old new = (old.failures < new.failures) ⊎ (old.is_broken ≡ true)
 abbrev pub done : ℕ → Reply → List ℕ
 done xid reply = accepted xid 0 ++ result_bytes reply
 
--- What a call with rules is answered: the reply of its step. Or it made no step and is told why: memory was refused, a
--- counter is spent, or a device call failed. A failure may also come after its step, where the answer had to wait until
--- what it changed is stable.
-pub data IsServedCall (s : Serving) (old : Standing) (xid : ℕ) (credential : Credential) (call : types.Call) (bytes : List ℕ) (new : Standing) : Type 0 where
-  Done : (reply : Reply) → Steps s old credential call reply new → bytes ≡ done xid reply → IsServedCall s old xid credential call bytes new
-  NoMemory : Stays old new → bytes ≡ refused xid SystemError → IsServedCall s old xid credential call bytes new
-  Spent : Stays old new → new.is_spent ≡ true → bytes ≡ done xid (model.refused status.ServerFault call) → IsServedCall s old xid credential call bytes new
-  Failed : Stays old new → HasFailed old new → bytes ≡ done xid (model.refused status.Io call) → IsServedCall s old xid credential call bytes new
-  Unsettled : (reply : Reply) → Steps s old credential call reply new → HasFailed old new → is_answered_stable call ≡ true
-      → bytes ≡ done xid (model.refused status.Io call) → IsServedCall s old xid credential call bytes new
+-- What a call with rules is answered: the reply of its step. Or it made no step and is told why: memory was
+-- refused, a counter is spent, or a device call failed. A failure may also come after its step, where the
+-- answer had to wait until what it changed is stable.
+pub data IsReplyWithRules (s : Serving) (old : Standing) (xid : ℕ) (credential : Credential)
+    (call : types.Call) (bytes : List ℕ) (new : Standing) : Type 0 where
+  Done : (reply : Reply) → Steps s old credential call reply new → bytes ≡ done xid reply
+      → IsReplyWithRules s old xid credential call bytes new
+  NoMemory : Stays old new → bytes ≡ refused xid SystemError
+      → IsReplyWithRules s old xid credential call bytes new
+  Spent : Stays old new → new.is_spent ≡ true → bytes ≡ done xid (model.refused status.ServerFault call)
+      → IsReplyWithRules s old xid credential call bytes new
+  Failed : Stays old new → HasFailed old new → bytes ≡ done xid (model.refused status.Io call)
+      → IsReplyWithRules s old xid credential call bytes new
+  Unsettled : (reply : Reply) → Steps s old credential call reply new → HasFailed old new
+      → is_answered_stable call ≡ true
+      → bytes ≡ done xid (model.refused status.Io call) → IsReplyWithRules s old xid credential call bytes new
 
 -- what a call without rules is answered: a function of the message alone, or that memory was refused
-pub record IsPlainCall (old : Standing) (xid : ℕ) (call : types.Call) (bytes : List ℕ) (new : Standing) : Type 0 where
+pub record IsPlainCall (old : Standing) (xid : ℕ) (call : types.Call) (bytes : List ℕ) (new : Standing) : Type
+    0 where
   pub stays : new ≡ old
   pub told : (bytes ≡ done xid (unsupported call)) ⊎ (bytes ≡ refused xid SystemError)
 
-abbrev pub IsCallAnswer : Serving → Standing → Bool → ℕ → Credential → types.Call → List ℕ → Standing → Type 0
-IsCallAnswer s old true xid credential call bytes new = IsServedCall s old xid credential call bytes new
-IsCallAnswer s old false xid credential call bytes new = IsPlainCall old xid call bytes new
+abbrev pub IsCallReply : Serving → Standing → Bool → ℕ → Credential → types.Call → List ℕ → Standing → Type 0
+IsCallReply s old true xid credential call bytes new = IsReplyWithRules s old xid credential call bytes new
+IsCallReply s old false xid credential call bytes new = IsPlainCall old xid call bytes new
 
 -- what a message is answered, by what it is taken for: one on which the connection closes gets no reply
 abbrev pub IsReplyTo : Serving → Standing → Judged → List ℕ → Standing → Type 0
 IsReplyTo s old Closed bytes new = ⊥
 IsReplyTo s old (Refused xid refusal) bytes new = (bytes ≡ refused xid refusal) × (new ≡ old)
-IsReplyTo s old (Call xid credential call) bytes new = IsCallAnswer s old (has_rules call) xid credential call bytes new
+IsReplyTo s old (Call xid credential call) bytes new =
+    IsCallReply s old (has_rules call) xid credential call bytes new
 
 -- no message is left, or the connection closes on the next one
 abbrev pub Ends : List (List ℕ) → Type 0

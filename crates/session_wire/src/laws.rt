@@ -1,5 +1,7 @@
-//! Laws of the spelling of messages and of the cutting of records. Nothing runs here: each contract is what the definitions entail.
-ghost use Rattle.std.specs.Prelude.{◌≡◌, ◌<◌, ◌≤◌, ◌↔◌, ◌++◌, ◌∷◌, [], ℕ, List, Ok, true, length, slice_index};
+//! Laws of the spelling of messages and of the cutting of records. Nothing runs here: each contract is what
+//! the definitions entail.
+ghost use Rattle.std.specs.Prelude.{◌≡◌, ◌<◌, ◌≤◌, ◌↔◌, ◌++◌, ◌∷◌, [], ℕ, List, Ok, true, length};
+ghost use Rattle.std.specs.Prelude.{slice_index};
 ghost use Rattle.nfs_types.specs.declared.ctx.Credential.{Credential};
 ghost use Rattle.nfs_types.specs.declared.call.Call.{Call};
 ghost use Rattle.session_wire.specs.declared.message.CallMessage.{CallMessage};
@@ -28,38 +30,46 @@ pub fn calls_share_no_spelling()
 /// What spells a call is taken for it.
 #[tactic(auto, using(crate::proofs::CallLaws::judged_again))]
 pub fn spelled_calls_are_judged_so()
-    ensures { (bytes : List ℕ) (m : CallMessage) → SpellsCall bytes m → judged bytes ≡ Judged.Call m.xid (caller_of m.credential) m.call }
+    ensures { (bytes : List ℕ) (m : CallMessage) → SpellsCall bytes m
+        → judged bytes ≡ Judged.Call m.xid (caller_of m.credential) m.call }
 {}
 
 /// What is taken for a call spells one, with this number, this caller and these arguments.
 pub fn judged_calls_are_spelled()
-    ensures { (bytes : List ℕ) (xid : ℕ) (caller : Credential) (call : Call) → ((i : ℕ) → slice_index bytes i < 256) → judged bytes ≡ Judged.Call xid caller call
-        → (m : CallMessage) × SpellsCall bytes m × (m.xid ≡ xid) × (caller_of m.credential ≡ caller) × (m.call ≡ call) }
+    ensures { (bytes : List ℕ) (xid : ℕ) (caller : Credential) (call : Call)
+        → ((i : ℕ) → slice_index bytes i < 256) → judged bytes ≡ Judged.Call xid caller call
+        → (m : CallMessage) × SpellsCall bytes m × (m.xid ≡ xid) × (caller_of m.credential ≡ caller)
+        × (m.call ≡ call) }
 {}
 
 /// A reply has one spelling.
 pub fn replies_have_one_spelling()
-    ensures { (p : Procedure) (a b : List ℕ) (m : ReplyMessage) → SpellsReply p a m → SpellsReply p b m → a ≡ b }
+    ensures { (p : Procedure) (a b : List ℕ) (m : ReplyMessage) → SpellsReply p a m → SpellsReply p b m
+        → a ≡ b }
 {}
 
 /// No two replies to one procedure share a spelling.
 pub fn replies_share_no_spelling()
-    ensures { (p : Procedure) (bytes : List ℕ) (m n : ReplyMessage) → SpellsReply p bytes m → SpellsReply p bytes n → m ≡ n }
+    ensures { (p : Procedure) (bytes : List ℕ) (m n : ReplyMessage) → SpellsReply p bytes m
+        → SpellsReply p bytes n → m ≡ n }
 {}
 
 /// Bytes spell a reply exactly where reading them from the left gives it.
 pub fn spelled_replies_are_read()
-    ensures { (p : Procedure) (bytes : List ℕ) (m : ReplyMessage) → ((i : ℕ) → slice_index bytes i < 256) → (SpellsReply p bytes m ↔ (reply_of p bytes ≡ Ok m)) }
+    ensures { (p : Procedure) (bytes : List ℕ) (m : ReplyMessage) → ((i : ℕ) → slice_index bytes i < 256)
+        → (SpellsReply p bytes m ↔ (reply_of p bytes ≡ Ok m)) }
 {}
 
 /// A stream is cut into records, and a rest, in one way.
 pub fn streams_have_one_cut()
-    ensures { (bytes : List ℕ) (list others : List (List ℕ)) (rest last : List ℕ) → records bytes list rest → records bytes others last → (list ≡ others) × (rest ≡ last) }
+    ensures { (bytes : List ℕ) (list others : List (List ℕ)) (rest last : List ℕ) → records bytes list rest
+        → records bytes others last → (list ≡ others) × (rest ≡ last) }
 {}
 
 /// A record of one fragment stands before the records of what follows it.
 pub fn a_record_stands_first()
-    ensures { (content more rest : List ℕ) (list : List (List ℕ)) → length content ≤ RECORD_BYTES → records more list rest
+    ensures { (content more rest : List ℕ) (list : List (List ℕ)) → length content ≤ RECORD_BYTES
+        → records more list rest
         → records (fragment true content ++ more) (content ∷ list) rest }
 {}
 

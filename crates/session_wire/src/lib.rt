@@ -19,7 +19,7 @@ pub use laws::{
     streams_have_one_cut,
 };
 pub use message::{
-    Answer, CallMessage, Judged, MessageCredential, ReplyBody, ReplyMessage, Verifier,
+    CallMessage, Judged, MessageCredential, ReplyBody, ReplyMessage, RpcReply, Verifier,
 };
 pub use reply::reply_bytes;
 pub use streams::{

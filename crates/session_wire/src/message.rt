@@ -13,7 +13,7 @@ pub enum Judged {
         xid: u32,
         refusal: Refusal,
     },
-    /// A call of a procedure that is served.
+    /// A call of a procedure that is decoded.
     Call {
         xid: u32,
         credential: Credential,
@@ -23,7 +23,7 @@ pub enum Judged {
 
 /// What a call is answered.
 #[derive(Clone, Copy)]
-pub enum Answer<'a> {
+pub enum RpcReply<'a> {
     Done(&'a Reply),
     Refused(Refusal),
 }

@@ -3,7 +3,7 @@ ghost use Rattle.std.specs.Prelude.{◌≡◌, ◌++◌, true, OnOk, OnErr, IfOk
 ghost use Rattle.session_wire.specs.Replies.{IsSpellable, body_of, reply_bytes as bytes_of};
 ghost use Rattle.session_wire.specs.Records.{fragment};
 
-use crate::message::Answer;
+use crate::message::RpcReply;
 use crate::nfs_codec::encode_reply;
 use crate::rpc::{LAST_FRAGMENT, put_accepted, put_refusal};
 use crate::xdr::Writer;
@@ -15,10 +15,11 @@ pub fn reply_bytes(
     alloc: Global,
     out: &mut Vec<u8>,
     xid: u32,
-    answer: Answer,
+    answer: RpcReply,
 ) -> Result<(), AllocError>
     requires { IsSpellable (body_of answer) }
-    ensures ok { OnOk result (out.new.items ≡ out.old.items ++ fragment true (bytes_of xid (body_of answer.entry))) }
+    ensures ok { OnOk result (out.new.items ≡ out.old.items
+        ++ fragment true (bytes_of xid (body_of answer.entry))) }
     ensures err { OnErr result (out.new.items ≡ out.old.items) }
 {
     let reply = message(alloc, xid, answer)?;
@@ -30,17 +31,17 @@ pub fn reply_bytes(
 }
 
 // The reply without its mark.
-fn message(alloc: Global, xid: u32, answer: Answer) -> Result<Writer, AllocError>
+fn message(alloc: Global, xid: u32, answer: RpcReply) -> Result<Writer, AllocError>
     requires { IsSpellable (body_of answer) }
     ensures { IfOk result (λ w. w ≡ bytes_of xid (body_of answer.entry)) }
 {
     let mut out = Writer::new(alloc);
     match answer {
-        Answer::Done(reply) => {
+        RpcReply::Done(reply) => {
             put_accepted(&mut out, xid, 0)?;
             encode_reply(&mut out, reply)?;
         }
-        Answer::Refused(refusal) => put_refusal(&mut out, xid, refusal)?,
+        RpcReply::Refused(refusal) => put_refusal(&mut out, xid, refusal)?,
     }
     Ok(out)
 }

@@ -6,9 +6,11 @@ use Rattle.wal.specs.Io.{Io, HasMade, HasMadeCall}
 use Rattle.wal_law.specs.declared.calls.IoCall.{IoCall}
 use Rattle.wal_law.specs.declared.calls.IoCall.TheVariants.{Write, Barrier}
 
-call_size : (old : Device) (call : IoCall) (content : Content) (result : Result Unit Failed) (new : Device) → HasMadeCall old call content result new → new.size ≡ old.size
+call_size : (old : Device) (call : IoCall) (content : Content) (result : Result Unit Failed) (new : Device)
+    → HasMadeCall old call content result new → new.size ≡ old.size
 call_size old (Write block) content result new made = made.later.size
 call_size old (Barrier side) content result new made = made.later.size
 
-pub made_size : (old : Device) (io : Io) (result : Result Unit Failed) (new : Device) → HasMade old io result new → new.size ≡ old.size
+pub made_size : (old : Device) (io : Io) (result : Result Unit Failed) (new : Device)
+    → HasMade old io result new → new.size ≡ old.size
 made_size old io result new made = call_size old io.call io.content result new made

@@ -2,13 +2,14 @@
 use Rattle.std.specs.Prelude.{◌≡◌, ℕ, ◌<◌, Bool, true, false, Option, Some, None, is_some, IfSome}
 use Rattle.model.specs.Calls.{has_rules}
 use Rattle.txn.specs.Core.{CoreState}
-use Rattle.layout.specs.Places.{IsLawful}
+use Rattle.layout.specs.Geometry.{IsLawful}
 use Rattle.procs.specs.declared.next.Plan.{Plan}
 use Rattle.procs.specs.declared.next.Plan.TheVariants as plan
-use Rattle.procs.specs.Seen as seen
+use Rattle.procs.specs.Snap as seen
 use Rattle.store.specs.declared.workers.Job.{Job}
 use Rattle.store.specs.declared.workers.Phase.{Phase}
-use Rattle.store.specs.declared.workers.Phase.TheVariants.{Idle, Called, Planning, Reading, Read, Refused, Again, Waiting}
+use Rattle.store.specs.declared.workers.Phase.TheVariants.{Idle, Called, Planning, Reading, Read, Refused}
+use Rattle.store.specs.declared.workers.Phase.TheVariants.{Again, Waiting}
 use Rattle.store.specs.declared.workers.Worker.{Worker}
 
 -- a transaction is out in this phase
@@ -63,8 +64,8 @@ IsReady (Waiting place) worker = IsReplied worker
 abbrev pub ReadsWithin : ℕ → Worker → Type 0
 ReadsWithin blocks worker = IfSome worker.begun.io (λ io. io.block.0 < blocks)
 
--- A worker fits a core: the transaction that is out is the worker's, the block that it reads is one of the image's, and
--- what it needs to go on is there.
+-- A worker fits a core: the transaction that is out is the worker's, the block that it reads is one of the
+-- image's, and what it needs to go on is there.
 pub record Fits (worker : Worker) (core : CoreState) : Type 0 where
   pub out : core.out ≡ worker.begun.tx
   pub transaction : is_some worker.begun.tx ≡ has_transaction worker.phase

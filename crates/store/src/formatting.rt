@@ -2,7 +2,7 @@
 ghost use Rattle.std.specs.Prelude.{◌≡◌, ◌≤◌, ◌<◌, ◌-◌, IfOk};
 ghost use Rattle.disk.specs.Device.{HasWritten};
 ghost use Rattle.layout.specs.Fresh.{fresh};
-ghost use Rattle.layout.specs.Places.{data_at};
+ghost use Rattle.layout.specs.Geometry.{data_at};
 
 use disk::{Block, BlockNo, CrashDisk, Failed, Side};
 use layout::{FreshImage, Geometry, GeometryFault};
@@ -36,16 +36,18 @@ impl From<Failed> for FormatFault {
     }
 }
 
-/// Makes an image of all blocks of the disk, with so many inodes, whose root is made at the moment. It answers the
-/// count of data blocks. The faults in their order: Size, Inodes, NoMemory, each before any write, and Device. While it
-/// goes on, and where the device fails, the image is the old one, or one that has no super block, or the new one.
+/// Makes an image of all blocks of the disk, with so many inodes, whose root is made at the moment. It
+/// answers the count of data blocks. The faults in their order: Size, Inodes, NoMemory, each before any
+/// write, and Device. While it goes on, and where the device fails, the image is the old one, or one that has
+/// no super block, or the new one.
 pub fn format<D: CrashDisk>(
     alloc: Global,
     disk: &mut D,
     inodes: u32,
     moment: Moment,
 ) -> Result<u32, FormatFault>
-    ensures { IfOk result (λ count. count ≡ (D.device disk.old).size - data_at (D.device disk.old).size inodes) }
+    ensures { IfOk result (λ count. count ≡ (D.device disk.old).size
+        - data_at (D.device disk.old).size inodes) }
 {
     let geometry = match Geometry::new(disk.blocks(), inodes) {
         Ok(geometry) => geometry,
@@ -92,7 +94,8 @@ fn write_one<D: CrashDisk>(
 ) -> Result<(), Failed>
     requires blocks { image.now.geometry.blocks ≡ (D.device disk.old).size }
     requires number { number < image.now.geometry.blocks }
-    ensures written { HasWritten (D.device disk.old) number (fresh image.now.geometry image.now.made number) result (D.device disk.new) }
+    ensures written { HasWritten (D.device disk.old) number (fresh image.now.geometry image.now.made number)
+        result (D.device disk.new) }
     ensures size { (D.device disk.new).size ≡ (D.device disk.old).size }
 {
     image.put(number, block);

@@ -1,5 +1,5 @@
-//! The store: recovery, workers that run procedures as transactions, and whole runs. What a run tells and promises is
-//! `store_promise`'s.
+//! The store: recovery, workers that run procedures as transactions, and whole runs. What a run tells and
+//! promises is `store_promise`'s.
 #![tactic(auto)]
 
 mod formatting;
@@ -16,7 +16,7 @@ pub use opened::{Store, close, settle};
 pub use opening::open;
 pub use runs::run;
 pub use store_promise::{
-    Answer, Answered, Committed, Committing, Ending, Entry, Event, OpenFault, Run, Step, Verdict,
+    Answer, CallAnswer, Committed, Committing, Ending, Entry, Event, OpenFault, Run, Step, Verdict,
     Wish,
 };
 pub use workers::Worker;

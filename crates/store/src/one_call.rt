@@ -9,9 +9,9 @@ use nfs_types::{Call, Credential, Moment};
 use std::alloc::Global;
 use store_promise::{Committing, Step, Verdict};
 
-/// Runs a call to its answer. Where the answer waits for its place everything is settled before; where the log is full,
-/// too, and so it is where more than MOST_KEPT_COMMITS commits are kept then, since that brings home what is logged. A
-/// call that isn't served is NOTSUPP and begins no transaction.
+/// Runs a call to its answer. Where the answer waits for its place everything is settled before; where the
+/// log is full, too, and so it is where more than MOST_KEPT_COMMITS commits are kept then, since that brings
+/// home what is logged. A call that isn't served is NOTSUPP and begins no transaction.
 pub fn procedure<D: CrashDisk>(
     alloc: Global,
     store: &mut Store<D>,

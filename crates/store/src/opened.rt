@@ -2,7 +2,7 @@
 ghost use Rattle.std.specs.Prelude.{◌≡◌, ◌≤◌, ◌<◌, ◌↔◌, false, IsTrue, IfOk, length};
 ghost use Rattle.limits.specs.declared.TheConstants.{MOST_KEPT_COMMITS};
 ghost use Rattle.wal.specs.Log.{settled_place};
-ghost use Rattle.layout.specs.Places.{IsLawful};
+ghost use Rattle.layout.specs.Geometry.{IsLawful};
 ghost use Rattle.store.specs.Counts.{SameCounts};
 
 use disk::{CrashDisk, Failed};
@@ -47,10 +47,10 @@ pub fn close<D: CrashDisk>(store: Store<D>) -> D
     disk
 }
 
-/// Makes every change settled in the log. What is logged is brought home only where the log has no room behind its
-/// settled start for the changes that wait, or where more than MOST_KEPT_COMMITS commits are kept; what is left, the
-/// next opening brings home. It fails only where a device call fails in it, or where a write or a barrier failed since
-/// the opening.
+/// Makes every change settled in the log. What is logged is brought home only where the log has no room
+/// behind its settled start for the changes that wait, or where more than MOST_KEPT_COMMITS commits are kept;
+/// what is left, the next opening brings home. It fails only where a device call fails in it, or where a
+/// write or a barrier failed since the opening.
 pub fn settle<D: CrashDisk>(store: &mut Store<D>) -> Result<(), Failed>
     ensures out { store.new.core.out ≡ store.old.core.out }
     ensures counts { SameCounts store.old.core store.new.core }

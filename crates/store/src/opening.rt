@@ -1,7 +1,7 @@
 //! Opening a store: what a crash left in the log is brought home, and the boot number rises.
 ghost use Rattle.std.specs.Prelude.{◌≡◌, ◌+◌, ◌^◌, ◌<◌, IfOk, None};
 ghost use Rattle.wal.specs.Io.{IsCallWithin};
-ghost use Rattle.layout.specs.Places.{IsLawful};
+ghost use Rattle.layout.specs.Geometry.{IsLawful};
 
 use crate::opened::Store;
 use disk::{Block, BlockNo, CrashDisk, Side};
@@ -14,8 +14,8 @@ use txn::Core;
 use wal::circ::{self, LogFault};
 use wal::{InstIo, Wal};
 
-/// Opens a store. Range is answered too where the image hasn't as many blocks as its super block says, and where no
-/// boot number is left. The faults up to Log come before any write. A refusal hands the disk back.
+/// Opens a store. Range is answered too where the image hasn't as many blocks as its super block says, and
+/// where no boot number is left. The faults up to Log come before any write. A refusal hands the disk back.
 pub fn open<D: CrashDisk>(alloc: Global, disk: D) -> Result<Store<D>, (D, OpenFault)>
     ensures { IfOk result (λ store. store.core.out ≡ None) }
 {

@@ -10,9 +10,9 @@ use running::Running;
 use std::alloc::Global;
 use store_promise::{Event, OpenFault, Run};
 
-/// Opens a store and takes events one by one, with one worker for now. An event that doesn't apply does nothing; each
-/// other makes one step. All events are taken, or fewer where there was no memory to tell of the next. The disk comes
-/// back as the run left it.
+/// Opens a store and takes events one by one, with one worker for now. An event that doesn't apply does
+/// nothing; each other makes one step. All events are taken, or fewer where there was no memory to tell of
+/// the next. The disk comes back as the run left it.
 pub fn run<D: CrashDisk>(
     alloc: Global,
     disk: D,

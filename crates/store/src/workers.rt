@@ -7,7 +7,7 @@ use disk::CrashDisk;
 use nfs_types::{Call, Credential, Ctx, Moment, Reply};
 use procs::{Done, Snap};
 use std::alloc::Global;
-use store_promise::{Answered, Entry, Step, Verdict};
+use store_promise::{CallAnswer, Entry, Step, Verdict};
 use txn::{Core, FetchIo, Seq, Tx};
 
 // A call that was handed over, with what its procedure is run with.
@@ -30,16 +30,17 @@ pub(crate) enum Phase {
     // The read was made, well or not.
     Read(bool),
     // The transaction has to be ended, and then the call is answered.
-    Refused(Refusal),
+    Refused(Cause),
     // The transaction has to be ended, and then the call begins again.
     Again,
-    // The procedure was committed at this place, and is answered once the place is settled, or can't be any more.
+    // The procedure was committed at this place, and is answered once the place is settled, or can't be any
+    // more.
     Waiting(Seq),
 }
 
 // Why a call is refused.
 #[derive(Clone, Copy, Debug, PartialEq, Eq)]
-pub(crate) enum Refusal {
+pub(crate) enum Cause {
     Io,
     Spent,
     NoMemory,
@@ -58,11 +59,12 @@ pub struct Worker {
 pub(crate) struct Work {
     pub(crate) job: Option<Job>,
     pub(crate) snap: Option<Snap>,
-    // The replies of a committed procedure: that of its plan, and the one in its place where the store is broken.
+    // The replies of a committed procedure: that of its plan, and the one in its place where the store is
+    // broken.
     pub(crate) reply: Option<Reply>,
     pub(crate) broken_reply: Option<Reply>,
     pub(crate) entry: Option<Entry>,
-    pub(crate) answer: Option<Answered>,
+    pub(crate) answer: Option<CallAnswer>,
 }
 
 // What a worker has out of the core, and has to give back.
@@ -180,14 +182,17 @@ impl Worker {
     fn take_call(&mut self, ctx: Ctx, call: Call)
         ensures phase { self.new.phase ≡ Called }
         ensures job { is_some self.new.work.job ≡ true }
-        ensures rest { self.new ≡ record self.old { work = record self.old.work { job = self.new.work.job }; phase = self.new.phase } }
+        ensures rest { self.new ≡ record self.old {
+          work = record self.old.work { job = self.new.work.job };
+          phase = self.new.phase;
+        } }
     {
         self.work.job = Some(Job { ctx, call });
         self.phase = Phase::Called;
     }
 
-    /// Reads the block that is due, and keeps the answer for the next step. It answers the step, or None where no
-    /// read is due.
+    /// Reads the block that is due, and keeps the answer for the next step. It answers the step, or None
+    /// where no read is due.
     pub fn read<D: CrashDisk>(&mut self, disk: &mut D) -> Option<Step>
         requires within { ReadsWithin (D.device disk.old).size self.old }
         requires fetch { is_some self.old.begun.io ≡ has_fetch self.old.phase }
@@ -207,8 +212,8 @@ impl Worker {
         Some(Step::Read(block, ok))
     }
 
-    /// Makes the next step: one method of the core, or the answer of a call that needs no transaction. None where the
-    /// worker has no call or a read is due.
+    /// Makes the next step: one method of the core, or the answer of a call that needs no transaction. None
+    /// where the worker has no call or a read is due.
     pub fn step(&mut self, alloc: Global, core: &mut Core<Done>) -> Option<Step>
         requires { Fits self.old core.old }
         ensures fits { Fits self.new core.new }
@@ -234,7 +239,7 @@ impl Worker {
     }
 
     /// Takes the answer that the last step gave, if it gave one.
-    pub fn take_answer(&mut self) -> Option<Answered>
+    pub fn take_answer(&mut self) -> Option<CallAnswer>
         ensures result { result ≡ self.old.work.answer }
         ensures fits { (core : CoreState) → Fits self.old core → Fits self.new core }
     {

@@ -9,9 +9,9 @@ use Rattle.layout.specs.declared.super_block.Super.{Super}
 use Rattle.layout.specs.Stands.{Stands}
 use Rattle.layout.specs.SuperForm.{IsSuper}
 
--- A good image of so many blocks, with the tree and the boot number that an opening finds in it: its super block is one
--- of that size, the headers of its log belong together and each logged position has a home, the blocks with the log
--- laid over them stand for the tree, and no file was made in a later boot.
+-- A good image of so many blocks, with the tree and the boot number that an opening finds in it: its super
+-- block is one of that size, the headers of its log belong together and each logged position has a home, the
+-- blocks with the log laid over them stand for the tree, and no file was made in a later boot.
 pub record IsGoodImage (size : ℕ) (image : Image) (tree : Tree) (boot : ℕ) : Type 0 where
   pub super : Super
   pub is_super : IsSuper (image SUPER_BLOCK) super

@@ -12,24 +12,28 @@ use Rattle.store_promise.specs.Schedule.{Schedule, AreTaken, AreTimely}
 use Rattle.store_promise.specs.Transcript.{Transcript, entries_of, device_calls, commits_by, fails}
 use Rattle.store_promise.specs.Verdicts.{IsStableAnswer, IsCoveredWrite, AreAnswers}
 
--- An image that a stop at a moment left is good, with the tree after the first so many procedures of the history, which
--- were committed by then: among them are all that were answered as stable by then, and the writes that an answer to a
--- COMMIT covers. Its boot number is the opening's once that has ended.
-pub record HasPrefix (size first : ℕ) (tree : Tree) (start : ℕ) (t : Transcript) (moment : ℕ) (image : Image) : Type 0 where
+-- An image that a stop at a clock left is good, with the tree after the first so many procedures of the
+-- history, which were committed by then: among them are all that were answered as stable by then, and the
+-- writes that an answer to a COMMIT covers. Its boot number is the opening's once that has ended.
+pub record HasPrefix (size first : ℕ) (tree : Tree) (start : ℕ) (t : Transcript) (clock : ℕ)
+    (image : Image) : Type 0 where
   pub boot : ℕ
   pub boot_is : IsBootOf first boot
-  pub raised : start ≤ moment → boot ≡ first + 1
+  pub raised : start ≤ clock → boot ≡ first + 1
   pub left : Tree
   pub good : IsGoodImage size image left boot
   pub count : ℕ
-  pub committed : count ≤ commits_by start t moment
+  pub committed : count ≤ commits_by start t clock
   pub prefix : after tree (take count (entries_of t)) left
-  pub stable : (a : Answer) (place : ℕ) → Contains t.answers a → start + a.moment ≤ moment → IsStableAnswer t a place → place ≤ count
-  pub covered : (a : Answer) (place : ℕ) → Contains t.answers a → start + a.moment ≤ moment → IsCoveredWrite t a place → place ≤ count
+  pub stable : (a : Answer) (place : ℕ) → Contains t.answers a → start + a.clock ≤ clock
+      → IsStableAnswer t a place → place ≤ count
+  pub covered : (a : Answer) (place : ℕ) → Contains t.answers a → start + a.clock ≤ clock
+      → IsCoveredWrite t a place → place ≤ count
 
--- The promise of a run with so many workers, which took events on a device whose image had this tree and this boot
--- number, and left the device as it became:
-pub record IsKept (before later : Device) (tree : Tree) (first workers : ℕ) (events : Schedule) (t : Transcript) : Type 0 where
+-- The promise of a run with so many workers, which took events on a device whose image had this tree and this
+-- boot number, and left the device as it became:
+pub record KeepsPromise (before later : Device) (tree : Tree) (first workers : ℕ) (events : Schedule)
+    (t : Transcript) : Type 0 where
   -- an opening comes first, and then the device calls that the steps tell, and no others
   pub opened : Device
   pub position : ℕ
@@ -50,4 +54,5 @@ pub record IsKept (before later : Device) (tree : Tree) (first workers : ℕ) (e
 
 -- What is promised: a run of calls at a moment keeps it, on an image that is good.
 abbrev pub IsPromised : Device → Device → Tree → ℕ → ℕ → Schedule → Transcript → Type 0
-IsPromised before later tree first workers events t = AreTimely events → IsKept before later tree first workers events t
+IsPromised before later tree first workers events t = AreTimely events
+    → KeepsPromise before later tree first workers events t

@@ -17,11 +17,14 @@ use Rattle.store_promise.specs.GoodImage.{IsGoodImage}
 pub record IsLater (before later : Device) : Type 0 where
   pub size : later.size ≡ before.size
   pub clock : before.clock ≤ later.clock
-  pub past : (moment block : ℕ) → moment ≤ before.clock → later.contents moment block ≡ before.contents moment block
+  pub past : (clock block : ℕ) → clock ≤ before.clock
+      → later.contents clock block ≡ before.contents clock block
 
--- Whenever a call of the device was or will be next, from one device to what it became, whatever a crash leaves is so.
+-- Whenever a call of the device was or will be next, from one device to what it became, whatever a crash
+-- leaves is so.
 abbrev pub AtEachStop : Device → Device → (ℕ → Image → Type 0) → Type 0
-AtEachStop before later holds = (moment : ℕ) (image : Image) → before.clock ≤ moment → moment ≤ later.clock → IsCrashImage later moment image → holds moment image
+AtEachStop before later holds = (clock : ℕ) (image : Image) → before.clock ≤ clock → clock ≤ later.clock
+    → IsCrashImage later clock image → holds clock image
 
 -- the boot number is that before an opening, or that of it
 abbrev pub IsBootOf : ℕ → ℕ → Type 0
@@ -35,18 +38,23 @@ pub record HasTree (size first : ℕ) (tree : Tree) (image : Image) : Type 0 whe
 
 -- the tree stays whenever the store is stopped: so it is while a store is opened
 abbrev pub KeepsTree : Device → Device → Tree → ℕ → Type 0
-KeepsTree before later tree first = AtEachStop before later (λ moment image. HasTree later.size first tree image)
+KeepsTree before later tree first =
+    AtEachStop before later (λ clock image. HasTree later.size first tree image)
 
--- An opening, from one device to another, of an image with this tree and this boot number: the tree stays at each stop, no
--- call fails, and the last one settles the next boot number. The log is empty then, at this position.
+-- An opening, from one device to another, of an image with this tree and this boot number: the tree stays at
+-- each stop, no call fails, and the last one settles the next boot number. The log is empty then, at this
+-- position.
 pub record IsOpened (before opened : Device) (tree : Tree) (first position : ℕ) : Type 0 where
   pub past : IsLater before opened
   pub begun : before.clock < opened.clock
   pub failures : opened.failures ≡ before.failures
   pub keeps : KeepsTree before opened tree first
-  pub last : (image : Image) × IsCrashImage opened (opened.clock - 1) image × IsGoodImage opened.size image tree first
-  pub settled : (image : Image) → IsCrashImage opened opened.clock image → IsGoodImage opened.size image tree (first + 1)
-  pub empty : (image : Image) → IsCrashImage opened opened.clock image → (start_in image ≡ position) × (end_in image ≡ position)
+  pub last : (image : Image) × IsCrashImage opened (opened.clock - 1) image
+      × IsGoodImage opened.size image tree first
+  pub settled : (image : Image) → IsCrashImage opened opened.clock image
+      → IsGoodImage opened.size image tree (first + 1)
+  pub empty : (image : Image) → IsCrashImage opened opened.clock image → (start_in image ≡ position)
+      × (end_in image ≡ position)
 
 -- why a good image may not be opened: a device call failed, no boot number is left, or memory was refused
 abbrev pub IsCauseOf : OpenFault → Device → Device → ℕ → Type 0
@@ -63,12 +71,14 @@ pub record IsRefused (before later : Device) (tree : Tree) (first : ℕ) (cause 
   pub keeps : KeepsTree before later tree first
   pub because : IsCauseOf cause before later first
 
--- what a stop may leave while an image is made: an image from before, one that has no super block, or the fresh one
+-- what a stop may leave while an image is made: an image from before, one that has no super block, or the
+-- fresh one
 abbrev pub IsLeftByFormat : Device → Geometry → Moment → Image → Type 0
-IsLeftByFormat before g moment image = (IsCrashImage before before.clock image) ⊎ ((HasMagic (image SUPER_BLOCK) → ⊥) ⊎ IsFresh g moment image)
+IsLeftByFormat before g moment image = (IsCrashImage before before.clock image)
+    ⊎ ((HasMagic (image SUPER_BLOCK) → ⊥) ⊎ IsFresh g moment image)
 
--- An image was made at the moment: each stop on the way leaves the old one, none, or the fresh one, and in the end there is
--- the fresh one.
+-- An image was made at the moment: each stop on the way leaves the old one, none, or the fresh one, and in
+-- the end there is the fresh one.
 pub record IsFormatted (before later : Device) (g : Geometry) (moment : Moment) : Type 0 where
   pub past : IsLater before later
   pub stops : AtEachStop before later (λ at image. IsLeftByFormat before g moment image)

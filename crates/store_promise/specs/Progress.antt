@@ -64,7 +64,8 @@ after_claimed call begun block _ = Planning call begun
 
 -- a commit that found the log full is tried again
 abbrev pub after_commit : Call → Begun → Committing → Progress
-after_commit call begun (committing.Committed place tail) = if is_answered_stable call then Waiting call place.0 else Idle
+after_commit call begun (committing.Committed place tail) = if is_answered_stable call
+    then Waiting call place.0 else Idle
 after_commit call begun committing.NoMemory = IsEnding call ending.Refused
 after_commit call begun committing.Broken = IsEnding call ending.Refused
 after_commit call begun committing.Spent = IsEnding call ending.Refused
@@ -79,7 +80,8 @@ after_planning call begun _ = Planning call begun
 
 -- a call without a transaction is answered, and so is one for which none was begun
 abbrev pub after_called : Call → Step → Progress
-after_called call (step.Begun (Ok number)) = Planning call (record { number = number; held = []; claimed = [] })
+after_called call (step.Begun (Ok number)) =
+    Planning call (record { number = number; held = []; claimed = [] })
 after_called call _ = Idle
 
 abbrev pub after_read : Call → Begun → BlockNo → Step → Progress
@@ -88,7 +90,8 @@ after_read call begun block _ = ReadDue call begun block
 
 -- one that waits is answered once its place is settled, or once the store is broken
 abbrev pub after_waiting : Bool → Call → ℕ → Step → Progress
-after_waiting broken call place (step.Stable seq settled) = if settled || broken then Idle else Waiting call place
+after_waiting broken call place (step.Stable seq settled) = if settled || broken then Idle
+    else Waiting call place
 after_waiting broken call place _ = Waiting call place
 
 abbrev pub after_ending : Call → Ending → Progress
@@ -102,6 +105,7 @@ progressed broken made Idle = Idle
 progressed broken made (Called call) = after_called call made
 progressed broken made (Planning call begun) = after_planning call begun made
 progressed broken made (ReadDue call begun block) = after_read call begun block made
-progressed broken made (Returned call begun block ok) = if ok then Planning call begun else IsEnding call ending.Refused
+progressed broken made (Returned call begun block ok) = if ok then Planning call begun
+    else IsEnding call ending.Refused
 progressed broken made (IsEnding call why) = after_ending call why
 progressed broken made (Waiting call place) = after_waiting broken call place made

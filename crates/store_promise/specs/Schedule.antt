@@ -1,13 +1,14 @@
 -- Which events apply, and what step each may make, told from the events and steps before it alone.
-use Rattle.std.specs.Prelude.{◌≡◌, ℕ, ◌+◌, ◌^◌, ◌<◌, ◌≤◌, ◌⊎◌, Bool, true, false, if◌then◌else◌, nat_eq, nat_le, List, [], ◌∷◌, take, Option, Some, None, Ok, Err, length, slice_get}
+use Rattle.std.specs.Prelude.{◌≡◌, ℕ, ◌+◌, ◌^◌, ◌<◌, ◌≤◌, ◌⊎◌, Bool, true, false, if◌then◌else◌, nat_eq}
+use Rattle.std.specs.Prelude.{nat_le, List, [], ◌∷◌, take, Option, Some, None, Ok, Err, length, slice_get}
 use Rattle.std.specs.List.{zip, list_any}
 use Rattle.limits.specs.declared.TheConstants.{CHANGED_BLOCKS, LOG_SLOTS}
 use Rattle.disk.specs.declared.block.BlockNo.{BlockNo}
 use Rattle.objects.specs.declared.addr.Addr.{Addr}
 use Rattle.model.specs.Calls.{has_rules}
 use Rattle.model.specs.Sound.{SoundTime}
-use Rattle.procs.specs.Seen.{is_claimed, same_addr}
-use Rattle.txn.specs.declared.answers.BeginFault.TheVariants as fault
+use Rattle.procs.specs.Snap.{is_claimed, same_addr}
+use Rattle.txn.specs.declared.outcomes.BeginFault.TheVariants as fault
 use Rattle.store_promise.specs.declared.events.Committing.{Committing}
 use Rattle.store_promise.specs.declared.events.Committing.TheVariants as committing
 use Rattle.store_promise.specs.declared.events.Ending.TheVariants as ending
@@ -17,8 +18,10 @@ use Rattle.store_promise.specs.declared.events.Step.{Step}
 use Rattle.store_promise.specs.declared.events.Step.TheVariants as step
 use Rattle.store_promise.specs.declared.events.Wish.{Wish}
 use Rattle.store_promise.specs.declared.events.Wish.TheVariants as wish
-use Rattle.store_promise.specs.LogTold.{DeviceCall, Free, Taken, Made, LogTold, empty_log, log_moved, may_log_told, may_install_told, settled_told}
-use Rattle.store_promise.specs.Progress.{Begun, Progress, Idle, Called, Planning, ReadDue, Returned, IsEnding, Waiting, progressed}
+use Rattle.store_promise.specs.LogTold.{DeviceCall, Free, Taken, Made, LogTold, empty_log, log_moved}
+use Rattle.store_promise.specs.LogTold.{may_log_told, may_install_told, settled_told}
+use Rattle.store_promise.specs.Progress.{Begun, Progress, Idle, Called, Planning, ReadDue, Returned, IsEnding}
+use Rattle.store_promise.specs.Progress.{Waiting, progressed}
 
 -- a schedule is any list of events
 abbrev pub Schedule : Type 0
@@ -111,11 +114,13 @@ abbrev pub IsWish : Wish → Type 0
 IsWish wish.Outside = ⊥
 IsWish _ = Unit {0}
 
--- What a commit may be answered: the next place, after which the tail holds as much as before and what the change adds to
--- it; and each refusal with its cause. What was read stays as it was while it is held, so no change is foreign.
+-- What a commit may be answered: the next place, after which the tail holds as much as before and what the
+-- change adds to it; and each refusal with its cause. What was read stays as it was while it is held, so no
+-- change is foreign.
 abbrev pub IsCommitting : LogTold → Committing → Type 0
 IsCommitting log (committing.Committed place tail) =
-    (log.broken ≡ false) × (place.0 ≡ log.places + 1) × (log.tail ≤ tail) × (tail ≤ log.tail + CHANGED_BLOCKS) × (tail ≤ LOG_SLOTS)
+    (log.broken ≡ false) × (place.0 ≡ log.places + 1) × (log.tail ≤ tail) × (tail ≤ log.tail + CHANGED_BLOCKS)
+    × (tail ≤ LOG_SLOTS)
 IsCommitting log committing.Broken = log.broken ≡ true
 IsCommitting log committing.Foreign = ⊥
 IsCommitting log committing.Spent =
@@ -133,7 +138,8 @@ IsStepOfPlan log begun _ = ⊥
 
 -- the place is found settled where it is
 abbrev pub IsStepOfWaiting : LogTold → ℕ → Step → Type 0
-IsStepOfWaiting log place (step.Stable seq settled) = (seq.0 ≡ place) × (settled ≡ nat_le place (settled_told log))
+IsStepOfWaiting log place (step.Stable seq settled) = (seq.0 ≡ place)
+    × (settled ≡ nat_le place (settled_told log))
 IsStepOfWaiting log place _ = ⊥
 
 -- a worker with a call, of which no read is due, goes on with it
@@ -142,7 +148,8 @@ IsStepWith told Idle made = ⊥
 IsStepWith told (Called call) made = IsStepOfCalled told (has_rules call) made
 IsStepWith told (Planning call begun) made = IsStepOfPlan told.log begun made
 IsStepWith told (ReadDue call begun block) made = ⊥
-IsStepWith told (Returned call begun block ok) made = made ≡ (if ok then step.Fetched block else step.FetchFailed block)
+IsStepWith told (Returned call begun block ok) made =
+    made ≡ (if ok then step.Fetched block else step.FetchFailed block)
 IsStepWith told (IsEnding call why) made = made ≡ step.Ended why
 IsStepWith told (Waiting call place) made = IsStepOfWaiting told.log place made
 
@@ -207,7 +214,8 @@ IsStepOf told event.InstIo made = IsStepOfInstIo told.log.inst_call made
 
 -- what is told of a worker before the event of an index
 abbrev pub told_before : ℕ → Schedule → List (Option Step) → ℕ → ℕ → Told
-told_before position events steps number index = told_along number (at_first position) (take index (zip events steps))
+told_before position events steps number index =
+    told_along number (at_first position) (take index (zip events steps))
 
 -- how far a worker is before the event of an index, which the log's position has no part in
 abbrev pub progress_before : Schedule → List (Option Step) → ℕ → ℕ → Progress
@@ -224,14 +232,18 @@ worker_of (event.Work worker) = Some worker
 worker_of (event.Read worker) = Some worker
 worker_of _ = None
 
--- The events are taken from the first on, of so many workers, each once, over a log that ends at a position: all, or
--- fewer, which only want of memory to tell of the next may cause (tests show that). Each makes the step that it may make,
--- and an event of a worker that isn't there makes none.
+-- The events are taken from the first on, of so many workers, each once, over a log that ends at a position:
+-- all, or fewer, which only want of memory to tell of the next may cause (tests show that). Each makes the
+-- step that it may make, and an event of a worker that isn't there makes none.
 pub record AreTaken (position workers : ℕ) (events : Schedule) (steps : List (Option Step)) : Type 0 where
   pub fewer : length steps ≤ length events
-  pub own : (index worker : ℕ) (event : Event) (made : Option Step) → slice_get events index ≡ Some event → slice_get steps index ≡ Some made
-      → worker_of event ≡ Some worker → worker < workers → IsStepOf (told_before position events steps worker index) event made
-  pub log : (index : ℕ) (event : Event) (made : Option Step) → slice_get events index ≡ Some event → slice_get steps index ≡ Some made
+  pub own : (index worker : ℕ) (event : Event) (made : Option Step) → slice_get events index ≡ Some event
+      → slice_get steps index ≡ Some made
+      → worker_of event ≡ Some worker → worker < workers
+      → IsStepOf (told_before position events steps worker index) event made
+  pub log : (index : ℕ) (event : Event) (made : Option Step) → slice_get events index ≡ Some event
+      → slice_get steps index ≡ Some made
       → worker_of event ≡ None → IsStepOf (told_before position events steps 0 index) event made
-  pub others : (index worker : ℕ) (event : Event) (made : Option Step) → slice_get events index ≡ Some event → slice_get steps index ≡ Some made
+  pub others : (index worker : ℕ) (event : Event) (made : Option Step) → slice_get events index ≡ Some event
+      → slice_get steps index ≡ Some made
       → worker_of event ≡ Some worker → workers ≤ worker → made ≡ None

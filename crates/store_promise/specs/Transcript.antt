@@ -1,5 +1,6 @@
 -- What a run tells, as lists.
-use Rattle.std.specs.Prelude.{ℕ, zero, suc, ◌+◌, Bool, true, false, not, List, map, take, count_by, slice_get, Option, Some, None, nat_le}
+use Rattle.std.specs.Prelude.{ℕ, zero, suc, ◌+◌, Bool, true, false, not, List, map, take, count_by, slice_get}
+use Rattle.std.specs.Prelude.{Option, Some, None, nat_le}
 use Rattle.model.specs.After.{Entry}
 use Rattle.store_promise.specs.declared.events.Step.{Step}
 use Rattle.store_promise.specs.declared.events.Step.TheVariants as step
@@ -7,7 +8,8 @@ use Rattle.store_promise.specs.declared.transcript.Answer.{Answer}
 use Rattle.store_promise.specs.declared.transcript.Committed.{Committed}
 use Rattle.store_promise.specs.declared.transcript.Run.{Run}
 
--- the boot number, the committed procedures, the answers, and the step of each event that was taken, if it made one
+-- the boot number, the committed procedures, the answers, and the step of each event that was taken, if it
+-- made one
 pub record Transcript : Type 0 where
   pub boot : ℕ
   pub history : List Committed
@@ -16,7 +18,12 @@ pub record Transcript : Type 0 where
 
 -- what a run tells
 abbrev pub transcript_of : Run → Transcript
-transcript_of run = record { boot = run.boot; history = run.history.items; answers = run.answers.items; steps = run.steps.items }
+transcript_of run = record {
+  boot = run.boot;
+  history = run.history.items;
+  answers = run.answers.items;
+  steps = run.steps.items;
+}
 
 -- a committed procedure as an entry of the sequential server's history
 abbrev pub entry_of : Committed → Entry
@@ -57,7 +64,6 @@ fails _ = false
 abbrev pub device_calls : Transcript → ℕ → ℕ
 device_calls t event = count_by calls_device (take event t.steps)
 
--- the procedures that were committed before or at a moment, where the events began at this clock
+-- the procedures that were committed by a clock, where the events began at this one
 abbrev pub commits_by : ℕ → Transcript → ℕ → ℕ
-commits_by began t moment = count_by (λ c. nat_le (began + c.moment) moment) t.history
-
+commits_by began t clock = count_by (λ c. nat_le (began + c.clock) clock) t.history

@@ -12,7 +12,7 @@ pub enum Verdict {
 
 /// An answer, with the place of its procedure, if that was committed.
 #[derive(Drop)]
-pub struct Answered {
+pub struct CallAnswer {
     pub verdict: Verdict,
     pub place: Option<Seq>,
 }

@@ -63,8 +63,8 @@ pub enum Ending {
     NoMemory,
 }
 
-/// The step that an event made: a method of the core with what it was asked and answered, a device call with whether
-/// it was answered Ok, or what the worker did without either.
+/// The step that an event made: a method of the core with what it was asked and answered, a device call with
+/// whether it was answered Ok, or what the worker did without either.
 #[derive(Clone, Copy, Debug, PartialEq, Eq)]
 pub enum Step {
     /// The worker was handed a call.

@@ -2,7 +2,7 @@
 ghost use Rattle.disk.specs.Crash.{Image};
 ghost use Rattle.layout.specs.declared.geometry.Geometry.{Geometry};
 ghost use Rattle.layout.specs.Fresh.{IsFresh};
-ghost use Rattle.layout.specs.Places.{IsLawful};
+ghost use Rattle.layout.specs.Geometry.{IsLawful};
 ghost use Rattle.layout.specs.Stands.{geometry_of};
 ghost use Rattle.model.specs.Format.{format_tree};
 ghost use Rattle.model.specs.Sound.{SoundTime};
@@ -11,7 +11,8 @@ ghost use Rattle.store_promise.specs.GoodImage.{IsGoodImage};
 
 /// A fresh image is good, with the root alone as its tree and 0 as its boot number.
 pub fn a_fresh_image_is_good()
-    ensures { (g : Geometry) (moment : Moment) (image : Image) → IsLawful g.blocks g.inodes → SoundTime moment → IsFresh g moment image
+    ensures { (g : Geometry) (moment : Moment) (image : Image) → IsLawful g.blocks g.inodes → SoundTime moment
+        → IsFresh g moment image
         → IsGoodImage g.blocks image (format_tree (geometry_of g) moment) 0 }
 {
     wal::law::an_empty_log_overlays_nothing();

@@ -1,5 +1,5 @@
-//! What a run of a store tells, and what it promises: events and steps, answers, the transcript; in `specs/` the good image,
-//! schedules, histories, verdicts and the headline's record.
+//! What a run of a store tells, and what it promises: events and steps, answers, the transcript; in `specs/`
+//! the good image, schedules, histories, verdicts and the headline's record.
 #![tactic(auto)]
 
 mod answers;
@@ -9,7 +9,7 @@ mod fresh;
 mod promises;
 mod transcript;
 
-pub use answers::{Answered, Entry, Verdict};
+pub use answers::{CallAnswer, Entry, Verdict};
 pub use events::{Committing, Ending, Event, Step, Wish};
 pub use fault::OpenFault;
 pub use fresh::a_fresh_image_is_good;

@@ -1,5 +1,6 @@
 //! Laws on the promise of a run.
-ghost use Rattle.std.specs.Prelude.{◌≡◌, ◌≢◌, ◌+◌, ◌<◌, ◌≤◌, ℕ, List, [], ◌∷◌, slice_get, Some, None, true, Contains, count_by, length, take};
+ghost use Rattle.std.specs.Prelude.{◌≡◌, ◌≢◌, ◌+◌, ◌<◌, ◌≤◌, ℕ, List, [], ◌∷◌, slice_get, Some, None, true};
+ghost use Rattle.std.specs.Prelude.{Contains, count_by, length, take};
 ghost use Rattle.disk.specs.Crash.{Image, IsCrashImage};
 ghost use Rattle.disk.specs.Device.{Device};
 ghost use Rattle.model.specs.After.{after};
@@ -10,7 +11,7 @@ ghost use Rattle.store_promise.specs.declared.events.Step.TheVariants as step;
 ghost use Rattle.store_promise.specs.declared.transcript.Answer.{Answer};
 ghost use Rattle.store_promise.specs.declared.transcript.Committed.{Committed};
 ghost use Rattle.store_promise.specs.GoodImage.{IsGoodImage};
-ghost use Rattle.store_promise.specs.Headline.{IsKept};
+ghost use Rattle.store_promise.specs.Headline.{KeepsPromise};
 ghost use Rattle.store_promise.specs.Openings.{IsOpened};
 ghost use Rattle.store_promise.specs.LogTold.{Free, may_log_told};
 ghost use Rattle.store_promise.specs.Schedule.{Schedule, told_before};
@@ -19,42 +20,55 @@ ghost use Rattle.store_promise.specs.Verdicts.{IsStableAnswer};
 
 /// A run of no events keeps the promise, where its opening is one.
 pub fn a_run_of_no_events_keeps_the_promise()
-    ensures { (before later : Device) (tree : Tree) (first position workers : ℕ) → IsOpened before later tree first position
-        → IsKept before later tree first workers [] (record { boot = first + 1; history = []; answers = []; steps = [] }) }
+    ensures { (before later : Device) (tree : Tree) (first position workers : ℕ)
+        → IsOpened before later tree first position
+        → KeepsPromise before later tree first workers [] (record {
+          boot = first + 1;
+          history = [];
+          answers = [];
+          steps = [];
+        }) }
 {}
 
 /// A procedure for a call that no event hands its worker breaks the promise.
 pub fn an_entry_was_called()
-    ensures { (before later : Device) (tree : Tree) (first workers index : ℕ) (events : Schedule) (t : Transcript) (c : Committed)
+    ensures { (before later : Device) (tree : Tree) (first workers index : ℕ) (events : Schedule)
+        (t : Transcript) (c : Committed)
         → slice_get t.history index ≡ Some c
         → ((at : ℕ) → slice_get events at ≢ Some (event.Call c.worker c.ctx.credential c.ctx.moment c.call))
-        → IsKept before later tree first workers events t → ⊥ }
+        → KeepsPromise before later tree first workers events t → ⊥ }
 {}
 
 /// A stable answer to a procedure that some stop after it loses breaks the promise.
 pub fn what_is_stable_is_kept()
-    ensures { (before later : Device) (tree : Tree) (first workers moment place : ℕ) (events : Schedule) (t : Transcript) (a : Answer) (image : Image)
-        → before.clock ≤ moment → moment ≤ later.clock → IsCrashImage later moment image
-        → Contains t.answers a → later.clock + a.moment ≤ moment + device_calls t (length t.steps) → IsStableAnswer t a place
-        → ((count boot : ℕ) (left : Tree) → place ≤ count → after tree (take count (entries_of t)) left → IsGoodImage later.size image left boot → ⊥)
-        → IsKept before later tree first workers events t → ⊥ }
+    ensures { (before later : Device) (tree : Tree) (first workers clock place : ℕ) (events : Schedule)
+        (t : Transcript) (a : Answer) (image : Image)
+        → before.clock ≤ clock → clock ≤ later.clock → IsCrashImage later clock image
+        → Contains t.answers a → later.clock + a.clock ≤ clock + device_calls t (length t.steps)
+        → IsStableAnswer t a place
+        → ((count boot : ℕ) (left : Tree) → place ≤ count → after tree (take count (entries_of t)) left
+        → IsGoodImage later.size image left boot → ⊥)
+        → KeepsPromise before later tree first workers events t → ⊥ }
 {}
 
 /// A stop that leaves an image without the tree of a prefix, as one with half a group is, breaks the promise.
 pub fn half_a_group_breaks_the_promise()
-    ensures { (before later : Device) (tree : Tree) (first workers moment : ℕ) (events : Schedule) (t : Transcript) (image : Image)
-        → before.clock ≤ moment → moment ≤ later.clock → IsCrashImage later moment image
-        → ((count boot : ℕ) (left : Tree) → after tree (take count (entries_of t)) left → IsGoodImage later.size image left boot → ⊥)
-        → IsKept before later tree first workers events t → ⊥ }
+    ensures { (before later : Device) (tree : Tree) (first workers clock : ℕ) (events : Schedule)
+        (t : Transcript) (image : Image)
+        → before.clock ≤ clock → clock ≤ later.clock → IsCrashImage later clock image
+        → ((count boot : ℕ) (left : Tree) → after tree (take count (entries_of t)) left
+        → IsGoodImage later.size image left boot → ⊥)
+        → KeepsPromise before later tree first workers events t → ⊥ }
 {}
 
-/// An answer with the reply of a procedure that is to be answered once it is stable, given with the commit, breaks the
-/// promise.
+/// An answer with the reply of a procedure that is to be answered once it is stable, given with the commit,
+/// breaks the promise.
 pub fn no_stable_answer_comes_with_its_commit()
-    ensures { (before later : Device) (tree : Tree) (first workers index place tail : ℕ) (events : Schedule) (t : Transcript) (a : Answer)
+    ensures { (before later : Device) (tree : Tree) (first workers index place tail : ℕ) (events : Schedule)
+        (t : Transcript) (a : Answer)
         → slice_get t.answers index ≡ Some a → IsStableAnswer t a place
         → step_at t a.event ≡ Some (step.Commit (committing.Committed (record { 0 = place }) tail))
-        → IsKept before later tree first workers events t → ⊥ }
+        → KeepsPromise before later tree first workers events t → ⊥ }
 {}
 
 /// An answer that bears place 0, as no procedure has it, is no stable answer.
@@ -62,18 +76,20 @@ pub fn no_stable_answer_bears_place_0()
     ensures { (t : Transcript) (a : Answer) → IsStableAnswer t a 0 → ⊥ }
 {}
 
-/// An answer of IO where no device call failed breaks the promise: what the steps tell of failures the device has counted.
+/// An answer of IO where no device call failed breaks the promise: what the steps tell of failures the device
+/// has counted.
 pub fn a_failure_that_is_told_was_counted()
     ensures { (before later : Device) (tree : Tree) (first workers : ℕ) (events : Schedule) (t : Transcript)
         → later.failures ≡ before.failures → 0 < count_by fails t.steps
-        → IsKept before later tree first workers events t → ⊥ }
+        → KeepsPromise before later tree first workers events t → ⊥ }
 {}
 
 /// A log that passes over an event which applies breaks the promise.
 pub fn the_log_passes_over_no_event()
-    ensures { (before later : Device) (tree : Tree) (first workers index : ℕ) (events : Schedule) (t : Transcript)
+    ensures { (before later : Device) (tree : Tree) (first workers index : ℕ) (events : Schedule)
+        (t : Transcript)
         → slice_get events index ≡ Some event.Log → slice_get t.steps index ≡ Some None
         → ((position : ℕ) → may_log_told (told_before position events t.steps 0 index).log ≡ true)
         → ((position : ℕ) → (told_before position events t.steps 0 index).log.log_call ≡ Free)
-        → IsKept before later tree first workers events t → ⊥ }
+        → KeepsPromise before later tree first workers events t → ⊥ }
 {}

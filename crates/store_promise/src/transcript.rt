@@ -1,14 +1,14 @@
 //! What a run tells.
 ghost use Rattle.std.specs.Prelude.{◌≡◌, ◌<◌, [], ◌∷◌, ◌++◌, OnOk, vec_len, vec_capacity};
 
-use crate::answers::{Answered, Entry, Verdict};
+use crate::answers::{CallAnswer, Entry, Verdict};
 use crate::events::Step;
 use nfs_types::{Call, Ctx, Reply};
 use std::alloc::{AllocError, Global};
 use txn::Seq;
 
-/// A committed procedure: who ran it, with what, and what it replied. The event is the index of the event that
-/// committed it, the moment the count of device calls made since the run began.
+/// A committed procedure: who ran it, with what, and what it replied. The event is the index of the event
+/// that committed it, the clock the count of device calls made since the run began.
 #[derive(Drop)]
 pub struct Committed {
     pub worker: usize,
@@ -16,7 +16,7 @@ pub struct Committed {
     pub call: Call,
     pub reply: Reply,
     pub event: usize,
-    pub moment: u64,
+    pub clock: u64,
 }
 
 /// An answer to a call: who gave it, what it is, and the place of its procedure, if that was committed.
@@ -26,11 +26,11 @@ pub struct Answer {
     pub verdict: Verdict,
     pub place: Option<Seq>,
     pub event: usize,
-    pub moment: u64,
+    pub clock: u64,
 }
 
-/// A run: the boot number, the committed procedures in the order of their places, the answers in their order, and for
-/// each event that was taken the step that it made, if it made one.
+/// A run: the boot number, the committed procedures in the order of their places, the answers in their order,
+/// and for each event that was taken the step that it made, if it made one.
 #[derive(Drop)]
 pub struct Run {
     pub boot: u64,
@@ -45,7 +45,8 @@ impl Run {
     /// A run in which nothing has happened yet.
     pub fn new(alloc: Global, boot: u64) -> Run
         ensures boot { result.boot ≡ boot }
-        ensures empty { (result.history.items ≡ []) × (result.answers.items ≡ []) × (result.steps.items ≡ []) }
+        ensures empty { (result.history.items ≡ []) × (result.answers.items ≡ [])
+            × (result.steps.items ≡ []) }
     {
         Run {
             boot,
@@ -69,7 +70,7 @@ impl Run {
     }
 
     /// Tells of a procedure that the event now taken has committed.
-    pub fn note_entry(&mut self, worker: usize, moment: u64, entry: Entry)
+    pub fn note_entry(&mut self, worker: usize, clock: u64, entry: Entry)
         requires { vec_len self.old.history < vec_capacity self.old.history }
         ensures steps { self.new.steps ≡ self.old.steps }
         ensures answers { self.new.answers ≡ self.old.answers }
@@ -80,23 +81,23 @@ impl Run {
             call: entry.call,
             reply: entry.reply,
             event: self.steps.len(),
-            moment,
+            clock,
         };
         push(&mut self.history, committed);
     }
 
     /// Tells of an answer that the event now taken has given.
-    pub fn note_answer(&mut self, worker: usize, moment: u64, answered: Answered)
+    pub fn note_answer(&mut self, worker: usize, clock: u64, answer: CallAnswer)
         requires { vec_len self.old.answers < vec_capacity self.old.answers }
         ensures steps { self.new.steps ≡ self.old.steps }
         ensures history { self.new.history ≡ self.old.history }
     {
         let answer = Answer {
             worker,
-            verdict: answered.verdict,
-            place: answered.place,
+            verdict: answer.verdict,
+            place: answer.place,
             event: self.steps.len(),
-            moment,
+            clock,
         };
         push(&mut self.answers, answer);
     }

@@ -1,5 +1,6 @@
 -- Who holds what.
-use Rattle.std.specs.Prelude.{◌≡◌, ℕ, Bool, false, not, ◌&&◌, ◌||◌, Option, Some, None, List, [], ◌∷◌, ◌++◌, All, nat_eq}
+use Rattle.std.specs.Prelude.{◌≡◌, ℕ, Bool, false, not, ◌&&◌, ◌||◌, Option, Some, None, List, [], ◌∷◌, ◌++◌}
+use Rattle.std.specs.Prelude.{All, nat_eq}
 use Rattle.std.specs.List.{list_any, find, filter}
 use Rattle.objects.specs.Addr.{Overlap}
 use Rattle.objects.specs.declared.addr.Addr.{Addr}
@@ -21,7 +22,8 @@ is_taken holds block = list_any (λ hold. nat_eq hold.addr.block.0 block.0) hold
 -- whether this transaction has taken this address
 abbrev pub is_hold_of : ℕ → Addr → Hold → Bool
 is_hold_of tx addr hold =
-    nat_eq hold.transaction tx && nat_eq hold.addr.block.0 addr.block.0 && nat_eq hold.addr.offset addr.offset && nat_eq hold.addr.len addr.len
+    nat_eq hold.transaction tx && nat_eq hold.addr.block.0 addr.block.0 && nat_eq hold.addr.offset addr.offset
+    && nat_eq hold.addr.len addr.len
 
 -- the transaction's hold of the address, if it has one
 abbrev pub hold_of : List Hold → ℕ → Addr → Option Hold
@@ -34,12 +36,16 @@ without_hold holds tx addr = filter (λ hold. not (is_hold_of tx addr hold)) hol
 -- what is held by a new hold beside one that there was
 abbrev pub joined : Option Hold → Hold → Hold
 joined None hold = hold
-joined (Some had) hold = record hold { is_read = had.is_read || hold.is_read; is_claimed = had.is_claimed || hold.is_claimed }
+joined (Some had) hold = record hold {
+  is_read = had.is_read || hold.is_read;
+  is_claimed = had.is_claimed || hold.is_claimed;
+}
 
 -- the holds once one is added, or joined with the one that the transaction had of the address
 abbrev pub with_hold : List Hold → Hold → List Hold
 with_hold holds hold =
-    without_hold holds hold.transaction hold.addr ++ joined (hold_of holds hold.transaction hold.addr) hold ∷ []
+    without_hold holds hold.transaction hold.addr ++ joined (hold_of holds hold.transaction hold.addr) hold
+    ∷ []
 
 -- the holds of the other transactions
 abbrev pub released : List Hold → ℕ → List Hold

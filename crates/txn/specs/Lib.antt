@@ -4,7 +4,7 @@ pub mod Holds
 pub mod Present
 pub mod Core
 pub mod Fetch
-pub mod Answers
-pub mod Found
+pub mod Outcomes
+pub mod Source
 pub mod Window
 pub mod Records

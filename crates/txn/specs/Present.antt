@@ -6,8 +6,8 @@ use Rattle.disk.specs.declared.block.BlockNo.{BlockNo}
 use Rattle.txn.specs.declared.present.Present.{Present}
 
 -- the block's entry
-abbrev pub entry_of : List Present → BlockNo → Option Present
-entry_of present block = find (λ entry. nat_eq entry.block.0 block.0) present
+abbrev pub present_of : List Present → BlockNo → Option Present
+present_of present block = find (λ entry. nat_eq entry.block.0 block.0) present
 
 -- its content, if it is there and its fetch isn't pending
 abbrev pub content_in : Option Present → Option Content

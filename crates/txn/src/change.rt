@@ -3,9 +3,9 @@ ghost use Rattle.std.specs.Prelude.{◌≡◌};
 
 use crate::Object;
 
-/// A change that was worked out from some objects: the objects that were read for it, with the bytes that they had;
-/// the objects that it writes, with the bytes that they get, later ones over earlier ones; and the counts of blocks
-/// and inodes of the image that it was worked out for.
+/// A change that was worked out from some objects: the objects that were read for it, with the bytes that
+/// they had; the objects that it writes, with the bytes that they get, later ones over earlier ones; and the
+/// counts of blocks and inodes of the image that it was worked out for.
 pub trait Change: Drop {
     ghost use Rattle.std.specs.Prelude.{List, ℕ};
     ghost use Rattle.txn.specs.Object.{ObjectBytes};

@@ -2,13 +2,13 @@
 ghost use Rattle.std.specs.Prelude.{◌≡◌, ◌≤◌, ◌<◌, ◌↔◌, length, All, IsTrue, true};
 ghost use Rattle.wal.specs.Log.{IsHomeOn};
 ghost use Rattle.limits.specs.declared.TheConstants.{CHANGED_BLOCKS};
-ghost use Rattle.txn.specs.Answers.{IsCommit, IsOwn, IsReadBy, HasBytes};
+ghost use Rattle.txn.specs.Outcomes.{IsCommit, IsOwn, IsReadBy, HasBytes};
 ghost use Rattle.txn.specs.Holds.{hold_of, is_written};
 ghost use Rattle.txn.specs.Group.{blocks_of};
 
-use crate::answers::Commit;
 use crate::group::{blocks_of_objects, group_of};
 use crate::holds::{is_read_by, is_written_by};
+use crate::outcomes::Commit;
 use crate::present::{Present, content_of};
 use crate::records::keep;
 use crate::{Change, Core, Object, Tx};
@@ -17,22 +17,29 @@ use std::alloc::Global;
 use wal::{Append, Room, Wal};
 
 impl<C: Change> Core<C> {
-    /// Commits a change at the next place, and ends its transaction. Broken: a write or a barrier has failed. Foreign:
-    /// the change was planned for other counts than the core's, or writes what this transaction doesn't hold, or read
-    /// what it doesn't hold for reading or what differs. Spent: no place is left, or too few positions of the log.
-    /// Full: the open group and this change pass the log. These and NoMemory change nothing.
+    /// Commits a change at the next place, and ends its transaction. Broken: a write or a barrier has failed.
+    /// Foreign: the change was planned for other counts than the core's, or writes what this transaction
+    /// doesn't hold, or read what it doesn't hold for reading or what differs. Spent: no place is left, or
+    /// too few positions of the log. Full: the open group and this change pass the log. These and NoMemory
+    /// change nothing.
     pub fn commit(&mut self, alloc: Global, tx: Tx, change: C) -> Commit<C>
         requires { length (blocks_of (C.objects_written change)) ≤ CHANGED_BLOCKS }
-        ensures { IsCommit self.old tx (record { read = C.objects_read change; written = C.objects_written change; blocks = C.planned_blocks change; inodes = C.planned_inodes change }) change result self.new }
+        ensures { IsCommit self.old tx (record {
+          read = C.objects_read change;
+          written = C.objects_written change;
+          blocks = C.planned_blocks change;
+          inodes =
+              C.planned_inodes change;
+        }) change result self.new }
     {
-        if self.wal.broken() {
+        if self.log.broken() {
             return Commit::Broken(tx, change);
         }
         let blocks = blocks_of_objects(change.written());
         if !self.is_own(tx.number, &change, blocks.as_slice()) {
             return Commit::Foreign(tx, change);
         }
-        match self.wal.room(blocks.as_slice()) {
+        match self.log.room(blocks.as_slice()) {
             Room::Spent => return Commit::Spent(tx, change),
             Room::Full => return Commit::Full(tx, change),
             Room::Fits => {}
@@ -43,18 +50,18 @@ impl<C: Change> Core<C> {
         let Ok(group) = group_of(
             alloc,
             &self.present,
-            &self.wal,
+            &self.log,
             blocks.as_slice(),
             change.written(),
         ) else {
             return Commit::NoMemory(tx, change);
         };
-        match self.wal.append(group) {
+        match self.log.append(group) {
             Append::Appended => {
                 let Tx { number } = tx;
-                let place = self.wal.places();
-                let installed = self.wal.installed();
-                refresh(&mut self.present, &self.wal);
+                let place = self.log.places();
+                let installed = self.log.installed();
+                refresh(&mut self.present, &self.log);
                 keep(&mut self.records, place, change, installed);
                 self.close(number);
                 Commit::Committed(place)
@@ -67,10 +74,17 @@ impl<C: Change> Core<C> {
     // Whether the transaction is out, and the change was planned for this core on what the transaction holds.
     fn is_own(&self, transaction: u64, change: &C, blocks: &[BlockNo]) -> bool
         requires { blocks.now ≡ blocks_of (C.objects_written change.now) }
-        ensures { IsTrue result ↔ IsOwn self.now transaction (record { read = C.objects_read change.now; written = C.objects_written change.now; blocks = C.planned_blocks change.now; inodes = C.planned_inodes change.now }) }
+        ensures { IsTrue result
+            ↔ IsOwn self.now transaction (record {
+              read = C.objects_read change.now;
+              written = C.objects_written change.now;
+              blocks = C.planned_blocks change.now;
+              inodes =
+                  C.planned_inodes change.now;
+            }) }
     {
         self.out == Some(transaction)
-            && change.blocks() == self.wal.blocks()
+            && change.blocks() == self.log.blocks()
             && change.inodes() == self.inodes
             && self.has_read(transaction, change.read())
             && self.may_write(transaction, change.written())
@@ -100,7 +114,8 @@ impl<C: Change> Core<C> {
 
     // Whether the transaction holds these objects for writing.
     fn may_write(&self, transaction: u64, objects: &[Object]) -> bool
-        ensures { IsTrue result ↔ All (λ object. is_written (hold_of self.now.holds transaction object.addr) ≡ true) objects.now }
+        ensures { IsTrue result
+            ↔ All (λ object. is_written (hold_of self.now.holds transaction object.addr) ≡ true) objects.now }
     {
         objects.iter().all(|object| is_written_by(&self.holds, transaction, object.addr()))
     }

@@ -4,7 +4,7 @@ ghost use Rattle.limits.specs.declared.TheConstants.{CHANGED_BLOCKS};
 ghost use Rattle.wal.specs.Log.{blocks_of as group_blocks};
 ghost use Rattle.wal.specs.Log.{newest};
 ghost use Rattle.txn.specs.Group.{blocks_of, is_among, base_in, laid, IsLaid};
-ghost use Rattle.txn.specs.Present.{entry_of, content_in};
+ghost use Rattle.txn.specs.Present.{present_of, content_in};
 
 use crate::Object;
 use crate::present::{Present, content_of};
@@ -46,7 +46,8 @@ fn base_of(
     wal: &Wal,
     block: BlockNo,
 ) -> Result<Block, AllocError>
-    ensures { IfOk result (λ base. base ≡ base_in (content_in (entry_of present.now block)) (newest wal.now block.0)) }
+    ensures { IfOk result (λ base. base
+        ≡ base_in (content_in (present_of present.now block)) (newest wal.now block.0)) }
 {
     let mut base = Block::zeros(alloc)?;
     if let Some(content) = content_of(present, block) {

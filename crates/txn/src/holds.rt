@@ -1,12 +1,13 @@
 //! Who holds what.
 ghost use Rattle.std.specs.Prelude.{◌≡◌, ◌<◌, ◌≤◌, ◌↔◌, IsTrue, vec_len, vec_capacity};
-ghost use Rattle.txn.specs.Holds.{IsFree, is_taken, hold_of, is_read, is_written, joined, without_hold, with_hold, released};
+ghost use Rattle.txn.specs.Holds.{IsFree, is_taken, hold_of, is_read, is_written, joined, without_hold};
+ghost use Rattle.txn.specs.Holds.{with_hold, released};
 
 use disk::BlockNo;
 use objects::Addr;
 
-/// An address that a transaction has taken. It holds the address for reading once it was told its bytes, and for
-/// writing then or once it claimed it. One whose block is still to be fetched is taken and not held.
+/// An address that a transaction has taken. It holds the address for reading once it was told its bytes, and
+/// for writing then or once it claimed it. One whose block is still to be fetched is taken and not held.
 #[derive(Clone, Copy, Debug)]
 pub(crate) struct Hold {
     pub(crate) transaction: u64,
@@ -61,7 +62,8 @@ pub(crate) fn is_taken(holds: &[Hold], block: BlockNo) -> bool
     holds.iter().any(|hold| hold.addr.block == block)
 }
 
-/// Notes that the transaction takes the address, for reading, for writing, or with its block still to be fetched.
+/// Notes that the transaction takes the address, for reading, for writing, or with its block still to be
+/// fetched.
 pub(crate) fn take(holds: &mut Vec<Hold>, hold: Hold)
     requires { vec_len holds.old < vec_capacity holds.old }
     ensures { holds.new.items ≡ with_hold holds.old.items hold }

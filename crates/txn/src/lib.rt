@@ -1,12 +1,12 @@
 //! The transactional core: transactions over a log and a device, for any kind of change.
 #![tactic(auto)]
 
-mod answers;
 mod change;
 mod commit;
 mod group;
 mod holds;
 mod object;
+mod outcomes;
 mod present;
 mod records;
 mod state;
@@ -14,9 +14,9 @@ mod tx;
 mod want;
 mod window;
 
-pub use answers::{BeginFault, Claim, Commit, Want};
 pub use change::Change;
 pub use object::Object;
+pub use outcomes::{BeginFault, Claim, Commit, Want};
 pub use state::Core;
 pub use tx::{FetchIo, Stable, Tx};
 pub use wal::{InstIo, LogIo, Seq};

@@ -1,6 +1,6 @@
 //! Objects: parts of blocks with their bytes.
 ghost use Rattle.std.specs.Prelude.{◌≡◌, length};
-ghost use Rattle.objects.specs.declared.addr.Addr.{Addr as Place};
+ghost use Rattle.objects.specs.declared.addr.Addr.{Addr as Address};
 
 use objects::Addr;
 use std::alloc::AllocError;

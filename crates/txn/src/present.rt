@@ -1,6 +1,7 @@
 //! The blocks that are in memory besides the log's.
-ghost use Rattle.std.specs.Prelude.{◌≡◌, ◌<◌, ◌++◌, ◌∷◌, [], length, option_map, vec_len, vec_capacity, IfSome};
-ghost use Rattle.txn.specs.Present.{entry_of, content_in, is_pending};
+ghost use Rattle.std.specs.Prelude.{◌≡◌, ◌<◌, ◌++◌, ◌∷◌, [], length, option_map, vec_len, vec_capacity};
+ghost use Rattle.std.specs.Prelude.{IfSome};
+ghost use Rattle.txn.specs.Present.{present_of, content_in, is_pending};
 
 use disk::{Block, BlockNo};
 
@@ -24,17 +25,17 @@ pub(crate) fn index_of(present: &[Present], block: BlockNo) -> Option<usize>
 }
 
 /// The block's entry, if it has one.
-pub(crate) fn entry_of(present: &[Present], block: BlockNo) -> Option<&Present>
-    ensures { option_map (λ entry. entry.now) result ≡ entry_of present.now block }
+pub(crate) fn present_of(present: &[Present], block: BlockNo) -> Option<&Present>
+    ensures { option_map (λ entry. entry.now) result ≡ present_of present.now block }
 {
     present.iter().find(|entry| entry.block == block)
 }
 
 /// The block's content, if it is there and not pending.
 pub(crate) fn content_of(present: &[Present], block: BlockNo) -> Option<&Block>
-    ensures { option_map (λ content. content.now) result ≡ content_in (entry_of present.now block) }
+    ensures { option_map (λ content. content.now) result ≡ content_in (present_of present.now block) }
 {
-    match entry_of(present, block) {
+    match present_of(present, block) {
         Some(entry) => entry.content.as_ref(),
         None => None,
     }
@@ -42,9 +43,9 @@ pub(crate) fn content_of(present: &[Present], block: BlockNo) -> Option<&Block>
 
 /// Whether a fetch of the block is pending.
 pub(crate) fn is_pending(present: &[Present], block: BlockNo) -> bool
-    ensures { result ≡ is_pending (entry_of present.now block) }
+    ensures { result ≡ is_pending (present_of present.now block) }
 {
-    match entry_of(present, block) {
+    match present_of(present, block) {
         Some(entry) => entry.content.is_none(),
         None => false,
     }

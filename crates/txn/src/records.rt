@@ -43,7 +43,8 @@ pub(crate) fn keep<C: Change>(
     installed: Seq,
 )
     requires { deque_len records.old < deque_capacity records.old }
-    ensures { records.new.items ≡ (if nat_lt installed.0 place.0 then records.old.items ++ record { place = place; change = change } ∷ [] else records.old.items) }
+    ensures { records.new.items ≡ (if nat_lt installed.0 place.0 then records.old.items
+        ++ record { place = place; change = change } ∷ [] else records.old.items) }
 {
     if place > installed {
         records.push_back_reserved(Record { place, change });
@@ -63,7 +64,9 @@ pub(crate) fn sweep<C: Change>(
     holds: &[Hold],
     records: &VecDeque<Record<C>>,
 )
-    ensures { present.new.items ≡ filter (λ entry. is_none entry.content || is_taken holds.now entry.block || list_any (λ kept. lies_in (C.objects_read kept.change) entry.block) records.now.items) present.old.items }
+    ensures { present.new.items ≡ filter (λ entry. is_none entry.content || is_taken holds.now entry.block
+        || list_any (λ kept. lies_in (C.objects_read kept.change) entry.block) records.now.items)
+        present.old.items }
 {
     present.retain(|entry| {
         entry.content.is_none() || is_taken(holds, entry.block) || is_kept(records, entry.block)

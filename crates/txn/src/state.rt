@@ -1,5 +1,6 @@
 //! The core: who holds what, what is in memory, and the commits that aren't installed.
-ghost use Rattle.std.specs.Prelude.{◌≡◌, ◌≤◌, ◌+◌, ◌^◌, ◌↔◌, IsTrue, IsSome, IsNone, IfSome, IsErrOf, OnErr, IfOk, Some, None, true, false, is_some, if◌then◌else◌, [], length};
+ghost use Rattle.std.specs.Prelude.{◌≡◌, ◌≤◌, ◌+◌, ◌^◌, ◌↔◌, IsTrue, IsSome, IsNone, IfSome, IsErrOf, OnErr};
+ghost use Rattle.std.specs.Prelude.{IfOk, Some, None, true, false, is_some, if◌then◌else◌, [], length};
 ghost use Rattle.wal.specs.Log.{settled_place, installed_place, tail_count, IsHomeOn};
 ghost use Rattle.wal.specs.Io.{IsCallWithin};
 ghost use Rattle.wal.specs.Logger.{may_log, with_log_out, is_log_out, with_log_back};
@@ -7,8 +8,8 @@ ghost use Rattle.wal.specs.Installer.{may_install, with_inst_out, is_inst_out, w
 ghost use Rattle.txn.specs.Core.{without, ended, past, installed};
 ghost use Rattle.txn.specs.Records.{swept};
 
-use crate::answers::BeginFault;
 use crate::holds::{Hold, release};
+use crate::outcomes::BeginFault;
 use crate::present::Present;
 use crate::records::{Record, forget, sweep};
 use crate::{Change, Stable, Tx};
@@ -22,14 +23,15 @@ use wal::{InstIo, LogIo, Seq, Wal};
 /// The transactional core of a store, for changes of one kind. It makes no device call: it hands them out.
 #[derive(Drop)]
 pub struct Core<C: Change> {
-    pub(crate) wal: Wal,
+    pub(crate) log: Wal,
     pub(crate) inodes: u32,
     // How many transactions were begun.
     pub(crate) begun: u64,
     // The transaction that is out.
     pub(crate) out: Option<u64>,
     pub(crate) holds: Vec<Hold>,
-    // Each block that is held or that a kept record read, with its current content, and those that are being fetched.
+    // Each block that is held or that a kept record read, with its current content, and those that are being
+    // fetched.
     pub(crate) present: Vec<Present>,
     // The commits that aren't installed, oldest first.
     pub(crate) records: VecDeque<Record<C>>,
@@ -42,7 +44,7 @@ impl<C: Change> Model for Core<C> {
     ghost Value = { CoreState };
 
     ghost view = { λ c. record {
-      log = c.wal;
+      log = c.log;
       inodes = c.inodes;
       begun = c.begun;
       out = c.out;
@@ -54,11 +56,19 @@ impl<C: Change> Model for Core<C> {
 
 impl<C: Change> Core<C> {
     /// A core over a log, for an image with the log's blocks and this count of inodes.
-    pub fn new(alloc: Global, wal: Wal, inodes: u32) -> Core<C>
-        ensures { result ≡ record { log = wal; inodes = inodes; begun = 0; out = None; holds = []; present = []; records = [] } }
+    pub fn new(alloc: Global, log: Wal, inodes: u32) -> Core<C>
+        ensures { result ≡ record {
+          log = log;
+          inodes = inodes;
+          begun = 0;
+          out = None;
+          holds = [];
+          present = [];
+          records = [];
+        } }
     {
         Core {
-            wal,
+            log,
             inodes,
             begun: 0,
             out: None,
@@ -72,7 +82,7 @@ impl<C: Change> Core<C> {
     pub fn counts(&self) -> (u32, u32)
         ensures { result ≡ (self.now.log.blocks, self.now.inodes) }
     {
-        (self.wal.blocks(), self.inodes)
+        (self.log.blocks(), self.inodes)
     }
 
     /// Begins a transaction. Transactions are numbered from 1. Broken is tested first.
@@ -82,10 +92,11 @@ impl<C: Change> Core<C> {
             × (self.new ≡ record self.old { begun = self.old.begun + 1; out = Some (self.old.begun + 1) })) }
         ensures refused { OnErr result (self.new ≡ self.old) }
         ensures broken { IsErrOf result BeginFault.Broken ↔ (self.old.log.broken ≡ true) }
-        ensures spent { IsErrOf result BeginFault.Spent ↔ ((self.old.log.broken ≡ false) × (self.old.begun + 1 ≡ 2 ^ 64)) }
+        ensures spent { IsErrOf result BeginFault.Spent
+            ↔ ((self.old.log.broken ≡ false) × (self.old.begun + 1 ≡ 2 ^ 64)) }
         ensures no_memory { IsErrOf result BeginFault.NoMemory → ⊥ }
     {
-        if self.wal.broken() {
+        if self.log.broken() {
             return Err(BeginFault::Broken);
         }
         if self.begun == u64::MAX {
@@ -115,14 +126,16 @@ impl<C: Change> Core<C> {
 
     // Lets go of the records of the commits that are installed.
     fn forget(&mut self)
-        ensures { self.new ≡ record self.old { records = past (installed_place self.old.log) self.old.records } }
+        ensures { self.new
+            ≡ record self.old { records = past (installed_place self.old.log) self.old.records } }
     {
-        forget(&mut self.records, self.wal.installed());
+        forget(&mut self.records, self.log.installed());
     }
 
     // Lets go of the blocks that nobody has taken, no kept record read and no fetch is pending of.
     pub(crate) fn sweep(&mut self)
-        ensures { self.new ≡ record self.old { present = swept self.old.holds self.old.records self.old.present } }
+        ensures { self.new
+            ≡ record self.old { present = swept self.old.holds self.old.records self.old.present } }
     {
         sweep(&mut self.present, &self.holds, &self.records);
     }
@@ -131,7 +144,7 @@ impl<C: Change> Core<C> {
     pub(crate) fn is_inside(&self, block: BlockNo) -> bool
         ensures { IsTrue result ↔ IsHomeOn self.now.log.blocks block }
     {
-        block.0 >= FIRST_HOME_BLOCK && block.0 < self.wal.blocks()
+        block.0 >= FIRST_HOME_BLOCK && block.0 < self.log.blocks()
     }
 
     /// Shows that the place is settled, where it is.
@@ -139,7 +152,7 @@ impl<C: Change> Core<C> {
         ensures settled { IsSome result ↔ (place.0 ≤ settled_place self.now.log) }
         ensures place { IfSome result (λ stable. stable ≡ place.0) }
     {
-        if place <= self.wal.settled() {
+        if place <= self.log.settled() {
             Some(Stable { place })
         } else {
             None
@@ -150,7 +163,7 @@ impl<C: Change> Core<C> {
     pub fn is_settled(&self) -> bool
         ensures { IsTrue result ↔ (settled_place self.now.log ≡ self.now.log.places) }
     {
-        self.wal.settled() == self.wal.places()
+        self.log.settled() == self.log.places()
     }
 
     /// How many commits it keeps: those that aren't installed.
@@ -164,14 +177,14 @@ impl<C: Change> Core<C> {
     pub fn tail(&self) -> usize
         ensures { result ≡ tail_count self.now.log }
     {
-        self.wal.tail()
+        self.log.tail()
     }
 
     /// Whether a write or a barrier has failed. Nothing is begun or committed any more.
     pub fn broken(&self) -> bool
         ensures { result ≡ self.now.log.broken }
     {
-        self.wal.broken()
+        self.log.broken()
     }
 
     /// The log's next device call, if there is one and none is out.
@@ -181,16 +194,17 @@ impl<C: Change> Core<C> {
         ensures none { IsNone result → self.new ≡ self.old }
         ensures within { IfSome result (λ io. IsCallWithin self.new.log.blocks io.call) }
     {
-        self.wal.log_next()
+        self.log.log_next()
     }
 
     /// Gives the log's device call back, with whether it was answered Ok.
     pub fn log_done(&mut self, io: LogIo, ok: bool)
-        ensures log { self.new.log ≡ (if is_log_out self.old.log io then with_log_back self.old.log ok else self.old.log) }
+        ensures log { self.new.log ≡ (if is_log_out self.old.log io then with_log_back self.old.log ok
+            else self.old.log) }
         ensures blocks { self.new.log.blocks ≡ self.old.log.blocks }
         ensures others { self.new ≡ record self.old { log = self.new.log } }
     {
-        self.wal.log_done(io, ok);
+        self.log.log_done(io, ok);
     }
 
     /// The installer's next device call, if there is one and none is out.
@@ -200,16 +214,17 @@ impl<C: Change> Core<C> {
         ensures none { IsNone result → self.new ≡ self.old }
         ensures within { IfSome result (λ io. IsCallWithin self.new.log.blocks io.call) }
     {
-        self.wal.inst_next()
+        self.log.inst_next()
     }
 
     /// Gives the installer's device call back, with whether it was answered Ok.
     pub fn inst_done(&mut self, io: InstIo, ok: bool)
-        ensures log { self.new.log ≡ (if is_inst_out self.old.log io then with_inst_back self.old.log ok else self.old.log) }
+        ensures log { self.new.log ≡ (if is_inst_out self.old.log io then with_inst_back self.old.log ok
+            else self.old.log) }
         ensures blocks { self.new.log.blocks ≡ self.old.log.blocks }
         ensures others { self.new ≡ installed self.old self.new.log }
     {
-        self.wal.inst_done(io, ok);
+        self.log.inst_done(io, ok);
         self.forget();
         self.sweep();
     }

@@ -6,8 +6,8 @@ use disk::{Block, BlockNo, CrashDisk, Failed};
 use std::marker::Model;
 use wal::Seq;
 
-/// A transaction that was begun. It ends only in a commit that answers Committed, or in an abort: one that is lost
-/// doesn't compile. A clause sees its number.
+/// A transaction that was begun. It ends only in a commit that answers Committed, or in an abort: one that is
+/// lost doesn't compile. A clause sees its number.
 pub struct Tx {
     pub(crate) number: u64,
 }
@@ -29,8 +29,8 @@ impl Tx {
     }
 }
 
-/// A block to be read from its home. It has to be given back, with what was read or without: one that is lost doesn't
-/// compile. A clause sees the block's number.
+/// A block to be read from its home. It has to be given back, with what was read or without: one that is lost
+/// doesn't compile. A clause sees the block's number.
 pub struct FetchIo {
     pub(crate) block: BlockNo,
     pub(crate) buffer: Block,

@@ -1,13 +1,13 @@
 //! Reading and claiming what a transaction works on.
 ghost use Rattle.std.specs.Prelude.{◌≡◌, IfOk, OnErr, true, false, length};
 ghost use Rattle.objects.specs.declared.addr.Addr.{Addr};
-ghost use Rattle.txn.specs.Answers.{IsWanted, IsWithin, IsWhole, IsClaimed};
-ghost use Rattle.txn.specs.Present.{entry_of, is_pending};
+ghost use Rattle.txn.specs.Outcomes.{IsWanted, IsWithin, IsWhole, IsClaimed};
+ghost use Rattle.txn.specs.Present.{present_of, is_pending};
 ghost use Rattle.txn.specs.Window.{part};
-ghost use Rattle.txn.specs.Found.{IsFound, IsFoundWithin};
+ghost use Rattle.txn.specs.Source.{IsSource, IsSourceWithin};
 
-use crate::answers::{Claim, Want};
 use crate::holds::{Hold, is_free, take};
+use crate::outcomes::{Claim, Want};
 use crate::present::{add, content_of, index_of, is_pending};
 use crate::{Change, Core, FetchIo, Tx};
 use disk::{Block, BlockNo};
@@ -15,16 +15,16 @@ use objects::Addr;
 use std::alloc::{AllocError, Global};
 
 // What want found, before the transaction is handed back.
-enum Found {
+enum Source {
     Bytes(Vec<u8>),
     Fetch(FetchIo),
 }
 
 impl<C: Change> Core<C> {
-    /// Takes an object for reading. Outside: the block isn't one that a change may write. Busy: another transaction
-    /// has taken a byte of it, or this one by another address. Loading: a fetch of the block is pending, and nothing
-    /// is taken. Fetch: the block has to be read from home; the object is taken, and the same want after `fetched`
-    /// answers Held or NoMemory. NoMemory: nothing has changed.
+    /// Takes an object for reading. Outside: the block isn't one that a change may write. Busy: another
+    /// transaction has taken a byte of it, or this one by another address. Loading: a fetch of the block is
+    /// pending, and nothing is taken. Fetch: the block has to be read from home; the object is taken, and the
+    /// same want after `fetched` answers Held or NoMemory. NoMemory: nothing has changed.
     pub fn want(&mut self, alloc: Global, tx: Tx, addr: Addr) -> Want
         ensures answer { IsWanted self.old tx addr result self.new }
         ensures within { IsWithin self.old.log.blocks addr.len result }
@@ -39,8 +39,8 @@ impl<C: Change> Core<C> {
             return Want::Loading(tx);
         }
         match self.take_for_reading(alloc, tx.number, addr) {
-            Ok(Found::Bytes(bytes)) => Want::Held(tx, bytes),
-            Ok(Found::Fetch(io)) => Want::Fetch(tx, io),
+            Ok(Source::Bytes(bytes)) => Want::Held(tx, bytes),
+            Ok(Source::Fetch(io)) => Want::Fetch(tx, io),
             Err(_) => Want::NoMemory(tx),
         }
     }
@@ -80,36 +80,37 @@ impl<C: Change> Core<C> {
         Claim::Held(tx)
     }
 
-    // Takes the object, and its block's place in memory where it has none. All room is made before anything changes.
+    // Takes the object, and its block's place in memory where it has none. All room is made before anything
+    // changes.
     fn take_for_reading(
         &mut self,
         alloc: Global,
         transaction: u64,
         addr: Addr,
-    ) -> Result<Found, AllocError>
-        requires { is_pending (entry_of self.old.present addr.block) ≡ false }
-        ensures found { IfOk result (λ found. IsFound self.old transaction addr found self.new) }
-        ensures within { IfOk result (IsFoundWithin addr.len) }
+    ) -> Result<Source, AllocError>
+        requires { is_pending (present_of self.old.present addr.block) ≡ false }
+        ensures found { IfOk result (λ found. IsSource self.old transaction addr found self.new) }
+        ensures within { IfOk result (IsSourceWithin addr.len) }
         ensures refused { OnErr result (self.new ≡ self.old) }
     {
         self.holds.reserve(1)?;
         if let Some(content) = content_of(&self.present, addr.block) {
             let bytes = part_of(alloc, content, addr)?;
             take(&mut self.holds, hold(transaction, addr, true));
-            return Ok(Found::Bytes(bytes));
+            return Ok(Source::Bytes(bytes));
         }
         self.present.reserve(1)?;
         let mut content = Block::zeros(alloc)?;
-        if let Some(newest) = self.wal.latest(addr.block) {
+        if let Some(newest) = self.log.latest(addr.block) {
             content.copy_from(newest);
             let bytes = part_of(alloc, &content, addr)?;
             add(&mut self.present, addr.block, Some(content));
             take(&mut self.holds, hold(transaction, addr, true));
-            return Ok(Found::Bytes(bytes));
+            return Ok(Source::Bytes(bytes));
         }
         add(&mut self.present, addr.block, None);
         take(&mut self.holds, hold(transaction, addr, false));
-        Ok(Found::Fetch(FetchIo {
+        Ok(Source::Fetch(FetchIo {
             block: addr.block,
             buffer: content,
         }))
@@ -149,7 +150,12 @@ fn part_of(alloc: Global, content: &Block, addr: Addr) -> Result<Vec<u8>, AllocE
 
 // The hold of an object that was read, or whose block is being fetched.
 fn hold(transaction: u64, addr: Addr, is_read: bool) -> Hold
-    ensures { result ≡ record { transaction = transaction; addr = addr; is_read = is_read; is_claimed = false } }
+    ensures { result ≡ record {
+      transaction = transaction;
+      addr = addr;
+      is_read = is_read;
+      is_claimed = false;
+    } }
 {
     Hold {
         transaction,

@@ -8,7 +8,8 @@ ghost use Rattle.txn.specs.Window.{Footprint, IsLegalWindow};
 
 /// Two commits in a row that read one object differently, the first without a write, are in no legal window.
 pub fn a_window_reads_one_content()
-    ensures { (log : Log) (held : List (ℕ × Content)) (place : ℕ) (addr : Addr) (one other : List ℕ) → one ≢ other
+    ensures { (log : Log) (held : List (ℕ × Content)) (place : ℕ) (addr : Addr) (one other : List ℕ)
+        → one ≢ other
         → IsLegalWindow log
         (record { place = place; read = record { addr = addr; bytes = one } ∷ []; written = [] }
         ∷ record { place = place + 1; read = record { addr = addr; bytes = other } ∷ []; written = [] } ∷ []) held
@@ -17,7 +18,8 @@ pub fn a_window_reads_one_content()
 
 /// A commit whose record is kept though it is installed, or one that is left out, is in no legal window.
 pub fn a_window_has_each_commit_that_is_not_installed()
-    ensures { (log : Log) (commits : List Footprint) (held : List (ℕ × Content)) → installed_place log + length commits ≢ log.places
+    ensures { (log : Log) (commits : List Footprint) (held : List (ℕ × Content))
+        → installed_place log + length commits ≢ log.places
         → IsLegalWindow log commits held → ⊥ }
 {}
 

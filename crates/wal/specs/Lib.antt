@@ -3,12 +3,12 @@ pub mod View
 pub use Rattle.wal_law.specs.Io
 pub use Rattle.wal_law.specs.Log
 pub use Rattle.wal_law.specs.Room
-pub use Rattle.wal_law.specs.Numbers
+pub use Rattle.wal_law.specs.EightBytes
 pub use Rattle.wal_law.specs.Logger
 pub use Rattle.wal_law.specs.Installer
-pub use Rattle.wal_law.specs.Seen
+pub use Rattle.wal_law.specs.Effects
 pub use Rattle.wal_law.specs.Overlay
-pub use Rattle.wal_law.specs.Found
+pub use Rattle.wal_law.specs.Recovery
 pub use Rattle.wal_law.specs.Law
 pub use Rattle.wal_law.specs.Calls
 pub use Rattle.wal_law.specs.ReadBack

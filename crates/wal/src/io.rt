@@ -29,7 +29,12 @@ impl Model for LogIo {
 
     ghost Value = { Io };
 
-    ghost view = { λ io. record { beginning = io.beginning; step = io.step; call = io.call; content = io.content } };
+    ghost view = { λ io. record {
+      beginning = io.beginning;
+      step = io.step;
+      call = io.call;
+      content = io.content;
+    } };
 }
 
 impl Model for InstIo {
@@ -37,7 +42,12 @@ impl Model for InstIo {
 
     ghost Value = { Io };
 
-    ghost view = { λ io. record { beginning = io.beginning; step = io.step; call = io.call; content = io.content } };
+    ghost view = { λ io. record {
+      beginning = io.beginning;
+      step = io.step;
+      call = io.call;
+      content = io.content;
+    } };
 }
 
 impl LogIo {

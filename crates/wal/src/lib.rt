@@ -1,6 +1,6 @@
-//! The log in memory and on the disk: commits are added to its tail, a logger makes them safe in the log's slots,
-//! and an installer brings them home. It makes no device call of its own: it hands each one out, and is told what
-//! came of it.
+//! The log in memory and on the disk: commits are added to its tail, a logger makes them safe in the log's
+//! slots, and an installer brings them home. It makes no device call of its own: it hands each one out, and
+//! is told what came of it.
 #![tactic(auto)]
 
 pub mod circ;
@@ -9,4 +9,4 @@ mod memory;
 
 pub use io::{InstIo, LogIo};
 pub use memory::Wal;
-pub use wal_law::{Append, Change, IoCall, Room, Seq, law};
+pub use wal_law::{Append, IoCall, LogChange, Room, Seq, law};

@@ -1,7 +1,8 @@
 //! The memory log.
 ghost use Rattle.std.specs.Prelude.{◌≡◌, ◌≤◌, ◌<◌, ◌^◌, ◌+◌, length, IfOk, MatchOption, Some, None, All, map};
 ghost use Rattle.limits.specs.declared.TheConstants.{LOG_SLOTS, FIRST_HOME_BLOCK};
-ghost use Rattle.wal_law.specs.Log.{newest, settled_place, installed_place, tail_count, opened, IsHomeOn, blocks_of};
+ghost use Rattle.wal_law.specs.Log.{newest, settled_place, installed_place, tail_count, opened, IsHomeOn};
+ghost use Rattle.wal_law.specs.Log.{blocks_of};
 ghost use Rattle.wal_law.specs.Room.{IsRoom};
 
 mod append;
@@ -11,7 +12,7 @@ mod logger;
 mod search;
 
 use crate::circ::Recovered;
-use crate::{Change, Room, Seq};
+use crate::{LogChange, Room, Seq};
 use disk::{Block, BlockNo};
 use limits::LOG_SLOTS;
 use std::alloc::{AllocError, Global};
@@ -23,7 +24,7 @@ use std::marker::Model;
 pub struct Wal {
     blocks: u32,
     start: u64,
-    changes: VecDeque<Change>,
+    changes: VecDeque<LogChange>,
     logged: usize,
     taken: usize,
     log_step: usize,
@@ -80,7 +81,8 @@ impl Wal {
 
     /// The newest content of a block. One that the log doesn't have is home.
     pub fn latest(&self, block: BlockNo) -> Option<&Block>
-        ensures { MatchOption result (newest self.now block.0 ≡ None) (λ content. newest self.now block.0 ≡ Some content.now) }
+        ensures { MatchOption result (newest self.now block.0 ≡ None) (λ content. newest self.now block.0
+            ≡ Some content.now) }
     {
         search::last_change(&self.changes, 0, self.changes.len(), block)
     }

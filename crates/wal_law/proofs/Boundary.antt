@@ -1,5 +1,7 @@
 -- Lemmas: what agrees with a log leaves a group boundary.
-use Rattle.std.proofs.Common.{◌≡◌, ℕ, zero, suc, ◌+◌, ◌-◌, ◌*◌, ◌%◌, ◌≤◌, ◌<◌, ◌⊎◌, inl, inr, List, [], ◌∷◌, ◌++◌, length, take, drop, get_or, slice_get, Option, Some, None, refl, sym, ap, subst, ◌∙◌, arith, nat_eq, if◌then◌else◌}
+use Rattle.std.proofs.Common.{◌≡◌, ℕ, zero, suc, ◌+◌, ◌-◌, ◌*◌, ◌%◌, ◌≤◌, ◌<◌, ◌⊎◌, inl, inr, List, [], ◌∷◌}
+use Rattle.std.proofs.Common.{◌++◌, length, take, drop, get_or, slice_get, Option, Some, None, refl, sym, ap}
+use Rattle.std.proofs.Common.{subst, ◌∙◌, arith, nat_eq, if◌then◌else◌}
 use Rattle.std.proofs.lemmas.List.{map-append, length-drop}
 use Rattle.std.proofs.lemmas.Bool.{cases_lt}
 use Rattle.std.proofs.lemmas.List.Elements.{All-get_or}
@@ -9,39 +11,48 @@ use Rattle.limits.specs.declared.TheConstants.{LOG_SLOTS, LOG_HEADER_BLOCK, STAR
 use Rattle.disk.specs.Device.{Content, Device}
 use Rattle.disk.specs.Crash.{Image, IsCrashImage}
 use Rattle.disk.specs.declared.block.BlockNo.{BlockNo}
-use Rattle.wal_law.specs.declared.change.Change.{Change}
+use Rattle.wal_law.specs.declared.change.LogChange.{LogChange}
 use Rattle.wal_law.specs.Log.{Log, IsLawful, IsHomeOn, or_else, newest_of}
 use Rattle.wal_law.specs.Logger.{slot_block}
-use Rattle.wal_law.specs.Numbers.{number_at}
-use Rattle.wal_law.specs.Overlay.{start_in, end_in, count_in, home_at, positions, logged_in, IsInRange, HasHomes, content_or, over}
-use Rattle.wal_law.specs.Seen.{newest_in, brought_home}
-use Rattle.wal_law.specs.Law.{IsOutside, after, HoldsSlots, IsHeaderOf, IsStartBehind, Agrees, IsAfter, pairs_of, ShowsLog, IsBoundary}
+use Rattle.wal_law.specs.EightBytes.{number_at}
+use Rattle.wal_law.specs.Overlay.{start_in, end_in, count_in, home_at, positions, logged_in, IsInRange}
+use Rattle.wal_law.specs.Overlay.{HasHomes, content_or, over}
+use Rattle.wal_law.specs.Effects.{newest_in, brought_home}
+use Rattle.wal_law.specs.Law.{IsOutside, with_changes, HoldsSlots, IsHeaderOf, IsStartBehind, Agrees, IsAfter}
+use Rattle.wal_law.specs.Law.{pairs_of, ShowsLog, IsBoundary}
 use Rattle.wal_law.proofs.Newest.{newest_of-append}
 use Rattle.wal_law.proofs.Lists.{slice_get-drop}
 
-pub newest_in-pairs : (changes : List Change) (block : ℕ)
+pub newest_in-pairs : (changes : List LogChange) (block : ℕ)
     → newest_in (pairs_of changes) block ≡ newest_of changes block
 newest_in-pairs [] block = refl
-newest_in-pairs (change ∷ later) block = ap (λ o. or_else o (if nat_eq change.block.0 block then Some change.content else None)) (newest_in-pairs later block)
+newest_in-pairs (change ∷ later) block =
+    ap (λ o. or_else o (if nat_eq change.block.0 block then Some change.content else None))
+    (newest_in-pairs later block)
 
 -- the positions of an image are the changes that stand in its header and its slots
-pub positions_are : (header : Content) (image : Image) (start : ℕ) (changes : List Change) (n : ℕ)
+pub positions_are : (header : Content) (image : Image) (start : ℕ) (changes : List LogChange) (n : ℕ)
     → n ≤ length changes
-    → ((k : ℕ) → k < n → (change : Change) → slice_get changes k ≡ Some change → home_at header (start + k) ≡ change.block)
-    → ((k : ℕ) → k < n → (change : Change) → slice_get changes k ≡ Some change → image (slot_block (start + k)) ≡ change.content)
+    → ((k : ℕ) → k < n → (change : LogChange) → slice_get changes k ≡ Some change
+    → home_at header (start + k) ≡ change.block)
+    → ((k : ℕ) → k < n → (change : LogChange) → slice_get changes k ≡ Some change
+    → image (slot_block (start + k)) ≡ change.content)
     → positions header image start n ≡ pairs_of (take n changes)
 positions_are header image start changes zero l homes slots = refl
 positions_are header image start changes (suc n) l homes slots =
     let lt : n < length changes = omega arith in
-    let before = positions_are header image start changes n (omega arith) (λ k h. homes k (omega arith)) (λ k h. slots k (omega arith)) in
-    elim ((slice_get_cases changes n).1) as (λ _. positions header image start (suc n) ≡ pairs_of (take (suc n) changes)) [
+    let before = positions_are header image start changes n (omega arith) (λ k h. homes k (omega arith))
+    (λ k h. slots k (omega arith)) in
+    elim ((slice_get_cases changes n).1) as (λ _. positions header image start (suc n)
+    ≡ pairs_of (take (suc n) changes)) [
       | inl found ↦
-          let change : Change = found.0 in
+          let change : LogChange = found.0 in
           let is : slice_get changes n ≡ Some change = found.2 in
           let item : get_or changes n change ≡ change = found.3 in
-          let taken : take (suc n) changes ≡ take n changes ++ change ∷ [] = take-suc changes n change lt ∙ ap (λ x. take n changes ++ x ∷ []) item in
+          let taken : take (suc n) changes ≡ take n changes ++ change ∷ [] = take-suc changes n change lt
+          ∙ ap (λ x. take n changes ++ x ∷ []) item in
           rw (before, homes n (omega arith) change is, slots n (omega arith) change is, taken)
-          (sym (map-append (λ (x : Change). (x.block, x.content)) (take n changes) (change ∷ [])))
+          (sym (map-append (λ (x : LogChange). (x.block, x.content)) (take n changes) (change ∷ [])))
       | inr past ↦ absurd (let far : length changes ≤ n = past.0 in omega arith)
     ]
 
@@ -50,14 +61,15 @@ content_or-or_else : (a b : Option Content) (c : Content)
 content_or-or_else (Some a) b c = refl
 content_or-or_else None b c = refl
 
--- What an image shows of a log: a header of the first `count` changes, a start behind the first `gone`, and their slots.
+-- What an image shows of a log: a header of the first `count` changes, a start behind the first `gone`, and
+-- their slots.
 pub record Shows (image : Image) (log : Log) (count gone : ℕ) : Type 0 where
   pub within : count ≤ length log.changes
   pub few : count ≤ LOG_SLOTS
   pub behind : gone ≤ count
   pub header : IsHeaderOf log count (image LOG_HEADER_BLOCK)
   pub start : IsStartBehind log gone (image START_BLOCK)
-  pub slots : (k : ℕ) → k < count → (change : Change) → slice_get log.changes k ≡ Some change
+  pub slots : (k : ℕ) → k < count → (change : LogChange) → slice_get log.changes k ≡ Some change
       → image (slot_block (log.start + k)) ≡ change.content
 
 end_shown : (image : Image) (log : Log) (count gone : ℕ) → Shows image log count gone
@@ -73,18 +85,20 @@ range_shown image log count gone s =
     let e = end_shown image log count gone s in
     record { order = omega (arith, e, s.start, s.behind); slots = omega (arith, e, s.start, s.few) }
 
-home_shown : (image : Image) (log : Log) (count gone k : ℕ) (change : Change) → Shows image log count gone
+home_shown : (image : Image) (log : Log) (count gone k : ℕ) (change : LogChange) → Shows image log count gone
     → gone + k < count
     → slice_get log.changes (gone + k) ≡ Some change
     → home_at (image LOG_HEADER_BLOCK) ((log.start + gone) + k) ≡ change.block
 home_shown image log count gone k change s lt is =
     let e : (log.start + gone) + k ≡ log.start + (gone + k) = omega arith in
-    let n : number_at (image LOG_HEADER_BLOCK) (8 + 8 * (((log.start + gone) + k) % LOG_SLOTS)) ≡ change.block.0 =
-    ap (λ p. number_at (image LOG_HEADER_BLOCK) (8 + 8 * (p % LOG_SLOTS))) e ∙ s.header.1 (gone + k) lt change is in
+    let n : number_at (image LOG_HEADER_BLOCK) (8 + 8 * (((log.start + gone) + k) % LOG_SLOTS))
+    ≡ change.block.0 =
+    ap (λ p. number_at (image LOG_HEADER_BLOCK) (8 + 8 * (p % LOG_SLOTS))) e
+    ∙ s.header.1 (gone + k) lt change is in
     let f : ℕ → BlockNo = λ number. record { 0 = number } in
     ap f n
 
-slot_shown : (image : Image) (log : Log) (count gone k : ℕ) (change : Change) → Shows image log count gone
+slot_shown : (image : Image) (log : Log) (count gone k : ℕ) (change : LogChange) → Shows image log count gone
     → gone + k < count
     → slice_get log.changes (gone + k) ≡ Some change
     → image (slot_block ((log.start + gone) + k)) ≡ change.content
@@ -95,22 +109,30 @@ slot_shown image log count gone k change s lt is =
 logged_shown : (image : Image) (log : Log) (count gone : ℕ) → Shows image log count gone
     → logged_in image ≡ pairs_of (take (count - gone) (drop gone log.changes))
 logged_shown image log count gone s =
-    let l : count - gone ≤ length (drop gone log.changes) = omega (arith, length-drop gone log.changes, s.within) in
+    let l : count - gone ≤ length (drop gone log.changes) =
+    omega (arith, length-drop gone log.changes, s.within) in
     ap (λ start. positions (image LOG_HEADER_BLOCK) image start (count_in image)) s.start
-    ∙ ap (λ n. positions (image LOG_HEADER_BLOCK) image (log.start + gone) n) (count_shown image log count gone s)
+    ∙ ap (λ n. positions (image LOG_HEADER_BLOCK) image (log.start + gone) n)
+    (count_shown image log count gone s)
     ∙ positions_are (image LOG_HEADER_BLOCK) image (log.start + gone) (drop gone log.changes) (count - gone) l
-    (λ k h change is. home_shown image log count gone k change s (omega arith) (slice_get-drop log.changes gone k change is))
-    (λ k h change is. slot_shown image log count gone k change s (omega arith) (slice_get-drop log.changes gone k change is))
+    (λ k h change is. home_shown image log count gone k change s (omega arith)
+    (slice_get-drop log.changes gone k change is))
+    (λ k h change is. slot_shown image log count gone k change s (omega arith)
+    (slice_get-drop log.changes gone k change is))
 
 over_shown : (image : Image) (log : Log) (count gone block : ℕ) → Shows image log count gone
-    → over image block ≡ content_or (newest_of (take (count - gone) (drop gone log.changes)) block) (image block)
+    → over image block ≡ content_or (newest_of (take (count - gone) (drop gone log.changes)) block)
+    (image block)
 over_shown image log count gone block s =
     ap (λ o. content_or o (image block))
-    (ap (λ logged. newest_in logged block) (logged_shown image log count gone s) ∙ newest_in-pairs (take (count - gone) (drop gone log.changes)) block)
+    (ap (λ logged. newest_in logged block) (logged_shown image log count gone s)
+    ∙ newest_in-pairs (take (count - gone) (drop gone log.changes)) block)
 
 -- the newest of the first changes, in two parts
-newest_of-parts : (changes : List Change) (count gone block : ℕ) → gone ≤ count
-    → newest_of (take count changes) block ≡ or_else (newest_of (take (count - gone) (drop gone changes)) block) (newest_of (take gone changes) block)
+newest_of-parts : (changes : List LogChange) (count gone block : ℕ) → gone ≤ count
+    → newest_of (take count changes) block
+    ≡ or_else (newest_of (take (count - gone) (drop gone changes)) block)
+    (newest_of (take gone changes) block)
 newest_of-parts changes count gone block h =
     let m : count ≡ gone + (count - gone) = omega arith in
     ap (λ n. newest_of (take n changes) block) m
@@ -122,14 +144,17 @@ pub homes_shown : (image : Image) (log : Log) (count gone : ℕ) → IsLawful lo
 homes_shown image log count gone h s k lt =
     let n = count_shown image log count gone s in
     let within : gone + k < length log.changes = omega (arith, s.within, s.behind) in
-    elim ((slice_get_cases log.changes (gone + k)).1) as (λ _. IsHomeOn log.blocks (home_at (image LOG_HEADER_BLOCK) (start_in image + k))) [
+    elim ((slice_get_cases log.changes (gone + k)).1) as (λ _. IsHomeOn log.blocks
+    (home_at (image LOG_HEADER_BLOCK) (start_in image + k))) [
       | inl found ↦
-          let change : Change = found.0 in
+          let change : LogChange = found.0 in
           let same : home_at (image LOG_HEADER_BLOCK) (start_in image + k) ≡ change.block =
-          ap (λ start. home_at (image LOG_HEADER_BLOCK) (start + k)) s.start ∙ home_shown image log count gone k change s (omega arith) found.2 in
+          ap (λ start. home_at (image LOG_HEADER_BLOCK) (start + k)) s.start
+          ∙ home_shown image log count gone k change s (omega arith) found.2 in
           let home : IsHomeOn log.blocks (get_or log.changes (gone + k) change).block =
-          All-get_or (λ (x : Change). IsHomeOn log.blocks x.block) log.changes (gone + k) change within h.homes in
-          subst (IsHomeOn log.blocks) (ap (λ (x : Change). x.block) found.3 ∙ sym same) home
+          All-get_or (λ (x : LogChange). IsHomeOn log.blocks x.block) log.changes (gone + k) change within
+          h.homes in
+          subst (IsHomeOn log.blocks) (ap (λ (x : LogChange). x.block) found.3 ∙ sym same) home
       | inr past ↦ absurd (let far : length log.changes ≤ gone + k = past.0 in omega arith)
     ]
 
@@ -142,30 +167,39 @@ over_whole : (image : Image) (log : Log) (count block : ℕ) → Shows image log
     → over image block ≡ content_or (newest_of (take count log.changes) block) (image block)
 over_whole image log count block s =
     let e : count - 0 ≡ count = omega arith in
-    over_shown image log count 0 block s ∙ ap (λ n. content_or (newest_of (take n log.changes) block) (image block)) e
+    over_shown image log count 0 block s
+    ∙ ap (λ n. content_or (newest_of (take n log.changes) block) (image block)) e
 
 -- nothing raised: what is at home is old or new, and the log lies over both
 pub after_unraised : (image base : Image) (log : Log) (count block : ℕ) → Shows image log count 0
     → log.installing ≤ count
     → (image block ≡ base block) ⊎ (brought_home log block ≡ Some (image block))
-    → over image block ≡ after base (take count log.changes) block
-after_unraised image base log count block s le (inl old) = over_whole image log count block s ∙ ap (λ c. content_or (newest_of (take count log.changes) block) c) old
+    → over image block ≡ with_changes base (take count log.changes) block
+after_unraised image base log count block s le (inl old) = over_whole image log count block s
+    ∙ ap (λ c. content_or (newest_of (take count log.changes) block) c) old
 after_unraised image base log count block s le (inr new) =
-    let e : newest_of (take count log.changes) block ≡ or_else (newest_of (take (count - log.installing) (drop log.installing log.changes)) block) (Some (image block)) =
-    newest_of-parts log.changes count log.installing block le ∙ ap (λ o. or_else (newest_of (take (count - log.installing) (drop log.installing log.changes)) block) o) new in
+    let e : newest_of (take count log.changes) block
+    ≡ or_else (newest_of (take (count - log.installing) (drop log.installing log.changes)) block)
+    (Some (image block)) =
+    newest_of-parts log.changes count log.installing block le
+    ∙ ap (λ o. or_else (newest_of (take (count - log.installing) (drop log.installing log.changes)) block)
+    o) new in
     over_whole image log count block s
-    ∙ rw e (content_or-some (newest_of (take (count - log.installing) (drop log.installing log.changes)) block) (image block) (image block) (base block))
+    ∙ rw e (content_or-some (newest_of (take (count - log.installing) (drop log.installing log.changes))
+    block) (image block) (image block) (base block))
 
 -- raised: what is at home is new, and the rest of the log lies over it
 pub after_raised : (image base : Image) (log : Log) (count block : ℕ) → Shows image log count log.installing
-    → image block ≡ after base (take log.installing log.changes) block
-    → over image block ≡ after base (take count log.changes) block
+    → image block ≡ with_changes base (take log.installing log.changes) block
+    → over image block ≡ with_changes base (take count log.changes) block
 after_raised image base log count block s new =
-    let rest : Option Content = newest_of (take (count - log.installing) (drop log.installing log.changes)) block in
+    let rest : Option Content =
+    newest_of (take (count - log.installing) (drop log.installing log.changes)) block in
     over_shown image log count log.installing block s
     ∙ ap (λ c. content_or rest c) new
     ∙ sym (content_or-or_else rest (newest_of (take log.installing log.changes) block) (base block))
-    ∙ ap (λ o. content_or o (base block)) (sym (newest_of-parts log.changes count log.installing block s.behind))
+    ∙ ap (λ o. content_or o (base block))
+    (sym (newest_of-parts log.changes count log.installing block s.behind))
 
 -- new is old or new
 new_either : (newest : Option Content) (content old : Content) → content ≡ content_or newest old
@@ -176,10 +210,12 @@ new_either None content old h = inl h
 -- how far the start of an image is raised, and what is at home then
 pub data Raised (image base : Image) (log : Log) : Type 0 where
   Unraised : IsStartBehind log 0 (image START_BLOCK)
-      → ((block : ℕ) → IsOutside log.blocks block → (image block ≡ base block) ⊎ (brought_home log block ≡ Some (image block)))
+      → ((block : ℕ) → IsOutside log.blocks block → (image block ≡ base block)
+      ⊎ (brought_home log block ≡ Some (image block)))
       → Raised image base log
   Installed : IsStartBehind log log.installing (image START_BLOCK)
-      → ((block : ℕ) → IsOutside log.blocks block → image block ≡ after base (take log.installing log.changes) block)
+      → ((block : ℕ) → IsOutside log.blocks block
+      → image block ≡ with_changes base (take log.installing log.changes) block)
       → Raised image base log
 
 -- the settled groups, or one more
@@ -188,7 +224,14 @@ IsEnd log count = (count ≡ log.logged) ⊎ (count ≡ log.logged + log.taken)
 
 shown : (image : Image) (log : Log) (count gone : ℕ) → (gone ≡ 0) ⊎ (gone ≡ log.installing) → IsEnd log count
     → Shows image log count gone → ShowsLog log (start_in image) (logged_in image)
-shown image log count gone from to s = record { first = gone; end = count; from = from; to = to; position = s.start; changes = logged_shown image log count gone s }
+shown image log count gone from to s = record {
+  first = gone;
+  end = count;
+  from = from;
+  to = to;
+  position = s.start;
+  changes = logged_shown image log count gone s;
+}
 
 -- What an image with a header of the first so many changes is.
 record Opens (image base : Image) (log : Log) (count : ℕ) : Type 0 where
@@ -201,10 +244,19 @@ record Opens (image base : Image) (log : Log) (count : ℕ) : Type 0 where
 boundary_of : (image base : Image) (log : Log) (count : ℕ) → IsLawful log → count ≤ length log.changes
     → count ≤ LOG_SLOTS → log.installing ≤ count → IsEnd log count
     → IsHeaderOf log count (image LOG_HEADER_BLOCK)
-    → ((k : ℕ) → k < count → (change : Change) → slice_get log.changes k ≡ Some change → image (slot_block (log.start + k)) ≡ change.content)
+    → ((k : ℕ) → k < count → (change : LogChange) → slice_get log.changes k ≡ Some change
+    → image (slot_block (log.start + k)) ≡ change.content)
     → Raised image base log → Opens image base log count
 boundary_of image base log count h within few le to header slots (Unraised start home) =
-    let s : Shows image log count 0 = record { within = within; few = few; behind = omega arith; header = header; start = start; slots = slots } in
+    let s : Shows image log count 0 =
+    record {
+      within = within;
+      few = few;
+      behind = omega arith;
+      header = header;
+      start = start;
+      slots = slots;
+    } in
     record {
       range = range_shown image log count 0 s;
       homes = homes_shown image log count 0 h s;
@@ -212,7 +264,8 @@ boundary_of image base log count h within few le to header slots (Unraised start
       positions = shown image log count 0 (inl refl) to s;
     }
 boundary_of image base log count h within few le to header slots (Installed start home) =
-    let s : Shows image log count log.installing = record { within = within; few = few; behind = le; header = header; start = start; slots = slots } in
+    let s : Shows image log count log.installing =
+    record { within = within; few = few; behind = le; header = header; start = start; slots = slots } in
     record {
       range = range_shown image log count log.installing s;
       homes = homes_shown image log count log.installing h s;
@@ -224,21 +277,27 @@ raised_of : (d : Device) (base : Image) (log : Log) (image : Image) → IsLawful
     → IsCrashImage d d.clock image → Raised image base log
 raised_of d base log image h a crash =
     let at : START_BLOCK < d.size = omega (arith, h.disk, a.size) in
-    let outside : (block : ℕ) → IsOutside log.blocks block → block < d.size = λ block o. omega (arith, o.0, a.size) in
+    let outside : (block : ℕ) → IsOutside log.blocks block
+    → block < d.size = λ block o. omega (arith, o.0, a.size) in
     elim (cases_lt log.installing log.inst_step) as (λ _. Raised image base log) [
       | inl made ↦
-          let new : (block : ℕ) → IsOutside log.blocks block → image block ≡ after base (take log.installing log.changes) block =
+          let new : (block : ℕ) → IsOutside log.blocks block
+          → image block ≡ with_changes base (take log.installing log.changes) block =
           λ block o. a.homes.brought made block o (image block) (crash block (outside block o)) in
-          elim (a.homes.raised_start made (image START_BLOCK) (crash START_BLOCK at)) as (λ _. Raised image base log) [
-            | inl start ↦ Unraised start (λ block o. new_either (newest_of (take log.installing log.changes) block) (image block) (base block) (new block o))
+          elim (a.homes.raised_start made (image START_BLOCK) (crash START_BLOCK at)) as (λ _. Raised image
+          base log) [
+            | inl start ↦ Unraised start
+                (λ block o. new_either (newest_of (take log.installing log.changes) block) (image block)
+                (base block) (new block o))
             | inr start ↦ Installed start new
           ]
-      | inr notyet ↦ Unraised (a.homes.start notyet (image START_BLOCK) (crash START_BLOCK at)) (λ block o. a.homes.home notyet block o (image block) (crash block (outside block o)))
+      | inr notyet ↦ Unraised (a.homes.start notyet (image START_BLOCK) (crash START_BLOCK at))
+          (λ block o. a.homes.home notyet block o (image block) (crash block (outside block o)))
     ]
 
 slots_of : (d : Device) (base : Image) (log : Log) (image : Image) (count : ℕ) → IsLawful log
     → Agrees d base log → IsCrashImage d d.clock image → HoldsSlots d log count
-    → (k : ℕ) → k < count → (change : Change) → slice_get log.changes k ≡ Some change
+    → (k : ℕ) → k < count → (change : LogChange) → slice_get log.changes k ≡ Some change
     → image (slot_block (log.start + k)) ≡ change.content
 slots_of d base log image count h a crash holds k lt change is =
     let within : slot_block (log.start + k) < d.size = omega (arith, h.disk, a.size) in
@@ -250,10 +309,11 @@ pub crash_boundary : (d : Device) (base : Image) (log : Log) (image : Image) →
 crash_boundary d base log image h a crash =
     let there = crash LOG_HEADER_BLOCK at in
     elim (cases_lt log.taken log.log_step) as (λ _. IsBoundary base log image) [
-      | inl made ↦ elim (a.own.group_header made (image LOG_HEADER_BLOCK) there) as (λ _. IsBoundary base log image) [
-        | inl header ↦ old header
-        | inr header ↦ new made header
-      ]
+      | inl made ↦ elim (a.own.group_header made (image LOG_HEADER_BLOCK) there) as (λ _. IsBoundary base log
+          image) [
+            | inl header ↦ old header
+            | inr header ↦ new made header
+          ]
       | inr notyet ↦ old (a.own.header notyet (image LOG_HEADER_BLOCK) there)
     ]
   where
@@ -265,12 +325,15 @@ crash_boundary d base log image h a crash =
 
     old : IsHeaderOf log log.logged (image LOG_HEADER_BLOCK) → IsBoundary base log image
     old header =
-        let o = boundary_of image base log log.logged h (omega (arith, h.taken_within)) (omega (arith, h.slots)) h.installing (inl refl) header (slots_of d base log image log.logged h a crash a.own.slots) raised in
+        let o = boundary_of image base log log.logged h (omega (arith, h.taken_within))
+        (omega (arith, h.slots)) h.installing (inl refl) header
+        (slots_of d base log image log.logged h a crash a.own.slots) raised in
         record { range = o.range; homes = o.homes; blocks = inl o.blocks; positions = o.positions }
 
     new : log.taken < log.log_step → IsHeaderOf log (log.logged + log.taken) (image LOG_HEADER_BLOCK)
         → IsBoundary base log image
     new made header =
-        let o = boundary_of image base log (log.logged + log.taken) h h.taken_within h.slots (omega (arith, h.installing)) (inr refl) header
+        let o = boundary_of image base log (log.logged + log.taken) h h.taken_within h.slots
+        (omega (arith, h.installing)) (inr refl) header
         (slots_of d base log image (log.logged + log.taken) h a crash (a.own.group_slots made)) raised in
         record { range = o.range; homes = o.homes; blocks = inr o.blocks; positions = o.positions }

@@ -1,28 +1,39 @@
 -- Lemmas: what is true of every log stays true.
-use Rattle.std.proofs.Common.{◌≡◌, ℕ, ◌+◌, ◌-◌, ◌<◌, ◌≤◌, ◌^◌, false, List, [], ◌∷◌, ◌++◌, length, drop, All, refl, ap, ◌∙◌, arith, length-append}
+use Rattle.std.proofs.Common.{◌≡◌, ℕ, ◌+◌, ◌-◌, ◌<◌, ◌≤◌, ◌^◌, false, List, [], ◌∷◌, ◌++◌, length, drop, All}
+use Rattle.std.proofs.Common.{refl, ap, ◌∙◌, arith, length-append}
 use Rattle.std.proofs.lemmas.List.{length-map, map-append, drop-append-le, drop_all, drop-drop, length-drop}
-use Rattle.std.proofs.lemmas.List.Elements.{All-append, All-nil, All-cons, All-head, All-tail, All-drop, All-push}
+use Rattle.std.proofs.lemmas.List.Elements.{All-append, All-nil, All-cons, All-head, All-tail, All-drop}
+use Rattle.std.proofs.lemmas.List.Elements.{All-push}
 use Rattle.limits.specs.declared.TheConstants.{LOG_SLOTS, FIRST_HOME_BLOCK}
 use Rattle.disk.specs.Device.{Content}
 use Rattle.disk.specs.declared.block.BlockNo.{BlockNo}
-use Rattle.wal_law.specs.declared.change.Change.{Change}
+use Rattle.wal_law.specs.declared.change.LogChange.{LogChange}
 use Rattle.wal_law.proofs.Places.{rising-append, rising-group, rising-drop, committed-group}
 use Rattle.wal_law.specs.Log.{Log, IsCommitted, IsLawful, IsHomeOn, blocks_of, changes_of, tail_after, opened}
 use Rattle.wal_law.specs.Room.{HasPlaces, with_group}
 
 pub length-changes_of : (place : ℕ) (group : List (BlockNo × Content))
     → length (changes_of place group) ≡ length group
-length-changes_of place group = length-map group (λ (change : BlockNo × Content). record { place = place; block = change.0; content = change.1 })
+length-changes_of place group =
+    length-map group (λ (change : BlockNo × Content). record {
+      place = place;
+      block = change.0;
+      content = change.1;
+    })
 
 pub length-blocks_of : (group : List (BlockNo × Content)) → length (blocks_of group) ≡ length group
 length-blocks_of group = length-map group (λ (change : BlockNo × Content). change.0)
 
 pub homes_of_group : (blocks place : ℕ) (group : List (BlockNo × Content))
     → All (IsHomeOn blocks) (blocks_of group)
-    → All (λ (change : Change). IsHomeOn blocks change.block) (changes_of place group)
-homes_of_group blocks place [] h = All-nil (λ (change : Change). IsHomeOn blocks change.block)
+    → All (λ (change : LogChange). IsHomeOn blocks change.block) (changes_of place group)
+homes_of_group blocks place [] h = All-nil (λ (change : LogChange). IsHomeOn blocks change.block)
 homes_of_group blocks place (change ∷ group) h =
-    All-cons (λ (change : Change). IsHomeOn blocks change.block) (record { place = place; block = change.0; content = change.1 }) (changes_of place group)
+    All-cons (λ (change : LogChange). IsHomeOn blocks change.block) (record {
+      place = place;
+      block = change.0;
+      content = change.1;
+    }) (changes_of place group)
     (All-head (IsHomeOn blocks) change.0 (blocks_of group) h)
     (homes_of_group blocks place group (All-tail (IsHomeOn blocks) change.0 (blocks_of group) h))
 
@@ -33,7 +44,8 @@ pub lawful_with_group : (log : Log) (group : List (BlockNo × Content)) → IsLa
 lawful_with_group log group h room fits homes =
     let m = length-blocks_of group in
     let n : length (log.changes ++ changes_of (log.places + 1) group) ≡ length log.changes + length group =
-    length-append log.changes (changes_of (log.places + 1) group) ∙ ap (λ k. length log.changes + k) (length-changes_of (log.places + 1) group) in
+    length-append log.changes (changes_of (log.places + 1) group)
+    ∙ ap (λ k. length log.changes + k) (length-changes_of (log.places + 1) group) in
     let within : log.logged ≤ length log.changes = omega (arith, h.taken_within) in
     record {
       disk = h.disk;
@@ -47,10 +59,13 @@ lawful_with_group log group h room fits homes =
       inst_step = h.inst_step;
       inst_idle = h.inst_idle;
       places = room.place;
-      homes = All-append (λ (change : Change). IsHomeOn log.blocks change.block) log.changes (changes_of (log.places + 1) group) h.homes (homes_of_group log.blocks (log.places + 1) group homes);
+      homes = All-append (λ (change : LogChange). IsHomeOn log.blocks change.block) log.changes
+          (changes_of (log.places + 1) group) h.homes
+          (homes_of_group log.blocks (log.places + 1) group homes);
       rising = rising-append log.changes log.places group h.rising;
       committed = rw (drop-append-le log.logged log.changes (changes_of (log.places + 1) group) within)
-          (All-append IsCommitted (drop log.logged log.changes) (changes_of (log.places + 1) group) h.committed (committed-group (log.places + 1) group (omega arith)));
+          (All-append IsCommitted (drop log.logged log.changes) (changes_of (log.places + 1) group)
+          h.committed (committed-group (log.places + 1) group (omega arith)));
     }
 
 pub lawful_opened : (blocks start : ℕ) (logged : List (BlockNo × Content)) → FIRST_HOME_BLOCK ≤ blocks
@@ -73,10 +88,12 @@ lawful_opened blocks start logged disk slots positions homes =
       places = omega arith;
       homes = homes_of_group blocks 0 logged homes;
       rising = rising-group 0 logged;
-      committed = rw (drop_all (length logged) (changes_of 0 logged) (omega (arith, n))) (All-nil IsCommitted);
+      committed = rw (drop_all (length logged) (changes_of 0 logged) (omega (arith, n)))
+          (All-nil IsCommitted);
     }
 
-pub lawful_group_settled : (log : Log) → IsLawful log → IsLawful (record log { logged = log.logged + log.taken; taken = 0; log_step = 0; log_out = false })
+pub lawful_group_settled : (log : Log) → IsLawful log
+    → IsLawful (record log { logged = log.logged + log.taken; taken = 0; log_step = 0; log_out = false })
 lawful_group_settled log h =
     record {
       disk = h.disk;
@@ -92,13 +109,21 @@ lawful_group_settled log h =
       places = h.places;
       homes = h.homes;
       rising = h.rising;
-      committed = rw (← drop-drop log.taken log.logged log.changes) (All-drop IsCommitted log.taken (drop log.logged log.changes) h.committed);
+      committed = rw (← drop-drop log.taken log.logged log.changes)
+          (All-drop IsCommitted log.taken (drop log.logged log.changes) h.committed);
     }
 
 pub lawful_installed : (log : Log) → IsLawful log → log.inst_out ≡ false
-    → IsLawful (record log { start = log.start + log.installing; changes = drop log.installing log.changes; logged = log.logged - log.installing; installing = 0; inst_step = 0 })
+    → IsLawful (record log {
+      start = log.start + log.installing;
+      changes = drop log.installing log.changes;
+      logged = log.logged - log.installing;
+      installing = 0;
+      inst_step = 0;
+    })
 lawful_installed log h out =
-    let n : length (drop log.installing log.changes) ≡ length log.changes - log.installing = length-drop log.installing log.changes in
+    let n : length (drop log.installing log.changes) ≡ length log.changes - log.installing =
+    length-drop log.installing log.changes in
     let m : log.installing + (log.logged - log.installing) ≡ log.logged = omega (arith, h.installing) in
     record {
       disk = h.disk;
@@ -112,7 +137,8 @@ lawful_installed log h out =
       inst_step = omega arith;
       inst_idle = λ _. (refl, out);
       places = h.places;
-      homes = All-drop (λ (change : Change). IsHomeOn log.blocks change.block) log.installing log.changes h.homes;
+      homes = All-drop (λ (change : LogChange). IsHomeOn log.blocks change.block) log.installing log.changes
+          h.homes;
       rising = rising-drop log.changes log.places log.installing h.rising;
       committed = rw (drop-drop (log.logged - log.installing) log.installing log.changes, m) h.committed;
     }
@@ -122,4 +148,5 @@ pub home_more : (blocks : ℕ) (logged new : List (BlockNo × Content)) (home : 
     → new ≡ logged ++ (home, content) ∷ []
     → All (IsHomeOn blocks) (blocks_of logged) → IsHomeOn blocks home → All (IsHomeOn blocks) (blocks_of new)
 home_more blocks logged new home content e h one =
-    rw (e, map-append (λ (change : BlockNo × Content). change.0) logged ((home, content) ∷ [])) (All-push (IsHomeOn blocks) (blocks_of logged) home h one)
+    rw (e, map-append (λ (change : BlockNo × Content). change.0) logged ((home, content) ∷ []))
+    (All-push (IsHomeOn blocks) (blocks_of logged) home h one)

@@ -10,9 +10,9 @@ pub mod LogMoves
 pub mod Steps
 pub mod Lists
 pub mod Newest
-pub mod Numbers
+pub mod EightBytes
 pub mod Places
 pub mod Opening
-pub mod Seen
+pub mod Effects
 pub mod Beside
 pub mod OnlyRead

@@ -6,18 +6,20 @@ use Rattle.disk.specs.Crash.{Image}
 use Rattle.disk.specs.declared.block.BlockNo.{BlockNo}
 use Rattle.wal_law.specs.Logger.{slot_block}
 use Rattle.wal_law.specs.Overlay.{home_at, positions}
-use Rattle.wal_law.specs.Found.{HasOnlyRead, IsUnspoiled, image_of}
+use Rattle.wal_law.specs.Recovery.{HasOnlyRead, IsUnspoiled, image_of}
 
 pub reads_then : (a b c : Device) → HasOnlyRead a b → HasOnlyRead b c → HasOnlyRead a c
 reads_then a b c first second =
     record {
       size = second.size ∙ first.size;
       clock = omega (arith, first.clock, second.clock);
-      past = λ moment block h. second.past moment block (omega (arith, first.clock)) ∙ first.past moment block h;
-      during = λ moment block from to. elim (cases_lt b.clock moment) as (λ _. c.contents moment block ≡ current a block) [
-        | inl later ↦ second.during moment block (omega arith) to ∙ first.during b.clock block first.clock (omega arith)
-        | inr sooner ↦ second.past moment block sooner ∙ first.during moment block from sooner
-      ];
+      past = λ clock block h. second.past clock block (omega (arith, first.clock)) ∙ first.past clock block h;
+      during = λ clock block from to. elim (cases_lt b.clock clock) as (λ _. c.contents clock block
+          ≡ current a block) [
+            | inl later ↦ second.during clock block (omega arith) to
+                ∙ first.during b.clock block first.clock (omega arith)
+            | inr sooner ↦ second.past clock block sooner ∙ first.during clock block from sooner
+          ];
       spoiled = λ block. second.spoiled block ∙ first.spoiled block;
     }
 
@@ -28,7 +30,8 @@ pub unspoiled_then : (a b : Device) → HasOnlyRead a b → IsUnspoiled a → Is
 unspoiled_then a b reads h = λ block. reads.spoiled block ∙ h block
 
 -- one position more
-pub positions_more : (header : Content) (image : Image) (start n : ℕ) (items new : List (BlockNo × Content)) (home : BlockNo) (content : Content)
+pub positions_more : (header : Content) (image : Image) (start n : ℕ) (items new : List (BlockNo × Content))
+    (home : BlockNo) (content : Content)
     → items ≡ positions header image start n → new ≡ items ++ (home, content) ∷ []
     → home ≡ home_at header (start + n) → content ≡ image (slot_block (start + n))
     → new ≡ positions header image start (n + 1)

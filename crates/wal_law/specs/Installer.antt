@@ -1,22 +1,23 @@
--- What the installer does: it takes the logged changes, and makes its calls in their order: the newest content of each
--- of their blocks to its home, a barrier, the raised start, a barrier.
-use Rattle.std.specs.Prelude.{◌≡◌, ℕ, ◌+◌, ◌-◌, ◌<◌, Bool, true, false, not, ◌&&◌, ◌||◌, if◌then◌else◌, nat_eq, nat_lt, List, [], ◌∷◌, take, drop, replicate, is_some, slice_get, Some}
+-- What the installer does: it takes the logged changes, and makes its calls in their order: the newest
+-- content of each of their blocks to its home, a barrier, the raised start, a barrier.
+use Rattle.std.specs.Prelude.{◌≡◌, ℕ, ◌+◌, ◌-◌, ◌<◌, Bool, true, false, not, ◌&&◌, ◌||◌, if◌then◌else◌}
+use Rattle.std.specs.Prelude.{nat_eq, nat_lt, List, [], ◌∷◌, take, drop, replicate, is_some, slice_get, Some}
 use Rattle.limits.specs.declared.TheConstants.{START_BLOCK, BLOCK_BYTES}
 use Rattle.disk.specs.Device.{Content}
 use Rattle.disk.specs.declared.block.Side.TheVariants.{Home}
-use Rattle.wal_law.specs.declared.change.Change.{Change}
+use Rattle.wal_law.specs.declared.change.LogChange.{LogChange}
 use Rattle.wal_law.specs.declared.calls.IoCall.TheVariants.{Write, Barrier}
 use Rattle.wal_law.specs.Io.{Io}
 use Rattle.wal_law.specs.Log.{Log, newest_of}
-use Rattle.wal_law.specs.Numbers.{with_number}
+use Rattle.wal_law.specs.EightBytes.{with_number}
 
 -- how many changes stand before the first that is the newest of its block
-abbrev pub passed_over : List Change → ℕ
+abbrev pub passed_over : List LogChange → ℕ
 passed_over [] = 0
 passed_over (change ∷ later) = if is_some (newest_of later change.block.0) then 1 + passed_over later else 0
 
 -- the first change from an index on, among so many, that is the newest of its block, or past the last
-abbrev pub next_home : List Change → ℕ → ℕ → ℕ
+abbrev pub next_home : List LogChange → ℕ → ℕ → ℕ
 next_home changes count index = index + passed_over (drop index (take count changes))
 
 -- the installer has a call to hand out: the log isn't broken, something logged isn't home, and no call is out
@@ -28,7 +29,11 @@ abbrev pub with_inst_out : Log → Log
 with_inst_out log =
     if nat_lt 0 log.installing
     then record log { inst_out = true }
-    else record log { installing = log.logged; inst_step = next_home log.changes log.logged 0; inst_out = true }
+    else record log {
+      installing = log.logged;
+      inst_step = next_home log.changes log.logged 0;
+      inst_out = true;
+    }
 
 -- a block that tells the start
 abbrev pub start_content : ℕ → Content
@@ -38,12 +43,13 @@ start_content start = with_number (replicate BLOCK_BYTES 0) 0 start
 pub record IsNextInstCall (log : Log) (io : Io) : Type 0 where
   pub beginning : io.beginning ≡ log.start
   pub step : io.step ≡ log.inst_step
-  pub home : log.inst_step < log.installing → (change : Change)
+  pub home : log.inst_step < log.installing → (change : LogChange)
       → slice_get log.changes log.inst_step ≡ Some change
       → (io.call ≡ Write change.block) × (io.content ≡ change.content)
   pub home_barrier : log.inst_step ≡ log.installing → io.call ≡ Barrier Home
   pub start : log.inst_step ≡ log.installing + 1
-      → (io.call ≡ Write (record { 0 = START_BLOCK })) × (io.content ≡ start_content (log.start + log.installing))
+      → (io.call ≡ Write (record { 0 = START_BLOCK }))
+      × (io.content ≡ start_content (log.start + log.installing))
   pub start_barrier : log.inst_step ≡ log.installing + 2 → io.call ≡ Barrier Home
 
 -- the call is the installer's that is out

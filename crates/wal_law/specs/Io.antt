@@ -5,8 +5,8 @@ use Rattle.disk.specs.declared.device.Failed.{Failed}
 use Rattle.wal_law.specs.declared.calls.IoCall.{IoCall}
 use Rattle.wal_law.specs.declared.calls.IoCall.TheVariants.{Write, Barrier}
 
--- A call that is out: where its group or installation begins in the log, how many calls of it came before, the call,
--- and what a write writes.
+-- A call that is out: where its group or installation begins in the log, how many calls of it came before,
+-- the call, and what a write writes.
 pub record Io : Type 0 where
   pub beginning : ℕ
   pub step : ℕ

@@ -1,12 +1,12 @@
 pub mod Io
 pub mod Log
 pub mod Room
-pub mod Numbers
+pub mod EightBytes
 pub mod Logger
 pub mod Installer
-pub mod Seen
+pub mod Effects
 pub mod Overlay
-pub mod Found
+pub mod Recovery
 pub mod Law
 pub mod Calls
 pub mod ReadBack

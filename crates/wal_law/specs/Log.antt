@@ -1,9 +1,11 @@
--- The memory log: the changes that aren't home yet, and how far the logger and the installer have come with them.
-use Rattle.std.specs.Prelude.{◌≡◌, ℕ, ◌+◌, ◌-◌, ◌≤◌, ◌<◌, ◌^◌, Bool, false, if◌then◌else◌, nat_eq, List, [], ◌∷◌, length, drop, map, Option, Some, None, All}
+-- The memory log: the changes that aren't home yet, and how far the logger and the installer have come with
+-- them.
+use Rattle.std.specs.Prelude.{◌≡◌, ℕ, ◌+◌, ◌-◌, ◌≤◌, ◌<◌, ◌^◌, Bool, false, if◌then◌else◌, nat_eq, List, []}
+use Rattle.std.specs.Prelude.{◌∷◌, length, drop, map, Option, Some, None, All}
 use Rattle.limits.specs.declared.TheConstants.{LOG_SLOTS, FIRST_HOME_BLOCK}
 use Rattle.disk.specs.Device.{Content}
 use Rattle.disk.specs.declared.block.BlockNo.{BlockNo}
-use Rattle.wal_law.specs.declared.change.Change.{Change}
+use Rattle.wal_law.specs.declared.change.LogChange.{LogChange}
 
 pub record Log : Type 0 where
   -- the count of the disk's blocks
@@ -11,7 +13,7 @@ pub record Log : Type 0 where
   -- the log position of the first change, settled on the disk
   pub start : ℕ
   -- the changes that aren't installed, oldest first
-  pub changes : List Change
+  pub changes : List LogChange
   -- how many of them are settled in the log
   pub logged : ℕ
   -- how many after those are the group that the logger has taken, 0 where it has none
@@ -37,16 +39,17 @@ or_else (Some content) other = Some content
 or_else None other = other
 
 -- the content of the last change of the block
-abbrev pub newest_of : List Change → ℕ → Option Content
+abbrev pub newest_of : List LogChange → ℕ → Option Content
 newest_of [] block = None
-newest_of (change ∷ later) block = or_else (newest_of later block) (if nat_eq change.block.0 block then Some change.content else None)
+newest_of (change ∷ later) block =
+    or_else (newest_of later block) (if nat_eq change.block.0 block then Some change.content else None)
 
 -- the newest content of the block in the log
 abbrev pub newest : Log → ℕ → Option Content
 newest log block = newest_of log.changes block
 
 -- the greatest place before the first of these changes, of so many places
-abbrev pub place_before : List Change → ℕ → ℕ
+abbrev pub place_before : List LogChange → ℕ → ℕ
 place_before [] places = places
 place_before (change ∷ later) places = change.place - 1
 
@@ -71,8 +74,9 @@ abbrev pub blocks_of : List (BlockNo × Content) → List BlockNo
 blocks_of group = map (λ (change : BlockNo × Content). change.0) group
 
 -- the changes of a group, by the commit of the place
-abbrev pub changes_of : ℕ → List (BlockNo × Content) → List Change
-changes_of place group = map (λ (change : BlockNo × Content). record { place = place; block = change.0; content = change.1 }) group
+abbrev pub changes_of : ℕ → List (BlockNo × Content) → List LogChange
+changes_of place group =
+    map (λ (change : BlockNo × Content). record { place = place; block = change.0; content = change.1 }) group
 
 -- where the positions of the settled log end
 abbrev pub log_end : Log → ℕ
@@ -101,17 +105,17 @@ abbrev pub IsHomeOn : ℕ → BlockNo → Type 0
 IsHomeOn blocks block = (FIRST_HOME_BLOCK ≤ block.0) × (block.0 < blocks)
 
 -- the place of the first of these changes, or the last of so many places
-abbrev pub first_place : List Change → ℕ → ℕ
+abbrev pub first_place : List LogChange → ℕ → ℕ
 first_place [] places = places
 first_place (change ∷ later) places = change.place
 
 -- the places of changes don't fall, and are at most the last
-abbrev pub IsRising : List Change → ℕ → Type 0
+abbrev pub IsRising : List LogChange → ℕ → Type 0
 IsRising [] places = Unit {0}
 IsRising (change ∷ later) places = (change.place ≤ first_place later places) × IsRising later places
 
 -- a change that a commit made
-abbrev pub IsCommitted : Change → Type 0
+abbrev pub IsCommitted : LogChange → Type 0
 IsCommitted change = 0 < change.place
 
 -- what is true of every log
@@ -128,6 +132,6 @@ pub record IsLawful (log : Log) : Type 0 where
   pub inst_step : log.inst_step ≤ log.installing + 2
   pub inst_idle : log.installing ≡ 0 → (log.inst_step ≡ 0) × (log.inst_out ≡ false)
   pub places : log.places < 2 ^ 64
-  pub homes : All (λ (change : Change). IsHomeOn log.blocks change.block) log.changes
+  pub homes : All (λ (change : LogChange). IsHomeOn log.blocks change.block) log.changes
   pub rising : IsRising log.changes log.places
   pub committed : All IsCommitted (drop log.logged log.changes)

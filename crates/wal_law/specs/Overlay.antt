@@ -1,13 +1,14 @@
 -- The log as an image holds it, and what it makes of the blocks at home.
-use Rattle.std.specs.Prelude.{ℕ, zero, suc, ◌+◌, ◌-◌, ◌*◌, ◌%◌, ◌≤◌, ◌<◌, List, [], ◌∷◌, ◌++◌, Option, Some, None}
+use Rattle.std.specs.Prelude.{ℕ, zero, suc, ◌+◌, ◌-◌, ◌*◌, ◌%◌, ◌≤◌, ◌<◌, List, [], ◌∷◌, ◌++◌, Option, Some}
+use Rattle.std.specs.Prelude.{None}
 use Rattle.limits.specs.declared.TheConstants.{LOG_SLOTS, LOG_HEADER_BLOCK, START_BLOCK}
 use Rattle.disk.specs.Device.{Content}
 use Rattle.disk.specs.Crash.{Image}
 use Rattle.disk.specs.declared.block.BlockNo.{BlockNo}
 use Rattle.wal_law.specs.Log.{IsHomeOn}
 use Rattle.wal_law.specs.Logger.{slot_block}
-use Rattle.wal_law.specs.Numbers.{number_at}
-use Rattle.wal_law.specs.Seen.{newest_in}
+use Rattle.wal_law.specs.EightBytes.{number_at}
+use Rattle.wal_law.specs.Effects.{newest_in}
 
 -- the log position at which the log starts
 abbrev pub start_in : Image → ℕ
@@ -28,7 +29,8 @@ home_at header position = record { 0 = number_at header (8 + 8 * (position % LOG
 -- so many positions from one on, in order: the home address by the header, and the content of the slot
 abbrev pub positions : Content → Image → ℕ → ℕ → List (BlockNo × Content)
 positions header image start zero = []
-positions header image start (suc count) = positions header image start count ++ (home_at header (start + count), image (slot_block (start + count))) ∷ []
+positions header image start (suc count) = positions header image start count
+    ++ (home_at header (start + count), image (slot_block (start + count))) ∷ []
 
 -- the logged positions, in order
 abbrev pub logged_in : Image → List (BlockNo × Content)
@@ -41,7 +43,8 @@ pub record IsInRange (image : Image) : Type 0 where
 
 -- each logged position has a home on a disk of so many blocks
 abbrev pub HasHomes : ℕ → Image → Type 0
-HasHomes blocks image = (k : ℕ) → k < count_in image → IsHomeOn blocks (home_at (image LOG_HEADER_BLOCK) (start_in image + k))
+HasHomes blocks image = (k : ℕ) → k < count_in image
+    → IsHomeOn blocks (home_at (image LOG_HEADER_BLOCK) (start_in image + k))
 
 -- a content, or another where there is none
 abbrev pub content_or : Option Content → Content → Content

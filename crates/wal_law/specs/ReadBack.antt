@@ -3,13 +3,15 @@ use Rattle.std.specs.Prelude.{ℕ, Result, Ok, Err, Vec}
 use Rattle.std.specs.declared.alloc.Global.{Global}
 use Rattle.disk.specs.Device.{Content}
 use Rattle.disk.specs.declared.block.BlockNo.{BlockNo}
-use Rattle.wal_law.specs.declared.found.LogFault.{LogFault}
-use Rattle.wal_law.specs.declared.found.LogFault.TheVariants.{Range, Address, Device as DeviceFails, NoMemory}
-use Rattle.wal_law.specs.declared.found.Recovered.{Recovered}
+use Rattle.wal_law.specs.declared.recovery.LogFault.{LogFault}
+use Rattle.wal_law.specs.declared.recovery.LogFault.TheVariants.{Range, Address, Device as DeviceFails}
+use Rattle.wal_law.specs.declared.recovery.LogFault.TheVariants.{NoMemory}
+use Rattle.wal_law.specs.declared.recovery.Recovered.{Recovered}
 use Rattle.wal_law.specs.Log.{Log}
 use Rattle.wal_law.specs.Law.{ShowsLog}
 
--- what an opening answers that reads a disk which shows the log: no refusal for what stands there, and the log
+-- what an opening answers that reads a disk which shows the log: no refusal for what stands there, and the
+-- log
 abbrev pub IsReadBack : Log → Result Recovered LogFault → Type 0
 IsReadBack log (Ok found) = ShowsLog log found.start found.logged.items
 IsReadBack log (Err Range) = ⊥

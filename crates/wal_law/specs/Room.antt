@@ -3,8 +3,8 @@ use Rattle.std.specs.Prelude.{◌+◌, ◌≤◌, ◌<◌, ◌^◌, List, ◌++�
 use Rattle.limits.specs.declared.TheConstants.{LOG_SLOTS}
 use Rattle.disk.specs.Device.{Content}
 use Rattle.disk.specs.declared.block.BlockNo.{BlockNo}
-use Rattle.wal_law.specs.declared.answers.Room.{Room}
-use Rattle.wal_law.specs.declared.answers.Room.TheVariants.{Fits, Spent, Full}
+use Rattle.wal_law.specs.declared.outcomes.Room.{Room}
+use Rattle.wal_law.specs.declared.outcomes.Room.TheVariants.{Fits, Spent, Full}
 use Rattle.wal_law.specs.Log.{Log, tail_after, changes_of}
 
 -- a place is left, and enough log positions for the blocks
@@ -20,4 +20,7 @@ IsRoom log blocks Full = HasPlaces log blocks × (LOG_SLOTS < tail_after log blo
 
 -- the log once a commit's changes are added to the tail, at the next place
 abbrev pub with_group : Log → List (BlockNo × Content) → Log
-with_group log group = record log { places = log.places + 1; changes = log.changes ++ changes_of (log.places + 1) group }
+with_group log group = record log {
+  places = log.places + 1;
+  changes = log.changes ++ changes_of (log.places + 1) group;
+}

@@ -4,7 +4,7 @@ use disk::{Block, BlockNo};
 
 /// A block's new content, by the commit of a place. Place 0: an opening found it in the log.
 #[derive(Drop)]
-pub struct Change {
+pub struct LogChange {
     pub place: u64,
     pub block: BlockNo,
     pub content: Block,

@@ -1,5 +1,6 @@
-//! The law of the log, over definitions alone: while the contents that a disk may have agree with a log, a crash leaves
-//! the blocks after a whole group, and each step of the log and each of its calls keeps the agreement, in any order.
+//! The law of the log, over definitions alone: while the contents that a disk may have agree with a log, a
+//! crash leaves the blocks after a whole group, and each step of the log and each of its calls keeps the
+//! agreement, in any order.
 ghost use Rattle.std.specs.Prelude.{◌≡◌, ◌≤◌, ◌⊎◌, ℕ, Bool, List, None, Result, Ok, Vec};
 ghost use Rattle.std.specs.declared.alloc.Global.{Global};
 ghost use Rattle.limits.specs.declared.TheConstants.{FIRST_HOME_BLOCK};
@@ -8,17 +9,19 @@ ghost use Rattle.disk.specs.declared.block.Side.TheVariants.{Home};
 ghost use Rattle.disk.specs.declared.device.Failed.{Failed};
 ghost use Rattle.disk.specs.Device.{Content, Device, HasRead, HasWritten, HasSettled};
 ghost use Rattle.disk.specs.Crash.{Image, IsCrashImage, IsAtRest};
-ghost use Rattle.wal_law.specs.declared.found.LogFault.{LogFault};
-ghost use Rattle.wal_law.specs.declared.found.Recovered.{Recovered};
+ghost use Rattle.wal_law.specs.declared.recovery.LogFault.{LogFault};
+ghost use Rattle.wal_law.specs.declared.recovery.Recovered.{Recovered};
 ghost use Rattle.wal_law.specs.Io.{Io, HasMade};
 ghost use Rattle.wal_law.specs.Log.{Log, IsLawful, newest, opened};
 ghost use Rattle.wal_law.specs.Room.{with_group};
 ghost use Rattle.wal_law.specs.Logger.{IsNextLogCall, with_log_out, with_log_back};
 ghost use Rattle.wal_law.specs.Installer.{IsNextInstCall, with_inst_out, with_inst_back};
 ghost use Rattle.wal_law.specs.Overlay.{start_in, end_in, logged_in, IsInRange, over};
-ghost use Rattle.wal_law.specs.Found.{image_of, IsFound, IsLog};
-ghost use Rattle.wal_law.specs.Law.{Agrees, IsOutside, IsBoundary, after, with_home};
-ghost use Rattle.wal_law.specs.Calls.{Pending, idle, AgreesBeside, KeepsAgreement, LogCallGoesOut, LogCallIsMade, LogCallComesBack, InstCallGoesOut, InstCallIsMade, InstCallComesBack};
+ghost use Rattle.wal_law.specs.Recovery.{image_of, IsRecovered, IsLog};
+ghost use Rattle.wal_law.specs.Law.{Agrees, IsOutside, IsBoundary, with_changes, with_home};
+ghost use Rattle.wal_law.specs.Calls.{Pending, idle, AgreesBeside, KeepsAgreement, LogCallGoesOut};
+ghost use Rattle.wal_law.specs.Calls.{LogCallIsMade, LogCallComesBack, InstCallGoesOut, InstCallIsMade};
+ghost use Rattle.wal_law.specs.Calls.{InstCallComesBack};
 ghost use Rattle.wal_law.specs.ReadBack.{IsReadBack, IsLogReadBack};
 
 /// An image whose log is empty stands for its own blocks.
@@ -26,27 +29,34 @@ pub fn an_empty_log_overlays_nothing()
     ensures { (image : Image) (block : ℕ) → start_in image ≡ end_in image → over image block ≡ image block }
 {}
 
-/// While a disk agrees with a log, a crash leaves the blocks after its settled groups, or after one group more.
+/// While a disk agrees with a log, a crash leaves the blocks after its settled groups, or after one group
+/// more.
 pub fn a_crash_leaves_whole_groups()
     ensures { (d : Device) (base : Image) (log : Log) (image : Image) → IsLawful log → Agrees d base log
         → IsCrashImage d d.clock image → IsBoundary base log image }
 {}
 
-/// An opening of what such a crash left refuses nothing that stands there, and answers those changes in order.
+/// An opening of what such a crash left refuses nothing that stands there, and answers those changes in
+/// order.
 pub fn an_opening_reads_whole_groups()
     ensures found { (d : Device) (base : Image) (log : Log) (image : Image) (result : Result Recovered LogFault)
-        → IsLawful log → Agrees d base log → IsCrashImage d d.clock image → IsFound log.blocks image result → IsReadBack log result }
+        → IsLawful log → Agrees d base log → IsCrashImage d d.clock image
+        → IsRecovered log.blocks image result → IsReadBack log result }
     ensures log { (d : Device) (base : Image) (log : Log) (image : Image)
         (result : Result (Vec (BlockNo × Content) Global) LogFault)
-        → IsLawful log → Agrees d base log → IsCrashImage d d.clock image → IsLog log.blocks image result → IsLogReadBack log result }
+        → IsLawful log → Agrees d base log → IsCrashImage d d.clock image → IsLog log.blocks image result
+        → IsLogReadBack log result }
 {}
 
-/// A disk at rest agrees with the log that an opening finds on it, which lies over the homes as the overlay does.
+/// A disk at rest agrees with the log that an opening finds on it, which lies over the homes as the overlay
+/// does.
 pub fn an_opening_begins_in_agreement()
     ensures stands { (d : Device) → FIRST_HOME_BLOCK ≤ d.size → IsAtRest d → IsInRange (image_of d)
-        → AgreesBeside d (image_of d) (opened d.size (start_in (image_of d)) (logged_in (image_of d))) idle idle }
+        → AgreesBeside d (image_of d) (opened d.size (start_in (image_of d)) (logged_in (image_of d))) idle
+        idle }
     ensures overlay { (d : Device) (block : ℕ)
-        → after (image_of d) (opened d.size (start_in (image_of d)) (logged_in (image_of d))).changes block ≡ over (image_of d) block }
+        → with_changes (image_of d) (opened d.size (start_in (image_of d)) (logged_in (image_of d))).changes
+        block ≡ over (image_of d) block }
 {}
 
 /// A commit that is appended keeps the agreement.
@@ -62,8 +72,8 @@ pub fn a_read_keeps_agreement()
         → AgreesBeside old base log logging installing → AgreesBeside new base log logging installing }
 {}
 
-/// The logger's next call is handed out, made on the disk with any answer, and given back with that answer, each of it
-/// whatever the installer has out: each keeps the agreement.
+/// The logger's next call is handed out, made on the disk with any answer, and given back with that answer,
+/// each of it whatever the installer has out: each keeps the agreement.
 pub fn a_call_of_the_logger_keeps_agreement()
     ensures goes_out { (log : Log) (io : Io) → IsLawful log → IsNextLogCall (with_log_out log) io
         → LogCallGoesOut log io (with_log_out log) }
@@ -83,8 +93,8 @@ pub fn a_call_of_the_installer_keeps_agreement()
         → InstCallComesBack log io ok (with_inst_back log ok) }
 {}
 
-/// A block of which the log has no change may be written beside it: a crash in the middle leaves a whole group over what
-/// was at home or over what is written there, and once the write is settled it is at home.
+/// A block of which the log has no change may be written beside it: a crash in the middle leaves a whole
+/// group over what was at home or over what is written there, and once the write is settled it is at home.
 pub fn a_write_beside_the_log_keeps_agreement()
     ensures crash { (old new : Device) (base : Image) (log : Log) (block : ℕ) (content : Content)
         (answer : Result Unit Failed) (image : Image) → IsLawful log → IsOutside log.blocks block → newest log block ≡ None

@@ -1,5 +1,5 @@
-//! Calls that are refused before they come to a procedure, the refusals, and records that aren't answered. Each call
-//! is the NULL of transaction 1 with what its name says.
+//! Calls that are refused before they come to a procedure, the refusals, and records that aren't answered.
+//! Each call is the NULL of transaction 1 with what its name says.
 
 /// Version 3 of RPC.
 pub const ANOTHER_RPC_VERSION: [u32; 11] = [0x8000_0028, 1, 0, 3, 100_003, 3, 0, 0, 0, 0, 0];

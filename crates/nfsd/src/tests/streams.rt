@@ -1,5 +1,5 @@
-//! Inputs that end a session early, and inputs and outputs that fail in mid-stream: the fault, the status and the
-//! replies before.
+//! Inputs that end a session early, and inputs and outputs that fail in mid-stream: the fault, the status and
+//! the replies before.
 
 use crate::answer::answer;
 use crate::tests::outcome::{Host, Outcome, assert_fault, assert_served, fresh, once, remove};

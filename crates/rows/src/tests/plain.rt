@@ -1,7 +1,7 @@
 //! The same by the plain programs: a call's bytes are read as a value, which is served over a tree.
 
 use crate::tests::served::INODES;
-use nfs_types::{Call, Credential, Ctx, Numbers, Reply};
+use nfs_types::{Call, Credential, Ctx, NumberList, Reply};
 use plain_server::PlainTree;
 use plain_wire::{read_call, read_reply};
 use session_wire::nfs_codec::Procedure;
@@ -24,7 +24,7 @@ fn caller(alloc: Global, credential: MessageCredential) -> Credential {
         MessageCredential::Nobody => Credential {
             uid: 65_534,
             gid: 65_534,
-            gids: Numbers::new(Vec::new(alloc)),
+            gids: NumberList::new(Vec::new(alloc)),
         },
         MessageCredential::Caller { caller, .. } => caller,
     }

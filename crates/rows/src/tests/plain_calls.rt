@@ -2,7 +2,7 @@
 
 use crate::tests::plain::fresh;
 use nfs_types::{
-    Attributes, Call, Credential, Ctx, Handle, Moment, NewAttributes, Numbers, Reply, SetTime,
+    Attributes, Call, Credential, Ctx, Handle, Moment, NewAttributes, NumberList, Reply, SetTime,
     Stamp, Status, WeakCacheData,
 };
 use plain_server::{Kept, NumberedNode, PlainBody, PlainFault, PlainNode, PlainTree, serve};
@@ -14,8 +14,8 @@ const NOTHING_WANTED: NewAttributes = NewAttributes {
     uid: None,
     gid: None,
     size: None,
-    atime: SetTime::Keep,
-    mtime: SetTime::Keep,
+    atime: SetTime::Unchanged,
+    mtime: SetTime::Unchanged,
 };
 
 fn called_by(alloc: Global, uid: u32) -> Ctx {
@@ -23,7 +23,7 @@ fn called_by(alloc: Global, uid: u32) -> Ctx {
         credential: Credential {
             uid,
             gid: 0,
-            gids: Numbers::new(Vec::new(alloc)),
+            gids: NumberList::new(Vec::new(alloc)),
         },
         moment: NOW,
         boot: 1,

@@ -191,7 +191,7 @@ fn it_is_answered_once_it_is_settled(rt: HostRuntime) -> Result<(), Fail> {
     let (_, run) = ran(alloc, schedule(alloc)?.len())?;
     let answer = run.answers.first().ok_or("no answer")?;
     // a read, and the calls of the log, and in the end those of the installer
-    assert_eq!(rt; answer.moment, 1 + LOG_CALLS as u64);
+    assert_eq!(rt; answer.clock, 1 + LOG_CALLS as u64);
     assert_eq!(rt; calls(&run.steps), 1 + LOG_CALLS + HOME_CALLS);
     Ok(())
 }

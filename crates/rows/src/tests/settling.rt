@@ -6,7 +6,7 @@ use crate::tests::plain::fresh;
 use crate::tests::served::formatted;
 use disk::MemDisk;
 use limits::{MOST_KEPT_COMMITS, ROOT};
-use nfs_types::{Call, Credential, Handle, NewAttributes, Numbers, Reply, SetTime, Stamp};
+use nfs_types::{Call, Credential, Handle, NewAttributes, NumberList, Reply, SetTime, Stamp};
 use plain_image::read_image;
 use std::alloc::{AllocError, Global};
 use std::test::Fail;
@@ -34,7 +34,7 @@ fn call(alloc: Global, store: &mut Store<MemDisk>, call: Call) -> Verdict
     let owner = Credential {
         uid: 0,
         gid: 0,
-        gids: Numbers::new(Vec::new(alloc)),
+        gids: NumberList::new(Vec::new(alloc)),
     };
     procedure(alloc, store, owner, NOW, call)
 }
@@ -50,8 +50,8 @@ fn set_mode(alloc: Global, store: &mut Store<MemDisk>, mode: u32) -> Result<bool
         uid: None,
         gid: None,
         size: None,
-        atime: SetTime::Keep,
-        mtime: SetTime::Keep,
+        atime: SetTime::Unchanged,
+        mtime: SetTime::Unchanged,
     };
     let verdict = call(
         alloc,

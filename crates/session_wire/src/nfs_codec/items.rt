@@ -1,7 +1,8 @@
 //! Items of arguments (RFC 1813, sections 2.5 and 2.6).
 ghost use Rattle.std.specs.Prelude.{◌≡◌};
 ghost use Rattle.session_wire.specs.Reading.{Reads};
-ghost use Rattle.session_wire.specs.ReadingCalls.{moment_at, optional_word_at, optional_double_at, set_time_at, new_attributes_at, guard_at};
+ghost use Rattle.session_wire.specs.ReadingCalls.{moment_at, optional_word_at, optional_double_at};
+ghost use Rattle.session_wire.specs.ReadingCalls.{set_time_at, new_attributes_at, guard_at};
 
 use crate::xdr::{Reader, XdrFault};
 use nfs_types::{Moment, NewAttributes, SetTime};
@@ -49,7 +50,7 @@ pub fn read_set_time(reader: &mut Reader) -> Result<SetTime, XdrFault>
     ensures { Reads (λ x. (x, reader.new)) result (set_time_at reader.old) }
 {
     match reader.unsigned()? {
-        0 => Ok(SetTime::Keep),
+        0 => Ok(SetTime::Unchanged),
         1 => Ok(SetTime::Server),
         2 => Ok(SetTime::Client(read_moment(reader)?)),
         _ => Err(XdrFault::Value),

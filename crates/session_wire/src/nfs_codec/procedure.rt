@@ -1,4 +1,4 @@
-//! The procedures that are served.
+//! The procedures that are decoded.
 ghost use Rattle.std.specs.Prelude.{◌≡◌};
 ghost use Rattle.session_wire.specs.Calls.{procedure_of};
 
@@ -11,7 +11,7 @@ pub enum Procedure {
 }
 
 impl Procedure {
-    /// The procedure of a number, or None where none of that number is served.
+    /// The procedure of a number, or None where none of that number is decoded.
     pub fn numbered(number: u32) -> Option<Procedure>
         ensures { result ≡ procedure_of number }
     {

@@ -1,21 +1,22 @@
 //! Writing the result of a call (RFC 1813, section 3.3).
 ghost use Rattle.std.specs.Prelude.{◌≡◌, ◌++◌, OnOk};
 ghost use Rattle.session_wire.specs.Calls.{moment};
-ghost use Rattle.session_wire.specs.Results.{attributes, optional_attributes, before_attributes, weak_cache, outcome_status, got, IsServed, result_bytes};
+ghost use Rattle.session_wire.specs.Results.{attributes, optional_attributes, before_attributes, weak_cache};
+ghost use Rattle.session_wire.specs.Results.{outcome_status, get_attr_result, HasSpelling, result_bytes};
 
 use crate::nfs_codec::status::{number_of_kind, number_of_status};
 use crate::xdr::Writer;
 use nfs_types::{Attributes, Moment, Reply, Status, WeakCacheAttributes, WeakCacheData};
 use std::alloc::AllocError;
 
-/// Writes the result of a procedure that is served.
+/// Writes the result of a procedure that is decoded.
 pub fn encode_reply(out: &mut Writer, reply: &Reply) -> Result<(), AllocError>
-    requires { IsServed reply.now }
+    requires { HasSpelling reply.now }
     ensures { OnOk result (out.new ≡ out.old ++ result_bytes reply.now) }
 {
     match reply {
         Reply::Null => Ok(()),
-        Reply::GetAttr { outcome } => put_got(out, outcome),
+        Reply::GetAttr { outcome } => put_get_attr(out, outcome),
         Reply::SetAttr { outcome, object } => {
             put_status(out, outcome)?;
             put_weak_cache(out, object)
@@ -43,8 +44,8 @@ pub fn encode_reply(out: &mut Writer, reply: &Reply) -> Result<(), AllocError>
 }
 
 // The result of GETATTR.
-fn put_got(out: &mut Writer, outcome: &Result<Attributes, Status>) -> Result<(), AllocError>
-    ensures { OnOk result (out.new ≡ out.old ++ got outcome.now) }
+fn put_get_attr(out: &mut Writer, outcome: &Result<Attributes, Status>) -> Result<(), AllocError>
+    ensures { OnOk result (out.new ≡ out.old ++ get_attr_result outcome.now) }
 {
     match outcome {
         Ok(attributes) => {

@@ -1,12 +1,13 @@
 //! Whom a call is made for (RFC 5531, sections 8.2 and 10, appendix A).
 ghost use Rattle.std.specs.Prelude.{◌≡◌, IfOk};
 ghost use Rattle.session_wire.specs.Reading.{Gives};
-ghost use Rattle.session_wire.specs.Credentials.{numbers_at, gids_at, caller_at, credential_of, no_caller, system};
+ghost use Rattle.session_wire.specs.Credentials.{numbers_at, gids_at, caller_at, credential_of, no_caller};
+ghost use Rattle.session_wire.specs.Credentials.{system};
 
 use crate::rpc::{AUTH_NONE, AUTH_SYS, Refusal};
 use crate::xdr::{Reader, XdrFault};
 use limits::{MACHINE_NAME_BYTES, MOST_GIDS, NOBODY};
-use nfs_types::{Credential, Numbers};
+use nfs_types::{Credential, NumberList};
 use std::alloc::{AllocError, Global};
 
 /// The caller that a credential names, or why the credential is refused.
@@ -36,7 +37,7 @@ fn nobody(alloc: Global) -> Credential
     Credential {
         uid: NOBODY,
         gid: NOBODY,
-        gids: Numbers::new(Vec::new(alloc)),
+        gids: NumberList::new(Vec::new(alloc)),
     }
 }
 
@@ -66,7 +67,7 @@ pub fn read_caller(alloc: Global, body: &[u8]) -> Result<SystemCredential<'_>, X
         caller: Credential {
             uid,
             gid,
-            gids: Numbers::new(gids),
+            gids: NumberList::new(gids),
         },
     })
 }

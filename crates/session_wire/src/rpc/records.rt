@@ -1,6 +1,7 @@
 //! Records cut out of a stream that comes in any pieces (RFC 5531, section 11). So far a record has one
 //! fragment.
-ghost use Rattle.std.specs.Prelude.{◌≡◌, ◌<◌, ◌≤◌, ◌^◌, ◌++◌, [], ◌==◌, ℕ, Bool, true, false, length, IfOk, IfErr, IfSome, IfNone, OnOk, OnErr, IsErrOf};
+ghost use Rattle.std.specs.Prelude.{◌≡◌, ◌<◌, ◌≤◌, ◌^◌, ◌++◌, [], ◌==◌, ℕ, Bool, true, false, length, IfOk};
+ghost use Rattle.std.specs.Prelude.{IfErr, IfSome, IfNone, OnOk, OnErr, IsErrOf};
 ghost use Rattle.session_wire.specs.Items.{word};
 ghost use Rattle.session_wire.specs.Records.{mark as mark_of, fragment, IsTooLong, GoesOn, HasBegun};
 
@@ -63,7 +64,8 @@ impl Records {
     /// Cuts out the next record, or None while it isn't whole. A refusal changes nothing, so that one which
     /// isn't for memory comes again at each later call.
     pub fn next(&mut self, alloc: Global) -> Result<Option<Bytes>, RpcFault>
-        ensures found { IfOk result (λ o. IfSome o (λ content. (length content ≤ RECORD_BYTES) × (self.old ≡ fragment true content ++ self.new))) }
+        ensures found { IfOk result (λ o. IfSome o (λ content. (length content ≤ RECORD_BYTES)
+            × (self.old ≡ fragment true content ++ self.new))) }
         ensures nothing { IfOk result (λ o. IfNone o (self.new ≡ self.old)) }
         ensures begun { IfOk result (λ o. IfNone o (HasBegun self.old)) }
         ensures err { OnErr result (self.new ≡ self.old) }
@@ -92,8 +94,10 @@ const MARK_BYTES: usize = 4;
 fn announced(mark: &[u8]) -> Result<usize, RpcFault>
     requires { length mark.now ≡ MARK_BYTES }
     ensures ok { IfOk result (λ n. (n ≤ RECORD_BYTES) × (mark.now ≡ mark_of true n)) }
-    ensures too_long { IsErrOf result RpcFault.TooLong → (last : Bool) × (n : ℕ) × (RECORD_BYTES < n) × (n < 2 ^ 31) × (mark.now ≡ mark_of last n) }
-    ensures goes_on { IsErrOf result RpcFault.NotACall → (n : ℕ) × (n < 2 ^ 31) × (mark.now ≡ mark_of false n) }
+    ensures too_long { IsErrOf result RpcFault.TooLong → (last : Bool) × (n : ℕ) × (RECORD_BYTES < n)
+        × (n < 2 ^ 31) × (mark.now ≡ mark_of last n) }
+    ensures goes_on { IsErrOf result RpcFault.NotACall → (n : ℕ) × (n < 2 ^ 31)
+        × (mark.now ≡ mark_of false n) }
     ensures memory { IsErrOf result RpcFault.NoMemory → ⊥ }
 {
     let number = number_of(mark);

@@ -12,8 +12,8 @@ use std::alloc::Global;
 use store_promise::{Event, Run, Step};
 use txn::{InstIo, LogIo};
 
-/// A run that goes on: the store with its worker, the device calls that the log and the installer have out, whether
-/// these were made and answered Ok, and how many device calls the events have made.
+/// A run that goes on: the store with its worker, the device calls that the log and the installer have out,
+/// whether these were made and answered Ok, and how many device calls the events have made.
 pub(super) struct Running<D: CrashDisk> {
     store: Store<D>,
     worker: Worker,
@@ -21,7 +21,7 @@ pub(super) struct Running<D: CrashDisk> {
     log_made: Option<bool>,
     inst: Option<InstIo>,
     inst_made: Option<bool>,
-    moment: u64,
+    clock: u64,
 }
 
 impl<D: CrashDisk> Running<D> {
@@ -38,7 +38,7 @@ impl<D: CrashDisk> Running<D> {
             log_made: None,
             inst: None,
             inst_made: None,
-            moment: 0,
+            clock: 0,
         }
     }
 
@@ -95,10 +95,10 @@ impl<D: CrashDisk> Running<D> {
         }
         let step = self.worker.step(alloc, &mut self.store.core);
         if let Some(entry) = self.worker.take_entry() {
-            run.note_entry(worker, self.moment, entry);
+            run.note_entry(worker, self.clock, entry);
         }
         if let Some(answer) = self.worker.take_answer() {
-            run.note_answer(worker, self.moment, answer);
+            run.note_answer(worker, self.clock, answer);
         }
         step
     }
@@ -118,9 +118,10 @@ impl<D: CrashDisk> Running<D> {
 
     // Counts a device call.
     fn count(&mut self)
-        ensures { RunsWell self.old.worker self.old.store.core self.old.log self.old.inst → RunsWell self.new.worker self.new.store.core self.new.log self.new.inst }
+        ensures { RunsWell self.old.worker self.old.store.core self.old.log self.old.inst
+            → RunsWell self.new.worker self.new.store.core self.new.log self.new.inst }
     {
-        self.moment = self.moment.saturating_add(1);
+        self.clock = self.clock.saturating_add(1);
     }
 }
 
@@ -214,7 +215,7 @@ impl<D: CrashDisk> Running<D> {
             log_made: _,
             inst,
             inst_made: _,
-            moment: _,
+            clock: _,
         } = self;
         worker.end(&mut store.core);
         if let Some(io) = log {

@@ -1,7 +1,8 @@
-//! The steps of a worker that go by its plan: it reads and claims what the plan asks for, and commits what it ends in.
+//! The steps of a worker that go by its plan: it reads and claims what the plan asks for, and commits what it
+//! ends in.
 ghost use Rattle.std.specs.Prelude.{◌≡◌, ◌≤◌, Some, None, true, length, IfOk};
 
-use super::{Job, Phase, Refusal, Worker};
+use super::{Cause, Job, Phase, Worker};
 use crate::options::put;
 use disk::BlockNo;
 use nfs_types::{Reply, Status};
@@ -14,7 +15,8 @@ use txn::{Claim, Commit, Core, Seq, Tx, Want};
 impl Worker {
     ghost use Rattle.store.specs.declared.workers.Phase.TheVariants.{Planning, Waiting};
     ghost use Rattle.store.specs.Counts.{SameCounts};
-    ghost use Rattle.store.specs.Worker.{Fits, HasRoom, IsHeld, IsPlanned, IsReplied, IsStillPlanned, IsTold, IsWithout};
+    ghost use Rattle.store.specs.Worker.{Fits, HasRoom, IsHeld, IsPlanned, IsReplied, IsStillPlanned, IsTold};
+    ghost use Rattle.store.specs.Worker.{IsWithout};
 
     // Makes the step that the plan asks for. Where the plan finds no memory the transaction is ended.
     pub(super) fn go_by_plan(&mut self, alloc: Global, core: &mut Core<Done>) -> Step
@@ -85,11 +87,11 @@ impl Worker {
                 Wish::Loading
             }
             Want::Outside(tx) => {
-                self.go_on(tx, Phase::Refused(Refusal::Io));
+                self.go_on(tx, Phase::Refused(Cause::Io));
                 Wish::Outside
             }
             Want::NoMemory(tx) => {
-                self.go_on(tx, Phase::Refused(Refusal::NoMemory));
+                self.go_on(tx, Phase::Refused(Cause::NoMemory));
                 Wish::NoMemory
             }
         };
@@ -131,11 +133,11 @@ impl Worker {
                 Wish::Loading
             }
             Claim::Outside(tx) => {
-                self.go_on(tx, Phase::Refused(Refusal::Io));
+                self.go_on(tx, Phase::Refused(Cause::Io));
                 Wish::Outside
             }
             Claim::NoMemory(tx) => {
-                self.go_on(tx, Phase::Refused(Refusal::NoMemory));
+                self.go_on(tx, Phase::Refused(Cause::NoMemory));
                 Wish::NoMemory
             }
         };
@@ -177,15 +179,15 @@ impl Worker {
                 Committing::Foreign
             }
             Commit::NoMemory(tx, _) => {
-                self.go_on(tx, Phase::Refused(Refusal::NoMemory));
+                self.go_on(tx, Phase::Refused(Cause::NoMemory));
                 Committing::NoMemory
             }
             Commit::Broken(tx, _) => {
-                self.go_on(tx, Phase::Refused(Refusal::Io));
+                self.go_on(tx, Phase::Refused(Cause::Io));
                 Committing::Broken
             }
             Commit::Spent(tx, _) => {
-                self.go_on(tx, Phase::Refused(Refusal::Spent));
+                self.go_on(tx, Phase::Refused(Cause::Spent));
                 Committing::Spent
             }
         };
@@ -210,7 +212,8 @@ impl Worker {
         self.note_entry(job, kept);
     }
 
-    // The procedure is answered once its place is settled: so, or, if the store breaks before, by the other reply.
+    // The procedure is answered once its place is settled: so, or, if the store breaks before, by the other
+    // reply.
     fn wait_for(&mut self, place: Seq, told: Reply, broken: Reply)
         ensures phase { self.new.phase ≡ Waiting place }
         ensures replied { IsReplied self.new }

@@ -1,17 +1,18 @@
 //! The steps of a worker besides planning.
 ghost use Rattle.std.specs.Prelude.{◌≡◌, Some, None, true};
 
-use super::{Phase, Refusal, Worker};
+use super::{Cause, Phase, Worker};
 use crate::options::put;
 use layout::Geometry;
 use nfs_types::{Call, Status};
 use procs::{Done, Snap, has_rules, refused_reply};
 use std::alloc::Global;
-use store_promise::{Answered, Ending, Step, Verdict};
+use store_promise::{CallAnswer, Ending, Step, Verdict};
 use txn::{BeginFault, Core, Seq, Tx};
 
 impl Worker {
-    ghost use Rattle.store.specs.declared.workers.Phase.TheVariants.{Idle, Called, Read, Refused, Again, Waiting};
+    ghost use Rattle.store.specs.declared.workers.Phase.TheVariants.{Idle, Called, Read, Refused, Again};
+    ghost use Rattle.store.specs.declared.workers.Phase.TheVariants.{Waiting};
     ghost use Rattle.store.specs.Counts.{SameCounts};
     ghost use Rattle.store.specs.Worker.{Fits};
 
@@ -40,7 +41,7 @@ impl Worker {
                 Step::Begun(Ok(number))
             }
             Err(fault) => {
-                let told = verdict(&job.call, refusal_of(fault));
+                let told = verdict(&job.call, cause_of(fault));
                 self.give(told, None);
                 Step::Begun(Err(fault))
             }
@@ -62,13 +63,13 @@ impl Worker {
             Step::Fetched(block)
         } else {
             core.fetch_failed(io);
-            self.phase = Phase::Refused(Refusal::Io);
+            self.phase = Phase::Refused(Cause::Io);
             Step::FetchFailed(block)
         }
     }
 
     // Ends the transaction, and answers why.
-    pub(super) fn refuse(&mut self, core: &mut Core<Done>, refusal: Refusal) -> Step
+    pub(super) fn refuse(&mut self, core: &mut Core<Done>, refusal: Cause) -> Step
         requires fits { Fits self.old core.old }
         requires phase { self.old.phase ≡ Refused refusal }
         ensures fits { Fits self.new core.new }
@@ -123,7 +124,7 @@ impl Worker {
         ensures idle { self.new.phase ≡ Idle }
         ensures rest { self.new.begun ≡ self.old.begun }
     {
-        self.work.answer = Some(Answered { verdict, place });
+        self.work.answer = Some(CallAnswer { verdict, place });
         self.phase = Phase::Idle;
     }
 
@@ -140,19 +141,19 @@ impl Worker {
 }
 
 // What a call is answered that is refused.
-fn verdict(call: &Call, refusal: Refusal) -> Verdict {
+fn verdict(call: &Call, refusal: Cause) -> Verdict {
     match refusal {
-        Refusal::Io => Verdict::Reply(refused_reply(call, Status::Io)),
-        Refusal::Spent => Verdict::Reply(refused_reply(call, Status::ServerFault)),
-        Refusal::NoMemory => Verdict::NoMemory,
+        Cause::Io => Verdict::Reply(refused_reply(call, Status::Io)),
+        Cause::Spent => Verdict::Reply(refused_reply(call, Status::ServerFault)),
+        Cause::NoMemory => Verdict::NoMemory,
     }
 }
 
 // Why a call is refused that no transaction could be begun for.
-fn refusal_of(fault: BeginFault) -> Refusal {
+fn cause_of(fault: BeginFault) -> Cause {
     match fault {
-        BeginFault::Broken => Refusal::Io,
-        BeginFault::Spent => Refusal::Spent,
-        BeginFault::NoMemory => Refusal::NoMemory,
+        BeginFault::Broken => Cause::Io,
+        BeginFault::Spent => Cause::Spent,
+        BeginFault::NoMemory => Cause::NoMemory,
     }
 }

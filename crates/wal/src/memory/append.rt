@@ -3,11 +3,11 @@ ghost use Rattle.std.specs.Prelude.{◌≡◌, ◌≢◌, ◌≤◌, ◌<◌, �
 ghost use Rattle.std.specs.VecDeque.{deque_capacity};
 ghost use Rattle.wal_law.specs.Log.{changes_of, blocks_of, tail_after, IsHomeOn, IsLawful};
 ghost use Rattle.wal_law.specs.Room.{HasPlaces, with_group};
-ghost use Rattle.wal_law.specs.Seen.{HasAppended};
+ghost use Rattle.wal_law.specs.Effects.{HasAppended};
 ghost use Rattle.wal_law.specs.Calls.{KeepsAgreement};
 
 use super::Wal;
-use crate::{Append, Change};
+use crate::{Append, LogChange};
 use disk::{Block, BlockNo};
 use limits::LOG_SLOTS;
 use std::collections::VecDeque;
@@ -49,12 +49,16 @@ impl Wal {
 }
 
 // Adds the changes of the commit of a place.
-pub(super) fn push_group(changes: &mut VecDeque<Change>, place: u64, group: Vec<(BlockNo, Block)>)
+pub(super) fn push_group(
+    changes: &mut VecDeque<LogChange>,
+    place: u64,
+    group: Vec<(BlockNo, Block)>,
+)
     requires { length changes.old.items + length group.items ≤ deque_capacity changes.old }
     ensures { changes.new.items ≡ changes.old.items ++ changes_of place group.items }
 {
     for (block, content) in group {
-        changes.push_back_reserved(Change {
+        changes.push_back_reserved(LogChange {
             place,
             block,
             content,

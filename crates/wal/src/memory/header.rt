@@ -3,14 +3,19 @@ ghost use Rattle.std.specs.Prelude.{◌≡◌, ◌≤◌, ◌<◌, ◌+◌, ◌^
 ghost use Rattle.limits.specs.declared.TheConstants.{LOG_SLOTS};
 ghost use Rattle.wal_law.specs.Logger.{IsHeader};
 
-use crate::Change;
+use crate::LogChange;
 use crate::circ::{put_address, put_end};
 use disk::Block;
 use limits::LOG_SLOTS;
 use std::collections::VecDeque;
 
 // Makes the content the header of the positions from the start on that the first of these changes take.
-pub(super) fn put_header(content: &mut Block, start: u64, changes: &VecDeque<Change>, count: usize)
+pub(super) fn put_header(
+    content: &mut Block,
+    start: u64,
+    changes: &VecDeque<LogChange>,
+    count: usize,
+)
     requires count { count ≤ length changes.now.items }
     requires slots { count ≤ LOG_SLOTS }
     requires positions { start + count < 2 ^ 64 }

@@ -1,22 +1,24 @@
 //! The installer: it brings logged changes home, and then raises the start of the log.
-ghost use Rattle.std.specs.Prelude.{◌≡◌, ◌<◌, ◌≤◌, length, drop, IfSome, IsNone, IsSome, is_some, if◌then◌else◌, true, false, nat_lt, ◌||◌};
+ghost use Rattle.std.specs.Prelude.{◌≡◌, ◌<◌, ◌≤◌, length, drop, IfSome, IsNone, IsSome, is_some};
+ghost use Rattle.std.specs.Prelude.{if◌then◌else◌, true, false, nat_lt, ◌||◌};
 ghost use Rattle.wal_law.specs.Calls.{InstCallGoesOut, InstCallComesBack};
 ghost use Rattle.wal_law.specs.Io.{IsCallWithin};
 ghost use Rattle.wal_law.specs.Log.{IsLawful};
-ghost use Rattle.wal_law.specs.Seen.{HasGoneOn};
-ghost use Rattle.wal_law.specs.Installer.{may_install, with_inst_out, is_inst_out, with_inst_back, with_installed, next_home, IsNextInstCall};
+ghost use Rattle.wal_law.specs.Effects.{HasGoneOn};
+ghost use Rattle.wal_law.specs.Installer.{may_install, with_inst_out, is_inst_out, with_inst_back};
+ghost use Rattle.wal_law.specs.Installer.{with_installed, next_home, IsNextInstCall};
 
 use super::Wal;
 use super::search::next_newest;
 use crate::circ::put_start;
-use crate::{Change, InstIo, IoCall};
+use crate::{InstIo, IoCall, LogChange};
 use disk::{Block, BlockNo, Side};
 use limits::START_BLOCK;
 use std::collections::VecDeque;
 
 impl Wal {
-    /// Takes the logged changes where none are taken, and hands out their next call: the writes of the newest content
-    /// of each block to its home, a barrier, the write of the start behind them, a barrier.
+    /// Takes the logged changes where none are taken, and hands out their next call: the writes of the newest
+    /// content of each block to its home, a barrier, the write of the start behind them, a barrier.
     pub fn inst_next(&mut self) -> Option<InstIo>
         ensures causes { is_some result ≡ may_install self.old }
         ensures none { IsNone result → self.new ≡ self.old }
@@ -29,8 +31,8 @@ impl Wal {
         self.next_inst_io()
     }
 
-    /// Takes a call of the installer back, with whether it was made. One that isn't the call that is out changes
-    /// nothing. One that failed breaks the log for good.
+    /// Takes a call of the installer back, with whether it was made. One that isn't the call that is out
+    /// changes nothing. One that failed breaks the log for good.
     pub fn inst_done(&mut self, io: InstIo, ok: bool)
         ensures log { self.new ≡ (if is_inst_out self.old io then with_inst_back self.old ok else self.old) }
         ensures seen { HasGoneOn self.old self.new }
@@ -92,7 +94,10 @@ impl Wal {
         ensures none { result ≡ false → self.new ≡ self.old }
         ensures same { 0 < self.old.installing → self.new ≡ self.old }
         ensures begun { result ≡ true → self.old.installing ≡ 0
-            → self.new ≡ record self.old { installing = self.old.logged; inst_step = next_home self.old.changes self.old.logged 0 } }
+            → self.new ≡ record self.old {
+              installing = self.old.logged;
+              inst_step = next_home self.old.changes self.old.logged 0;
+            } }
         ensures taken { result ≡ true → 0 < self.new.installing }
     {
         if self.installing > 0 {
@@ -145,7 +150,7 @@ impl Wal {
 }
 
 // Lets the first of the changes go.
-fn drop_front(changes: &mut VecDeque<Change>, count: usize)
+fn drop_front(changes: &mut VecDeque<LogChange>, count: usize)
     requires { count ≤ length changes.old.items }
     ensures { changes.new.items ≡ drop count changes.old.items }
 {

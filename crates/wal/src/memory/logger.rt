@@ -1,10 +1,12 @@
 //! The logger: it takes the tail as a group, and makes it safe in the slots of the log.
-ghost use Rattle.std.specs.Prelude.{◌≡◌, ◌<◌, IfSome, IsNone, IsSome, is_some, ◌+◌, ◌%◌, if◌then◌else◌, true, false};
+ghost use Rattle.std.specs.Prelude.{◌≡◌, ◌<◌, IfSome, IsNone, IsSome, is_some, ◌+◌, ◌%◌, if◌then◌else◌, true};
+ghost use Rattle.std.specs.Prelude.{false};
 ghost use Rattle.wal_law.specs.Calls.{LogCallGoesOut, LogCallComesBack};
 ghost use Rattle.wal_law.specs.Io.{IsCallWithin};
 ghost use Rattle.wal_law.specs.Log.{IsLawful};
-ghost use Rattle.wal_law.specs.Seen.{HasGoneOn};
-ghost use Rattle.wal_law.specs.Logger.{may_log, has_group, group_size, with_log_out, is_log_out, with_log_back, IsNextLogCall};
+ghost use Rattle.wal_law.specs.Effects.{HasGoneOn};
+ghost use Rattle.wal_law.specs.Logger.{may_log, has_group, group_size, with_log_out, is_log_out};
+ghost use Rattle.wal_law.specs.Logger.{with_log_back, IsNextLogCall};
 
 use super::Wal;
 use super::header::put_header;
@@ -13,8 +15,8 @@ use disk::{Block, BlockNo, Side};
 use limits::{FIRST_SLOT_BLOCK, LOG_HEADER_BLOCK, LOG_SLOTS};
 
 impl Wal {
-    /// Takes the tail as a group where none is taken, and hands out the group's next call: the writes of its blocks
-    /// to their slots, a barrier, the write of the header, a barrier.
+    /// Takes the tail as a group where none is taken, and hands out the group's next call: the writes of its
+    /// blocks to their slots, a barrier, the write of the header, a barrier.
     pub fn log_next(&mut self) -> Option<LogIo>
         ensures lawful { IsLawful self.old }
         ensures causes { is_some result ≡ may_log self.old }
@@ -85,8 +87,8 @@ impl Wal {
         }
     }
 
-    // Takes the tail as a group where none is taken, it isn't empty and its positions fit behind the settled start.
-    // Answers whether a group is taken.
+    // Takes the tail as a group where none is taken, it isn't empty and its positions fit behind the settled
+    // start. Answers whether a group is taken.
     fn begin_group(&mut self) -> bool
         ensures causes { result ≡ has_group self.old }
         ensures none { result ≡ false → self.new ≡ self.old }

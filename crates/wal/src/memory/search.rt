@@ -3,13 +3,13 @@ ghost use Rattle.std.specs.Prelude.{◌≡◌, ◌≤◌, ◌+◌, length, Match
 ghost use Rattle.wal_law.specs.Log.{newest_of, place_before};
 ghost use Rattle.wal_law.specs.Installer.{passed_over};
 
-use crate::{Change, Seq};
+use crate::{LogChange, Seq};
 use disk::{Block, BlockNo};
 use std::collections::VecDeque;
 
 // The content of the last change of a block among those from one index up to, not with, another.
 pub(super) fn last_change(
-    changes: &VecDeque<Change>,
+    changes: &VecDeque<LogChange>,
     from: usize,
     end: usize,
     block: BlockNo,
@@ -31,8 +31,9 @@ pub(super) fn last_change(
     None
 }
 
-// The first change from one index up to, not with, another that is the newest of its block among those, or the end.
-pub(super) fn next_newest(changes: &VecDeque<Change>, from: usize, end: usize) -> usize
+// The first change from one index up to, not with, another that is the newest of its block among those, or
+// the end.
+pub(super) fn next_newest(changes: &VecDeque<LogChange>, from: usize, end: usize) -> usize
     requires order { from ≤ end }
     requires end { end ≤ length changes.now.items }
     ensures value { result ≡ from + passed_over (drop from (take end changes.now.items)) }
@@ -48,7 +49,7 @@ pub(super) fn next_newest(changes: &VecDeque<Change>, from: usize, end: usize) -
 }
 
 // The place before that of a change, or the last where there is none at the index.
-pub(super) fn seq_before(changes: &VecDeque<Change>, index: usize, places: u64) -> Seq
+pub(super) fn seq_before(changes: &VecDeque<LogChange>, index: usize, places: u64) -> Seq
     requires { index ≤ length changes.now.items }
     ensures { result.0 ≡ place_before (drop index changes.now.items) places }
 {

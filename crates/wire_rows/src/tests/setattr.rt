@@ -13,7 +13,7 @@ pub fn is_worked_setattr(call: &Call) -> bool {
         } => {
             object.bytes.as_slice().len() == 20
                 && attributes.mode == Some(448)
-                && attributes.mtime == SetTime::Keep
+                && attributes.mtime == SetTime::Unchanged
                 && guard.is_none()
         }
         _ => false,

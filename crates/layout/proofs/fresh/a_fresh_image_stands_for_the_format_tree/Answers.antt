@@ -3,9 +3,9 @@ use Rattle.std.proofs.Common.{arith, refl}
 use Rattle.model.specs.Sound.{SoundGeometry}
 use Rattle.model.proofs.Formatted.{sound}
 use Rattle.layout.specs.declared.geometry.Geometry.{Geometry}
-use Rattle.layout.specs.Places.{IsLawful}
+use Rattle.layout.specs.Geometry.{IsLawful}
 use Rattle.layout.specs.Stands.{geometry_of}
-use Rattle.layout.proofs.FreshFiles.{marked, files, kept}
+use Rattle.layout.proofs.FreshFiles.{marked, files, mapped}
 use Rattle.layout.proofs.fresh.a_fresh_image_stands_for_the_format_tree.Goals as goal
 
 lawful-sound : (g : Geometry) → IsLawful g.blocks g.inodes → SoundGeometry (geometry_of g)
@@ -25,7 +25,7 @@ returns c = λ g moment image lawful now fresh. record {
   bytes = fresh.bytes;
   geometry = refl;
   sound = sound (geometry_of g) moment (lawful-sound g lawful) now;
-  inodes = kept g moment image lawful now fresh;
+  inodes = mapped g moment image lawful now fresh;
   files = files g moment image lawful now fresh;
   marked = marked g moment image lawful now fresh;
 }

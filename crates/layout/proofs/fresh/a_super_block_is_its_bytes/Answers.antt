@@ -3,7 +3,7 @@ use Rattle.std.proofs.Common.{◌≡◌, ◌^◌, ◌<◌, true, refl, sym, subs
 use Rattle.std.proofs.lemmas.Nat.{from_le_bytes-to_le_bytes_4, from_le_bytes-to_le_bytes_8}
 use Rattle.layout.specs.declared.super_block.Super.{Super}
 use Rattle.layout.specs.Fields.{four_at, eight_at, four_bytes, eight_bytes}
-use Rattle.layout.specs.Places.{IsLawful}
+use Rattle.layout.specs.Geometry.{IsLawful}
 use Rattle.layout.specs.SuperForm.{HasMagic, HasVersion, is_unused_zero, super_head, super_bytes}
 use Rattle.layout.proofs.fresh.a_super_block_is_its_bytes.Goals as goal
 
@@ -41,7 +41,11 @@ returns c = λ s lawful fits.
     record {
       magic = magic s;
       version = version s;
-      sizes = record { lawful = subst (λ blocks. IsLawful blocks (four_at 16 (super_bytes s))) (sym b) (subst (IsLawful s.geometry.blocks) (sym i) lawful); unused = unused s };
+      sizes = record {
+        lawful = subst (λ blocks. IsLawful blocks (four_at 16 (super_bytes s))) (sym b)
+            (subst (IsLawful s.geometry.blocks) (sym i) lawful);
+        unused = unused s;
+      };
       blocks = sym b;
       inodes = sym i;
       boot = sym (boot s fits);

@@ -9,7 +9,8 @@ bytes-init c = (refl, c.put_zeros.ensures.len)
 
 pub bytes-preserved : goal.bytes-preserved
 bytes-preserved c = (
-  one_more (is_outside c.args.below c.args.past) (BITS_PER_BLOCK * c.args.part) c.bytes.place c.byte_of-byte.result
+  one_more (is_outside c.args.below c.args.past) (BITS_PER_BLOCK * c.args.part) c.bytes.index
+      c.byte_of-byte.result
       c.bytes.block c.put.new.self
       (omega (arith, c.bytes-test.true, c.bytes.invariant.1)) c.put.ensures.bytes c.byte_of-byte.ensures
       c.bytes.invariant.0,
@@ -18,5 +19,5 @@ bytes-preserved c = (
 
 pub returns : goal.returns
 returns c =
-    whole (is_outside c.args.below c.args.past) (BITS_PER_BLOCK * c.args.part) c.bytes.place c.bytes.block
-    (omega (arith, c.bytes-test.false, c.bytes.auto.place-end)) c.bytes.invariant.1 c.bytes.invariant.0
+    whole (is_outside c.args.below c.args.past) (BITS_PER_BLOCK * c.args.part) c.bytes.index c.bytes.block
+    (omega (arith, c.bytes-test.false, c.bytes.auto.index-end)) c.bytes.invariant.1 c.bytes.invariant.0

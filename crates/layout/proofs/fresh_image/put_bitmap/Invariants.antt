@@ -7,6 +7,7 @@ use Rattle.layout.proofs.fresh_image.put_bitmap.Given as goal
 
 abbrev pub invariant-bytes : goal.invariant-bytes
 invariant-bytes l =
-    (take l.place l.block
-    ≡ map (λ place. byte_of (is_outside l.below l.past) (BITS_PER_BLOCK * l.part + 8 * place)) (range_with_len 0 l.place))
+    (take l.index l.block
+    ≡ map (λ index. byte_of (is_outside l.below l.past) (BITS_PER_BLOCK * l.part + 8 * index))
+    (range_with_len 0 l.index))
     × (length l.block ≡ BLOCK_BYTES)

@@ -1,4 +1,5 @@
-use Rattle.std.proofs.Common.{◌≡◌, ◌+◌, ◌-◌, ◌++◌, ℕ, List, [], take, replicate, length, length-append, append_assoc, vec_len, ap, sym, ◌∙◌, arith}
+use Rattle.std.proofs.Common.{◌≡◌, ◌+◌, ◌-◌, ◌++◌, ℕ, List, [], take, replicate, length, length-append}
+use Rattle.std.proofs.Common.{append_assoc, vec_len, ap, sym, ◌∙◌, arith}
 use Rattle.std.proofs.lemmas.List.{take_all, length-replicate}
 use Rattle.limits.specs.declared.TheConstants.{BLOCK_BYTES, INODE_BYTES}
 use Rattle.layout.specs.Fresh.{root_inode}
@@ -32,13 +33,15 @@ zeros_put items first len empty none put =
 pub returns-clause-bytes : goal.returns-clause-bytes
 returns-clause-bytes c =
     let bytes = inode_bytes (root_inode c.args.made) in
-    let spelled : c.in_ok-root.root.items ≡ bytes = c.in_ok-root.ensures.bytes ∙ ap inode_bytes c.root_inode.ensures in
+    let spelled : c.in_ok-root.root.items ≡ bytes = c.in_ok-root.ensures.bytes
+    ∙ ap inode_bytes c.root_inode.ensures in
     let zeros = c.resize.new.self.items in
     let none = c.in_ok-bytes.ensures.items in
     assembled bytes zeros c.extend_from_slice.new.self.items c.resize-2.new.self.items
     (vec_len c.extend_from_slice.new.self) (omega arith)
     (ap length (sym spelled) ∙ c.in_ok-root.ensures.len)
-    (zeros_put c.in_ok-bytes.bytes.items zeros (vec_len c.in_ok-bytes.bytes) (omega (arith, ap length none)) none
+    (zeros_put c.in_ok-bytes.bytes.items zeros (vec_len c.in_ok-bytes.bytes) (omega (arith, ap length none))
+    none
     c.in_ok-resize.ensures.items)
     (c.in_ok-extend_from_slice.ensures.items ∙ ap (λ l. zeros ++ l) (c.deref.ensures.value ∙ spelled))
     c.in_ok-resize-2.ensures.items

@@ -1,7 +1,7 @@
 -- the entries of the slots so far
 use Rattle.std.proofs.Common.{◌≡◌}
-use Rattle.plain_image.specs.Named.{entries_below, entries_of}
+use Rattle.plain_image.specs.PlainName.{entries_below, entries_of}
 use Rattle.plain_image.proofs.parts.names_of.Given as goal
 
-abbrev pub invariant-places : goal.invariant-places
-invariant-places l = entries_of l.names.items ≡ entries_below l.inodes l.bytes l.place
+abbrev pub invariant-each_slot : goal.invariant-each_slot
+invariant-each_slot l = entries_of l.names.items ≡ entries_below l.inodes l.bytes l.index

@@ -7,9 +7,11 @@ use Rattle.procs.proofs.set_attr.refusal.Goals as goal
 pub returns-then-is_not_permitted : goal.returns-then-is_not_permitted
 returns-then-is_not_permitted c = λ body.
     grind (arith, common_steps, c.fails_guard.ensures body, c.is_not_permitted.ensures body)
-    ∙ sym (only_mode c.args.ctx.now c.args.wanted.now c.args.guard.now (node_with c.args.found.now.inode body) c.requires)
+    ∙ sym (only_mode c.args.ctx.now c.args.wanted.now c.args.guard.now (node_with c.args.found.now.inode body)
+    c.requires)
 
 pub returns-else-is_not_permitted : goal.returns-else-is_not_permitted
 returns-else-is_not_permitted c = λ body.
     grind (arith, common_steps, c.fails_guard.ensures body, c.is_not_permitted.ensures body)
-    ∙ sym (only_mode c.args.ctx.now c.args.wanted.now c.args.guard.now (node_with c.args.found.now.inode body) c.requires)
+    ∙ sym (only_mode c.args.ctx.now c.args.wanted.now c.args.guard.now (node_with c.args.found.now.inode body)
+    c.requires)

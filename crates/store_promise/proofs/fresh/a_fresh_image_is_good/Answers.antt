@@ -11,7 +11,7 @@ use Rattle.model.specs.Node.{Node}
 use Rattle.model.specs.Tree.{node_at}
 use Rattle.model.proofs.Maps.{only_one}
 use Rattle.nfs_types.specs.declared.ctx.Moment.{Moment}
-use Rattle.wal.specs.Numbers.{number_at}
+use Rattle.wal.specs.EightBytes.{number_at}
 use Rattle.wal.specs.Overlay.{start_in, end_in, over}
 use Rattle.store_promise.proofs.fresh.a_fresh_image_is_good.Goals as goal
 
@@ -24,7 +24,8 @@ module _ (g : Geometry) (moment : Moment) (image : Image) (fresh : IsFresh g mom
   unfolding number_at
   ends = ap (λ content. number_at content 0) fresh.header
 
-  made_before : (number : ℕ) (node : Node) → node_at (format_tree (geometry_of g) moment) number ≡ Some node → node.stamp.boot ≤ 0
+  made_before : (number : ℕ) (node : Node) → node_at (format_tree (geometry_of g) moment) number ≡ Some node
+      → node.stamp.boot ≤ 0
   made_before number node is =
       let root : node ≡ format_root moment = (only_one ROOT number (format_root moment) node is).1 in
       let boot : node.stamp.boot ≡ 0 = ap (λ (one : Node). one.stamp.boot) root in
@@ -34,14 +35,18 @@ pub returns : goal.returns
 returns c = λ g moment image lawful now fresh.
     let starts_at : start_in image ≡ 0 = starts g moment image fresh in
     let ends_at : end_in image ≡ 0 = ends g moment image fresh in
-    let empty : (block : ℕ) → over image block ≡ image block = λ block. c.an_empty_log_overlays_nothing.ensures image block (starts_at ∙ sym ends_at) in
+    let empty : (block : ℕ) → over image block ≡ image block =
+    λ block. c.an_empty_log_overlays_nothing.ensures image block (starts_at ∙ sym ends_at) in
     record {
       super = record { geometry = g; boot = 0 };
-      is_super = subst (λ bytes. IsSuper bytes (record { geometry = g; boot = 0 })) (sym fresh.super) (c.a_super_block_is_its_bytes.ensures (record { geometry = g; boot = 0 }) lawful (omega arith));
+      is_super = subst (λ bytes. IsSuper bytes (record { geometry = g; boot = 0 })) (sym fresh.super)
+          (c.a_super_block_is_its_bytes.ensures (record { geometry = g; boot = 0 }) lawful (omega arith));
       size_is = refl;
       boot_is = refl;
       range = record { order = omega (arith, starts_at, ends_at); slots = omega (arith, starts_at, ends_at) };
       homes = λ k less. absurd (omega (arith, less, starts_at, ends_at));
-      stands = subst (λ (blocks : Image). Stands g blocks (format_tree (geometry_of g) moment)) (λ i block. sym (empty block) i) (c.a_fresh_image_stands_for_the_format_tree.ensures g moment image lawful now fresh);
+      stands = subst (λ (blocks : Image). Stands g blocks (format_tree (geometry_of g) moment))
+          (λ i block. sym (empty block) i)
+          (c.a_fresh_image_stands_for_the_format_tree.ensures g moment image lawful now fresh);
       stamps = made_before g moment image fresh;
     }

@@ -19,14 +19,15 @@ abbrev nothing : ℕ → Transcript
 nothing first = record { boot = first + 1; history = []; answers = []; steps = [] }
 
 itself : (device : Device) → IsLater device device
-itself device = record { size = refl; clock = omega arith; past = λ moment block _. refl }
+itself device = record { size = refl; clock = omega arith; past = λ clock block _. refl }
 
 -- a stop before the opening's end
-before_end : (before later : Device) (tree : Tree) (first position moment : ℕ) (image : Image) → IsOpened before later tree first position
-    → before.clock ≤ moment → moment < later.clock → IsCrashImage later moment image
-    → HasPrefix later.size first tree later.clock (nothing first) moment image
-before_end before later tree first position moment image opened from less crash =
-    let found = opened.keeps moment image from (omega (arith, less)) crash in
+before_end : (before later : Device) (tree : Tree) (first position clock : ℕ) (image : Image)
+    → IsOpened before later tree first position
+    → before.clock ≤ clock → clock < later.clock → IsCrashImage later clock image
+    → HasPrefix later.size first tree later.clock (nothing first) clock image
+before_end before later tree first position clock image opened from less crash =
+    let found = opened.keeps clock image from (omega (arith, less)) crash in
     record {
       boot = found.boot;
       boot_is = found.boot_is;
@@ -41,9 +42,11 @@ before_end before later tree first position moment image opened from less crash 
     }
 
 -- a stop at its end
-at_end : (before later : Device) (tree : Tree) (first position moment : ℕ) (image : Image) → IsOpened before later tree first position
-    → moment ≡ later.clock → IsCrashImage later moment image → HasPrefix later.size first tree later.clock (nothing first) moment image
-at_end before later tree first position moment image opened same crash = record {
+at_end : (before later : Device) (tree : Tree) (first position clock : ℕ) (image : Image)
+    → IsOpened before later tree first position
+    → clock ≡ later.clock → IsCrashImage later clock image
+    → HasPrefix later.size first tree later.clock (nothing first) clock image
+at_end before later tree first position clock image opened same crash = record {
   boot = first + 1;
   boot_is = inr refl;
   raised = λ _. refl;
@@ -56,13 +59,15 @@ at_end before later tree first position moment image opened same crash = record 
   covered = λ a place given by told. absurd (no-less given.0 given.1);
 }
 
-either : (before later : Device) (tree : Tree) (first position moment : ℕ) (image : Image) → IsOpened before later tree first position
-    → before.clock ≤ moment → moment ≤ later.clock → IsCrashImage later moment image → (moment < later.clock) ⊎ (later.clock ≤ moment)
-    → HasPrefix later.size first tree later.clock (nothing first) moment image
-either before later tree first position moment image opened from to crash (inl less) =
-    before_end before later tree first position moment image opened from less crash
-either before later tree first position moment image opened from to crash (inr reached) =
-    at_end before later tree first position moment image opened (omega (arith, to, reached)) crash
+either : (before later : Device) (tree : Tree) (first position clock : ℕ) (image : Image)
+    → IsOpened before later tree first position
+    → before.clock ≤ clock → clock ≤ later.clock → IsCrashImage later clock image → (clock < later.clock)
+    ⊎ (later.clock ≤ clock)
+    → HasPrefix later.size first tree later.clock (nothing first) clock image
+either before later tree first position clock image opened from to crash (inl less) =
+    before_end before later tree first position clock image opened from less crash
+either before later tree first position clock image opened from to crash (inr reached) =
+    at_end before later tree first position clock image opened (omega (arith, to, reached)) crash
 
 pub returns : goal.returns
 returns c = λ before later tree first position workers opened. record {
@@ -72,7 +77,8 @@ returns c = λ before later tree first position workers opened. record {
   past = itself later;
   calls = omega arith;
   failures = omega arith;
-  stops = λ moment image from to crash. either before later tree first position moment image opened from to crash (cases_lt moment later.clock);
+  stops = λ clock image from to crash. either before later tree first position clock image opened from to
+      crash (cases_lt clock later.clock);
   last = tree;
   leads = refl;
   boot = refl;

@@ -1,6 +1,6 @@
 use Rattle.store_promise.proofs.promises.half_a_group_breaks_the_promise.Goals as goal
 
 pub returns : goal.returns
-returns c = λ before later tree first workers moment events t image from to crash none kept.
-    let found = kept.stops moment image from to crash in
+returns c = λ before later tree first workers clock events t image from to crash none kept.
+    let found = kept.stops clock image from to crash in
     none found.count found.boot found.left found.prefix found.good

@@ -1,8 +1,10 @@
--- What was answered by a moment is in the prefix that a stop then leaves.
+-- What was answered by a clock is in the prefix that a stop then leaves.
 use Rattle.std.proofs.Common.{arith}
 use Rattle.store_promise.proofs.promises.what_is_stable_is_kept.Goals as goal
 
 pub returns : goal.returns
-returns c = λ before later tree first workers moment place events t a image from to crash given by stable none kept.
-    let found = kept.stops moment image from to crash in
-    none found.count found.boot found.left (found.stable a place given (omega (arith, by, kept.calls)) stable) found.prefix found.good
+returns c = λ before later tree first workers clock place events t a image from to crash given by stable none
+    kept.
+    let found = kept.stops clock image from to crash in
+    none found.count found.boot found.left (found.stable a place given (omega (arith, by, kept.calls)) stable)
+    found.prefix found.good

@@ -1,4 +1,5 @@
-use Rattle.std.proofs.Common.{◌≡◌, ◌<◌, ◌+◌, ◌∷◌, ap, length, drop, drop-cons, add-one, false, refl, arith, lit<}
+use Rattle.std.proofs.Common.{◌≡◌, ◌<◌, ◌+◌, ◌∷◌, ap, length, drop, drop-cons, add-one, false, refl, arith}
+use Rattle.std.proofs.Common.{lit<}
 use Rattle.txn.specs.Group.{is_among}
 use Rattle.txn.proofs.Blocks.{room_left}
 use Rattle.txn.proofs.group.blocks_of_objects.Goals as goal
@@ -11,5 +12,6 @@ push-requires c =
     let split : drop i c.args.objects.now ≡ c.object-item.result ∷ drop (i + 1) c.args.objects.now =
     rw (add-one, drop-cons c.args.objects.now i c.object-item.result, ← c.object-item.is) refl in
     let fresh : is_among c.object-item.result.addr.block c.loop-object.blocks.items ≡ false = cc in
-    let more = room_left c.loop-object.blocks.items (drop i c.args.objects.now) c.object-item.result (drop (i + 1) c.args.objects.now) split fresh in
+    let more = room_left c.loop-object.blocks.items (drop i c.args.objects.now) c.object-item.result
+    (drop (i + 1) c.args.objects.now) split fresh in
     (lit< tt, omega (arith, more, ap length c.loop-object.invariant, c.requires))

@@ -5,4 +5,5 @@ use Rattle.txn.specs.Group.{IsLaid}
 use Rattle.txn.proofs.group.group_of.Given as goal
 
 abbrev pub invariant-loop-block : goal.invariant-loop-block
-invariant-loop-block l = (blocks_of l.group.items ≡ take l.block-index l.blocks) × All (IsLaid l.present l.wal l.objects) l.group.items
+invariant-loop-block l = (blocks_of l.group.items ≡ take l.block-index l.blocks)
+    × All (IsLaid l.present l.wal l.objects) l.group.items

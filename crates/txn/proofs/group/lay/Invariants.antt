@@ -4,4 +4,5 @@ use Rattle.txn.specs.Group.{laid}
 use Rattle.txn.proofs.group.lay.Given as goal
 
 abbrev pub invariant-loop-object : goal.invariant-loop-object
-invariant-loop-object l = laid l.content (drop l.object-index l.objects) l.block ≡ laid l.initial.content l.objects l.block
+invariant-loop-object l = laid l.content (drop l.object-index l.objects) l.block
+    ≡ laid l.initial.content l.objects l.block

@@ -6,5 +6,6 @@ use Rattle.txn.proofs.holds.hold_of.Goals as goal
 
 pub returns : goal.returns
 returns c =
-    let found = find_from_yields_List (λ hold. is_hold_of c.args.transaction c.args.addr hold) _ _ _ c.find.ensures.ran (YieldsList-from_slice c.args.holds.now cc) (λ x b q k. search rules) in
+    let found = find_from_yields_List (λ hold. is_hold_of c.args.transaction c.args.addr hold) _ _ _
+    c.find.ensures.ran (YieldsList-from_slice c.args.holds.now cc) (λ x b q k. search rules) in
     cc

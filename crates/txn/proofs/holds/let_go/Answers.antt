@@ -6,4 +6,5 @@ use Rattle.txn.proofs.holds.let_go.Goals as goal
 
 pub returns-clause-items : goal.returns-clause-items
 returns-clause-items c =
-    filter_same _ (λ (hold : Hold). not (is_hold_of c.args.transaction c.args.addr hold)) _ (λ x b f r. search rules) _ _ c.retain.ensures.filtered
+    filter_same _ (λ (hold : Hold). not (is_hold_of c.args.transaction c.args.addr hold)) _
+    (λ x b f r. search rules) _ _ c.retain.ensures.filtered

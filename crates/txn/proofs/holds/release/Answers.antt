@@ -4,4 +4,5 @@ use Rattle.txn.specs.declared.holds.Hold.{Hold}
 use Rattle.txn.proofs.holds.release.Goals as goal
 
 pub returns : goal.returns
-returns c = filter_same _ (λ (hold : Hold). not (nat_eq hold.transaction c.args.transaction)) _ (λ x b f r. search rules) _ _ c.retain.ensures.filtered
+returns c = filter_same _ (λ (hold : Hold). not (nat_eq hold.transaction c.args.transaction)) _
+    (λ x b f r. search rules) _ _ c.retain.ensures.filtered

@@ -1,10 +1,11 @@
 use Rattle.std.proofs.Common.{◌≡◌, ap, arith}
 use Rattle.limits.specs.declared.TheConstants.{LOG_HEADER_BLOCK}
 use Rattle.wal_law.specs.Overlay.{start_in, count_in, positions, content_or}
-use Rattle.wal_law.specs.Seen.{newest_in}
+use Rattle.wal_law.specs.Effects.{newest_in}
 use Rattle.wal_law.proofs.law.an_empty_log_overlays_nothing.Goals as goal
 
 pub returns : goal.returns
 returns c image block same =
     let none : count_in image ≡ 0 = omega arith in
-    ap (λ count. content_or (newest_in (positions (image LOG_HEADER_BLOCK) image (start_in image) count) block) (image block)) none
+    ap (λ count. content_or (newest_in (positions (image LOG_HEADER_BLOCK) image (start_in image) count)
+    block) (image block)) none

@@ -14,10 +14,14 @@ returns-clause-image c =
     let now : Blocks = blocks_of c.args.self in
     let new : Blocks = map (λ x. x ∷ []) (chosen c.args.digits.now now) in
     let kept : (with_items c.args.self.blocks c.choose.new.blocks).items ≡ new =
-    with_items_is c.args.self.blocks c.choose.new.blocks (c.choose.ensures.len ∙ c.deref_mut.ensures.len) ∙ (rw c.deref_mut.ensures.value at c.choose.ensures.chosen) in
-    let filled : (block : ℕ) → block < length now → 0 < length (get_or now block []) = rw c.deref_mut.ensures.value at c.choose.ensures.filled in
-    moved (λ (d : Device). IsCrashImage (memory_device c.args.self) (length (past_of c.args.self)) (λ block. newest (current d block)))
-    new (with_items c.args.self.blocks c.choose.new.blocks).items [] (map (λ e. (e.0.value.items, e.1)) c.new.result.past.items)
+    with_items_is c.args.self.blocks c.choose.new.blocks (c.choose.ensures.len ∙ c.deref_mut.ensures.len)
+    ∙ (rw c.deref_mut.ensures.value at c.choose.ensures.chosen) in
+    let filled : (block : ℕ) → block < length now → 0 < length (get_or now block []) =
+    rw c.deref_mut.ensures.value at c.choose.ensures.filled in
+    moved (λ (d : Device). IsCrashImage (memory_device c.args.self) (length (past_of c.args.self))
+    (λ block. newest (current d block)))
+    new (with_items c.args.self.blocks c.choose.new.blocks).items []
+    (map (λ e. (e.0.value.items, e.1)) c.new.result.past.items)
     kept (ap (λ es. map (λ e. (e.0.value.items, e.1)) es) c.new.ensures)
     (chosen_image c.args.digits.now now (past_of c.args.self) filled)
 
@@ -26,8 +30,10 @@ returns-clause-rest c =
     let now : Blocks = blocks_of c.args.self in
     let new : Blocks = map (λ x. x ∷ []) (chosen c.args.digits.now now) in
     let kept : (with_items c.args.self.blocks c.choose.new.blocks).items ≡ new =
-    with_items_is c.args.self.blocks c.choose.new.blocks (c.choose.ensures.len ∙ c.deref_mut.ensures.len) ∙ (rw c.deref_mut.ensures.value at c.choose.ensures.chosen) in
+    with_items_is c.args.self.blocks c.choose.new.blocks (c.choose.ensures.len ∙ c.deref_mut.ensures.len)
+    ∙ (rw c.deref_mut.ensures.value at c.choose.ensures.chosen) in
     moved IsAtRest
-    new (with_items c.args.self.blocks c.choose.new.blocks).items [] (map (λ e. (e.0.value.items, e.1)) c.new.result.past.items)
+    new (with_items c.args.self.blocks c.choose.new.blocks).items []
+    (map (λ e. (e.0.value.items, e.1)) c.new.result.past.items)
     kept (ap (λ es. map (λ e. (e.0.value.items, e.1)) es) c.new.ensures)
     (alone_at_rest (chosen c.args.digits.now now))

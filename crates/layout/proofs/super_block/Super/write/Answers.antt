@@ -6,9 +6,11 @@ use Rattle.layout.proofs.super_block.Super.write.Goals as goal
 
 pub returns-clause-bytes : goal.returns-clause-bytes
 returns-clause-bytes c =
-    let n : length c.put_head.new.bytes.items ≡ 32 = omega (arith, c.in_ok-put_head.ensures.len, ap length c.in_ok-bytes.ensures.items) in
+    let n : length c.put_head.new.bytes.items ≡ 32 =
+    omega (arith, c.in_ok-put_head.ensures.len, ap length c.in_ok-bytes.ensures.items) in
     let b : c.put_head.new.bytes.items ≡ super_head c.args.self.now =
-    c.in_ok-put_head.ensures.bytes ∙ ap (λ (l : List ℕ). l ++ super_head c.args.self.now) c.in_ok-bytes.ensures.items in
+    c.in_ok-put_head.ensures.bytes
+    ∙ ap (λ (l : List ℕ). l ++ super_head c.args.self.now) c.in_ok-bytes.ensures.items in
     let few : length c.put_head.new.bytes.items ≤ BLOCK_BYTES = omega (arith, n) in
     let m : vec_len c.put_head.new.bytes ≡ 32 = omega (arith, n) in
     c.in_ok-resize.ensures.items ∙ rw (take_all 4096 c.put_head.new.bytes.items few, m, b) refl

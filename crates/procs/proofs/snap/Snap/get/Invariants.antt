@@ -1,5 +1,5 @@
 use Rattle.std.proofs.Common.{◌≡◌, false, take}
-use Rattle.procs.specs.Seen.{is_seen}
+use Rattle.procs.specs.Snap.{is_seen}
 use Rattle.procs.proofs.snap.Snap.get.Given as goal
 
 abbrev pub invariant-loop-object : goal.invariant-loop-object

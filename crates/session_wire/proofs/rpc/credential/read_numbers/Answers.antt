@@ -12,11 +12,18 @@ loop-init c =
 pub returns-in_err-number : goal.returns-in_err-number
 returns-in_err-number c =
     let p = err_from_is_err_and c.from_residual.result c.from_residual.ensures.1 in
-    rw (p.1, p.2) (inl (ends c.in_err-number.field-0.0 c.loop.numbers.items c.args.count c.loop.counter c.loop.reader (numbers_at c.args.count c.args.reader.now) c.loop-test.true c.in_err-number.ensures c.loop.invariant))
+    rw (p.1, p.2)
+    (inl (ends c.in_err-number.field-0.0 c.loop.numbers.items c.args.count c.loop.counter c.loop.reader
+    (numbers_at c.args.count c.args.reader.now) c.loop-test.true c.in_err-number.ensures
+    c.loop.invariant))
 
 pub loop-preserved : goal.loop-preserved
 loop-preserved c =
-    rw c.in_ok-push.ensures.items (goes_on c.loop.numbers.items c.args.count c.loop.counter c.loop.reader c.in_ok-number.number c.unsigned.new.self (numbers_at c.args.count c.args.reader.now) c.loop-test.true c.in_ok-number.ensures c.loop.invariant)
+    rw c.in_ok-push.ensures.items
+    (goes_on c.loop.numbers.items c.args.count c.loop.counter c.loop.reader c.in_ok-number.number
+    c.unsigned.new.self (numbers_at c.args.count c.args.reader.now) c.loop-test.true
+    c.in_ok-number.ensures c.loop.invariant)
 
 pub returns : goal.returns
-returns c = is_done c.loop.numbers.items c.args.count c.loop.counter c.loop.reader (numbers_at c.args.count c.args.reader.now) c.loop-test.false c.loop.invariant
+returns c = is_done c.loop.numbers.items c.args.count c.loop.counter c.loop.reader
+    (numbers_at c.args.count c.args.reader.now) c.loop-test.false c.loop.invariant

@@ -8,11 +8,27 @@ use Rattle.txn.proofs.state.Core.forget.Goals as goal
 pub returns : goal.returns
 returns g c =
     let core = c.self.inside in
-    let left = ap (map (λ kept. record { place = kept.place.0; read = g.C.Change.objects_read kept.change; written = g.C.Change.objects_written kept.change })) c.forget.ensures in
-    let mapped = map_filter (λ kept. record { place = kept.place.0; read = g.C.Change.objects_read kept.change; written = g.C.Change.objects_written kept.change }) (λ (kept : Footprint). nat_lt c.installed.result.0 kept.place) core.records.items in
-    let there = ap (λ place. past place (map (λ kept. record { place = kept.place.0; read = g.C.Change.objects_read kept.change; written = g.C.Change.objects_written kept.change }) core.records.items)) c.installed.ensures in
+    let left = ap
+    (map (λ kept. record {
+      place = kept.place.0;
+      read = g.C.Change.objects_read kept.change;
+      written = g.C.Change.objects_written kept.change;
+    })) c.forget.ensures in
+    let mapped = map_filter (λ kept. record {
+      place = kept.place.0;
+      read = g.C.Change.objects_read kept.change;
+      written = g.C.Change.objects_written kept.change;
+    })
+    (λ (kept : Footprint). nat_lt c.installed.result.0 kept.place) core.records.items in
+    let there = ap
+    (λ place. past place
+    (map (λ kept. record {
+      place = kept.place.0;
+      read = g.C.Change.objects_read kept.change;
+      written = g.C.Change.objects_written kept.change;
+    }) core.records.items)) c.installed.ensures in
     ap (λ records. record {
-      log = core.wal;
+      log = core.log;
       inodes = core.inodes;
       begun = core.begun;
       out = core.out;
@@ -20,4 +36,5 @@ returns g c =
       present = core.present.items;
       records = records;
     }) (left ∙ mapped ∙ there)
-    ∙ ap (λ (seen : CoreState). record seen { records = past (installed_place seen.log) seen.records }) c.self.view_is
+    ∙ ap (λ (seen : CoreState). record seen { records = past (installed_place seen.log) seen.records })
+    c.self.view_is

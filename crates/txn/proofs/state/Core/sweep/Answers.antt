@@ -7,15 +7,33 @@ use Rattle.txn.proofs.state.Core.sweep.Goals as goal
 pub returns : goal.returns
 returns g c =
     let core = c.self.inside in
-    let kept = c.sweep.ensures ∙ swept_of_map (λ kept. record { place = kept.place.0; read = g.C.Change.objects_read kept.change; written = g.C.Change.objects_written kept.change }) c.deref.result.now core.records.items core.present.items in
-    let there = ap (λ holds. swept holds (map (λ kept. record { place = kept.place.0; read = g.C.Change.objects_read kept.change; written = g.C.Change.objects_written kept.change }) core.records.items) core.present.items) c.deref.ensures.value in
+    let kept = c.sweep.ensures
+    ∙ swept_of_map (λ kept. record {
+      place = kept.place.0;
+      read = g.C.Change.objects_read kept.change;
+      written = g.C.Change.objects_written kept.change;
+    }) c.deref.result.now core.records.items
+    core.present.items in
+    let there = ap
+    (λ holds. swept holds
+    (map (λ kept. record {
+      place = kept.place.0;
+      read = g.C.Change.objects_read kept.change;
+      written = g.C.Change.objects_written kept.change;
+    }) core.records.items) core.present.items)
+    c.deref.ensures.value in
     ap (λ present. record {
-      log = core.wal;
+      log = core.log;
       inodes = core.inodes;
       begun = core.begun;
       out = core.out;
       holds = core.holds.items;
       present = present;
-      records = map (λ kept. record { place = kept.place.0; read = g.C.Change.objects_read kept.change; written = g.C.Change.objects_written kept.change }) core.records.items;
+      records = map (λ kept. record {
+        place = kept.place.0;
+        read = g.C.Change.objects_read kept.change;
+        written = g.C.Change.objects_written kept.change;
+      }) core.records.items;
     }) (kept ∙ there)
-    ∙ ap (λ (seen : CoreState). record seen { present = swept seen.holds seen.records seen.present }) c.self.view_is
+    ∙ ap (λ (seen : CoreState). record seen { present = swept seen.holds seen.records seen.present })
+    c.self.view_is

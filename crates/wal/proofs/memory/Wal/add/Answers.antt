@@ -10,9 +10,11 @@ pub invariant_of-self-2 : goal.invariant_of-self-2
 invariant_of-self-2 c =
     let count = length-blocks_of c.args.group.items in
     let log : Log = log_of c.self.inside in
-    let fits : tail_after log (blocks_of c.args.group.items) ≤ LOG_SLOTS = omega (arith, count, c.if-tail-len.false) in
+    let fits : tail_after log (blocks_of c.args.group.items) ≤ LOG_SLOTS =
+    omega (arith, count, c.if-tail-len.false) in
     rw (c.push_group.ensures, c.reserve.ensures.items)
     (lawful_with_group log c.args.group.items c.self.invariant
     (subst (λ (l : Log). HasPlaces l (blocks_of c.args.group.items)) (sym c.self.view_is) c.requires.places)
     fits
-    (subst (λ (l : Log). All (IsHomeOn l.blocks) (blocks_of c.args.group.items)) (sym c.self.view_is) c.requires.homes))
+    (subst (λ (l : Log). All (IsHomeOn l.blocks) (blocks_of c.args.group.items)) (sym c.self.view_is)
+    c.requires.homes))

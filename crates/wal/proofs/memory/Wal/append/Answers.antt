@@ -1,14 +1,17 @@
 use Rattle.std.proofs.Common.{sym, subst}
 use Rattle.wal_law.specs.Log.{Log}
-use Rattle.wal_law.specs.Seen.{HasAppended}
-use Rattle.wal_law.proofs.Seen.{seen_append}
+use Rattle.wal_law.specs.Effects.{HasAppended}
+use Rattle.wal_law.proofs.Effects.{seen_append}
 use Rattle.wal_law.proofs.Beside.{appended}
 use Rattle.wal.proofs.memory.Wal.append.Goals as goal
 
 pub returns-clause-seen : goal.returns-clause-seen
 returns-clause-seen c = λ done.
-    subst (λ (log : Log). HasAppended c.args.self.now c.args.group.items log) (sym (c.add.ensures.appended done)) (seen_append c.args.self.now c.args.group.items c.add.ensures.lawful)
+    subst (λ (log : Log). HasAppended c.args.self.now c.args.group.items log)
+    (sym (c.add.ensures.appended done))
+    (seen_append c.args.self.now c.args.group.items c.add.ensures.lawful)
 
 pub returns-clause-law : goal.returns-clause-law
 returns-clause-law c =
-    appended c.add.result c.args.self.now c.add.new.self c.args.group.items c.add.ensures.lawful c.add.ensures.appended c.add.ensures.refused
+    appended c.add.result c.args.self.now c.add.new.self c.args.group.items c.add.ensures.lawful
+    c.add.ensures.appended c.add.ensures.refused

@@ -6,4 +6,6 @@ use Rattle.wal.proofs.memory.Wal.end_installation.Goals as goal
 
 pub invariant_of-self : goal.invariant_of-self
 invariant_of-self c =
-    rw c.drop_front.ensures (lawful_installed (log_of c.self.inside) c.self.invariant (ap (λ (l : Log). l.inst_out) c.self.view_is ∙ c.requires))
+    rw c.drop_front.ensures
+    (lawful_installed (log_of c.self.inside) c.self.invariant (ap (λ (l : Log). l.inst_out) c.self.view_is
+    ∙ c.requires))

@@ -1,11 +1,12 @@
-use Rattle.std.proofs.Common.{◌≡◌, ℕ, ◌+◌, ◌*◌, ◌%◌, ◌<◌, ◌≤◌, List, length, replicate, slice_get, Some, sym, ap, ◌∙◌, arith, below_more}
+use Rattle.std.proofs.Common.{◌≡◌, ℕ, ◌+◌, ◌*◌, ◌%◌, ◌<◌, ◌≤◌, List, length, replicate, slice_get, Some, sym}
+use Rattle.std.proofs.Common.{ap, ◌∙◌, arith, below_more}
 use Rattle.std.proofs.lemmas.List.{length-replicate, length-take-le}
 use Rattle.std.proofs.lemmas.Option.{get_or_from_slice_get}
 use Rattle.limits.specs.declared.TheConstants.{LOG_SLOTS, BLOCK_BYTES}
-use Rattle.wal_law.specs.declared.change.Change.{Change}
-use Rattle.wal_law.specs.Numbers.{number_at, with_number}
+use Rattle.wal_law.specs.declared.change.LogChange.{LogChange}
+use Rattle.wal_law.specs.EightBytes.{number_at, with_number}
 use Rattle.wal_law.proofs.Lists.{within-take, slice_get-take}
-use Rattle.wal_law.proofs.Numbers.{length-with_number, number_at-same, number_at-before, address_at-other}
+use Rattle.wal_law.proofs.EightBytes.{length-with_number, number_at-same, number_at-before, address_at-other}
 use Rattle.wal.proofs.memory.header.put_header.Goals as goal
 
 pub loop-i-init : goal.loop-i-init
@@ -13,8 +14,10 @@ loop-i-init c =
     let zeros : List ℕ = replicate BLOCK_BYTES 0 in
     let n : length zeros ≡ BLOCK_BYTES = length-replicate {A = ℕ} BLOCK_BYTES 0 in
     record {
-      bytes = ap length c.put_end.ensures ∙ length-with_number zeros 0 (c.args.start + c.args.count) (omega arith) ∙ n;
-      end = rw c.put_end.ensures (number_at-same zeros 0 (c.args.start + c.args.count) (omega arith) (omega arith));
+      bytes = ap length c.put_end.ensures
+          ∙ length-with_number zeros 0 (c.args.start + c.args.count) (omega arith) ∙ n;
+      end = rw c.put_end.ensures
+          (number_at-same zeros 0 (c.args.start + c.args.count) (omega arith) (omega arith));
       homes = λ k h change is. absurd (omega arith);
     }
 
@@ -26,16 +29,20 @@ loop-i-preserved c =
     let home : ℕ = c.index.result.now.block.0 in
     let within : offset + 8 ≤ length content = omega arith in
     let whole : length content ≡ 8 + 8 * LOG_SLOTS = omega arith in
-    let P : ℕ → Type 0 = λ k. (change : Change) → slice_get c.args.changes.now.items k ≡ Some change
-    → number_at (with_number content offset home) (8 + 8 * ((c.args.start + k) % LOG_SLOTS)) ≡ change.block.0 in
+    let P : ℕ → Type 0 = λ k. (change : LogChange) → slice_get c.args.changes.now.items k ≡ Some change
+    → number_at (with_number content offset home) (8 + 8 * ((c.args.start + k) % LOG_SLOTS))
+    ≡ change.block.0 in
     let before : (k : ℕ) → k < c.loop-i.i → P k = λ k h change is.
     address_at-other content c.args.start k c.loop-i.i home whole h (omega arith) ∙ inv.homes k h change is in
     let here : P c.loop-i.i = λ change is.
     number_at-same content offset home within (omega arith)
-    ∙ ap (λ (x : Change). x.block.0) (c.index.ensures ∙ get_or_from_slice_get c.args.changes.now.items c.loop-i.i change c.index.result.now is) in
+    ∙ ap (λ (x : LogChange). x.block.0) (c.index.ensures
+    ∙ get_or_from_slice_get c.args.changes.now.items c.loop-i.i change c.index.result.now is) in
     record {
-      bytes = ap length c.put_address.ensures.header ∙ length-with_number content offset home within ∙ inv.bytes;
-      end = rw c.put_address.ensures.header (number_at-before content offset home 0 within (omega arith) ∙ inv.end);
+      bytes = ap length c.put_address.ensures.header ∙ length-with_number content offset home within
+          ∙ inv.bytes;
+      end = rw c.put_address.ensures.header (number_at-before content offset home 0 within (omega arith)
+          ∙ inv.end);
       homes = rw c.put_address.ensures.header (below_more P c.loop-i.i before here);
     }
 
@@ -44,6 +51,9 @@ returns c =
     let items = c.args.changes.now.items in
     record {
       bytes = c.loop-i.invariant.bytes;
-      end = c.loop-i.invariant.end ∙ ap (λ n. c.args.start + n) (sym (length-take-le c.args.count items c.requires.count));
-      homes = λ k change is. c.loop-i.invariant.homes k (omega (arith, within-take items c.args.count k change is)) change (slice_get-take items c.args.count k change is);
+      end = c.loop-i.invariant.end
+          ∙ ap (λ n. c.args.start + n) (sym (length-take-le c.args.count items c.requires.count));
+      homes = λ k change is. c.loop-i.invariant.homes k
+          (omega (arith, within-take items c.args.count k change is)) change
+          (slice_get-take items c.args.count k change is);
     }

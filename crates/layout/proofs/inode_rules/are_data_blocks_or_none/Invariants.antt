@@ -1,0 +1,9 @@
+use Rattle.std.proofs.Common.{◌≡◌, true, take}
+use Rattle.std.specs.List.{list_all}
+use Rattle.layout.specs.InodeForm.{is_data_block_or_none}
+use Rattle.layout.proofs.inode_rules.are_data_blocks_or_none.Given as goal
+
+abbrev pub invariant-loop-number : goal.invariant-loop-number
+invariant-loop-number l =
+    list_all (is_data_block_or_none l.geometry.blocks l.geometry.inodes) (take l.number-index l.numbers)
+    ≡ true

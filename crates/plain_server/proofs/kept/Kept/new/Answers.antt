@@ -1,9 +1,0 @@
-use Rattle.std.proofs.Common.{length, ap, ◌∙◌, arith, sym}
-use Rattle.std.specs.Ordering.{nat_cmp}
-use Rattle.std.specs.FinSet as set
-use Rattle.plain_server.proofs.kept.Kept.new.Goals as goal
-
-pub invariant_of-result : goal.invariant_of-result
-invariant_of-result c =
-    let none = ap length c.new.ensures.items in
-    (ap (λ ks. set.len (set.from_list {R = nat_cmp} ks)) c.new.ensures.items ∙ set.len-empty nat_cmp ∙ sym none, omega arith)

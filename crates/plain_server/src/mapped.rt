@@ -1,0 +1,86 @@
+//! The indexes of the blocks that a regular file has.
+ghost use Rattle.std.specs.Prelude.{◌≡◌, ℕ, ◌+◌, ◌*◌, ◌<◌, ◌≤◌, nat_lt, nat_le, length, filter, OnOk, OnErr};
+ghost use Rattle.std.specs.List.{list_any};
+ghost use Rattle.std.specs.FinSet as set;
+ghost use Rattle.model.specs.Cost.{file_cost};
+
+use limits::{BLOCK_BYTES, DIRECT_INDEXES, FILE_INDEXES};
+use std::alloc::{AllocError, Global};
+use std::marker::Model;
+
+/// A set of indexes, at most as many as the largest file has.
+#[derive(Drop)]
+pub struct MappedIndexes {
+    indexes: Vec<u32>,
+}
+
+impl Model for MappedIndexes {
+    ghost use Rattle.std.specs.Prelude.{◌≡◌, ◌≤◌, length};
+    ghost use Rattle.std.specs.Ordering.{nat_cmp};
+    ghost use Rattle.std.specs.FinSet as set;
+    ghost use Rattle.std.specs.Coded.{coded_ℕ};
+    ghost use Rattle.limits.specs.declared.TheConstants.{FILE_INDEXES};
+
+    ghost Value = { set.FinSet nat_cmp };
+
+    ghost coded = { set.code coded_ℕ };
+
+    ghost view = { λ k. set.from_list k.indexes.items };
+
+    // no index stands twice
+    ghost invariant = { λ k. (set.len (set.from_list {R = nat_cmp} k.indexes.items) ≡ length k.indexes.items)
+        × (length k.indexes.items ≤ FILE_INDEXES) };
+}
+
+impl MappedIndexes {
+    pub fn new(alloc: Global) -> MappedIndexes
+        ensures { result ≡ set.empty }
+    {
+        MappedIndexes {
+            indexes: Vec::new(alloc),
+        }
+    }
+
+    /// Keeps one index more.
+    pub fn map_index(&mut self, index: u32) -> Result<(), AllocError>
+        requires { set.len self.old < FILE_INDEXES }
+        ensures ok { OnOk result (self.new ≡ set.insert self.old index) }
+        ensures err { OnErr result (self.new ≡ self.old) }
+    {
+        if !self.indexes.contains(&index) {
+            self.indexes.push(index)?;
+        }
+        Ok(())
+    }
+
+    /// How many blocks a file uses that maps these.
+    pub fn cost(&self) -> u64
+        ensures cost { result ≡ file_cost self.now }
+        ensures small { result ≤ FILE_INDEXES + 1 }
+    {
+        let indirect = if any_is_indirect(&self.indexes) { 1 } else { 0 };
+        self.indexes.len() as u64 + indirect
+    }
+
+    /// Drops the indexes that lie at or past the new end of the file.
+    pub fn cut(&mut self, size: u64)
+        ensures { self.new ≡ set.retain self.old (λ index. nat_lt (index * BLOCK_BYTES) size) }
+    {
+        retain_below(&mut self.indexes, size);
+    }
+}
+
+fn any_is_indirect(indexes: &[u32]) -> bool
+    ensures { result ≡ list_any (λ index. nat_le DIRECT_INDEXES index) indexes.now }
+{
+    indexes
+        .iter()
+        .any(|index| DIRECT_INDEXES <= *index as usize)
+}
+
+fn retain_below(indexes: &mut Vec<u32>, size: u64)
+    ensures items { indexes.new.items ≡ filter (λ index. nat_lt (index * BLOCK_BYTES) size) indexes.old.items }
+    ensures len { length indexes.new.items ≤ length indexes.old.items }
+{
+    indexes.retain(|index| (*index as u64) * (BLOCK_BYTES as u64) < size);
+}

@@ -1,9 +1,0 @@
-use Rattle.std.proofs.Common.{rules, nat_eq}
-use Rattle.std.proofs.lemmas.Iterator.{YieldsList-from_slice}
-use Rattle.std.proofs.lemmas.Iterator.Search.{find_from_yields_List}
-use Rattle.txn.specs.declared.present.Present.{Present}
-use Rattle.txn.proofs.present.entry_of.Goals as goal
-
-pub returns : goal.returns
-returns c =
-    find_from_yields_List (λ (entry : Present). nat_eq entry.block.0 c.args.block.0) _ _ _ c.find.ensures.ran (YieldsList-from_slice c.args.present.now cc) (λ x b q k. search rules)
