@@ -8,13 +8,22 @@ use http_server::Log;
 use limits::BLOCK_BYTES;
 use std::fs::{File, Files, OpenFile, OpenOptions};
 use std::io;
-use std::os::unix::fs::FileExt;
+use std::io::ErrorKind;
+use std::os::unix::fs::{FileExt, OpenOptionsExt};
+use std::path::Path;
 use std::snapshot::Snapshot;
+
+// The permission bits of a file that is made: it holds the files of every user, so it is its owner's alone.
+const OWNER_ALONE: u32 = 0o600;
 
 /// An open file that holds blocks.
 pub trait BlockFile: Drop {
     /// What each block held when the file was opened. A proof over any file holds whatever that was.
     ghost held: { Self → ℕ → List ℕ };
+
+    /// Takes the file for this program alone, until it is closed. It never waits: it fails where another
+    /// program has the file, or where the file system knows no locks.
+    fn lock(&self) -> io::Result<()>;
 
     /// Reads the bytes at an offset, all of them or it fails.
     fn read_block(&self, offset: u64, bytes: &mut [u8]) -> io::Result<()>;
@@ -32,6 +41,11 @@ impl BlockFile for File {
     ghost use Rattle.std.specs.Prelude.{replicate};
 
     ghost held = { λ _ _. replicate BLOCK_BYTES 0 };
+
+    fn lock(&self) -> io::Result<()> {
+        self.try_lock()?;
+        Ok(())
+    }
 
     fn read_block(&self, offset: u64, bytes: &mut [u8]) -> io::Result<()> {
         self.read_exact_at(bytes, offset)
@@ -62,6 +76,30 @@ pub struct FileDisk<F: BlockFile> {
     calls: Log<FileCall, Result<(), Failed>>,
 }
 
+// Opens a file, or makes it where there is none. One that was made is its owner's alone, and its folder is
+// settled, so that no crash loses its name.
+fn open_or_make<R: Files>(rt: &R, path: &str) -> io::Result<R::File> {
+    let mut options = OpenOptions::new();
+    options.read(true).write(true);
+    match options.open(rt, path) {
+        Err(error) if error.kind() == ErrorKind::NotFound => {
+            options.create_new(true).mode(OWNER_ALONE);
+            let file = options.open(rt, path)?;
+            File::open(rt, folder_of(path))?.sync_all()?;
+            Ok(file)
+        }
+        opened => opened,
+    }
+}
+
+// The folder that a file lies in.
+fn folder_of(path: &str) -> &str {
+    match Path::new(path).parent() {
+        Some(folder) if !folder.as_str().is_empty() => folder.as_str(),
+        _ => ".",
+    }
+}
+
 fn offset(block: BlockNo) -> u64
     ensures { result ≡ block.0 * BLOCK_BYTES }
 {
@@ -85,8 +123,8 @@ impl<F: BlockFile> FileDisk<F> {
         }
     }
 
-    /// Opens a file of blocks, and settles it first. Its blocks are the whole ones of its length, up to the
-    /// greatest number of them.
+    /// Opens a file of blocks, locks it, and then settles it. Its blocks are the whole ones of its length, up
+    /// to the greatest number of them.
     pub fn open<R: Files<File = F>>(rt: &R, path: &str) -> io::Result<FileDisk<F>>
     where
         F: OpenFile,
@@ -94,13 +132,14 @@ impl<F: BlockFile> FileDisk<F> {
         ensures fresh { IfOk result (λ d. d.calls.items ≡ []) }
     {
         let file = OpenOptions::new().read(true).write(true).open(rt, path)?;
+        file.lock()?;
         file.sync_all()?;
         let blocks = file.metadata()?.len() / BLOCK_BYTES as u64;
         Ok(FileDisk::over(file, blocks.min(u64::from(u32::MAX)) as u32))
     }
 
-    /// Opens or makes a file, gives it this many blocks and settles it. Blocks that it had stay, and new ones
-    /// are zeros.
+    /// Opens or makes a file, locks it, and then gives it this many blocks and settles it. Blocks that it had
+    /// stay, and new ones are zeros. One that was made is its owner's alone, and its folder is settled too.
     pub fn create<R: Files<File = F>>(rt: &R, path: &str, blocks: u32) -> io::Result<FileDisk<F>>
     where
         F: OpenFile,
@@ -108,11 +147,8 @@ impl<F: BlockFile> FileDisk<F> {
         ensures rest { IfOk result (λ d. IsAtRest (file_device (F.held d.file) d.blocks d.calls.items)) }
         ensures fresh { IfOk result (λ d. d.calls.items ≡ []) }
     {
-        let file = OpenOptions::new()
-            .read(true)
-            .write(true)
-            .create(true)
-            .open(rt, path)?;
+        let file = open_or_make(rt, path)?;
+        file.lock()?;
         file.set_len(offset(BlockNo(blocks)))?;
         file.sync_all()?;
         Ok(FileDisk::over(file, blocks))

@@ -1,8 +1,9 @@
 //! What no contract says: that calls succeed, and that a file of the system answers as a device does.
+mod files;
+mod order;
+
 use disk::{Block, BlockFile, BlockNo, CrashDisk, Failed, FileDisk, MemDisk, Side};
-use limits::BLOCK_BYTES;
 use std::alloc::Global;
-use std::fs::OpenOptions;
 use std::io;
 use std::test::Fail;
 
@@ -141,6 +142,10 @@ impl BlockFile for Fake {
 
     ghost held = { λ _ _. [] };
 
+    fn lock(&self) -> io::Result<()> {
+        self.answer()
+    }
+
     fn read_block(&self, _offset: u64, bytes: &mut [u8]) -> io::Result<()> {
         bytes.fill(7);
         self.answer()
@@ -164,56 +169,5 @@ fn errors_of_a_file_are_failures(rt: HostRuntime) -> Result<(), Fail> {
             assert!(rt; make(&mut disk, call, &mut out) == wanted);
         }
     }
-    Ok(())
-}
-
-// Makes a file of three blocks, of which the last begins with 1.
-fn make_file(rt: &HostRuntime, path: &str) -> Result<bool, Fail> {
-    let mut one = block(rt.alloc(), 1)?;
-    let mut disk = FileDisk::create(rt, path, 3)?;
-    Ok(
-        disk.blocks() == 3
-            && make(&mut disk, Call::Write(BlockNo(2)), &mut one) == Ok(1)
-            && disk.barrier(Side::Log) == Ok(()),
-    )
-}
-
-#[test]
-fn a_file_keeps_what_was_written(rt: HostRuntime) -> Result<(), Fail> {
-    let path = "kept.tmp";
-    assert!(rt; make_file(&rt, path)?);
-    let mut out = Block::zeros(rt.alloc())?;
-    let mut longer = FileDisk::create(&rt, path, 5)?;
-    let kept = make(&mut longer, Call::Read(BlockNo(2)), &mut out);
-    let added = make(&mut longer, Call::Read(BlockNo(4)), &mut out);
-    assert!(rt; longer.blocks() == 5 && (kept, added) == (Ok(1), Ok(0)));
-    std::fs::remove_file(&rt, path)?;
-    Ok(())
-}
-
-// A file that was cut short behind the device's back: its blocks past the end can't be read.
-#[test]
-fn a_file_is_cut_short(rt: HostRuntime) -> Result<(), Fail> {
-    let path = "cut.tmp";
-    let mut out = Block::zeros(rt.alloc())?;
-    let mut longer = FileDisk::create(&rt, path, 5)?;
-    let before = make(&mut longer, Call::Read(BlockNo(4)), &mut out);
-    let cut = FileDisk::create(&rt, path, 2)?;
-    let after = make(&mut longer, Call::Read(BlockNo(4)), &mut out);
-    assert!(rt; cut.blocks() == 2 && (before, after) == (Ok(0), Err(Failed)));
-    std::fs::remove_file(&rt, path)?;
-    Ok(())
-}
-
-// A part of a block at the end isn't looked at.
-#[test]
-fn a_file_ends_within_a_block(rt: HostRuntime) -> Result<(), Fail> {
-    let path = "part.tmp";
-    assert!(rt; make_file(&rt, path)?);
-    let file = OpenOptions::new().write(true).open(&rt, path)?;
-    file.set_len(BLOCK_BYTES as u64 * 2 + 1)?;
-    let opened = FileDisk::open(&rt, path)?;
-    assert!(rt; opened.blocks() == 2);
-    std::fs::remove_file(&rt, path)?;
     Ok(())
 }

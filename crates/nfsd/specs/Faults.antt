@@ -1,5 +1,8 @@
 -- What the program prints of a fault, and the status that it ends with.
-use Rattle.std.specs.Prelude.{ℕ, List, [], ◌∷◌, ◌++◌, Option, None, Some, codes}
+use Rattle.std.specs.Prelude.{⊤, ℕ, List, [], ◌∷◌, ◌++◌, Option, None, Some, Result, Ok, Err, codes}
+use Rattle.clap.specs.Words.{kind_of}
+use Rattle.clap.specs.declared.error.Error.{Error}
+use Rattle.clap.specs.declared.error.kind.ErrorKind.TheVariants as kind
 use Rattle.session.specs.declared.serving.SessionFault.{SessionFault}
 use Rattle.session.specs.declared.serving.SessionFault.TheVariants as session
 use Rattle.store.specs.declared.formatting.FormatFault.{FormatFault}
@@ -40,6 +43,8 @@ session_line session.Device = as_line (codes "nfsd: 6 Device")
 
 -- the line of a fault; of arguments that don't parse their parser tells
 abbrev pub fault_line : Fault → Option (List ℕ)
+fault_line fault.NotText = Some (as_line (codes "nfsd: arguments"))
+fault_line fault.Memory = Some (as_line (codes "nfsd: memory"))
 fault_line (fault.Words error) = None
 fault_line fault.File = Some (as_line (codes "nfsd: file"))
 fault_line (fault.Format why) = Some (format_line why)
@@ -47,7 +52,24 @@ fault_line (fault.Open why) = Some (open_line why)
 fault_line (fault.Session why) = Some (session_line why)
 fault_line fault.Print = Some (as_line (codes "nfsd: output"))
 
--- 2 where the arguments don't parse, and 1 at every other fault
+-- 2 where the arguments aren't text or don't parse, and 1 at every other fault
 abbrev pub status_of : Fault → ℕ
+status_of fault.NotText = 2
 status_of (fault.Words error) = 2
 status_of other = 1
+
+-- 0 where there was no fault
+abbrev pub status_of_outcome : Result (Unit {0}) Fault → ℕ
+status_of_outcome (Ok done) = 0
+status_of_outcome (Err why) = status_of why
+
+-- it is a fault of reading the arguments, which then may ask for nothing
+abbrev pub IsOfReading : Fault → Type 0
+IsOfReading fault.NotText = ⊤
+IsOfReading fault.Memory = ⊤
+IsOfReading (fault.Words error) = ⊤
+IsOfReading other = ⊥
+
+-- what an error of the arguments' parser is to the program
+abbrev pub fault_of_words : Error → Fault
+fault_of_words error = elim (kind_of error) [ kind.OutOfMemory ↦ fault.Memory | _ ↦ fault.Words error ]

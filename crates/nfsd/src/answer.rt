@@ -1,43 +1,29 @@
 //! What the program does for its arguments.
-ghost use Rattle.std.specs.Prelude.{◌≡◌, ◌≢◌, ◌≤◌, ◌-◌, IfErr, IfOk, IfSome, OnOk, map};
+ghost use Rattle.std.specs.Prelude.{◌≡◌, ◌≤◌, ◌-◌, ◌⊎◌, IfErr, IfOk, IfSome, OnOk, map};
 ghost use Rattle.std.specs.Io.KnownBytes.{Appends};
 ghost use Rattle.nfsd_words.specs.Words.{HasMeaning};
 ghost use Rattle.layout.specs.Geometry.{data_at};
 ghost use Rattle.nfsd.specs.Done.{IsDone, formatted_line};
-ghost use Rattle.nfsd.specs.Faults.{fault_line, status_of};
+ghost use Rattle.nfsd.specs.Faults.{IsOfReading, fault_line, status_of_outcome};
 
 use crate::fault::Fault;
+use crate::streams::{Streams, fill};
 use disk::{BlockFile, FileDisk};
 use nfs_types::Moment;
 use nfsd_words::{Args, words};
 use std::fs::Files;
 use std::io::{self, Read, Write};
 
-/// Does what the arguments ask for, of which the first is the program's name, and gives the exit status: 0 where it
-/// is done, 2 where they don't parse, and else 1. A fault is told on `faults`.
-pub fn answer<R, I, O, E>(
-    rt: &R,
-    line: &[&str],
-    reader: &mut I,
-    writer: &mut O,
-    faults: &mut E,
-) -> u8
-where
-    R: Files + AllocGlobal,
-    R::File: BlockFile,
-    I: Read,
-    O: Write,
-    E: Write,
-    ensures statuses { result ≤ 2 }
-    ensures done { result ≡ 0 → IsDone (map (λ word. word.now) line.now) (O.contents writer.old) (O.contents writer.new) }
-    ensures quiet { result ≡ 0 → faults.new ≡ faults.old }
-    ensures meaning { result ≢ 2 → HasMeaning (map (λ word. word.now) line.now) }
+/// Tells a fault on `faults`, where that can be done, and gives the exit status.
+pub fn conclude<E: Write>(faults: &mut E, outcome: &Result<(), Fault>) -> u8
+    ensures status { result ≡ status_of_outcome outcome.now }
+    ensures quiet { OnOk outcome.now (faults.new ≡ faults.old) }
 {
-    let Err(fault) = obey(rt, line, reader, writer) else {
+    let Err(fault) = outcome else {
         return 0;
     };
     // Where not even that can be told, the status tells it.
-    let _ = tell(faults, &fault);
+    let _ = tell(faults, fault);
     fault.status()
 }
 
@@ -49,19 +35,45 @@ fn tell<E: Write>(faults: &mut E, fault: &Fault) -> io::Result<()>
     write!(faults, "{fault}")
 }
 
+/// Does what the arguments ask for, of which the first is the program's name, tells a fault on `faults`, and
+/// gives the exit status: 0 where it is done, 2 where the arguments don't parse, and else 1.
+pub fn answer<R, I, O, E>(
+    rt: &R,
+    line: &[&str],
+    reader: &mut I,
+    writer: &mut O,
+    faults: &mut E,
+) -> u8
+where
+    R: Files + Streams + AllocGlobal,
+    R::File: BlockFile,
+    I: Read,
+    O: Write,
+    E: Write,
+    ensures statuses { result ≤ 2 }
+    ensures done { result ≡ 0
+        → IsDone (map (λ word. word.now) line.now) (O.contents writer.old) (O.contents writer.new) }
+    ensures quiet { result ≡ 0 → faults.new ≡ faults.old }
+{
+    let outcome = obey(rt, line, reader, writer);
+    conclude(faults, &outcome)
+}
+
+// Does what the arguments ask for. No image is opened before each standard stream's descriptor is taken.
 #[tactic(auto, using(crate::proofs::Obeyed::has_obeyed))]
 fn obey<R, I, O>(rt: &R, line: &[&str], reader: &mut I, writer: &mut O) -> Result<(), Fault>
 where
-    R: Files + AllocGlobal,
+    R: Files + Streams + AllocGlobal,
     R::File: BlockFile,
     I: Read,
     O: Write,
     ensures done { OnOk result
         (IsDone (map (λ word. word.now) line.now) (O.contents writer.old) (O.contents writer.new)) }
-    ensures meaning { IfErr result (λ fault. status_of fault ≢ 2
-        → HasMeaning (map (λ word. word.now) line.now)) }
+    ensures meaning { IfErr result (λ fault. IsOfReading fault ⊎ HasMeaning (map (λ word. word.now) line.now)) }
 {
-    match words(rt.alloc(), line).map_err(Fault::Words)? {
+    let args = words(rt.alloc(), line).map_err(Fault::of_words)?;
+    let _fillers = fill(rt).or(Err(Fault::File))?;
+    match args {
         Args::Format {
             image,
             blocks,

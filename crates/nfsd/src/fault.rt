@@ -1,8 +1,9 @@
 //! Why the program didn't do what its arguments ask for.
 ghost use Rattle.std.specs.Prelude.{◌≡◌};
-ghost use Rattle.nfsd.specs.Faults.{status_of};
+ghost use Rattle.nfsd.specs.Faults.{fault_of_words, status_of};
 
 use crate::lines::{format_line, open_line, session_line};
+use clap::error::ErrorKind;
 use session::SessionFault;
 use std::fmt;
 use store::{FormatFault, OpenFault};
@@ -10,9 +11,14 @@ use store::{FormatFault, OpenFault};
 /// Why the program didn't do what its arguments ask for. Its `Display` is the text for the user.
 #[derive(Debug, Drop)]
 pub enum Fault {
+    /// An argument isn't text.
+    NotText,
+    /// The arguments found no memory.
+    Memory,
     /// The arguments don't parse.
     Words(clap::Error),
-    /// The image's file can't be opened or given its length.
+    /// The image's file can't be opened, locked or given its length, or a closed stream's descriptor can't be
+    /// taken.
     File,
     /// The image can't be made.
     Format(FormatFault),
@@ -25,11 +31,22 @@ pub enum Fault {
 }
 
 impl Fault {
+    /// What it is to the program that its arguments don't parse.
+    pub fn of_words(error: clap::Error) -> Fault
+        ensures { result ≡ fault_of_words error }
+    {
+        match error.kind() {
+            ErrorKind::OutOfMemory => Fault::Memory,
+            _ => Fault::Words(error),
+        }
+    }
+
     /// The exit status.
     pub fn status(&self) -> u8
         ensures { result ≡ status_of self.now }
     {
         match self {
+            Fault::NotText => 2,
             Fault::Words(_) => 2,
             _ => 1,
         }
@@ -43,6 +60,8 @@ impl fmt::Display for Fault {
 
     fn fmt<W: fmt::Write>(&self, f: &mut fmt::Formatter<W>) -> fmt::Result {
         match self {
+            Fault::NotText => f.write_str("nfsd: arguments\n"),
+            Fault::Memory => f.write_str("nfsd: memory\n"),
             Fault::Words(error) => write!(f, "{error}"),
             Fault::File => f.write_str("nfsd: file\n"),
             Fault::Format(fault) => f.write_str(format_line(*fault)),

@@ -2,24 +2,42 @@
 #![tactic(auto)]
 
 mod answer;
+mod arguments;
 mod fault;
 mod lines;
+mod streams;
 #[cfg(test)]
 mod tests;
 
+use crate::answer::{answer, conclude};
+use crate::arguments::arguments;
+use crate::fault::Fault;
+use std::alloc::AllocError;
 use std::process::ExitCode;
-use std::{env, io};
 
-fn main(rt: HostRuntime) -> io::Result<ExitCode> {
-    let given: Vec<String> = env::args(&rt)?.collect(rt.alloc())?;
-    let line: Vec<&str> = given.iter().map(|word| word.as_str()).collect(rt.alloc())?;
-    let mut reader = rt.reader();
-    let status = answer::answer(
-        &rt,
-        line.as_slice(),
-        &mut reader,
-        &mut rt.stdout(),
-        &mut rt.stderr(),
-    );
-    Ok(ExitCode::from(status))
+fn main(rt: HostRuntime) -> ExitCode {
+    ExitCode::from(attend(&rt))
+}
+
+// Reads the arguments, and does what they ask for.
+fn attend(rt: &HostRuntime) -> u8 {
+    let mut faults = rt.stderr();
+    let given = match arguments(rt) {
+        Ok(given) => given,
+        Err(fault) => return conclude(&mut faults, &Err(fault)),
+    };
+    let line: Result<Vec<&str>, AllocError> = given
+        .iter()
+        .map(|word| word.as_str())
+        .collect(rt.alloc());
+    match line {
+        Ok(line) => answer(
+            rt,
+            line.as_slice(),
+            &mut rt.reader(),
+            &mut rt.stdout(),
+            &mut faults,
+        ),
+        Err(_) => conclude(&mut faults, &Err(Fault::Memory)),
+    }
 }

@@ -2,8 +2,10 @@
 //! it is tested in `rows`.
 
 mod arguments;
+mod closed;
 mod first_path;
 mod images;
+mod interruptions;
 mod outcome;
 mod refusals;
 mod streams;

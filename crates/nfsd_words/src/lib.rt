@@ -12,6 +12,20 @@ use clap::error::ErrorKind;
 use clap::{Arg, ArgMatches, Command, Error, value_parser};
 use std::alloc::{AllocError, Global};
 
+// What the help tells of each argument.
+const NEW_FILE: &str = "The file, which is made where there is none";
+
+const OLD_FILE: &str = "The file, which no other server may have at the same time";
+
+const BLOCKS: &str = "Its blocks of 4096 bytes, from 1024 to 1048576";
+
+const INODES: &str = "Its inodes, from 32 to 65536 by 32, which leave at least 64 data blocks";
+
+const TIME_MADE: &str = "When it is made, in seconds since 1970, from 0 to 4294967295";
+
+const TIME_OF_CALLS: &str =
+    "When the calls come, in seconds since 1970, from 0 to 4294967295, without a default";
+
 /// What the arguments ask for.
 #[derive(Clone, Copy, Debug, PartialEq, Eq)]
 pub enum Args<'a> {
@@ -89,11 +103,13 @@ fn format_words<'a>(alloc: Global) -> Result<Command<'a>, AllocError>
     ensures local { IfOk result (λ command. (out-Command command).has_globals ≡ false) }
 {
     Command::new(alloc, "format")
-        .about("Makes an image anew")
-        .arg(image(alloc))?
-        .arg(number_or(alloc, "blocks", "16384"))?
-        .arg(number_or(alloc, "inodes", "4096"))?
-        .arg(number_or(alloc, "time", "0"))
+        .about(
+            "Makes an image. It destroys what the file held, and sets its length even where it refuses",
+        )
+        .arg(image(alloc, NEW_FILE))?
+        .arg(number_or(alloc, "blocks", "16384", BLOCKS))?
+        .arg(number_or(alloc, "inodes", "4096", INODES))?
+        .arg(number_or(alloc, "time", "0", TIME_MADE))
 }
 
 fn once_words<'a>(alloc: Global) -> Result<Command<'a>, AllocError>
@@ -101,30 +117,31 @@ fn once_words<'a>(alloc: Global) -> Result<Command<'a>, AllocError>
     ensures local { IfOk result (λ command. (out-Command command).has_globals ≡ false) }
 {
     Command::new(alloc, "once")
-        .about("Answers the records of the standard input on the standard output")
-        .arg(image(alloc))?
-        .arg(number(alloc, "time").required(true))
+        .about("Answers the calls of standard input on standard output, up to the end of input")
+        .arg(image(alloc, OLD_FILE))?
+        .arg(number(alloc, "time", TIME_OF_CALLS).required(true))
 }
 
-fn image<'a>(alloc: Global) -> Arg<'a>
+fn image<'a>(alloc: Global, help: &'a str) -> Arg<'a>
     ensures rule { rule_of result ≡ image_rule }
     ensures local { result.global ≡ false }
 {
-    Arg::new(alloc, "IMAGE").required(true)
+    Arg::new(alloc, "IMAGE").required(true).help(help)
 }
 
-fn number<'a>(alloc: Global, name: &'a str) -> Arg<'a>
+fn number<'a>(alloc: Global, name: &'a str, help: &'a str) -> Arg<'a>
     ensures rule { rule_of result ≡ number_rule name.entry.now }
     ensures local { result.global ≡ false }
 {
     Arg::new(alloc, name)
         .long(name)
         .value_parser(value_parser!(u32))
+        .help(help)
 }
 
-fn number_or<'a>(alloc: Global, name: &'a str, default: &'a str) -> Arg<'a>
+fn number_or<'a>(alloc: Global, name: &'a str, default: &'a str, help: &'a str) -> Arg<'a>
     ensures rule { rule_of result ≡ default_rule name.entry.now default.entry.now }
     ensures local { result.global ≡ false }
 {
-    number(alloc, name).default_value(default)
+    number(alloc, name, help).default_value(default)
 }

@@ -1,5 +1,5 @@
 //! Serving a stream: the calls of its records, one after the other, and their replies.
-ghost use Rattle.std.specs.Prelude.{◌≡◌, ◌<◌, ◌↔◌, IsTrue, IsSome, IfOk, None, length};
+ghost use Rattle.std.specs.Prelude.{◌≡◌, ◌<◌, ◌≤◌, ◌↔◌, IsTrue, IsSome, IfOk, IfSome, None, length};
 ghost use Rattle.session_wire.specs.Replies.{IsSpellable, body_of};
 ghost use Rattle.session_wire.specs.Results.{HasSpelling};
 
@@ -10,7 +10,7 @@ use nfs_types::{Moment, Reply};
 use session_wire::rpc::{Records, Refusal, RpcFault};
 use session_wire::{Judged, RpcReply, judge, reply_bytes};
 use std::alloc::Global;
-use std::io::{Read, Write};
+use std::io::{ErrorKind, Read, Write};
 use store::{Store, Verdict, procedure, settle};
 use thiserror::Error;
 
@@ -20,7 +20,7 @@ pub enum SessionFault {
     /// A record isn't one fragment, announces too much, or has no header that can be read.
     #[error("Record")]
     Record = 1,
-    /// A read failed, or there were too many of them.
+    /// A read failed and wasn't interrupted, or there were too many of them.
     #[error("Input")]
     Input = 2,
     /// A write of a reply failed.
@@ -64,7 +64,8 @@ pub fn serve<D: CrashDisk, R: Read, W: Write>(
     }
 }
 
-// Answers the records up to the end of the input or the first fault.
+// Answers the records up to the end of the input or the first fault. A read that was interrupted counts as
+// one of the reads.
 fn serve_all<D: CrashDisk, R: Read, W: Write>(
     alloc: Global,
     store: &mut Store<D>,
@@ -79,7 +80,9 @@ fn serve_all<D: CrashDisk, R: Read, W: Write>(
     let mut piece = [0; PIECE_BYTES];
     let mut count: u64 = 0;
     'reads: for _ in 0..MOST_READS {
-        let read = reader.read(&mut piece).map_err(|_| SessionFault::Input)?;
+        let Some(read) = read_piece(reader, &mut piece)? else {
+            continue;
+        };
         if read == 0 {
             if records.is_empty() {
                 return Ok(count);
@@ -92,6 +95,18 @@ fn serve_all<D: CrashDisk, R: Read, W: Write>(
         count = serve_records(alloc, store, &mut records, writer, moment, count)?;
     }
     Err(SessionFault::Input)
+}
+
+// Reads bytes of the input, and tells how many. None is told where the read was interrupted: the next one
+// goes on.
+fn read_piece<R: Read>(reader: &mut R, piece: &mut [u8]) -> Result<Option<usize>, SessionFault>
+    ensures { IfOk result (λ o. IfSome o (λ count. count ≤ length piece.new)) }
+{
+    match reader.read(piece) {
+        Ok(count) => Ok(Some(count)),
+        Err(error) if error.kind() == ErrorKind::Interrupted => Ok(None),
+        Err(_) => Err(SessionFault::Input),
+    }
 }
 
 // Answers the records that have come whole, and counts their replies on.

@@ -1,15 +1,16 @@
 //! The program run on arguments and an input, with all that it wrote.
 
 use crate::answer::answer;
+use crate::streams::Streams;
 use std::fs::{File, Files, remove_file};
 use std::process::Abort;
 use std::test::Fail;
 use worked_messages::stream;
 
-/// A runtime that has files and can end a test.
-pub trait Host: Files<File = File> + AllocGlobal + Abort {}
+/// A runtime that has files and standard streams, and can end a test.
+pub trait Host: Files<File = File> + Streams + AllocGlobal + Abort {}
 
-impl<R: Files<File = File> + AllocGlobal + Abort> Host for R {}
+impl<R: Files<File = File> + Streams + AllocGlobal + Abort> Host for R {}
 
 /// What one run of the program gave.
 #[derive(Drop)]

@@ -1,6 +1,8 @@
 //! Files and sizes that the program refuses, and what it prints where it doesn't.
 
-use crate::tests::outcome::{Host, Outcome, assert_fault, once, remove, run};
+use crate::tests::outcome::{Host, Outcome, assert_fault, fresh, once, remove, run};
+use std::fs;
+use std::fs::{File, OpenOptions};
 use std::test::Fail;
 
 // Formats a file with these counts, and gives what the run gave.
@@ -51,4 +53,32 @@ fn files_that_cannot_be_opened(rt: HostRuntime) -> Result<(), Fail> {
     let ran = formatted(&rt, "no/such/folder.img", "1024", "64");
     assert_fault(&rt, &ran, b"nfsd: file\n", &[])?;
     assert_fault(&rt, &once(&rt, "none.img", &[]), b"nfsd: file\n", &[])
+}
+
+// Another program has the file: it is left as it was.
+#[test]
+fn files_that_are_locked(rt: HostRuntime) -> Result<(), Fail> {
+    fresh(&rt, "locked.img");
+    let before = fs::read(&rt, "locked.img")?;
+    let other = OpenOptions::new().write(true).open(&rt, "locked.img")?;
+    other.lock()?;
+    assert_fault(&rt, &once(&rt, "locked.img", &[]), b"nfsd: file\n", &[])?;
+    let ran = formatted(&rt, "locked.img", "2048", "64");
+    assert_fault(&rt, &ran, b"nfsd: file\n", &[])?;
+    assert!(rt; fs::read(&rt, "locked.img")? == before);
+    other.unlock()?;
+    assert_eq!(rt; once(&rt, "locked.img", &[]).status, 0);
+    remove(&rt, &["locked.img"])
+}
+
+// The file is free again once the program has ended, well or by a fault.
+#[test]
+fn files_are_free_again(rt: HostRuntime) -> Result<(), Fail> {
+    fresh(&rt, "freed.img");
+    let ran = formatted(&rt, "freed.img", "1024", "33");
+    assert_fault(&rt, &ran, b"nfsd: 2 Inodes\n", &[])?;
+    File::open(&rt, "freed.img")?.try_lock()?;
+    fresh(&rt, "freed.img");
+    assert_eq!(rt; once(&rt, "freed.img", &[]).status, 0);
+    remove(&rt, &["freed.img"])
 }
