@@ -5,7 +5,7 @@ use Rattle.std.proofs.lemmas.List.FromFn.{get_or-map-range_with_len}
 use Rattle.limits.specs.declared.TheConstants.{BITS_PER_BLOCK, BLOCK_BYTES}
 use Rattle.disk.specs.Crash.{Image}
 use Rattle.layout.specs.Fresh.{bit, byte_of, bitmap_block}
-use Rattle.layout.specs.Owners.{bit_at}
+use Rattle.layout.specs.Parts.{bit_at}
 
 small : (b : Bool) → bit b ≤ 1
 small true = omega arith

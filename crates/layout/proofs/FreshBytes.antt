@@ -20,10 +20,10 @@ use Rattle.layout.specs.Geometry.{bitmap_blocks, inode_bitmap_at, table_at, data
 use Rattle.layout.specs.SuperForm.{MAGIC_BYTES, super_head, super_bytes}
 
 -- each item is a byte
-record IsBytes (bytes : List ℕ) : Type 0 where
-  are : AreBytes bytes
+pub record IsBytes (bytes : List ℕ) : Type 0 where
+  pub are : AreBytes bytes
 
-join : {xs ys : List ℕ} → IsBytes xs → IsBytes ys → IsBytes (xs ++ ys)
+pub join : {xs ys : List ℕ} → IsBytes xs → IsBytes ys → IsBytes (xs ++ ys)
 join {xs} {ys} a b = record {
   are = λ index. elim (cases_lt index (length xs)) [
     | inl less ↦ subst (λ n. n < 256) (sym (get_or_append_left xs ys 0 index less)) (a.are index)
@@ -57,15 +57,15 @@ low : (i k n : ℕ) → IsBytes (bytes_low_first i k n)
 low i zero n = nothing
 low i (suc k) n = cons (byte_at i n) (small_byte i n) (low (suc i) k n)
 
-four : (n : ℕ) → IsBytes (four_bytes n)
+pub four : (n : ℕ) → IsBytes (four_bytes n)
 unfolding four_bytes
 four n = low 0 4 n
 
-eight : (n : ℕ) → IsBytes (eight_bytes n)
+pub eight : (n : ℕ) → IsBytes (eight_bytes n)
 unfolding eight_bytes
 eight n = low 0 8 n
 
-fours : (numbers : List ℕ) → IsBytes (number_bytes numbers)
+pub fours : (numbers : List ℕ) → IsBytes (number_bytes numbers)
 fours [] = nothing
 fours (n ∷ numbers) = join (four n) (fours numbers)
 

@@ -6,3 +6,16 @@ pub mod FreshFiles
 pub mod FreshInodes
 pub mod NumbersAt
 pub mod BitmapBytes
+pub mod Local
+pub mod Frame
+pub mod Spelled
+pub mod Fits
+pub mod Splices
+pub mod Written
+pub mod WrittenBytes
+pub mod Retouched
+pub mod ChangedInode
+pub mod Marks
+pub mod OtherWrites
+pub mod Mapped
+pub mod Used

@@ -10,8 +10,8 @@ use Rattle.layout.specs.Stands.{Stands}
 pub one_tree : (g : Geometry) (blocks : Image) (one other : Tree) → Stands g blocks one
     → Stands g blocks other → one ≡ other
 one_tree g blocks one other a b =
-    let geometry : one.geometry ≡ other.geometry = a.geometry ∙ sym b.geometry in
+    let geometry : one.geometry ≡ other.geometry = a.parts.geometry ∙ sym b.parts.geometry in
     let nodes : one.nodes ≡ other.nodes =
-    same_map nat_cmp_total nat_cmp-IsAntisymmetric one.nodes other.nodes (λ (number : ℕ). a.files number
-    ∙ sym (b.files number)) in
+    same_map nat_cmp_total nat_cmp-IsAntisymmetric one.nodes other.nodes
+    (λ (number : ℕ). a.parts.has.files number ∙ sym (b.parts.has.files number)) in
     λ i. record { geometry = geometry i; nodes = nodes i }

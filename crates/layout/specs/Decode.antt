@@ -1,7 +1,6 @@
 -- The file that an inode and its blocks are.
-use Rattle.std.specs.Prelude.{◌≡◌, ℕ, ◌*◌, ◌/◌, true, cond, not, ◌||◌, List, ◌++◌, nat_eq, nat_lt, take, drop}
-use Rattle.std.specs.Prelude.{length, replicate, get_or, filter, All, IsOk, Option, Some, None, Result, Ok}
-use Rattle.std.specs.Prelude.{Err}
+use Rattle.std.specs.Prelude.{◌≡◌, ℕ, ◌*◌, ◌/◌, true, cond, not, ◌||◌, List, ◌++◌, nat_eq, take, drop, length}
+use Rattle.std.specs.Prelude.{replicate, get_or, filter, All, IsOk, Option, Some, None, Result, Ok, Err}
 use Rattle.std.specs.List.{flat_map, filter_map, list_all, list_any, range_with_len}
 use Rattle.std.specs.Ordering.{nat_cmp}
 use Rattle.std.specs.FinMap as map
@@ -117,11 +116,6 @@ unfoldable pub inode_at : Geometry → Image → ℕ → Result Inode LayoutFaul
 inode_at g blocks number =
     read_inode g.blocks g.inodes
     (take INODE_BYTES (drop (inode_offset number) (blocks (inode_block g.blocks g.inodes number))))
-
--- the file of a number: none past the last inode
-unfoldable pub file_at : Geometry → Image → ℕ → Option Node
-file_at g blocks number =
-    cond (nat_lt number g.inodes) (file_of g.inodes blocks (inode_at g blocks number)) None
 
 -- The numbers in an indirect block are those of data blocks, and it is used only where it has one.
 pub record IsMapped (g : Geometry) (blocks : Image) (inode : Inode) : Type 0 where

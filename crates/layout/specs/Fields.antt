@@ -1,5 +1,5 @@
 -- Numbers in bytes, the least byte first, as the disk has them.
-use Rattle.std.specs.Prelude.{ℕ, zero, suc, ◌+◌, Bool, List, [], ◌∷◌, nat_eq, drop}
+use Rattle.std.specs.Prelude.{ℕ, zero, suc, ◌+◌, Bool, List, [], ◌∷◌, nat_eq, not, drop, count_by}
 use Rattle.std.specs.Int.{w32, w64, from_le_bytes, to_le_bytes}
 use Rattle.std.specs.List.{flat_map, list_all}
 
@@ -31,3 +31,7 @@ number_bytes numbers = flat_map four_bytes numbers
 -- nothing but zeros
 abbrev pub is_zeros : List ℕ → Bool
 is_zeros bytes = list_all (λ byte. nat_eq byte 0) bytes
+
+-- how many of these are numbers of blocks
+abbrev pub count_of : List ℕ → ℕ
+count_of numbers = count_by (λ number. not (nat_eq number 0)) numbers

@@ -1,10 +1,13 @@
 -- The inode: what the disk has of a file in 128 bytes.
-use Rattle.std.specs.Prelude.{ℕ, ◌+◌, ◌/◌, ◌%◌, Bool, true, cond, not, ◌&&◌, ◌||◌, List, ◌++◌, nat_eq, nat_le}
-use Rattle.std.specs.Prelude.{nat_lt, take, drop, min, Option, Some, None, Result, Ok, Err}
-use Rattle.std.specs.List.{list_all}
+use Rattle.std.specs.Prelude.{◌≡◌, ℕ, ◌+◌, ◌<◌, ◌≤◌, ◌^◌, ◌/◌, ◌%◌, length, IfSome, Bool, true, cond, not}
+use Rattle.std.specs.Prelude.{◌&&◌}
+use Rattle.std.specs.Prelude.{◌||◌, List, ◌++◌, nat_eq, nat_le, nat_lt, take, drop, min, Option, Some, None}
+use Rattle.std.specs.Prelude.{Result, Ok, Err}
+use Rattle.std.specs.List.{list_all, AllByRecursion}
 use Rattle.limits.specs.declared.TheConstants.{BLOCK_BYTES, DIRECT_INDEXES, LARGEST_FILE, MODE_BITS}
 use Rattle.limits.specs.declared.TheConstants.{MOST_LINKS, NANOSECONDS, TARGET_BYTES}
 use Rattle.nfs_types.specs.declared.ctx.Moment.{Moment}
+use Rattle.model.specs.Sound.{SoundTime}
 use Rattle.layout.specs.declared.fault.LayoutFault.{LayoutFault}
 use Rattle.layout.specs.declared.fault.LayoutFault.TheVariants.{Range}
 use Rattle.layout.specs.declared.inode.Inode.{Inode}
@@ -161,3 +164,54 @@ tail_bytes inode =
 -- the bytes that an inode gets
 abbrev pub inode_bytes : Inode → List ℕ
 inode_bytes inode = head_bytes inode ++ middle_bytes inode ++ tail_bytes inode
+
+abbrev pub FitsMoment : Moment → Type 0
+FitsMoment time = (time.seconds < 2 ^ 32) × (time.nanoseconds < 2 ^ 32)
+
+-- each field has room in its bytes
+pub record FitsInode (inode : Inode) : Type 0 where
+  pub mode : inode.mode < 2 ^ 32
+  pub uid : inode.uid < 2 ^ 32
+  pub gid : inode.gid < 2 ^ 32
+  pub nlink : inode.nlink < 2 ^ 32
+  pub size : inode.size < 2 ^ 64
+  pub atime : FitsMoment inode.atime
+  pub mtime : FitsMoment inode.mtime
+  pub ctime : FitsMoment inode.ctime
+  pub boot : inode.stamp.boot < 2 ^ 64
+  pub transaction : inode.stamp.transaction < 2 ^ 64
+  pub parent : inode.parent < 2 ^ 32
+  pub verifier : IfSome inode.verifier (λ v. v < 2 ^ 64)
+  pub count : length inode.direct ≡ DIRECT_INDEXES
+  pub direct : AllByRecursion (λ number. number < 2 ^ 32) inode.direct
+  pub indirect : inode.indirect < 2 ^ 32
+
+-- what of an inode is no matter of its blocks, its kind or its links
+pub record Touch : Type 0 where
+  pub mode : ℕ
+  pub uid : ℕ
+  pub gid : ℕ
+  pub atime : Moment
+  pub mtime : Moment
+  pub ctime : Moment
+  pub verifier : Option ℕ
+
+abbrev pub touched : Inode → Touch → Inode
+touched inode t = record inode {
+  mode = t.mode;
+  uid = t.uid;
+  gid = t.gid;
+  atime = t.atime;
+  mtime = t.mtime;
+  ctime = t.ctime;
+  verifier = t.verifier;
+}
+
+pub record SoundTouch (t : Touch) : Type 0 where
+  pub mode : t.mode ≤ MODE_BITS
+  pub uid : t.uid < 2 ^ 32
+  pub gid : t.gid < 2 ^ 32
+  pub atime : SoundTime t.atime
+  pub mtime : SoundTime t.mtime
+  pub ctime : SoundTime t.ctime
+  pub verifier : IfSome t.verifier (λ v. v < 2 ^ 64)

@@ -2,6 +2,7 @@ pub mod Decode
 pub mod Fields
 pub mod InodeForm
 pub mod Owners
+pub mod Parts
 pub mod Geometry
 pub mod SlotForm
 pub mod Stands

@@ -41,6 +41,7 @@ pub struct Inode {
 impl Inode {
     ghost use Rattle.limits.specs.declared.TheConstants.{INODE_BYTES, DIRECT_INDEXES};
     ghost use Rattle.layout.specs.InodeForm.{read_inode, inode_bytes};
+    ghost use Rattle.layout.specs.Fields.{count_of};
 
     /// Reads an inode of an image of this geometry. It is refused by what it shows by itself.
     pub fn read(geometry: &Geometry, bytes: &[u8]) -> Result<Inode, LayoutFault>
@@ -72,7 +73,8 @@ impl Inode {
 
     /// How many blocks it names directly.
     pub fn directly_used(&self) -> u32
-        ensures { result ≤ DIRECT_INDEXES }
+        ensures few { result ≤ DIRECT_INDEXES }
+        ensures count { result ≡ count_of self.now.direct }
     {
         count_mapped(&self.direct)
     }

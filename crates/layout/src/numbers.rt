@@ -2,7 +2,7 @@
 ghost use Rattle.std.specs.Prelude.{◌≡◌, ◌≤◌, true, false, length, IfOk, IfErr};
 ghost use Rattle.std.specs.List.{list_all};
 ghost use Rattle.limits.specs.declared.TheConstants.{BLOCK_BYTES, INDIRECT_INDEXES};
-ghost use Rattle.layout.specs.Fields.{numbers_at};
+ghost use Rattle.layout.specs.Fields.{numbers_at, count_of};
 ghost use Rattle.layout.specs.InodeForm.{is_data_block_or_none};
 
 use crate::fields::four_at;
@@ -58,7 +58,8 @@ impl Numbers {
 
     /// How many blocks it maps.
     pub fn mapped(&self) -> u32
-        ensures { result ≤ INDIRECT_INDEXES }
+        ensures few { result ≤ INDIRECT_INDEXES }
+        ensures count { result ≡ count_of self.now }
     {
         count_mapped(&self.numbers)
     }
@@ -74,7 +75,8 @@ impl Numbers {
 /// How many of these numbers are those of blocks.
 pub(crate) fn count_mapped(numbers: &[u32]) -> u32
     requires { length numbers.now ≤ INDIRECT_INDEXES }
-    ensures { result ≤ length numbers.now }
+    ensures few { result ≤ length numbers.now }
+    ensures count { result ≡ count_of numbers.now }
 {
     let mut mapped = 0;
     for number in numbers {

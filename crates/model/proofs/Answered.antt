@@ -50,7 +50,7 @@ stamped-is number stamp (Some node) found is =
     record { at_is = λ i. Some (same i).1; number_is = λ i. (same i).0 }
 
 -- what a handle names stands in the tree under its number
-found-stands : (tree : Tree) (handle : List ℕ) (found : ℕ × Node) → find_file tree handle ≡ Ok found
+pub found-stands : (tree : Tree) (handle : List ℕ) (found : ℕ × Node) → find_file tree handle ≡ Ok found
     → node_at tree found.0 ≡ Some found.1
 found-stands tree handle found is =
     let in_tree =

@@ -1,9 +1,9 @@
 pub mod Answered
-mod Attributed
+pub mod Attributed
 mod Determined
 pub mod Formatted
 pub mod Joined
 pub mod Maps
-mod Replaced
+pub mod Replaced
 pub mod Sets
 mod Unsupported

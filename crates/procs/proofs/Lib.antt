@@ -1,1 +1,5 @@
 pub mod OnlyMode
+pub mod WrittenMode
+pub mod ReadThere
+pub mod Handles
+pub mod FoundThere

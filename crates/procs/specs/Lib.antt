@@ -1,2 +1,3 @@
 pub mod Snap
 pub mod FoundFile
+pub mod Steps

@@ -1,7 +1,14 @@
 //! The file that a handle names.
-ghost use Rattle.std.specs.Prelude.{◌≡◌, ◌+◌, ◌<◌, ◌≤◌, length, IfErr, IfOk};
-ghost use Rattle.limits.specs.declared.TheConstants.{INDIRECT_INDEXES};
+ghost use Rattle.std.specs.Prelude.{◌≡◌, ◌+◌, ◌<◌, ◌≤◌, length, cond, nat_eq, Ok, IfErr, IfOk};
+ghost use Rattle.limits.specs.declared.TheConstants.{BLOCK_BYTES, INDIRECT_INDEXES};
+ghost use Rattle.layout.specs.Fields.{numbers_at, count_of};
+ghost use Rattle.disk.specs.Crash.{Image};
+ghost use Rattle.layout.specs.Decode.{inode_at};
+ghost use Rattle.txn.specs.Window.{object_at};
 ghost use Rattle.procs.specs.Snap.{IsNew};
+ghost use Rattle.layout.specs.Stands.{Stands};
+ghost use Rattle.model.specs.Tree.{Tree};
+ghost use Rattle.procs.specs.Steps.{Saw, NoneStand, IsFoundIn};
 
 use crate::attributes::FoundFile;
 use crate::snap::Snap;
@@ -15,7 +22,10 @@ use std::alloc::Global;
 // The bytes at an address, once they were read.
 fn bytes_at(snap: &Snap, addr: Addr) -> Result<&[u8], Stop>
     ensures ok { IfOk result (λ bytes. length bytes.now ≡ addr.len) }
+    ensures there { IfOk result (λ bytes. (blocks : Image) → Saw blocks snap.now
+        → object_at blocks addr ≡ bytes.now) }
     ensures err { IfErr result (λ stop. IsNew snap.now stop) }
+    ensures io { IfErr result (λ stop. NoneStand snap.now stop) }
 {
     match snap.get(addr) {
         Some(object) => Ok(object.bytes()),
@@ -26,6 +36,9 @@ fn bytes_at(snap: &Snap, addr: Addr) -> Result<&[u8], Stop>
 // How many blocks the indirect block of this number maps, and itself.
 fn used_by(alloc: Global, snap: &Snap, indirect: u32) -> Result<u32, Stop>
     ensures ok { IfOk result (λ used. used ≤ INDIRECT_INDEXES + 1) }
+    ensures used { IfOk result (λ used. (blocks : Image) → Saw blocks snap.now
+        → length (blocks indirect) ≡ BLOCK_BYTES
+        → used ≡ cond (nat_eq indirect 0) 0 (count_of (numbers_at INDIRECT_INDEXES 0 (blocks indirect)) + 1)) }
     ensures err { IfErr result (λ stop. IsNew snap.now stop) }
 {
     if indirect == 0 {
@@ -41,10 +54,16 @@ fn used_by(alloc: Global, snap: &Snap, indirect: u32) -> Result<u32, Stop>
 // The inode of a number, which is that of an inode of the image.
 fn inode_of(snap: &Snap, number: u32) -> Result<Inode, Stop>
     requires { number < snap.now.geometry.inodes }
+    ensures there { IfOk result (λ inode. (blocks : Image) → Saw blocks snap.now
+        → inode_at snap.now.geometry blocks number ≡ Ok inode) }
     ensures err { IfErr result (λ stop. IsNew snap.now stop) }
+    ensures io { IfErr result (λ stop. NoneStand snap.now stop) }
 {
     let bytes = bytes_at(snap, snap.geometry.inode_addr(number))?;
-    Inode::read(&snap.geometry, bytes).map_err(|_| Stop::Io)
+    match Inode::read(&snap.geometry, bytes) {
+        Ok(inode) => Ok(inode),
+        Err(_) => Err(Stop::Io),
+    }
 }
 
 /// The file that a handle names, or why there is none: BADHANDLE for what can't be a handle of this server,
@@ -56,6 +75,9 @@ pub(crate) fn find(
 ) -> Result<Result<FoundFile, Status>, Stop>
     ensures err { IfErr result (λ stop. IsNew snap.now stop) }
     ensures ok { IfOk result (λ found. IfOk found (λ f. f.number < snap.now.geometry.inodes)) }
+    ensures tells { IfOk result (λ found. (blocks : Image) (tree : Tree)
+        → Stands snap.now.geometry blocks tree → Saw blocks snap.now
+        → IsFoundIn snap.now.geometry blocks tree handle.now.bytes found) }
 {
     let Some((number, stamp)) = handle.parts() else {
         return Ok(Err(Status::BadHandle));

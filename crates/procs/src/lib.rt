@@ -9,6 +9,7 @@ mod refused;
 mod rules;
 mod set_attr;
 mod snap;
+mod steps;
 mod stop;
 mod work;
 
@@ -17,4 +18,5 @@ pub use next::Plan;
 pub use refused::refused_reply;
 pub use rules::{has_rules, is_answered_stable};
 pub use snap::Snap;
+pub use steps::a_written_mode_is_a_step;
 pub use work::plan;

@@ -1,5 +1,5 @@
 //! What has been read for a call so far.
-ghost use Rattle.std.specs.Prelude.{◌≡◌, false, true, ◌∷◌, [], ◌++◌, length, IfSome, IfNone, OnOk};
+ghost use Rattle.std.specs.Prelude.{◌≡◌, false, true, ◌∷◌, [], ◌++◌, length, Contains, IfSome, IfNone, OnOk};
 ghost use Rattle.procs.specs.Snap.{HasRoom, is_seen, same_addr};
 
 use disk::BlockNo;
@@ -73,6 +73,7 @@ impl Snap {
     /// The object of an address, if it was read.
     pub fn get(&self, addr: Addr) -> Option<&Object>
         ensures some { IfSome result (λ o. same_addr addr o.now.addr ≡ true) }
+        ensures there { IfSome result (λ o. Contains self.now.objects.items o.now) }
         ensures none { IfNone result (is_seen addr self.now.objects.items ≡ false) }
     {
         for object in &self.objects {

@@ -23,9 +23,13 @@ lawful-sound g lawful =
 pub returns : goal.returns
 returns c = λ g moment image lawful now fresh. record {
   bytes = fresh.bytes;
-  geometry = refl;
-  sound = sound (geometry_of g) moment (lawful-sound g lawful) now;
-  inodes = mapped g moment image lawful now fresh;
-  files = files g moment image lawful now fresh;
-  marked = marked g moment image lawful now fresh;
+  parts = record {
+    geometry = refl;
+    sound = sound (geometry_of g) moment (lawful-sound g lawful) now;
+    has = record {
+      inodes = mapped g moment image lawful now fresh;
+      files = files g moment image lawful now fresh;
+    };
+    marked = marked g moment image lawful now fresh;
+  };
 }

@@ -1,0 +1,97 @@
+-- An inode that was read fits its bytes, and is sound by itself.
+use Rattle.std.proofs.Common.{◌≡◌, ℕ, zero, suc, ◌+◌, ◌*◌, ◌<◌, ◌^◌, sym, ap, ◌∙◌, refl, subst, Bool, true}
+use Rattle.std.proofs.Common.{false, cond, ◌&&◌, nat_eq, List, drop, get_or, Option, Some, None, Ok, Err}
+use Rattle.std.proofs.Common.{IfSome, arith}
+use Rattle.std.specs.List.{AllByRecursion}
+use Rattle.std.proofs.lemmas.List.{get_or-drop}
+use Rattle.limits.specs.declared.TheConstants.{DIRECT_INDEXES}
+use Rattle.model.specs.Sound.{AreBytes}
+use Rattle.layout.specs.declared.fault.LayoutFault.TheVariants.{Range}
+use Rattle.layout.specs.declared.inode.Inode.{Inode}
+use Rattle.layout.specs.declared.inode.InodeKind.{InodeKind}
+use Rattle.layout.specs.Fields.{four_at, eight_at, numbers_at}
+use Rattle.layout.specs.InodeForm.{FitsInode, read_inode, inode_of_kind, fields_of, is_sound_inode}
+use Rattle.layout.specs.InodeForm.{rest_is_zero, kind_of_number}
+use Rattle.layout.proofs.NumbersAt.{numbers-length}
+
+small_four : (a b c d : ℕ) → a < 256 → b < 256 → c < 256 → d < 256
+    → a + b * 256 + c * 65536 + d * 16777216 < 2 ^ 32
+small_four a b c d la lb lc ld = omega (arith, la, lb, lc, ld)
+
+small_eight : (a b c d e f g h : ℕ) → a < 256 → b < 256 → c < 256 → d < 256 → e < 256 → f < 256 → g < 256
+    → h < 256
+    → a + b * 256 + c * 65536 + d * 16777216 + e * 4294967296 + f * 1099511627776 + g * 281474976710656
+    + h * 72057594037927936 < 2 ^ 64
+small_eight a b c d e f g h la lb lc ld le lf lg lh = omega (arith, la, lb, lc, ld, le, lf, lg, lh)
+
+module _ (bytes : List ℕ) (are : AreBytes bytes) where
+  at : (index i : ℕ) → get_or (drop index bytes) i 0 < 256
+  at index i = subst (λ n. n < 256) (sym (get_or-drop index bytes i 0)) (are (index + i))
+
+  pub four : (index : ℕ) → four_at index bytes < 2 ^ 32
+  unfolding four_at
+  four index = small_four _ _ _ _ (at index 0) (at index 1) (at index 2) (at index 3)
+
+  pub eight : (index : ℕ) → eight_at index bytes < 2 ^ 64
+  unfolding eight_at
+  eight index =
+      small_eight _ _ _ _ _ _ _ _ (at index 0) (at index 1) (at index 2) (at index 3) (at index 4)
+      (at index 5) (at index 6) (at index 7)
+
+  pub numbers : (count index : ℕ) → AllByRecursion (λ number. number < 2 ^ 32) (numbers_at count index bytes)
+  unfolding numbers_at
+  numbers zero index = tt
+  numbers (suc count) index = (four index, numbers count (index + 4))
+
+  verifier : (given : Bool) (v : ℕ) → v < 2 ^ 64 → IfSome (cond given (Some v) None) (λ w. w < 2 ^ 64)
+  verifier true v small = small
+  verifier false v small = tt
+
+  pub fields_fit : (kind : InodeKind) → FitsInode (fields_of kind bytes)
+  unfolding fields_of
+  fields_fit kind = record {
+    mode = four 4;
+    uid = four 8;
+    gid = four 12;
+    nlink = four 16;
+    size = eight 24;
+    atime = (four 32, four 36);
+    mtime = (four 40, four 44);
+    ctime = (four 48, four 52);
+    boot = eight 56;
+    transaction = eight 64;
+    parent = four 72;
+    verifier = verifier (nat_eq (four_at 76 bytes) 1) (eight_at 80 bytes) (eight 80);
+    count = numbers-length DIRECT_INDEXES 88 bytes;
+    direct = numbers DIRECT_INDEXES 88;
+    indirect = four 120;
+  }
+
+chosen : (b : Bool) (x y : Inode) → cond b (Ok x) (Err Range) ≡ Ok y → (b ≡ true) × (x ≡ y)
+chosen true x y e = (refl, cc)
+chosen false x y e = cc
+
+and_right : (a b : Bool) → (a && b) ≡ true → b ≡ true
+and_right true b e = e
+and_right false b e = cc
+
+pub record IsRead (blocks inodes : ℕ) (inode : Inode) : Type 0 where
+  pub fits : FitsInode inode
+  pub good : is_sound_inode blocks inodes inode ≡ true
+
+module _ (blocks inodes : ℕ) (bytes : List ℕ) (are : AreBytes bytes) (inode : Inode) where
+  of_kind : (kind : Option InodeKind) → inode_of_kind blocks inodes kind bytes ≡ Ok inode
+      → IsRead blocks inodes inode
+  of_kind None e = cc
+  of_kind (Some kind) e =
+      let is = chosen (rest_is_zero kind bytes && is_sound_inode blocks inodes (fields_of kind bytes))
+      (fields_of kind bytes) inode e in
+      record {
+        fits = subst FitsInode is.1 (fields_fit bytes are kind);
+        good = ap (is_sound_inode blocks inodes) (sym is.1)
+            ∙ and_right (rest_is_zero kind bytes) (is_sound_inode blocks inodes (fields_of kind bytes)) is.0;
+      }
+
+  pub read_fits : read_inode blocks inodes bytes ≡ Ok inode → IsRead blocks inodes inode
+  unfolding read_inode
+  read_fits e = of_kind (kind_of_number (four_at 0 bytes)) e

@@ -1,0 +1,163 @@
+-- A file's node and rules look at the file's own blocks alone.
+use Rattle.std.proofs.Common.{◌≡◌, ℕ, zero, suc, sym, ap, ◌∙◌, refl, subst, Bool, true, false, cond, not}
+use Rattle.std.proofs.Common.{◌||◌, List, [], ◌∷◌, ◌++◌, length, take, drop, nat_eq, replicate, filter, All}
+use Rattle.std.proofs.Common.{IsOk, Ok, Err, Result, Some, ◌*◌}
+use Rattle.std.specs.List.{AllByRecursion, filter_map, list_all, list_any}
+use Rattle.std.specs.Cmp.Lexicographic.{slice_cmp}
+use Rattle.std.specs.Ordering.{nat_cmp}
+use Rattle.std.specs.FinMap as map
+use Rattle.limits.specs.declared.TheConstants.{BLOCK_BYTES, INDIRECT_INDEXES}
+use Rattle.disk.specs.Crash.{Image}
+use Rattle.layout.specs.declared.fault.LayoutFault.{LayoutFault}
+use Rattle.layout.specs.declared.geometry.Geometry.{Geometry}
+use Rattle.layout.specs.declared.inode.Inode.{Inode}
+use Rattle.layout.specs.declared.inode.InodeKind.{InodeKind}
+use Rattle.layout.specs.declared.inode.InodeKind.TheVariants.{Free, Regular, Directory, Link}
+use Rattle.layout.specs.Decode.{numbers_of, content_of, bytes_of, mapped_of, span_of, SLOT_SIZE, slot_bytes}
+use Rattle.layout.specs.Decode.{slots_of, entry_in, named_in, node_with, file_of_kind, file_of, IsMapped}
+use Rattle.layout.specs.Decode.{IsOfKind, IsFile}
+use Rattle.layout.specs.Fields.{numbers_at, is_zeros}
+use Rattle.layout.specs.InodeForm.{is_data_block_or_none, names_first}
+use Rattle.layout.specs.Owners.{owned_by}
+use Rattle.layout.specs.SlotForm.{read_slot}
+use Rattle.model.specs.Node as model
+
+either : {A : Type 0} (t : Bool) (z x y : A) → (t ≡ false → x ≡ y) → cond t z x ≡ cond t z y
+either true z x y h = refl
+either false z x y h = h refl
+
+module _ (P : ℕ → Type 0) where
+  all_left : (xs ys : List ℕ) → AllByRecursion P (xs ++ ys) → AllByRecursion P xs
+  all_left [] ys all = tt
+  all_left (x ∷ xs) ys all = (all.0, all_left xs ys all.1)
+
+  all_take : (k : ℕ) (xs : List ℕ) → AllByRecursion P xs → AllByRecursion P (take k xs)
+  all_take zero [] all = tt
+  all_take zero (x ∷ xs) all = tt
+  all_take (suc k) [] all = tt
+  all_take (suc k) (x ∷ xs) all = (all.0, all_take k xs all.1)
+
+  first : (t : Bool) (x : ℕ) (xs : List ℕ) → AllByRecursion P (cond (not t) (x ∷ xs) xs)
+      → (t ≡ false → P x) × AllByRecursion P xs
+  first true x xs all = (λ no. cc, all)
+  first false x xs all = (λ no. all.0, all.1)
+
+abbrev entry_count : List (List ℕ × model.DirectoryEntry) → ℕ
+entry_count entries = map.len (map.from_entries {R = slice_cmp nat_cmp} entries)
+
+module _ (a b : Image) where
+  abbrev IsSame : ℕ → Type 0
+  IsSame number = b number ≡ a number
+
+  abbrev IsAlike : ℕ → Type 0
+  IsAlike number = content_of b number ≡ content_of a number
+
+  abbrev AreSame : List ℕ → Type 0
+  AreSame numbers = AllByRecursion IsSame numbers
+
+  abbrev some : List ℕ → List ℕ
+  some numbers = filter (λ number. not (nat_eq number 0)) numbers
+
+  same_parts : (numbers : List ℕ) → AreSame (some numbers) → AllByRecursion IsAlike numbers
+  same_parts [] same = tt
+  same_parts (n ∷ numbers) same =
+      let parts = first IsSame (nat_eq n 0) n (some numbers) same in
+      (either (nat_eq n 0) (replicate BLOCK_BYTES 0) (b n) (a n) parts.0, same_parts numbers parts.1)
+
+  same_bytes : (numbers : List ℕ) → AllByRecursion IsAlike numbers → bytes_of b numbers ≡ bytes_of a numbers
+  unfolding bytes_of
+  same_bytes [] same = refl
+  same_bytes (n ∷ numbers) same = λ i. same.0 i ++ same_bytes numbers same.1 i
+
+  module _ (inode : Inode) (same : AreSame (owned_by a (Ok inode))) where
+    both : (nat_eq inode.indirect 0 ≡ false → b inode.indirect ≡ a inode.indirect)
+        × AreSame (some (numbers_of a inode))
+    both = first IsSame (nat_eq inode.indirect 0) inode.indirect (some (numbers_of a inode)) same
+
+    numbers : numbers_of b inode ≡ numbers_of a inode
+    unfolding numbers_of
+    numbers = ap (λ far. inode.direct ++ far)
+        (either (nat_eq inode.indirect 0) (replicate INDIRECT_INDEXES 0)
+        (numbers_at INDIRECT_INDEXES 0 (b inode.indirect))
+        (numbers_at INDIRECT_INDEXES 0 (a inode.indirect))
+        (λ mapped. ap (numbers_at INDIRECT_INDEXES 0) (both.0 mapped)))
+
+    each : AllByRecursion IsAlike (numbers_of a inode)
+    each = same_parts (numbers_of a inode) both.1
+
+    bytes : bytes_of b (numbers_of b inode) ≡ bytes_of a (numbers_of a inode)
+    bytes = ap (bytes_of b) numbers ∙ same_bytes (numbers_of a inode) each
+
+    spanned : (k : ℕ) → bytes_of b (take k (numbers_of b inode)) ≡ bytes_of a (take k (numbers_of a inode))
+    spanned k = ap (λ ns. bytes_of b (take k ns)) numbers
+        ∙ same_bytes (take k (numbers_of a inode)) (all_take IsAlike k (numbers_of a inode) each)
+
+    each_direct : AllByRecursion IsAlike inode.direct
+    unfolding numbers_of
+    each_direct =
+        all_left IsAlike inode.direct
+        (cond (nat_eq inode.indirect 0) (replicate INDIRECT_INDEXES 0)
+        (numbers_at INDIRECT_INDEXES 0 (a inode.indirect))) each
+
+    target : bytes_of b (take 1 inode.direct) ≡ bytes_of a (take 1 inode.direct)
+    target = same_bytes (take 1 inode.direct) (all_take IsAlike 1 inode.direct each_direct)
+
+    slot : slot_bytes b inode ≡ slot_bytes a inode
+    unfolding slot_bytes
+    slot = λ i index. take SLOT_SIZE (drop (SLOT_SIZE * index) (spanned (span_of inode) i))
+
+    named : (inodes : ℕ) → named_in inodes b inode ≡ named_in inodes a inode
+    unfolding named_in
+    named inodes =
+        λ i. filter_map (λ index. entry_in index (read_slot inodes (slot i index))) (slots_of inode)
+
+    mapped : (g : Geometry) → IsMapped g a inode → IsMapped g b inode
+    mapped g m = record {
+      numbers = ap (list_all (is_data_block_or_none g.blocks g.inodes)) numbers ∙ m.numbers;
+      used = ap (λ ns. nat_eq inode.indirect 0
+          || list_any (λ number. not (nat_eq number 0)) (drop (length inode.direct) ns)) numbers ∙ m.used;
+    }
+
+    of_kind : (g : Geometry) (kind : InodeKind) → IsOfKind g a kind inode → IsOfKind g b kind inode
+    of_kind g Free is = tt
+    of_kind g Regular is = record {
+      mapped = mapped g is.mapped;
+      zeros = ap (λ bs. is_zeros (drop inode.size bs)) bytes ∙ is.zeros;
+    }
+    of_kind g Directory is = record {
+      mapped = mapped g is.mapped;
+      spans = ap (names_first (span_of inode)) numbers ∙ is.spans;
+      slots = subst (λ (f : ℕ → List ℕ). All (λ index. IsOk (read_slot g.inodes (f index))) (slots_of inode))
+          (sym slot) is.slots;
+      once = ap entry_count (named g.inodes) ∙ is.once ∙ ap length (sym (named g.inodes));
+    }
+    of_kind g Link is = record { zeros = ap (λ bs. is_zeros (drop inode.size bs)) target ∙ is.zeros }
+
+    file : (inodes : ℕ) (kind : InodeKind)
+        → file_of_kind inodes b kind inode ≡ file_of_kind inodes a kind inode
+    file inodes Free = refl
+    file inodes Regular =
+        λ i. Some (node_with inode (model.Regular (take inode.size (bytes i)) (mapped_of (numbers i))))
+    file inodes Directory =
+        λ i. Some (node_with inode
+        (model.Directory (map.from_entries (named inodes i)) (span_of inode) inode.parent))
+    file inodes Link = λ i. Some (node_with inode (model.Link (take inode.size (target i))))
+
+    owned_same : owned_by b (Ok inode) ≡ owned_by a (Ok inode)
+    owned_same = ap (λ ns. some (inode.indirect ∷ ns)) numbers
+
+  -- its rules, its node and its blocks, where its blocks are the same
+  pub same_rules : (g : Geometry) (read : Result Inode LayoutFault) → AreSame (owned_by a read)
+      → IsFile g a read → IsFile g b read
+  same_rules g (Ok inode) same is = of_kind inode same g inode.kind is
+  same_rules g (Err fault) same is = is
+
+  pub same_file : (inodes : ℕ) (read : Result Inode LayoutFault) → AreSame (owned_by a read)
+      → file_of inodes b read ≡ file_of inodes a read
+  same_file inodes (Ok inode) same = file inode same inodes inode.kind
+  same_file inodes (Err fault) same = refl
+
+  pub same_owned : (read : Result Inode LayoutFault) → AreSame (owned_by a read)
+      → owned_by b read ≡ owned_by a read
+  same_owned (Ok inode) same = owned_same inode same
+  same_owned (Err fault) same = refl

@@ -1,0 +1,206 @@
+-- An inode whose attributes are changed, and none of its blocks: its file is the old one with these
+-- attributes.
+use Rattle.std.proofs.Common.{◌≡◌, ℕ, ◌<◌, ◌≤◌, sym, ap, ◌∙◌, refl, Bool, true, false, ◌&&◌, Some, Ok, nat_le}
+use Rattle.std.proofs.Common.{arith}
+use Rattle.std.proofs.lemmas.Bool.{lt-ltb, le-leb}
+use Rattle.std.proofs.lemmas.Bool.Decides.{nat_tests}
+use Rattle.limits.specs.declared.TheConstants.{MODE_BITS, MOST_LINKS, NANOSECONDS}
+use Rattle.disk.specs.Crash.{Image}
+use Rattle.nfs_types.specs.declared.ctx.Moment.{Moment}
+use Rattle.model.specs.Node.{Node, Body}
+use Rattle.model.specs.Sound.{SoundNode}
+use Rattle.model.proofs.Replaced.{SameShape}
+use Rattle.layout.specs.declared.geometry.Geometry.{Geometry}
+use Rattle.layout.specs.declared.inode.Inode.{Inode}
+use Rattle.layout.specs.declared.inode.InodeKind.{InodeKind}
+use Rattle.layout.specs.declared.inode.InodeKind.TheVariants.{Free, Regular, Directory, Link}
+use Rattle.layout.specs.Decode.{numbers_of, bytes_of, slot_bytes, named_in, regular_in, directory_in, link_in}
+use Rattle.layout.specs.Decode.{node_with, file_of_kind, IsOfKind}
+use Rattle.layout.specs.InodeForm.{Touch, touched, SoundTouch, FitsInode, is_sound_file, is_sound_kind}
+use Rattle.layout.specs.InodeForm.{is_sound_map, is_sound_regular, is_sound_directory, is_sound_link, is_time}
+use Rattle.layout.specs.Owners.{owned_by, is_free}
+
+module _ (g : Geometry) (content : Image) (inode : Inode) (t : Touch) where
+  abbrev new : Inode
+  new = touched inode t
+
+  -- it owns the same blocks
+  pub same_blocks : owned_by content (Ok new) ≡ owned_by content (Ok inode)
+  unfolding numbers_of
+  same_blocks = refl
+
+  pub rules : (kind : InodeKind) → IsOfKind g content kind inode → IsOfKind g content kind new
+  unfolding numbers_of bytes_of slot_bytes named_in
+  rules Free is = tt
+  rules Regular is = record {
+    mapped = record { numbers = is.mapped.numbers; used = is.mapped.used };
+    zeros = is.zeros;
+  }
+  rules Directory is = record {
+    mapped = record { numbers = is.mapped.numbers; used = is.mapped.used };
+    spans = is.spans;
+    slots = is.slots;
+    once = is.once;
+  }
+  rules Link is = record { zeros = is.zeros }
+
+  -- a file's node is its inode with what is in it
+  pub body_is : (inodes : ℕ) (kind : InodeKind) (node : Node)
+      → file_of_kind inodes content kind inode ≡ Some node → node_with inode node.body ≡ node
+  body_is inodes Free node e = cc
+  body_is inodes Regular node e = let is : node_with inode (regular_in content inode) ≡ node = cc in
+      ap (λ (one : Node). node_with inode one.body) (sym is) ∙ is
+  body_is inodes Directory node e = let is : node_with inode (directory_in inodes content inode) ≡ node =
+      cc in ap (λ (one : Node). node_with inode one.body) (sym is) ∙ is
+  body_is inodes Link node e = let is : node_with inode (link_in content inode) ≡ node = cc in
+      ap (λ (one : Node). node_with inode one.body) (sym is) ∙ is
+
+  pub used : (inodes : ℕ) (kind : InodeKind) (node : Node)
+      → file_of_kind inodes content kind inode ≡ Some node → is_free kind ≡ false
+  used inodes Free node e = cc
+  used inodes Regular node e = refl
+  used inodes Directory node e = refl
+  used inodes Link node e = refl
+
+  pub file : (inodes : ℕ) (kind : InodeKind) (node : Node)
+      → file_of_kind inodes content kind inode ≡ Some node
+      → file_of_kind inodes content kind new ≡ Some (node_with new node.body)
+  unfolding numbers_of bytes_of slot_bytes named_in
+  file inodes Free node e = cc
+  file inodes Regular node e = let is : node_with inode (regular_in content inode) ≡ node = cc in
+      ap (λ (one : Node). Some (node_with new one.body)) is
+  file inodes Directory node e = let is : node_with inode (directory_in inodes content inode) ≡ node = cc in
+      ap (λ (one : Node). Some (node_with new one.body)) is
+  file inodes Link node e = let is : node_with inode (link_in content inode) ≡ node = cc in
+      ap (λ (one : Node). Some (node_with new one.body)) is
+
+  pub shape : (body : Body) → SameShape (node_with inode body) (node_with new body)
+  shape body = record {
+    nlink = refl;
+    stamp = refl;
+    entries_are = refl;
+    directory = refl;
+    parent = refl;
+    cost_is = omega arith;
+  }
+
+-- ---- what is_sound_inode says of the attributes
+
+left : (a b : Bool) → (a && b) ≡ true → a ≡ true
+left true b e = refl
+left false b e = cc
+
+right : (a b : Bool) → (a && b) ≡ true → b ≡ true
+right true b e = e
+right false b e = cc
+
+no_more : (a b : ℕ) → nat_le a b ≡ true → a ≤ b
+no_more a b e = grind (arith, nat_tests)
+
+time_below : (m : Moment) → is_time m ≡ true → m.nanoseconds < NANOSECONDS
+time_below m e = grind (arith, nat_tests)
+
+pub sound_file : (blocks inodes : ℕ) (kind : InodeKind) (i : Inode) → is_free kind ≡ false
+    → is_sound_kind blocks inodes kind i ≡ true → is_sound_file i ≡ true
+sound_file blocks inodes Free i used e = cc
+sound_file blocks inodes Regular i used e =
+    left (is_sound_file i) (is_sound_map blocks inodes i)
+    (left (is_sound_file i && is_sound_map blocks inodes i) (is_sound_regular i) e)
+sound_file blocks inodes Directory i used e =
+    left (is_sound_file i) (is_sound_map blocks inodes i)
+    (left (is_sound_file i && is_sound_map blocks inodes i) (is_sound_directory inodes i) e)
+sound_file blocks inodes Link i used e =
+    left (is_sound_file i) (is_sound_map blocks inodes i)
+    (left (is_sound_file i && is_sound_map blocks inodes i) (is_sound_link i) e)
+
+-- a sound inode with a sound body makes a sound file
+pub sound_node : (i : Inode) (node : Node) → FitsInode i → is_sound_file i ≡ true → SoundNode node
+    → SoundNode (node_with i node.body)
+sound_node i node fits good old =
+    let a = nat_le i.mode MODE_BITS in
+    let b = nat_le 1 i.nlink in
+    let c = nat_le i.nlink MOST_LINKS in
+    let d = is_time i.atime in
+    let e = is_time i.mtime in
+    let f = is_time i.ctime in
+    let abcde = left (a && b && c && d && e) f good in
+    let abcd = left (a && b && c && d) e abcde in
+    let abc = left (a && b && c) d abcd in
+    let ab = left (a && b) c abc in
+    record {
+      mode = no_more i.mode MODE_BITS (left a b ab);
+      uid = fits.uid;
+      gid = fits.gid;
+      nlink = no_more i.nlink MOST_LINKS (right (a && b) c abc);
+      atime = record {
+        seconds = fits.atime.0;
+        nanoseconds = time_below i.atime (right (a && b && c) d abcd);
+      };
+      mtime = record {
+        seconds = fits.mtime.0;
+        nanoseconds = time_below i.mtime (right (a && b && c && d) e abcde);
+      };
+      ctime = record {
+        seconds = fits.ctime.0;
+        nanoseconds = time_below i.ctime (right (a && b && c && d && e) f good);
+      };
+      stamp = record { boot = fits.boot; transaction = fits.transaction };
+      verifier = fits.verifier;
+      body = old.body;
+    }
+
+-- it fits, and is as sound as before
+pub touched_fits : (i : Inode) (t : Touch) → SoundTouch t → FitsInode i → FitsInode (touched i t)
+touched_fits i t good fits = record {
+  mode = let most = good.mode in omega (arith, most);
+  uid = good.uid;
+  gid = good.gid;
+  nlink = fits.nlink;
+  size = fits.size;
+  atime = (good.atime.seconds, let few = good.atime.nanoseconds in omega (arith, few));
+  mtime = (good.mtime.seconds, let few = good.mtime.nanoseconds in omega (arith, few));
+  ctime = (good.ctime.seconds, let few = good.ctime.nanoseconds in omega (arith, few));
+  boot = fits.boot;
+  transaction = fits.transaction;
+  parent = fits.parent;
+  verifier = good.verifier;
+  count = fits.count;
+  direct = fits.direct;
+  indirect = fits.indirect;
+}
+
+all_left : (a b c d e f : Bool) → (a && b && c && d && e && f) ≡ true → (b ≡ true) × (c ≡ true)
+all_left true true true d e f is = (refl, refl)
+all_left true true false d e f is = cc
+all_left true false c d e f is = cc
+all_left false b c d e f is = cc
+
+touched_file : (i : Inode) (t : Touch) → SoundTouch t → is_sound_file i ≡ true
+    → is_sound_file (touched i t) ≡ true
+touched_file i t good old =
+    let parts = all_left (nat_le i.mode MODE_BITS) (nat_le 1 i.nlink) (nat_le i.nlink MOST_LINKS)
+    (is_time i.atime) (is_time i.mtime) (is_time i.ctime) old in
+    λ j. le-leb t.mode MODE_BITS good.mode j && parts.0 j && parts.1 j
+    && lt-ltb t.atime.nanoseconds NANOSECONDS good.atime.nanoseconds j
+    && lt-ltb t.mtime.nanoseconds NANOSECONDS good.mtime.nanoseconds j
+    && lt-ltb t.ctime.nanoseconds NANOSECONDS good.ctime.nanoseconds j
+
+swap_first : (a b c d : Bool) → b ≡ true → (a && c && d) ≡ true → (b && c && d) ≡ true
+swap_first true b true true e all = ap (λ x. x && true && true) e
+swap_first true b true false e all = cc
+swap_first true b false d e all = cc
+swap_first false b c d e all = cc
+
+pub touched_sound : (blocks inodes : ℕ) (kind : InodeKind) (i : Inode) (t : Touch) → SoundTouch t
+    → is_free kind ≡ false → is_sound_kind blocks inodes kind i ≡ true
+    → is_sound_kind blocks inodes kind (touched i t) ≡ true
+touched_sound blocks inodes Free i t good used e = e
+touched_sound blocks inodes Regular i t good used e =
+    swap_first (is_sound_file i) (is_sound_file (touched i t)) (is_sound_map blocks inodes i)
+    (is_sound_regular i) (touched_file i t good (sound_file blocks inodes Regular i used e)) e
+touched_sound blocks inodes Directory i t good used e =
+    swap_first (is_sound_file i) (is_sound_file (touched i t)) (is_sound_map blocks inodes i)
+    (is_sound_directory inodes i) (touched_file i t good (sound_file blocks inodes Directory i used e)) e
+touched_sound blocks inodes Link i t good used e =
+    swap_first (is_sound_file i) (is_sound_file (touched i t)) (is_sound_map blocks inodes i)
+    (is_sound_link i) (touched_file i t good (sound_file blocks inodes Link i used e)) e

@@ -1,0 +1,169 @@
+-- The bytes of an inode are read as this inode.
+use Rattle.std.proofs.Common.{◌≡◌, ℕ, ◌<◌, ◌^◌, sym, refl, true, false, List, [], ◌∷◌, length, Option, Some}
+use Rattle.std.proofs.Common.{None, Ok, IfSome, arith}
+use Rattle.std.specs.List.{AllByRecursion}
+use Rattle.std.proofs.lemmas.Nat.{from_le_bytes-to_le_bytes_4, from_le_bytes-to_le_bytes_8}
+use Rattle.limits.specs.declared.TheConstants.{DIRECT_INDEXES, INODE_BYTES}
+use Rattle.nfs_types.specs.declared.ctx.Moment.{Moment}
+use Rattle.layout.specs.declared.inode.Inode.{Inode}
+use Rattle.layout.specs.declared.inode.InodeKind.{InodeKind}
+use Rattle.layout.specs.declared.inode.InodeKind.TheVariants.{Free, Regular, Directory, Link}
+use Rattle.layout.specs.Fields.{four_at, eight_at, numbers_at, four_bytes, eight_bytes}
+use Rattle.layout.specs.InodeForm.{FitsInode, FitsMoment, read_inode, fields_of, is_sound_inode, inode_bytes}
+use Rattle.layout.specs.InodeForm.{head_bytes, middle_bytes, tail_bytes, rest_is_zero, kind_of_number}
+use Rattle.layout.specs.InodeForm.{number_of_kind}
+use Rattle.layout.specs.Owners.{is_free}
+use Rattle.layout.proofs.ReadInode.{sound}
+
+abbrev Fits : ℕ → Type 0
+Fits number = number < 2 ^ 32
+
+-- an inode with this verifier and these numbers of blocks
+abbrev with : Inode → Option ℕ → List ℕ → Inode
+with inode verifier direct = record inode { verifier = verifier; direct = direct }
+
+module _ (inode : Inode) (fits : FitsInode inode) where
+  -- what is read back of each field is the field
+  four : (n : ℕ) → Fits n → four_at 0 (four_bytes n) ≡ n
+  unfolding four_at four_bytes
+  four n small = from_le_bytes-to_le_bytes_4 n small
+
+  eight : (n : ℕ) → n < 2 ^ 64 → eight_at 0 (eight_bytes n) ≡ n
+  unfolding eight_at eight_bytes
+  eight n small = from_le_bytes-to_le_bytes_8 n small
+
+  time : (m : Moment) → FitsMoment m
+      → record {
+        seconds = four_at 0 (four_bytes m.seconds);
+        nanoseconds = four_at 0 (four_bytes m.nanoseconds);
+      } ≡ m
+  time m small =
+      λ i. record { seconds = four m.seconds small.0 i; nanoseconds = four m.nanoseconds small.1 i }
+
+  abbrev IsRead : Option ℕ → List ℕ → Type 0
+  IsRead verifier direct = fields_of inode.kind (inode_bytes (with inode verifier direct))
+      ≡ with inode verifier direct
+
+  fields : (verifier : Option ℕ) → IfSome verifier (λ v. v < 2 ^ 64) → (direct : List ℕ)
+      → length direct ≡ DIRECT_INDEXES → AllByRecursion Fits direct → IsRead verifier direct
+  unfolding fields_of four_at eight_at numbers_at head_bytes middle_bytes tail_bytes four_bytes eight_bytes
+  fields None v (d0 ∷ d1 ∷ d2 ∷ d3 ∷ d4 ∷ d5 ∷ d6 ∷ d7 ∷ []) long all = λ i. record inode {
+    mode = four inode.mode fits.mode i;
+    uid = four inode.uid fits.uid i;
+    gid = four inode.gid fits.gid i;
+    nlink = four inode.nlink fits.nlink i;
+    size = eight inode.size fits.size i;
+    atime = time inode.atime fits.atime i;
+    mtime =
+        time inode.mtime fits.mtime i;
+    ctime = time inode.ctime fits.ctime i;
+    stamp = record {
+      boot = eight inode.stamp.boot fits.boot i;
+      transaction = eight inode.stamp.transaction fits.transaction i;
+    };
+    parent = four inode.parent fits.parent i;
+    verifier = None;
+    direct = four d0 all.0 i ∷ four d1 all.1.0 i ∷ four d2 all.1.1.0 i ∷ four d3 all.1.1.1.0 i
+        ∷ four d4 all.1.1.1.1.0 i ∷ four d5 all.1.1.1.1.1.0 i ∷ four d6 all.1.1.1.1.1.1.0 i
+        ∷ four d7 all.1.1.1.1.1.1.1.0 i ∷ [];
+    indirect = four inode.indirect fits.indirect i;
+  }
+  fields (Some w) v (d0 ∷ d1 ∷ d2 ∷ d3 ∷ d4 ∷ d5 ∷ d6 ∷ d7 ∷ []) long all = λ i. record inode {
+    mode = four inode.mode fits.mode i;
+    uid = four inode.uid fits.uid i;
+    gid = four inode.gid fits.gid i;
+    nlink = four inode.nlink fits.nlink i;
+    size = eight inode.size fits.size i;
+    atime = time inode.atime fits.atime i;
+    mtime =
+        time inode.mtime fits.mtime i;
+    ctime = time inode.ctime fits.ctime i;
+    stamp = record {
+      boot = eight inode.stamp.boot fits.boot i;
+      transaction = eight inode.stamp.transaction fits.transaction i;
+    };
+    parent = four inode.parent fits.parent i;
+    verifier = Some (eight w v i);
+    direct = four d0 all.0 i ∷ four d1 all.1.0 i ∷ four d2 all.1.1.0 i ∷ four d3 all.1.1.1.0 i
+        ∷ four d4 all.1.1.1.1.0 i ∷ four d5 all.1.1.1.1.1.0 i ∷ four d6 all.1.1.1.1.1.1.0 i
+        ∷ four d7 all.1.1.1.1.1.1.1.0 i ∷ [];
+    indirect = four inode.indirect fits.indirect i;
+  }
+  fields verifier v [] long all = absurd (omega (arith, long))
+  fields verifier v (d0 ∷ []) long all = absurd (omega (arith, long))
+  fields verifier v (d0 ∷ d1 ∷ []) long all = absurd (omega (arith, long))
+  fields verifier v (d0 ∷ d1 ∷ d2 ∷ []) long all = absurd (omega (arith, long))
+  fields verifier v (d0 ∷ d1 ∷ d2 ∷ d3 ∷ []) long all = absurd (omega (arith, long))
+  fields verifier v (d0 ∷ d1 ∷ d2 ∷ d3 ∷ d4 ∷ []) long all = absurd (omega (arith, long))
+  fields verifier v (d0 ∷ d1 ∷ d2 ∷ d3 ∷ d4 ∷ d5 ∷ []) long all = absurd (omega (arith, long))
+  fields verifier v (d0 ∷ d1 ∷ d2 ∷ d3 ∷ d4 ∷ d5 ∷ d6 ∷ []) long all = absurd (omega (arith, long))
+  fields verifier v (d0 ∷ d1 ∷ d2 ∷ d3 ∷ d4 ∷ d5 ∷ d6 ∷ d7 ∷ d8 ∷ rest) long all =
+      absurd (omega (arith, long))
+
+  -- lists of eight numbers
+  eight_of : (P : List ℕ → Type 0)
+      → ((d0 d1 d2 d3 d4 d5 d6 d7 : ℕ) → P (d0 ∷ d1 ∷ d2 ∷ d3 ∷ d4 ∷ d5 ∷ d6 ∷ d7 ∷ [])) → (direct : List ℕ)
+      → length direct ≡ DIRECT_INDEXES → P direct
+  eight_of P of (d0 ∷ d1 ∷ d2 ∷ d3 ∷ d4 ∷ d5 ∷ d6 ∷ d7 ∷ []) long = of d0 d1 d2 d3 d4 d5 d6 d7
+  eight_of P of [] long = absurd (omega (arith, long))
+  eight_of P of (d0 ∷ []) long = absurd (omega (arith, long))
+  eight_of P of (d0 ∷ d1 ∷ []) long = absurd (omega (arith, long))
+  eight_of P of (d0 ∷ d1 ∷ d2 ∷ []) long = absurd (omega (arith, long))
+  eight_of P of (d0 ∷ d1 ∷ d2 ∷ d3 ∷ []) long = absurd (omega (arith, long))
+  eight_of P of (d0 ∷ d1 ∷ d2 ∷ d3 ∷ d4 ∷ []) long = absurd (omega (arith, long))
+  eight_of P of (d0 ∷ d1 ∷ d2 ∷ d3 ∷ d4 ∷ d5 ∷ []) long = absurd (omega (arith, long))
+  eight_of P of (d0 ∷ d1 ∷ d2 ∷ d3 ∷ d4 ∷ d5 ∷ d6 ∷ []) long = absurd (omega (arith, long))
+  eight_of P of (d0 ∷ d1 ∷ d2 ∷ d3 ∷ d4 ∷ d5 ∷ d6 ∷ d7 ∷ d8 ∷ rest) long = absurd (omega (arith, long))
+
+  -- the fields that are no field's, and the flags
+  zero_rest : (verifier : Option ℕ) (direct : List ℕ) → length direct ≡ DIRECT_INDEXES
+      → rest_is_zero Regular (inode_bytes (with inode verifier direct)) ≡ true
+  unfolding four_at eight_at head_bytes middle_bytes tail_bytes four_bytes eight_bytes
+  zero_rest None direct long =
+      eight_of (λ ds. rest_is_zero Regular (inode_bytes (with inode None ds)) ≡ true)
+      (λ d0 d1 d2 d3 d4 d5 d6 d7. refl) direct long
+  zero_rest (Some v) direct long =
+      eight_of (λ ds. rest_is_zero Regular (inode_bytes (with inode (Some v) ds)) ≡ true)
+      (λ d0 d1 d2 d3 d4 d5 d6 d7. refl) direct long
+
+  pub bytes-length : (verifier : Option ℕ) (direct : List ℕ) → length direct ≡ DIRECT_INDEXES
+      → length (inode_bytes (with inode verifier direct)) ≡ INODE_BYTES
+  unfolding head_bytes middle_bytes tail_bytes four_bytes eight_bytes
+  bytes-length None direct long =
+      eight_of (λ ds. length (inode_bytes (with inode None ds)) ≡ INODE_BYTES)
+      (λ d0 d1 d2 d3 d4 d5 d6 d7. refl) direct long
+  bytes-length (Some v) direct long =
+      eight_of (λ ds. length (inode_bytes (with inode (Some v) ds)) ≡ INODE_BYTES)
+      (λ d0 d1 d2 d3 d4 d5 d6 d7. refl) direct long
+
+  kind_back : (kind : InodeKind) → kind_of_number (four_at 0 (four_bytes (number_of_kind kind))) ≡ Some kind
+  unfolding four_at four_bytes
+  kind_back Free = refl
+  kind_back Regular = refl
+  kind_back Directory = refl
+  kind_back Link = refl
+
+  kind_is : kind_of_number (four_at 0 (inode_bytes inode)) ≡ Some inode.kind
+  unfolding four_at head_bytes four_bytes
+  kind_is = kind_back inode.kind
+
+  -- what no field has
+  rest : (kind : InodeKind) → is_free kind ≡ false → (verifier : Option ℕ) (direct : List ℕ)
+      → length direct ≡ DIRECT_INDEXES → rest_is_zero kind (inode_bytes (with inode verifier direct)) ≡ true
+  rest Free used verifier direct long = absurd (true_false used)
+    where
+      true_false : true ≡ false → ⊥
+      true_false e = cc
+  rest Regular used verifier direct long = zero_rest verifier direct long
+  rest Directory used verifier direct long = zero_rest verifier direct long
+  rest Link used verifier direct long = zero_rest verifier direct long
+
+  pub written-length : length (inode_bytes inode) ≡ INODE_BYTES
+  written-length = bytes-length inode.verifier inode.direct fits.count
+
+  pub read_back : (blocks inodes : ℕ) → is_free inode.kind ≡ false → is_sound_inode blocks inodes inode ≡ true
+      → read_inode blocks inodes (inode_bytes inode) ≡ Ok inode
+  read_back blocks inodes used good =
+      sym (sound blocks inodes (inode_bytes inode) inode.kind inode kind_is
+      (sym (fields inode.verifier fits.verifier inode.direct fits.count fits.direct))
+      (rest inode.kind used inode.verifier inode.direct fits.count) good)

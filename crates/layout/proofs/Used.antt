@@ -1,0 +1,92 @@
+-- What a file's inode and blocks say of how many blocks it holds.
+use Rattle.std.proofs.Common.{◌≡◌, ℕ, zero, suc, ◌+◌, ◌≤◌, sym, ap, ◌∙◌, refl, Bool, true, false, cond, not}
+use Rattle.std.proofs.Common.{◌||◌, ◌&&◌, List, [], ◌∷◌, length, take, drop, nat_eq, replicate, count_by}
+use Rattle.std.proofs.Common.{arith}
+use Rattle.std.specs.List.{list_any, list_all}
+use Rattle.std.proofs.Math.Seq.{drop-append_seam}
+use Rattle.std.proofs.lemmas.List.Sums.{sum_by-cons}
+use Rattle.limits.specs.declared.TheConstants.{DIRECT_INDEXES, INDIRECT_INDEXES}
+use Rattle.disk.specs.Crash.{Image}
+use Rattle.model.specs.Cost.{file_cost}
+use Rattle.layout.specs.declared.geometry.Geometry.{Geometry}
+use Rattle.layout.specs.declared.inode.Inode.{Inode}
+use Rattle.layout.specs.Decode.{numbers_of, mapped_of, IsMapped}
+use Rattle.layout.specs.Fields.{numbers_at}
+use Rattle.layout.proofs.Mapped.{is_some, regular-cost}
+
+none_of : (n : ℕ) → list_any is_some (replicate n 0) ≡ false
+none_of zero = refl
+none_of (suc n) = none_of n
+
+by_far : (none any : Bool) → (none || any) ≡ true → (none ≡ true → any ≡ false)
+    → ◌≡◌ {A = ℕ} (cond any 1 0) (cond none 0 1)
+by_far true any e no_more = ap (λ b. cond b 1 0) (no_more refl)
+by_far false any e no_more = ap (λ b. cond b 1 0) e
+
+module _ (g : Geometry) (content : Image) (inode : Inode) (direct : length inode.direct ≡ DIRECT_INDEXES)
+  where
+    abbrev rest : List ℕ
+    rest = cond (nat_eq inode.indirect 0) (replicate INDIRECT_INDEXES 0)
+        (numbers_at INDIRECT_INDEXES 0 (content inode.indirect))
+
+    past_direct : drop (length inode.direct) (numbers_of content inode) ≡ rest
+    unfolding numbers_of
+    past_direct = drop-append_seam inode.direct rest
+
+    no_more : nat_eq inode.indirect 0 ≡ true
+        → list_any is_some (drop (length inode.direct) (numbers_of content inode)) ≡ false
+    no_more none = ap (list_any is_some) past_direct
+        ∙ ap (λ b. list_any is_some
+        (cond b (replicate INDIRECT_INDEXES 0) (numbers_at INDIRECT_INDEXES 0 (content inode.indirect)))) none
+        ∙ none_of INDIRECT_INDEXES
+
+    -- a regular file holds the blocks of its indexes, and the indirect block
+    pub regular_held : IsMapped g content inode
+        → file_cost (mapped_of (numbers_of content inode)) ≡ count_by is_some (numbers_of content inode)
+        + cond (nat_eq inode.indirect 0) 0 1
+    regular_held mapped =
+        regular-cost (numbers_of content inode)
+        ∙ ap (λ k. count_by is_some (numbers_of content inode)
+        + cond (list_any is_some (drop k (numbers_of content inode))) 1 0) (sym direct)
+        ∙ ap (λ k. count_by is_some (numbers_of content inode) + k)
+        (by_far (nat_eq inode.indirect 0)
+        (list_any is_some (drop (length inode.direct) (numbers_of content inode))) mapped.used no_more)
+
+-- numbers of which the first are those of blocks, and no others
+all_count : (b : Bool) (k n : ℕ) → n ≡ k → b ≡ true → cond b 1 0 + n ≡ 1 + k
+all_count true k n e is = omega (arith, e)
+all_count false k n e is = cc
+
+left : (a b : Bool) → (a && b) ≡ true → a ≡ true
+left true b e = refl
+left false b e = cc
+
+right : (a b : Bool) → (a && b) ≡ true → b ≡ true
+right true b e = e
+right false b e = cc
+
+zero_count : (b : Bool) (n : ℕ) → b ≡ true → n ≡ 0 → cond (not b) 1 0 + n ≡ 0
+zero_count true n is e = omega (arith, e)
+zero_count false n is e = cc
+
+no_count : (numbers : List ℕ) → list_all (λ number. nat_eq number 0) numbers ≡ true
+    → count_by is_some numbers ≡ 0
+no_count [] e = refl
+no_count (n ∷ numbers) e =
+    sum_by-cons (λ y. cond (is_some y) 1 0) n numbers
+    ∙ zero_count (nat_eq n 0) (count_by is_some numbers)
+    (left (nat_eq n 0) (list_all (λ number. nat_eq number 0) numbers) e)
+    (no_count numbers (right (nat_eq n 0) (list_all (λ number. nat_eq number 0) numbers) e))
+
+pub first_count : (span : ℕ) (numbers : List ℕ) → span ≤ length numbers
+    → list_all is_some (take span numbers) ≡ true
+    → list_all (λ number. nat_eq number 0) (drop span numbers) ≡ true → count_by is_some numbers ≡ span
+first_count zero numbers few some none = no_count numbers none
+first_count (suc span) [] few some none = absurd (omega (arith, few))
+first_count (suc span) (n ∷ numbers) few some none =
+    sum_by-cons (λ y. cond (is_some y) 1 0) n numbers
+    ∙ all_count (is_some n) span (count_by is_some numbers)
+    (first_count span numbers (omega (arith, few))
+    (right (is_some n) (list_all is_some (take span numbers)) some) none)
+    (left (is_some n) (list_all is_some (take span numbers)) some)
+    ∙ omega arith

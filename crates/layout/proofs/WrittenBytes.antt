@@ -1,0 +1,48 @@
+-- A block in which an inode was written is a block.
+use Rattle.std.proofs.Common.{ℕ, ◌+◌, ◌<◌, inl, inr, sym, subst, List, length, take, drop, Option, Some, None}
+use Rattle.std.proofs.Common.{arith}
+use Rattle.std.proofs.lemmas.List.{get_or-take, get_or-drop, get_or_past, length-take}
+use Rattle.std.proofs.lemmas.Bool.{cases_lt}
+use Rattle.model.specs.Sound.{AreBytes}
+use Rattle.layout.specs.declared.inode.Inode.{Inode}
+use Rattle.layout.specs.InodeForm.{inode_bytes, head_bytes, middle_bytes, tail_bytes, number_of_kind}
+use Rattle.layout.specs.InodeForm.{verifier_bytes}
+use Rattle.layout.specs.Parts.{spliced}
+use Rattle.layout.proofs.FreshBytes.{IsBytes, join, four, eight, fours}
+
+pub taken : {bytes : List ℕ} (k : ℕ) → IsBytes bytes → IsBytes (take k bytes)
+taken {bytes} k all = record {
+  are = λ index. elim (cases_lt index k) [
+    | inl less ↦ subst (λ n. n < 256) (sym (get_or-take k bytes index 0 less)) (all.are index)
+    | inr more ↦ subst (λ n. n < 256)
+        (sym (get_or_past (take k bytes) index 0 (let long = length-take k bytes in
+        omega (arith, long, more))))
+        (omega arith)
+  ];
+}
+
+pub dropped : {bytes : List ℕ} (k : ℕ) → IsBytes bytes → IsBytes (drop k bytes)
+dropped {bytes} k all =
+    record { are = λ index. subst (λ n. n < 256) (sym (get_or-drop k bytes index 0)) (all.are (k + index)) }
+
+pub spliced-bytes : (content bytes : List ℕ) (offset : ℕ) → AreBytes content → IsBytes bytes
+    → AreBytes (spliced content offset bytes)
+spliced-bytes content bytes offset old new =
+    let block : IsBytes content = record { are = old } in
+    (join (join (taken offset block) new) (dropped (offset + length bytes) block)).are
+
+verifiers : (verifier : Option ℕ) → IsBytes (verifier_bytes verifier)
+verifiers None = join (four 0) (eight 0)
+verifiers (Some v) = join (four 1) (eight v)
+
+pub inode_are : (i : Inode) → IsBytes (inode_bytes i)
+unfolding head_bytes middle_bytes tail_bytes
+inode_are i = join (join
+    (join (join (join (join (join (four (number_of_kind i.kind)) (four i.mode)) (four i.uid)) (four i.gid))
+    (four i.nlink)) (four 0))
+    (join (join (join (join (join (eight i.size) (join (four i.atime.seconds) (four i.atime.nanoseconds)))
+    (join (four i.mtime.seconds) (four i.mtime.nanoseconds)))
+    (join (four i.ctime.seconds) (four i.ctime.nanoseconds))) (eight i.stamp.boot))
+    (eight i.stamp.transaction)))
+    (join (join (join (join (four i.parent) (verifiers i.verifier)) (fours i.direct)) (four i.indirect))
+    (four 0))

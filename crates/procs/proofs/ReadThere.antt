@@ -1,0 +1,48 @@
+-- An inode that was read is the one of the blocks, and one that is refused lies in no blocks that stand for a
+-- tree.
+use Rattle.std.proofs.Common.{◌≡◌, ℕ, ◌<◌, sym, ap, ◌∙◌, subst, cond, List, take, drop, Err, ◌+◌, length}
+use Rattle.std.proofs.Common.{nat_eq, false, arith}
+use Rattle.std.proofs.lemmas.Bool.{lt-ltb}
+use Rattle.limits.specs.declared.TheConstants.{BLOCK_BYTES, INDIRECT_INDEXES, INODE_BYTES}
+use Rattle.std.proofs.lemmas.List.{take_all}
+use Rattle.layout.specs.Fields.{numbers_at, count_of}
+use Rattle.disk.specs.Crash.{Image}
+use Rattle.objects.specs.declared.addr.Addr.{Addr}
+use Rattle.model.specs.Tree.{Tree}
+use Rattle.layout.specs.declared.fault.LayoutFault.{LayoutFault}
+use Rattle.layout.specs.declared.fault.LayoutFault.TheVariants.{Range}
+use Rattle.layout.specs.declared.geometry.Geometry.{Geometry}
+use Rattle.layout.specs.Decode.{IsFile, inode_at}
+use Rattle.layout.specs.InodeForm.{read_inode}
+use Rattle.layout.specs.Parts.{content_in}
+use Rattle.layout.specs.Geometry.{inode_block, inode_offset}
+use Rattle.layout.specs.Stands.{Stands}
+use Rattle.txn.specs.Window.{object_at}
+
+pub read_there : (g : Geometry) (blocks : Image) (number : ℕ) (addr : Addr) (bytes : List ℕ)
+    → addr.block.0 ≡ inode_block g.blocks g.inodes number → addr.offset ≡ inode_offset number
+    → addr.len ≡ INODE_BYTES
+    → object_at blocks addr ≡ bytes → inode_at g blocks number ≡ read_inode g.blocks g.inodes bytes
+unfolding inode_at
+read_there g blocks number addr bytes block offset len there =
+    (λ i. read_inode g.blocks g.inodes (take (sym len i) (drop (sym offset i) (blocks (sym block i)))))
+    ∙ ap (read_inode g.blocks g.inodes) there
+
+pub no_fault : (g : Geometry) (blocks : Image) (tree : Tree) (number : ℕ) (fault : LayoutFault)
+    → number < g.inodes → Stands g blocks tree → inode_at g blocks number ≡ Err fault → ⊥
+no_fault g blocks tree number fault less stands is =
+    subst (IsFile g (content_in g blocks))
+    (ap (λ b. cond b (inode_at g blocks number) (Err Range)) (lt-ltb number g.inodes less)
+    ∙ is) (stands.parts.has.inodes number less)
+
+-- what an indirect block that was read keeps
+pub held_there : (blocks : Image) (indirect mapped : ℕ) (addr : Addr) (bytes numbers : List ℕ)
+    → addr.block.0 ≡ indirect → addr.offset ≡ 0 → addr.len ≡ BLOCK_BYTES → object_at blocks addr ≡ bytes
+    → length (blocks indirect) ≡ BLOCK_BYTES
+    → nat_eq indirect 0 ≡ false → numbers ≡ numbers_at INDIRECT_INDEXES 0 bytes → mapped ≡ count_of numbers
+    → mapped + 1 ≡ cond (nat_eq indirect 0) 0 (count_of (numbers_at INDIRECT_INDEXES 0 (blocks indirect)) + 1)
+held_there blocks indirect mapped addr bytes numbers block offset len there long some numbers_are kept_is =
+    let same : bytes ≡ blocks indirect = sym there ∙ (λ i. take (len i) (drop (offset i) (blocks (block i))))
+    ∙ take_all BLOCK_BYTES (blocks indirect) (omega (arith, long)) in
+    ap (λ k. k + 1) (kept_is ∙ ap count_of (numbers_are ∙ ap (numbers_at INDIRECT_INDEXES 0) same))
+    ∙ sym (ap (λ b. cond b 0 (count_of (numbers_at INDIRECT_INDEXES 0 (blocks indirect)) + 1)) some)

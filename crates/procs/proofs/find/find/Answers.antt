@@ -1,0 +1,33 @@
+use Rattle.std.proofs.Common.{rules, sym, ◌∙◌, arith}
+use Rattle.procs.proofs.FoundThere.{stale_free, stale_stamp, found, is_free, is_used, stamps_same}
+use Rattle.procs.proofs.FoundThere.{stamps_differ}
+use Rattle.procs.proofs.find.find.Goals.{then-eq-via-then-eq, then-eq-via-else-eq+then-ne}
+use Rattle.procs.proofs.find.find.Goals as goal
+
+pub returns-then-eq-clause-tells : goal.returns-then-eq-clause-tells
+returns-then-eq-clause-tells c = λ blocks tree stands saw. elim c.then-eq.branch [
+  | then-eq-via-then-eq w ↦
+      stale_free c.args.snap.now.geometry blocks tree c.in-Some.number c.in_ok-inode.inode c.in-Some.stamp
+      c.args.handle.now.bytes stands
+      (c.in_ok-inode.ensures.there blocks saw) c.in-Some.ensures.some (search rules) (search rules)
+      (search rules)
+      (omega (arith, c.if-number-eq0.false)) (omega (arith, c.if-number-snap.false))
+      (is_free c.in_ok-inode.inode.kind (sym c.eq.ensures ∙ w.if-eq.true))
+  | then-eq-via-else-eq+then-ne w ↦
+      stale_stamp c.args.snap.now.geometry blocks tree c.in-Some.number c.in_ok-inode.inode c.in-Some.stamp
+      c.args.handle.now.bytes stands
+      (c.in_ok-inode.ensures.there blocks saw) c.in-Some.ensures.some (search rules) (search rules)
+      (search rules)
+      (omega (arith, c.if-number-eq0.false)) (omega (arith, c.if-number-snap.false))
+      (stamps_differ c.in_ok-inode.inode.stamp c.in-Some.stamp (sym w.ne.ensures ∙ w.if-ne.true))
+]
+
+pub returns-clause-tells : goal.returns-clause-tells
+returns-clause-tells c = λ blocks tree stands saw.
+    found c.args.snap.now.geometry blocks tree c.in-Some.number c.in_ok-inode.inode c.in-Some.stamp
+    c.args.handle.now.bytes stands
+    (c.in_ok-inode.ensures.there blocks saw) c.in-Some.ensures.some (search rules) (search rules)
+    (search rules)
+    (omega (arith, c.if-number-eq0.false)) (omega (arith, c.if-number-snap.false))
+    (is_used c.in_ok-inode.inode.kind (sym c.eq.ensures ∙ c.if-eq.false))
+    (stamps_same c.in_ok-inode.inode.stamp c.in-Some.stamp (sym c.ne.ensures ∙ c.if-ne.false))

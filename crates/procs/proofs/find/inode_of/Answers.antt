@@ -1,0 +1,18 @@
+use Rattle.std.proofs.Common.{sym, ◌∙◌}
+use Rattle.procs.proofs.ReadThere.{read_there, no_fault}
+use Rattle.procs.proofs.find.inode_of.Goals as goal
+
+pub returns-in-Ok-clause-there : goal.returns-in-Ok-clause-there
+returns-in-Ok-clause-there c = λ blocks saw.
+    read_there c.args.snap.now.geometry blocks c.args.number c.inode_addr.result c.in_ok-bytes.bytes.now
+    c.inode_addr.ensures.block c.inode_addr.ensures.offset c.inode_addr.ensures.len
+    (c.in_ok-bytes.ensures.there blocks saw)
+    ∙ sym c.in-Ok.ensures
+
+pub returns-in-Err-clause-io : goal.returns-in-Err-clause-io
+returns-in-Err-clause-io c = λ blocks tree stands saw.
+    no_fault c.args.snap.now.geometry blocks tree c.args.number c.in-Err.field-0 c.requires stands
+    (read_there c.args.snap.now.geometry blocks c.args.number c.inode_addr.result c.in_ok-bytes.bytes.now
+    c.inode_addr.ensures.block c.inode_addr.ensures.offset c.inode_addr.ensures.len
+    (c.in_ok-bytes.ensures.there blocks saw)
+    ∙ sym c.in-Err.ensures)

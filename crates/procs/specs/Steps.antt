@@ -1,0 +1,55 @@
+-- What a plan writes.
+use Rattle.std.specs.Prelude.{◌≡◌, ℕ, Contains, List, Result, Ok, Err}
+use Rattle.disk.specs.Crash.{Image}
+use Rattle.nfs_types.specs.declared.attributes.NewAttributes.{NewAttributes}
+use Rattle.nfs_types.specs.declared.ctx.Moment.{Moment}
+use Rattle.nfs_types.specs.declared.status.Status.{Status}
+use Rattle.model.specs.Find.{find_file}
+use Rattle.model.specs.Node.{Node, Body}
+use Rattle.model.specs.SetAttr.{with_attributes}
+use Rattle.layout.specs.declared.geometry.Geometry.{Geometry}
+use Rattle.layout.specs.declared.inode.Inode.{Inode}
+use Rattle.layout.specs.Decode.{inode_at, node_with}
+use Rattle.layout.specs.InodeForm.{inode_bytes}
+use Rattle.layout.specs.Geometry.{inode_block, inode_offset}
+use Rattle.layout.specs.Stands.{Stands}
+use Rattle.model.specs.Tree.{Tree}
+use Rattle.txn.specs.Object.{ObjectBytes}
+use Rattle.txn.specs.Window.{IsAsRead}
+use Rattle.procs.specs.declared.attributes.FoundFile.{FoundFile}
+use Rattle.procs.specs.declared.snap.Snap.{Snap}
+use Rattle.procs.specs.declared.stop.Stop.{Stop}
+use Rattle.procs.specs.declared.stop.Stop.TheVariants as stop
+
+-- the inode has the attributes that are wanted, and else is the old one
+pub record IsSetFrom (moment : Moment) (wanted : NewAttributes) (old new : Inode) : Type 0 where
+  pub node : (body : Body) → node_with new body ≡ with_attributes moment wanted (node_with old body)
+  pub direct : new.direct ≡ old.direct
+  pub indirect : new.indirect ≡ old.indirect
+  pub kind : new.kind ≡ old.kind
+  pub size : new.size ≡ old.size
+  pub parent : new.parent ≡ old.parent
+
+-- the object is this inode under its number
+pub record IsInodeObject (g : Geometry) (number : ℕ) (inode : Inode) (object : ObjectBytes) : Type 0 where
+  pub block : object.addr.block.0 ≡ inode_block g.blocks g.inodes number
+  pub offset : object.addr.offset ≡ inode_offset number
+  pub bytes : object.bytes ≡ inode_bytes inode
+
+-- what was read so far is what these blocks have
+abbrev pub Saw : Image → Snap → Type 0
+Saw blocks snap = (object : ObjectBytes) → Contains snap.objects.items object → IsAsRead blocks object
+
+-- the plan failed, which it does for no blocks that stand for a tree
+abbrev pub NoneStand : Snap → Stop → Type 0
+NoneStand snap stop.Io = (blocks : Image) (tree : Tree) → Stands snap.geometry blocks tree → Saw blocks snap
+    → ⊥
+NoneStand snap stop.NoMemory = Unit {0}
+NoneStand snap (stop.Need addr) = Unit {0}
+
+-- what was found is the tree's file with its inode, or why the tree has none
+abbrev pub IsFoundIn : Geometry → Image → Tree → List ℕ → Result FoundFile Status → Type 0
+IsFoundIn g blocks tree handle (Ok found) =
+    (node : Node) × (find_file tree handle ≡ Ok (found.number, node))
+    × (inode_at g blocks found.number ≡ Ok found.inode)
+IsFoundIn g blocks tree handle (Err status) = find_file tree handle ≡ Err status
