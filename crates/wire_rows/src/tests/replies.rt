@@ -3,7 +3,7 @@ ghost use Rattle.session_wire.specs.Replies.{IsSpellable, body_of};
 
 use nfs_types::Reply;
 use session_wire::rpc::Refusal;
-use session_wire::{Answer, reply_bytes};
+use session_wire::{RpcReply, reply_bytes};
 use std::alloc::{AllocError, Global};
 use std::test::Fail;
 use worked_messages::*;
@@ -12,7 +12,7 @@ use worked_messages::*;
 fn is_written(
     alloc: Global,
     xid: u32,
-    answer: Answer<'_>,
+    answer: RpcReply<'_>,
     words: &[u32],
 ) -> Result<bool, AllocError>
     requires { IsSpellable (body_of answer) }
@@ -25,7 +25,7 @@ fn is_written(
 
 #[test]
 fn null(rt: HostRuntime) -> Result<(), Fail> {
-    assert!(rt; is_written(rt.alloc(), 1, Answer::Done(&Reply::Null), &NULL_REPLY)?);
+    assert!(rt; is_written(rt.alloc(), 1, RpcReply::Done(&Reply::Null), &NULL_REPLY)?);
     Ok(())
 }
 
@@ -34,7 +34,7 @@ fn attributes_of_the_root(rt: HostRuntime) -> Result<(), Fail> {
     let reply = Reply::GetAttr {
         outcome: Ok(FRESH_ROOT),
     };
-    assert!(rt; is_written(rt.alloc(), 3, Answer::Done(&reply), &GETATTR_FRESH)?);
+    assert!(rt; is_written(rt.alloc(), 3, RpcReply::Done(&reply), &GETATTR_FRESH)?);
     Ok(())
 }
 
@@ -44,7 +44,7 @@ fn mode_of_the_root_is_set(rt: HostRuntime) -> Result<(), Fail> {
         outcome: Ok(()),
         object: ROOT_IS_CHANGED,
     };
-    assert!(rt; is_written(rt.alloc(), 4, Answer::Done(&reply), &SETATTR_DONE)?);
+    assert!(rt; is_written(rt.alloc(), 4, RpcReply::Done(&reply), &SETATTR_DONE)?);
     Ok(())
 }
 
@@ -63,7 +63,7 @@ const REFUSALS: [(Refusal, &[u32]); 8] = [
 #[test]
 fn refusals(rt: HostRuntime) -> Result<(), Fail> {
     for (refusal, words) in REFUSALS {
-        let answer = Answer::Refused(refusal);
+        let answer = RpcReply::Refused(refusal);
         assert!(rt; is_written(rt.alloc(), 1, answer, words)?, "{refusal:?}");
     }
     Ok(())
