@@ -1,7 +1,7 @@
 //! A fresh image, and the calls that are served so far, through both bodies.
 
 use crate::tests::compared::{is_same_reply, is_tree_of};
-use crate::tests::plain::{DATA_BLOCKS, fresh, reply_in, reply_to};
+use crate::tests::plain::{DATA_BLOCKS, fresh, plain_reply_to, reply_in};
 use crate::tests::served::{Host, INODES, formatted, has_replies, reopened, serve};
 use disk::MemDisk;
 use limits::LEAST_BLOCKS;
@@ -30,7 +30,7 @@ fn agrees(rt: &impl Host, procedure: Procedure, call: &[u32], reply: &[u32]) -> 
     assert_eq!(rt; served.result, Ok(1));
     assert!(rt; has_replies(alloc, &served, &[reply])?);
     let mut tree = fresh(alloc)?;
-    let plain = reply_to(alloc, &mut tree, served.boot, call)?;
+    let plain = plain_reply_to(alloc, &mut tree, served.boot, call)?;
     let (xid, told) = reply_in(procedure, &served.output)?;
     assert_eq!(rt; Some(&xid), call.get(1));
     assert!(rt; is_same_reply(&plain, &told));

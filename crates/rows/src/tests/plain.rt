@@ -37,7 +37,7 @@ pub fn asked(alloc: Global, message: &[u32]) -> Result<(Credential, Call), Fail>
 }
 
 /// The reply to this message, with which the tree goes on.
-pub fn reply_to(
+pub fn plain_reply_to(
     alloc: Global,
     tree: &mut PlainTree,
     boot: u64,
@@ -56,7 +56,7 @@ pub fn reply_to(
 /// The tree of a fresh image after this message.
 pub fn changed_by(alloc: Global, message: &[u32]) -> Result<PlainTree, Fail> {
     let mut tree = fresh(alloc)?;
-    reply_to(alloc, &mut tree, 1, message)?;
+    plain_reply_to(alloc, &mut tree, 1, message)?;
     Ok(tree)
 }
 

@@ -5,7 +5,9 @@ use nfs_types::{
     Attributes, Call, Credential, Ctx, Handle, Moment, NewAttributes, NumberList, Reply, SetTime,
     Stamp, Status, WeakCacheData,
 };
-use plain_server::{Kept, NumberedNode, PlainBody, PlainFault, PlainNode, PlainTree, serve};
+use plain_server::{
+    MappedIndexes, NumberedNode, PlainBody, PlainFault, PlainNode, PlainTree, serve,
+};
 use std::alloc::{AllocError, Global};
 use worked_messages::{CHANGED_ROOT, FRESH_ROOT, MADE, NOW, ROOT_IS_CHANGED, ROOT_IS_LEFT};
 
@@ -187,15 +189,15 @@ fn a_stranger_is_refused_in_order(rt: HostRuntime) -> Result<(), AllocError> {
     Ok(())
 }
 
-fn blocks_0_and_8(alloc: Global) -> Result<Kept, AllocError> {
-    let mut kept = Kept::new(alloc);
-    kept.keep(0)?;
-    kept.keep(8)?;
-    Ok(kept)
+fn blocks_0_and_8(alloc: Global) -> Result<MappedIndexes, AllocError> {
+    let mut mapped = MappedIndexes::new(alloc);
+    mapped.map_index(0)?;
+    mapped.map_index(8)?;
+    Ok(mapped)
 }
 
 // A file of user 7 with these bytes and blocks.
-fn file(bytes: Vec<u8>, kept: Kept) -> PlainNode {
+fn file(bytes: Vec<u8>, mapped: MappedIndexes) -> PlainNode {
     PlainNode {
         mode: 0,
         uid: 7,
@@ -209,7 +211,7 @@ fn file(bytes: Vec<u8>, kept: Kept) -> PlainNode {
             transaction: 0,
         },
         verifier: None,
-        body: PlainBody::Regular { bytes, kept },
+        body: PlainBody::Regular { bytes, mapped },
     }
 }
 

@@ -3,11 +3,11 @@
 
 use crate::tests::compared::is_same_reply;
 use crate::tests::left::{LOG_CALLS, assert_left};
-use crate::tests::plain::{asked, fresh, reply_to};
+use crate::tests::plain::{asked, fresh, plain_reply_to};
 use crate::tests::served::{Host, formatted};
 use disk::MemDisk;
 use nfs_types::Reply;
-use session::{answer_to, reply_bytes};
+use session::{reply_bytes, reply_to};
 use std::alloc::{AllocError, Global};
 use std::test::Fail;
 use store::{Event, Run, Step, Verdict, run};
@@ -141,7 +141,7 @@ fn what_a_run_tells(rt: HostRuntime) -> Result<(), Fail> {
 // Whether the verdict is written as the worked reply.
 fn is_so_written(alloc: Global, verdict: &Verdict) -> Result<bool, AllocError> {
     let mut out = Vec::new(alloc);
-    reply_bytes(alloc, &mut out, 4, answer_to(verdict))?;
+    reply_bytes(alloc, &mut out, 4, reply_to(verdict))?;
     let wanted = spelled(alloc, &SETATTR_DONE)?;
     Ok(out.as_slice() == wanted.as_slice())
 }
@@ -156,7 +156,7 @@ fn is_reply(verdict: &Verdict, reply: &Reply) -> bool {
 // Whether each answer of the run is the worked reply, which is the plain server's too.
 fn has_worked_answers(alloc: Global, run: &Run) -> Result<bool, Fail> {
     let mut tree = fresh(alloc)?;
-    let reply = reply_to(alloc, &mut tree, run.boot, &SETATTR)?;
+    let reply = plain_reply_to(alloc, &mut tree, run.boot, &SETATTR)?;
     for answer in &run.answers {
         if !is_reply(&answer.verdict, &reply) || !is_so_written(alloc, &answer.verdict)? {
             return Ok(false);

@@ -1,7 +1,7 @@
 //! Streams of several records, and records that aren't answered by a procedure.
 
 use crate::tests::served::{formatted, has_replies, serve, serve_bytes};
-use session::{SessionFault, answer_to, reply_bytes};
+use session::{SessionFault, reply_bytes, reply_to};
 use std::alloc::{AllocError, Global};
 use std::test::Fail;
 use store::Verdict;
@@ -83,7 +83,7 @@ fn calls_that_are_refused(rt: HostRuntime) -> Result<(), Fail> {
 #[test]
 fn an_allocation_that_failed(rt: HostRuntime) -> Result<(), Fail> {
     let mut out = Vec::new(rt.alloc());
-    reply_bytes(rt.alloc(), &mut out, 4, answer_to(&Verdict::NoMemory))?;
+    reply_bytes(rt.alloc(), &mut out, 4, reply_to(&Verdict::NoMemory))?;
     let wanted = spelled(rt.alloc(), &SETATTR_NO_MEMORY)?;
     assert!(rt; out.as_slice() == wanted.as_slice());
     Ok(())

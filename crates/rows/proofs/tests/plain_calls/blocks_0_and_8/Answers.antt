@@ -8,11 +8,11 @@ one_more : (b : Bool) (n : ℕ) → cond b n (n + 1) ≤ n + 1
 one_more true n = omega arith
 one_more false n = omega arith
 
-pub keep-requires : goal.keep-requires
-keep-requires c = let none = ap set.len c.new-kept.ensures ∙ set.len-empty nat_cmp in omega arith
+pub map_index-requires : goal.map_index-requires
+map_index-requires c = let none = ap set.len c.new-mapped.ensures ∙ set.len-empty nat_cmp in omega arith
 
-pub keep-requires-2 : goal.keep-requires-2
-keep-requires-2 c =
-    let none = ap set.len c.new-kept.ensures ∙ set.len-empty nat_cmp in
-    let grown = ap set.len c.in_ok-keep.ensures.ok ∙ set.len-insert nat_cmp_total c.new-kept.result 0 in
-    omega (arith, none, grown, one_more (set.contains c.new-kept.result 0) (set.len c.new-kept.result))
+pub map_index-requires-2 : goal.map_index-requires-2
+map_index-requires-2 c =
+    let none = ap set.len c.new-mapped.ensures ∙ set.len-empty nat_cmp in
+    let grown = ap set.len c.in_ok-map_index.ensures.ok ∙ set.len-insert nat_cmp_total c.new-mapped.result 0 in
+    omega (arith, none, grown, one_more (set.contains c.new-mapped.result 0) (set.len c.new-mapped.result))
