@@ -108,6 +108,8 @@ def test_a_limit_of_file_sizes_below_the_log_makes_calls_fail_and_loses_nothing(
     image = place.image()
     expect("the first server", place.once(image, wire.setattr_call(1, 0o711)), 0,
            wire.setattr_reply(1, 0o711, MADE, MADE, 2000), NOTHING)
+    # An opening without the limit brings home what is logged.
+    place.attributes(image, 0o711, 2000)
     # Block 0 lies below the limit, and the log past it: the change fails, and then the store is broken.
     with open(place.path("replies"), "wb") as replies:
         calls = wire.getattr_call(1) + wire.setattr_call(2, 0o700) + wire.getattr_call(3) + wire.null_call(4)
