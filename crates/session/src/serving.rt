@@ -184,12 +184,12 @@ fn put<W: Write>(
     alloc: Global,
     writer: &mut W,
     xid: u32,
-    serve_record: RpcReply<'_>,
+    reply: RpcReply<'_>,
 ) -> Result<(), SessionFault>
-    requires { IsSpellable (body_of serve_record) }
+    requires { IsSpellable (body_of reply) }
 {
     let mut bytes = Vec::new(alloc);
-    reply_bytes(alloc, &mut bytes, xid, serve_record).map_err(|_| SessionFault::NoMemory)?;
+    reply_bytes(alloc, &mut bytes, xid, reply).map_err(|_| SessionFault::NoMemory)?;
     writer.write_all(&bytes).map_err(|_| SessionFault::Output)?;
     writer.flush().map_err(|_| SessionFault::Output)
 }
