@@ -16,8 +16,10 @@ use thiserror::Error;
 /// Why there is no image of these sizes.
 #[derive(Clone, Copy, Debug, PartialEq, Eq, Error)]
 pub enum GeometryFault {
+    /// The count of blocks isn't lawful.
     #[error("Size")]
     Size,
+    /// The count of inodes isn't lawful, or leaves too few blocks for data.
     #[error("Inodes")]
     Inodes,
 }

@@ -38,7 +38,9 @@ pub struct Super {
 impl Super {
     ghost use Rattle.layout.specs.SuperForm.{IsNoSuper, IsSuper, super_bytes};
 
-    /// Reads a super block.
+    /// Reads a super block. It is refused by the first of these that holds: it doesn't begin with the magic
+    /// bytes (Magic), its version isn't the format's (Version), its sizes aren't lawful or a byte that no
+    /// field has isn't zero (Range).
     pub fn read(bytes: &[u8]) -> Result<Super, LayoutFault>
         requires { length bytes.now ≡ BLOCK_BYTES }
         ensures ok { IfOk result (λ s. IsSuper bytes.now s) }

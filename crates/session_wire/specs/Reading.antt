@@ -18,12 +18,12 @@ abbrev pub Reads : {X Y : Type 0} → (X → Y) → Result X XdrFault → Result
 Reads view (Ok x) read = read ≡ Ok (view x)
 Reads view (Err e) read = read ≡ Err e
 
--- the same, but that memory may have been refused
+-- the same, but that an allocation may have failed
 abbrev pub Gives : {X Y : Type 0} → (X → Y) → Result X XdrFault → Result Y XdrFault → Type 0
 Gives view (Ok x) read = read ≡ Ok (view x)
 Gives view (Err e) read = (read ≡ Err e) ⊎ (e ≡ NoMemory)
 
--- the same, where memory is refused only once all is read
+-- the same, where an allocation fails only once all is read
 abbrev pub GivesWhole : {Y : Type 0} → Result Y XdrFault → Result Y XdrFault → Type 0
 GivesWhole (Ok y) read = read ≡ Ok y
 GivesWhole {Y} (Err e) read = (read ≡ Err e) ⊎ ((e ≡ NoMemory) × (y : Y) × (read ≡ Ok y))

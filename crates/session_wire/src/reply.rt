@@ -15,31 +15,31 @@ pub fn reply_bytes(
     alloc: Global,
     out: &mut Vec<u8>,
     xid: u32,
-    answer: RpcReply,
+    reply: RpcReply,
 ) -> Result<(), AllocError>
-    requires { IsSpellable (body_of answer) }
+    requires { IsSpellable (body_of reply) }
     ensures ok { OnOk result (out.new.items ≡ out.old.items
-        ++ fragment true (bytes_of xid (body_of answer.entry))) }
+        ++ fragment true (bytes_of xid (body_of reply.entry))) }
     ensures err { OnErr result (out.new.items ≡ out.old.items) }
 {
-    let reply = message(alloc, xid, answer)?;
-    let reply = reply.as_slice();
-    let mark = (LAST_FRAGMENT + reply.len() as u32).to_be_bytes();
-    out.reserve(mark.len() + reply.len())?;
+    let message = message(alloc, xid, reply)?;
+    let bytes = message.as_slice();
+    let mark = (LAST_FRAGMENT + bytes.len() as u32).to_be_bytes();
+    out.reserve(mark.len() + bytes.len())?;
     out.extend_from_slice(&mark)?;
-    out.extend_from_slice(reply)
+    out.extend_from_slice(bytes)
 }
 
 // The reply without its mark.
-fn message(alloc: Global, xid: u32, answer: RpcReply) -> Result<Writer, AllocError>
-    requires { IsSpellable (body_of answer) }
-    ensures { IfOk result (λ w. w ≡ bytes_of xid (body_of answer.entry)) }
+fn message(alloc: Global, xid: u32, reply: RpcReply) -> Result<Writer, AllocError>
+    requires { IsSpellable (body_of reply) }
+    ensures { IfOk result (λ w. w ≡ bytes_of xid (body_of reply.entry)) }
 {
     let mut out = Writer::new(alloc);
-    match answer {
-        RpcReply::Done(reply) => {
+    match reply {
+        RpcReply::Done(done) => {
             put_accepted(&mut out, xid, 0)?;
-            encode_reply(&mut out, reply)?;
+            encode_reply(&mut out, done)?;
         }
         RpcReply::Refused(refusal) => put_refusal(&mut out, xid, refusal)?,
     }

@@ -14,8 +14,11 @@ use txn::Core;
 use wal::circ::{self, LogFault};
 use wal::{InstIo, Wal};
 
-/// Opens a store. Range is answered too where the image hasn't as many blocks as its super block says, and
-/// where no boot number is left. The faults up to Log come before any write. A refusal hands the disk back.
+/// Opens a store: brings home what the log holds, and counts the opening. An image is refused by the first of
+/// these that holds: an allocation failed (NoMemory), its device has no blocks (Magic), the super block can't
+/// be read (Device) or is refused as `Super::read` says, its sizes aren't the device's or no boot number is left
+/// (Range), the log isn't one (Log). Until then nothing is written. Later only Device and NoMemory come. A refusal
+/// hands the disk back.
 pub fn open<D: CrashDisk>(alloc: Global, disk: D) -> Result<Store<D>, (D, OpenFault)>
     ensures { IfOk result (λ store. store.core.out ≡ None) }
 {

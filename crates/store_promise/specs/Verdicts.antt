@@ -50,7 +50,7 @@ pub record IsCoveredWrite (t : Transcript) (answer : Answer) (place : ℕ) : Typ
   pub stable : IsStableAnswer t answer by
   pub commits : is_commit stable.entry.call ≡ true
 
--- a step that was refused memory
+-- a step whose allocation failed
 abbrev pub is_refused_memory : Step → Bool
 is_refused_memory (step.Begun (Err fault.NoMemory)) = true
 is_refused_memory (step.Wanted addr wish.NoMemory) = true
@@ -128,7 +128,7 @@ pub data IsVerdict (events : Schedule) (t : Transcript) (from : ℕ) (asked : Ca
   Broken : IsOfNone t from asked a → is_broken_before events t.steps a.event ≡ true
       → a.verdict ≡ verdict.Reply (refused status.Io asked)
       → IsVerdict events t from asked a
-  -- it wasn't committed, as a step of the call was refused memory
+  -- it wasn't committed, as an allocation failed in a step of the call
   NoMemory : IsOfNone t from asked a → HasStep events t a.worker from a.event is_refused_memory
       → a.verdict ≡ verdict.NoMemory
       → IsVerdict events t from asked a

@@ -5,16 +5,23 @@ use thiserror::Error;
 /// Why an image isn't opened.
 #[derive(Clone, Copy, Debug, PartialEq, Eq, Error)]
 pub enum OpenFault {
+    /// The image has no blocks, or its first one doesn't begin as that of an image does.
     #[error("Magic")]
     Magic = 1,
+    /// The format's version isn't the one that is read here.
     #[error("Version")]
     Version = 2,
+    /// The sizes of the super block aren't lawful or aren't the device's, a byte that no field has isn't zero,
+    /// or no boot number is left.
     #[error("Range")]
     Range = 3,
+    /// The headers of the log aren't those of a log.
     #[error("Log")]
     Log = 4,
+    /// A call of the device failed.
     #[error("Device")]
     Device = 5,
+    /// An allocation failed.
     #[error("NoMemory")]
     NoMemory = 6,
 }
