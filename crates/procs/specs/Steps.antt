@@ -20,6 +20,7 @@ use Rattle.procs.specs.declared.attributes.FoundFile.{FoundFile}
 use Rattle.procs.specs.declared.snap.Snap.{Snap}
 use Rattle.procs.specs.declared.stop.Stop.{Stop}
 use Rattle.procs.specs.declared.stop.Stop.TheVariants as stop
+use Rattle.procs.specs.FoundFile.{IsBodyOf}
 
 -- the inode has the attributes that are wanted, and else is the old one
 pub record IsSetFrom (moment : Moment) (wanted : NewAttributes) (old new : Inode) : Type 0 where
@@ -47,9 +48,9 @@ NoneStand snap stop.Io = (blocks : Image) (tree : Tree) → Stands snap.geometry
 NoneStand snap stop.NoMemory = Unit {0}
 NoneStand snap (stop.Need addr) = Unit {0}
 
--- what was found is the tree's file with its inode, or why the tree has none
+-- what was found is the tree's file with its inode and the blocks that it uses, or why the tree has none
 abbrev pub IsFoundIn : Geometry → Image → Tree → List ℕ → Result FoundFile Status → Type 0
 IsFoundIn g blocks tree handle (Ok found) =
     (node : Node) × (find_file tree handle ≡ Ok (found.number, node))
-    × (inode_at g blocks found.number ≡ Ok found.inode)
+    × (inode_at g blocks found.number ≡ Ok found.inode) × IsBodyOf found node.body
 IsFoundIn g blocks tree handle (Err status) = find_file tree handle ≡ Err status
