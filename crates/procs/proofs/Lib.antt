@@ -8,3 +8,5 @@ pub mod WrittenMode
 pub mod ReadThere
 pub mod Handles
 pub mod FoundThere
+pub mod FarThere
+pub mod StepsOf
