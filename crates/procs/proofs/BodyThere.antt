@@ -1,6 +1,6 @@
 -- What was found of a file is its body's kind and size, and the number of blocks that it uses.
-use Rattle.std.proofs.Common.{◌≡◌, ℕ, ◌<◌, sym, ap, ◌∙◌, refl, ◌&&◌, ◌%◌, ◌/◌, length, nat_eq, nat_le, nat_lt}
-use Rattle.std.proofs.Common.{cond, not, min, subst, true, Ok}
+use Rattle.std.proofs.Common.{◌≡◌, ℕ, sym, ap, ◌∙◌, ◌%◌, ◌/◌, length, nat_eq, nat_le, nat_lt}
+use Rattle.std.proofs.Common.{cond, not, min, true}
 use Rattle.limits.specs.declared.TheConstants.{BLOCK_BYTES, DIRECT_INDEXES, LARGEST_FILE, TARGET_BYTES}
 use Rattle.disk.specs.Crash.{Image}
 use Rattle.model.specs.Node.{Body}
@@ -8,7 +8,7 @@ use Rattle.layout.specs.declared.geometry.Geometry.{Geometry}
 use Rattle.layout.specs.declared.inode.Inode.{Inode}
 use Rattle.layout.specs.declared.inode.InodeKind.{InodeKind}
 use Rattle.layout.specs.declared.inode.InodeKind.TheVariants.{Free, Regular, Directory, Link}
-use Rattle.layout.specs.Decode.{IsOfKind, regular_in, directory_in, link_in, span_of}
+use Rattle.layout.specs.Decode.{IsOfKind, regular_in, directory_in, link_in}
 use Rattle.layout.specs.InodeForm.{is_sound_kind, is_sound_file, is_sound_map, is_sound_regular}
 use Rattle.layout.specs.InodeForm.{is_sound_directory, is_sound_link, names_first}
 use Rattle.procs.specs.declared.attributes.FoundFile.{FoundFile}

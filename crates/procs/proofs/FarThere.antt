@@ -1,10 +1,9 @@
 -- An indirect block that names what is no data block is in no blocks that stand for a tree.
-use Rattle.std.proofs.Common.{◌≡◌, ℕ, ◌<◌, sym, ap, ◌∙◌, refl, Bool, true, false, cond, ◌&&◌, List, [], ◌∷◌}
+use Rattle.std.proofs.Common.{◌≡◌, ℕ, ◌<◌, sym, ap, ◌∙◌, refl, Bool, true, false, cond, List, [], ◌∷◌}
 use Rattle.std.proofs.Common.{◌++◌, nat_eq, nat_le, replicate, Ok}
 use Rattle.std.specs.List.{list_all}
 use Rattle.limits.specs.declared.TheConstants.{INDIRECT_INDEXES, TARGET_BYTES}
 use Rattle.disk.specs.Crash.{Image}
-use Rattle.model.specs.Tree.{Tree}
 use Rattle.layout.specs.declared.geometry.Geometry.{Geometry}
 use Rattle.layout.specs.declared.inode.Inode.{Inode}
 use Rattle.layout.specs.declared.inode.InodeKind.{InodeKind}
@@ -14,7 +13,6 @@ use Rattle.layout.specs.Fields.{numbers_at}
 use Rattle.layout.specs.InodeForm.{is_data_block_or_none, is_sound_kind, is_sound_file, is_sound_map}
 use Rattle.layout.specs.InodeForm.{is_sound_link, names_first}
 use Rattle.layout.specs.Parts.{content_in}
-use Rattle.layout.specs.Stands.{Stands}
 use Rattle.procs.specs.declared.snap.Snap.{Snap}
 use Rattle.procs.specs.declared.stop.Stop.{Stop}
 use Rattle.procs.specs.declared.stop.Stop.TheVariants as stop

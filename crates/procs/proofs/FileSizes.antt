@@ -1,7 +1,7 @@
 -- A file that was read has as many bytes as its inode says.
-use Rattle.std.proofs.Common.{◌≡◌, ℕ, ◌+◌, ◌*◌, ◌/◌, ◌%◌, ◌≤◌, sym, ap, ◌∙◌, refl, Bool, true, false, cond}
+use Rattle.std.proofs.Common.{◌≡◌, ℕ, ◌*◌, ◌/◌, ◌%◌, ◌≤◌, refl, Bool, true, false, cond}
 use Rattle.std.proofs.Common.{length-append, length-take-le, arith}
-use Rattle.std.proofs.Common.{List, [], ◌∷◌, length, take, replicate, nat_eq, nat_le, nat_lt, not, min}
+use Rattle.std.proofs.Common.{List, [], ◌∷◌, length, take, replicate, nat_eq}
 use Rattle.std.specs.List.{flat_map}
 use Rattle.limits.specs.declared.TheConstants.{BLOCK_BYTES, DIRECT_INDEXES, INDIRECT_INDEXES, LARGEST_FILE}
 use Rattle.limits.specs.declared.TheConstants.{FILE_INDEXES, TARGET_BYTES}

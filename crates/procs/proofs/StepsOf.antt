@@ -27,7 +27,7 @@ use Rattle.model.specs.Tree.{Tree}
 use Rattle.model.proofs.Answered.{found-stands}
 use Rattle.layout.specs.declared.geometry.Geometry.{Geometry}
 use Rattle.layout.specs.declared.inode.Inode.{Inode}
-use Rattle.layout.specs.Decode.{inode_at, node_with}
+use Rattle.layout.specs.Decode.{node_with}
 use Rattle.layout.specs.Stands.{Stands}
 use Rattle.layout.proofs.ChangedInode.{node_of}
 use Rattle.txn.specs.Object.{ObjectBytes}
@@ -44,13 +44,12 @@ pub unwritten : (g : Geometry) (ctx : Ctx) (c : Call) (done : Done) (items : Lis
     → ((blocks : Image) (tree : Tree) → Stands g blocks tree → AreAsRead blocks items
     → step tree ctx c told tree)
     → IsStepOf g ctx c done
-unwritten g ctx c done items told read_is reply_is written_is steps = λ blocks tree now stands read.
-    (
-      tree,
-      subst (λ r. step tree ctx c r tree) (sym reply_is)
-          (steps blocks tree stands (subst (AreAsRead blocks) read_is read)),
-      subst (λ (w : List ObjectBytes). Stands g (with_objects blocks w) tree) (sym written_is) stands,
-    )
+unwritten g ctx c done items told read_is reply_is written_is steps = λ blocks tree now stands read. (
+  tree,
+  subst (λ r. step tree ctx c r tree) (sym reply_is)
+      (steps blocks tree stands (subst (AreAsRead blocks) read_is read)),
+  subst (λ (w : List ObjectBytes). Stands g (with_objects blocks w) tree) (sym written_is) stands,
+)
 
 -- ---- GETATTR
 
@@ -130,8 +129,7 @@ module _ (g : Geometry) (blocks : Image) (tree : Tree) (ctx : Ctx) (object : Han
       let told_now : told
       ≡ reply.SetAttr (Ok tt) (change_of f.number node (node_with new.inode node.body)) =
       tells node.body is.3 body
-      ∙ (λ i. reply.SetAttr (Ok tt) (change_of f.number (node_is i) (node_with new.inode node.body))) in
-      (
+      ∙ (λ i. reply.SetAttr (Ok tt) (change_of f.number (node_is i) (node_with new.inode node.body))) in (
         done.0,
         subst (λ r. step tree ctx (call.SetAttr object wanted guard) r done.0) (sym told_now) done.1,
         done.2,
@@ -154,8 +152,7 @@ stepped g ctx object wanted guard f new done items read_is only found passed tel
     λ blocks tree now stands read.
     let is = found blocks tree stands (subst (AreAsRead blocks) read_is read) in
     let one = written g blocks tree ctx object wanted guard f stands is new done.reply laid.0 now only passed
-    tells number_is used_is set laid.2 in
-    (
+    tells number_is used_is set laid.2 in (
       one.0,
       one.1,
       subst (λ (w : List ObjectBytes). Stands g (with_objects blocks w) one.0) (sym laid.1) one.2,

@@ -1,15 +1,14 @@
 -- A file that was read uses as many blocks as its inode and its indirect block name.
-use Rattle.std.proofs.Common.{◌≡◌, ℕ, zero, suc, ◌+◌, ◌/◌, ◌≤◌, sym, ap, ◌∙◌, refl, Bool, true, false, cond, not, ◌&&◌}
-use Rattle.std.proofs.Common.{List, length, take, drop, replicate, nat_eq, nat_lt, nat_le, count_by, min, arith}
+use Rattle.std.proofs.Common.{◌≡◌, ℕ, zero, suc, ◌+◌, ◌≤◌, sym, ap, ◌∙◌, refl, Bool, true, false, cond, not}
+use Rattle.std.proofs.Common.{List, length, take, drop, replicate, nat_eq, nat_lt, count_by, arith}
 use Rattle.std.specs.List.{list_all}
 use Rattle.std.proofs.lemmas.List.Sums.{sum_by-append, sum_by-cons}
-use Rattle.limits.specs.declared.TheConstants.{BLOCK_BYTES, DIRECT_INDEXES, INDIRECT_INDEXES, LARGEST_FILE}
-use Rattle.limits.specs.declared.TheConstants.{FILE_INDEXES}
+use Rattle.limits.specs.declared.TheConstants.{DIRECT_INDEXES, INDIRECT_INDEXES, LARGEST_FILE}
 use Rattle.disk.specs.Crash.{Image}
 use Rattle.model.specs.Cost.{file_cost}
 use Rattle.layout.specs.declared.geometry.Geometry.{Geometry}
 use Rattle.layout.specs.declared.inode.Inode.{Inode}
-use Rattle.layout.specs.Decode.{numbers_of, mapped_of, span_of, IsMapped, IsDirectory}
+use Rattle.layout.specs.Decode.{numbers_of, mapped_of, span_of, IsMapped}
 use Rattle.layout.specs.Fields.{numbers_at, count_of}
 use Rattle.layout.specs.InodeForm.{names_first}
 use Rattle.layout.proofs.Mapped.{is_some}

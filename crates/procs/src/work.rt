@@ -20,7 +20,9 @@ use crate::refused::refused_reply;
 use crate::set_attr::{refusal, with_mode};
 use crate::snap::Snap;
 use crate::stop::Stop;
-use nfs_types::{Attributes, Call, Ctx, Handle, Moment, NewAttributes, Reply, Status, WeakCacheData};
+use nfs_types::{
+    Attributes, Call, Ctx, Handle, Moment, NewAttributes, Reply, Status, WeakCacheData,
+};
 use std::alloc::{AllocError, Global};
 use txn::Object;
 

@@ -1,4 +1,4 @@
-use Rattle.std.proofs.Common.{rules, sym}
+use Rattle.std.proofs.Common.{rules}
 use Rattle.procs.proofs.StepsOf.{one_written}
 use Rattle.procs.proofs.work.changed.Goals as goal
 

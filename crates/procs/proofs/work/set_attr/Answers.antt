@@ -1,8 +1,7 @@
-use Rattle.std.proofs.Common.{refl, subst, Err, Some, [], ◌∷◌, List}
+use Rattle.std.proofs.Common.{refl, Err}
 use Rattle.nfs_types.specs.declared.call.Call.TheVariants as call
 use Rattle.nfs_types.specs.declared.reply.Reply.TheVariants as reply
 use Rattle.model.specs.Attributes.{untold}
-use Rattle.procs.specs.Steps.{AreAsRead}
 use Rattle.procs.proofs.StepsOf.{unwritten, not_found, left_alone, stepped}
 use Rattle.procs.proofs.work.set_attr.Goals as goal
 
