@@ -9,7 +9,7 @@ use Rattle.disk.specs.Crash.{Image}
 use Rattle.nfs_types.specs.Handle.{handle_bytes}
 use Rattle.nfs_types.specs.declared.handle.Stamp.{Stamp}
 use Rattle.nfs_types.specs.declared.status.Status.TheVariants as status
-use Rattle.model.specs.Node.{Node}
+use Rattle.model.specs.Node.{Node, Body}
 use Rattle.model.specs.Find.{find_file, stamped, same_stamp}
 use Rattle.model.specs.Tree.{Tree, node_at}
 use Rattle.model.specs.Tree as model
@@ -21,25 +21,33 @@ use Rattle.layout.specs.declared.inode.InodeKind.TheVariants.{Free, Regular, Dir
 use Rattle.layout.specs.Decode.{inode_at, node_with, file_of, file_of_kind, regular_in, directory_in, link_in}
 use Rattle.layout.specs.Parts.{content_in}
 use Rattle.layout.specs.Stands.{Stands}
+use Rattle.procs.specs.declared.attributes.FoundFile.{FoundFile}
+use Rattle.procs.specs.FoundFile.{IsBodyOf}
+use Rattle.procs.specs.Steps.{IsFoundIn}
+use Rattle.procs.proofs.BodyThere.{BodyHas, anything, has_body}
 use Rattle.procs.proofs.Handles.{handled, stamped_ok}
+use Rattle.procs.proofs.InodeThere.{is_read, is_sound, is_of_kind, long, same_counted}
+use Rattle.procs.proofs.UsedBlocks.{counted}
 
--- the file of an inode: none, or one with its stamp
-data IsThere (inode : Inode) (at : Option Node) : Type 0 where
-  free : inode.kind ≡ Free → at ≡ None → IsThere inode at
-  used : (inode.kind ≡ Free → ⊥) → (node : Node) → at ≡ Some node → node.stamp ≡ inode.stamp
-      → IsThere inode at
+-- the file of an inode: none, or one with its stamp, and with such a body
+data IsThere (P : Body → Type 0) (inode : Inode) (at : Option Node) : Type 0 where
+  free : inode.kind ≡ Free → at ≡ None → IsThere P inode at
+  used : (inode.kind ≡ Free → ⊥) → (node : Node) → at ≡ Some node → node.stamp ≡ inode.stamp → P node.body
+      → IsThere P inode at
 
-of_kind : (inodes : ℕ) (content : Image) (inode : Inode) (kind : InodeKind) → inode.kind ≡ kind
-    → IsThere inode (file_of_kind inodes content kind inode)
-of_kind inodes content inode Free is = free is refl
-of_kind inodes content inode Regular is =
+of_kind : (P : Body → Type 0) (inodes : ℕ) (content : Image) (inode : Inode) (kind : InodeKind)
+    → inode.kind ≡ kind → BodyHas P inodes content inode kind
+    → IsThere P inode (file_of_kind inodes content kind inode)
+of_kind P inodes content inode Free is has = free is refl
+of_kind P inodes content inode Regular is has =
     used (λ e. let clash : Regular ≡ Free = sym is ∙ e in cc) (node_with inode (regular_in content inode))
-    refl refl
-of_kind inodes content inode Directory is =
+    refl refl has
+of_kind P inodes content inode Directory is has =
     used (λ e. let clash : Directory ≡ Free = sym is ∙ e in
-    cc) (node_with inode (directory_in inodes content inode)) refl refl
-of_kind inodes content inode Link is =
+    cc) (node_with inode (directory_in inodes content inode)) refl refl has
+of_kind P inodes content inode Link is has =
     used (λ e. let clash : Link ≡ Free = sym is ∙ e in cc) (node_with inode (link_in content inode)) refl refl
+    has
 
 module _ (g : Geometry) (blocks : Image) (tree : Tree) (number : ℕ) (inode : Inode) (stamp : Stamp)
     (handle : List ℕ)
@@ -53,8 +61,13 @@ module _ (g : Geometry) (blocks : Image) (tree : Tree) (number : ℕ) (inode : I
   at_is : node_at tree number ≡ file_of_kind g.inodes (content_in g blocks) inode.kind inode
   at_is = stands.parts.has.files number ∙ ap (file_of g.inodes (content_in g blocks)) table_is
 
-  there : IsThere inode (node_at tree number)
-  there = subst (IsThere inode) (sym at_is) (of_kind g.inodes (content_in g blocks) inode inode.kind refl)
+  there_with : (P : Body → Type 0) → BodyHas P g.inodes (content_in g blocks) inode inode.kind
+      → IsThere P inode (node_at tree number)
+  there_with P has = subst (IsThere P inode) (sym at_is)
+      (of_kind P g.inodes (content_in g blocks) inode inode.kind refl has)
+
+  there : IsThere (λ _. Unit {0}) inode (node_at tree number)
+  there = there_with (λ _. Unit {0}) (anything g.inodes (content_in g blocks) inode inode.kind)
 
   inodes_are : g.inodes ≡ tree.geometry.inodes
   inodes_are = sym (ap (λ (one : model.Geometry). one.inodes) stands.parts.geometry)
@@ -69,7 +82,7 @@ module _ (g : Geometry) (blocks : Image) (tree : Tree) (number : ℕ) (inode : I
   pub stale_free : inode.kind ≡ Free → find_file tree handle ≡ Err status.Stale
   stale_free e = elim there [
     | free k none ↦ none_stale none
-    | used not node at same ↦ absurd (not e)
+    | used not node at same has ↦ absurd (not e)
   ]
 
   other_stamp : (a b : Stamp) → (b ≡ a → ⊥) → same_stamp a b ≡ false
@@ -88,23 +101,32 @@ module _ (g : Geometry) (blocks : Image) (tree : Tree) (number : ℕ) (inode : I
   pub stale_stamp : (inode.stamp ≡ stamp → ⊥) → find_file tree handle ≡ Err status.Stale
   stale_stamp differs = elim there [
     | free k none ↦ none_stale none
-    | used not node at same ↦ found_is ∙ ap (stamped number stamp) at
+    | used not node at same has ↦ found_is ∙ ap (stamped number stamp) at
         ∙ ap (λ b. cond b (Ok (number, node)) (Err status.Stale))
         (other_stamp stamp node.stamp (λ e. differs (sym same ∙ e)))
   ]
 
-  pub found : (inode.kind ≡ Free → ⊥) → inode.stamp ≡ stamp
-      → (node : Node) × (find_file tree handle ≡ Ok (number, node)) × (inode_at g blocks number ≡ Ok inode)
-  found not_free e = elim there [
-    | free k none ↦ absurd (not_free k)
-    | used not node at same ↦ (
-      node,
-      found_is ∙ ap (stamped number stamp) at
-          ∙ stamped_ok number stamp node (ap (λ (s : Stamp). s.boot) (sym e ∙ sym same))
-          (ap (λ (s : Stamp). s.transaction) (sym e ∙ sym same)),
-      read,
-    )
-  ]
+  pub found : (inode.kind ≡ Free → ⊥) → inode.stamp ≡ stamp → (k : ℕ) → k ≡ counted blocks inode
+      → IsFoundIn g blocks tree handle (Ok (record { number = number; inode = inode; used = k }))
+  found not_free e k count =
+      let file : FoundFile = record { number = number; inode = inode; used = k } in
+      let body : BodyHas (IsBodyOf file) g.inodes (content_in g blocks) inode inode.kind =
+      has_body g (content_in g blocks) file (long g blocks tree number inode stands less read)
+      (is_read g blocks tree number inode stands less read).fits.count
+      (count ∙ same_counted g blocks tree number inode stands less read not_free) inode.kind refl
+      (is_sound g blocks tree number inode stands less read)
+      (is_of_kind g blocks tree number inode stands less read) in
+      elim (there_with (IsBodyOf file) body) [
+        | free k none ↦ absurd (not_free k)
+        | used not node at same has ↦ (
+          node,
+          found_is ∙ ap (stamped number stamp) at
+              ∙ stamped_ok number stamp node (ap (λ (s : Stamp). s.boot) (sym e ∙ sym same))
+              (ap (λ (s : Stamp). s.transaction) (sym e ∙ sym same)),
+          read,
+          has,
+        )
+      ]
 
 -- ---- the tests of the code
 

@@ -1,5 +1,12 @@
+pub mod AllTests
+pub mod InodeThere
+pub mod FileSizes
+pub mod UsedBlocks
+pub mod BodyThere
 pub mod OnlyMode
 pub mod WrittenMode
 pub mod ReadThere
 pub mod Handles
 pub mod FoundThere
+pub mod FarThere
+pub mod StepsOf

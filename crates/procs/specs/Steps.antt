@@ -1,5 +1,14 @@
 -- What a plan writes.
-use Rattle.std.specs.Prelude.{◌≡◌, ℕ, Contains, List, Result, Ok, Err}
+use Rattle.std.specs.Prelude.{◌≡◌, ℕ, Contains, List, Result, Ok, Err, false, nat_eq, length}
+use Rattle.std.specs.List.{list_all}
+use Rattle.limits.specs.declared.TheConstants.{BLOCK_BYTES, INDIRECT_INDEXES}
+use Rattle.nfs_types.specs.declared.attributes.Attributes.{Attributes}
+use Rattle.nfs_types.specs.declared.call.Call.{Call}
+use Rattle.nfs_types.specs.declared.ctx.Ctx.{Ctx}
+use Rattle.model.specs.Attributes.{attributes_of}
+use Rattle.model.specs.Sound.{SoundTime}
+use Rattle.model.specs.Step.{step}
+use Rattle.layout.specs.Fields.{numbers_at}
 use Rattle.disk.specs.Crash.{Image}
 use Rattle.nfs_types.specs.declared.attributes.NewAttributes.{NewAttributes}
 use Rattle.nfs_types.specs.declared.ctx.Moment.{Moment}
@@ -10,16 +19,20 @@ use Rattle.model.specs.SetAttr.{with_attributes}
 use Rattle.layout.specs.declared.geometry.Geometry.{Geometry}
 use Rattle.layout.specs.declared.inode.Inode.{Inode}
 use Rattle.layout.specs.Decode.{inode_at, node_with}
-use Rattle.layout.specs.InodeForm.{inode_bytes}
+use Rattle.layout.specs.InodeForm.{inode_bytes, is_data_block_or_none}
 use Rattle.layout.specs.Geometry.{inode_block, inode_offset}
 use Rattle.layout.specs.Stands.{Stands}
 use Rattle.model.specs.Tree.{Tree}
 use Rattle.txn.specs.Object.{ObjectBytes}
-use Rattle.txn.specs.Window.{IsAsRead}
+use Rattle.txn.specs.Window.{IsAsRead, with_objects}
 use Rattle.procs.specs.declared.attributes.FoundFile.{FoundFile}
+use Rattle.procs.specs.declared.done.Done.{Done}
+use Rattle.procs.specs.declared.next.Plan.{Plan}
+use Rattle.procs.specs.declared.next.Plan.TheVariants as plan
 use Rattle.procs.specs.declared.snap.Snap.{Snap}
 use Rattle.procs.specs.declared.stop.Stop.{Stop}
 use Rattle.procs.specs.declared.stop.Stop.TheVariants as stop
+use Rattle.procs.specs.FoundFile.{IsBodyOf}
 
 -- the inode has the attributes that are wanted, and else is the old one
 pub record IsSetFrom (moment : Moment) (wanted : NewAttributes) (old new : Inode) : Type 0 where
@@ -36,9 +49,13 @@ pub record IsInodeObject (g : Geometry) (number : ℕ) (inode : Inode) (object :
   pub offset : object.addr.offset ≡ inode_offset number
   pub bytes : object.bytes ≡ inode_bytes inode
 
+-- these blocks have what was read
+abbrev pub AreAsRead : Image → List ObjectBytes → Type 0
+AreAsRead blocks objects = (object : ObjectBytes) → Contains objects object → IsAsRead blocks object
+
 -- what was read so far is what these blocks have
 abbrev pub Saw : Image → Snap → Type 0
-Saw blocks snap = (object : ObjectBytes) → Contains snap.objects.items object → IsAsRead blocks object
+Saw blocks snap = AreAsRead blocks snap.objects.items
 
 -- the plan failed, which it does for no blocks that stand for a tree
 abbrev pub NoneStand : Snap → Stop → Type 0
@@ -47,9 +64,42 @@ NoneStand snap stop.Io = (blocks : Image) (tree : Tree) → Stands snap.geometry
 NoneStand snap stop.NoMemory = Unit {0}
 NoneStand snap (stop.Need addr) = Unit {0}
 
--- what was found is the tree's file with its inode, or why the tree has none
+-- what was found is the tree's file with its inode and the blocks that it uses, or why the tree has none
 abbrev pub IsFoundIn : Geometry → Image → Tree → List ℕ → Result FoundFile Status → Type 0
 IsFoundIn g blocks tree handle (Ok found) =
     (node : Node) × (find_file tree handle ≡ Ok (found.number, node))
-    × (inode_at g blocks found.number ≡ Ok found.inode)
+    × (inode_at g blocks found.number ≡ Ok found.inode) × IsBodyOf found node.body
 IsFoundIn g blocks tree handle (Err status) = find_file tree handle ≡ Err status
+
+-- the plan failed as the indirect block of this number names what is no data block
+abbrev pub NamesOthers : Snap → ℕ → Stop → Type 0
+NamesOthers snap indirect stop.Io = (blocks : Image) → Saw blocks snap → length (blocks indirect) ≡ BLOCK_BYTES
+    → (nat_eq indirect 0 ≡ false)
+    × (list_all (is_data_block_or_none snap.geometry.blocks snap.geometry.inodes)
+    (numbers_at INDIRECT_INDEXES 0 (blocks indirect)) ≡ false)
+NamesOthers snap indirect stop.NoMemory = Unit {0}
+NamesOthers snap indirect (stop.Need addr) = Unit {0}
+
+-- the attributes that are told are those of what was found, or it is told why nothing was
+abbrev pub IsTold : Result FoundFile Status → Result Attributes Status → Type 0
+IsTold (Ok found) (Ok attributes) =
+    (body : Body) → IsBodyOf found body → attributes ≡ attributes_of found.number (node_with found.inode body)
+IsTold (Err found) (Err status) = status ≡ found
+IsTold (Ok found) (Err status) = ⊥
+IsTold (Err status) (Ok attributes) = ⊥
+
+-- What comes of a call is a step of the sequential server: wherever blocks have what was read and stand for a
+-- tree, the reply is one that the call may get there, and the blocks with what is written stand for the tree
+-- that it then leads to.
+abbrev pub IsStepOf : Geometry → Ctx → Call → Done → Type 0
+IsStepOf g ctx call done = (blocks : Image) (tree : Tree) → SoundTime ctx.moment → Stands g blocks tree
+    → AreAsRead blocks done.read.items
+    → (next : Tree) × step tree ctx call done.reply next
+    × Stands g (with_objects blocks done.written.items) next
+
+-- a plan is done only with what is a step
+abbrev pub IsStepPlan : Geometry → Ctx → Call → Plan → Type 0
+IsStepPlan g ctx call (plan.Done done) = IsStepOf g ctx call done
+IsStepPlan g ctx call (plan.Need addr) = Unit {0}
+IsStepPlan g ctx call (plan.Claim block) = Unit {0}
+IsStepPlan g ctx call plan.NoMemory = Unit {0}

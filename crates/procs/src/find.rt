@@ -8,7 +8,8 @@ ghost use Rattle.txn.specs.Window.{object_at};
 ghost use Rattle.procs.specs.Snap.{IsNew};
 ghost use Rattle.layout.specs.Stands.{Stands};
 ghost use Rattle.model.specs.Tree.{Tree};
-ghost use Rattle.procs.specs.Steps.{Saw, NoneStand, IsFoundIn};
+ghost use Rattle.procs.specs.Steps.{Saw, NoneStand, NamesOthers, IsFoundIn};
+ghost use Rattle.procs.specs.declared.stop.Stop.TheVariants as stop;
 
 use crate::attributes::FoundFile;
 use crate::snap::Snap;
@@ -26,6 +27,7 @@ fn bytes_at(snap: &Snap, addr: Addr) -> Result<&[u8], Stop>
         → object_at blocks addr ≡ bytes.now) }
     ensures err { IfErr result (λ stop. IsNew snap.now stop) }
     ensures io { IfErr result (λ stop. NoneStand snap.now stop) }
+    ensures need { IfErr result (λ why. why ≡ stop.Need addr) }
 {
     match snap.get(addr) {
         Some(object) => Ok(object.bytes()),
@@ -40,6 +42,7 @@ fn used_by(alloc: Global, snap: &Snap, indirect: u32) -> Result<u32, Stop>
         → length (blocks indirect) ≡ BLOCK_BYTES
         → used ≡ cond (nat_eq indirect 0) 0 (count_of (numbers_at INDIRECT_INDEXES 0 (blocks indirect)) + 1)) }
     ensures err { IfErr result (λ stop. IsNew snap.now stop) }
+    ensures io { IfErr result (λ stop. NamesOthers snap.now indirect stop) }
 {
     if indirect == 0 {
         return Ok(0);
@@ -74,6 +77,7 @@ pub(crate) fn find(
     handle: &Handle,
 ) -> Result<Result<FoundFile, Status>, Stop>
     ensures err { IfErr result (λ stop. IsNew snap.now stop) }
+    ensures io { IfErr result (λ stop. NoneStand snap.now stop) }
     ensures ok { IfOk result (λ found. IfOk found (λ f. f.number < snap.now.geometry.inodes)) }
     ensures tells { IfOk result (λ found. (blocks : Image) (tree : Tree)
         → Stands snap.now.geometry blocks tree → Saw blocks snap.now

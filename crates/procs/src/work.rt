@@ -1,5 +1,14 @@
 //! Plans: what a call needs next, or what comes of it.
-ghost use Rattle.std.specs.Prelude.{◌≡◌, true, ◌<◌, IfErr, IfOk};
+ghost use Rattle.std.specs.Prelude.{◌≡◌, true, ◌<◌, ◌∷◌, [], Ok, Err, IfErr, IfOk};
+ghost use Rattle.nfs_types.specs.declared.call.Call.TheVariants as call;
+ghost use Rattle.nfs_types.specs.declared.ctx.Ctx.{Ctx};
+ghost use Rattle.nfs_types.specs.declared.reply.Reply.TheVariants as reply;
+ghost use Rattle.layout.specs.Decode.{node_with};
+ghost use Rattle.model.specs.Attributes.{change_of};
+ghost use Rattle.model.specs.Node.{Body};
+ghost use Rattle.txn.specs.Object.{ObjectBytes};
+ghost use Rattle.procs.specs.FoundFile.{IsBodyOf};
+ghost use Rattle.procs.specs.Steps.{IsTold, IsStepOf, IsStepPlan, IsInodeObject, NoneStand};
 ghost use Rattle.model.specs.Calls.{has_rules, sets_only_mode};
 ghost use Rattle.procs.specs.Snap.{IsNew, IsPlanFor, IsDoneFor};
 
@@ -11,26 +20,41 @@ use crate::refused::refused_reply;
 use crate::set_attr::{refusal, with_mode};
 use crate::snap::Snap;
 use crate::stop::Stop;
-use nfs_types::{Call, Ctx, Handle, Moment, NewAttributes, Reply, Status, WeakCacheData};
+use nfs_types::{
+    Attributes, Call, Ctx, Handle, Moment, NewAttributes, Reply, Status, WeakCacheData,
+};
 use std::alloc::{AllocError, Global};
 use txn::Object;
 
 // What is done without a write.
 fn told(alloc: Global, snap: &Snap, reply: Reply) -> Result<Done, AllocError>
-    ensures { IfOk result (λ done. IsDoneFor snap.now done) }
+    ensures done { IfOk result (λ done. IsDoneFor snap.now done) }
+    ensures reply { IfOk result (λ done. done.reply ≡ reply) }
+    ensures written { IfOk result (λ done. done.written.items ≡ []) }
 {
     Done::new(snap, reply, Vec::new(alloc))
+}
+
+// The attributes of what was found.
+fn outcome_of(found: Result<FoundFile, Status>) -> Result<Attributes, Status>
+    ensures { IsTold found result }
+{
+    match found {
+        Ok(found) => Ok(found.attributes()),
+        Err(status) => Err(status),
+    }
 }
 
 // GETATTR (RFC 1813, section 3.3.1).
 fn get_attr(alloc: Global, snap: &Snap, object: &Handle) -> Result<Done, Stop>
     ensures ok { IfOk result (λ done. IsDoneFor snap.now done) }
+    ensures step { IfOk result (λ done. (ctx : Ctx)
+        → IsStepOf snap.now.geometry ctx (call.GetAttr object.now) done) }
     ensures err { IfErr result (λ stop. IsNew snap.now stop) }
+    ensures io { IfErr result (λ stop. NoneStand snap.now stop) }
 {
-    let outcome = match find(alloc, snap, object)? {
-        Ok(found) => Ok(found.attributes()),
-        Err(status) => Err(status),
-    };
+    let found = find(alloc, snap, object)?;
+    let outcome = outcome_of(found);
     Ok(told(alloc, snap, Reply::GetAttr { outcome })?)
 }
 
@@ -41,7 +65,9 @@ fn left(
     status: Status,
     object: WeakCacheData,
 ) -> Result<Done, AllocError>
-    ensures { IfOk result (λ done. IsDoneFor snap.now done) }
+    ensures done { IfOk result (λ done. IsDoneFor snap.now done) }
+    ensures reply { IfOk result (λ done. done.reply ≡ reply.SetAttr (Err status) object) }
+    ensures written { IfOk result (λ done. done.written.items ≡ []) }
 {
     let outcome = Err(status);
     told(alloc, snap, Reply::SetAttr { outcome, object })
@@ -51,11 +77,17 @@ fn left(
 fn changed(alloc: Global, snap: &Snap, old: &FoundFile, new: &FoundFile) -> Result<Done, AllocError>
     requires number { new.now.number < snap.now.geometry.inodes }
     requires same { new.now.number ≡ old.now.number }
-    ensures { IfOk result (λ done. IsDoneFor snap.now done) }
+    ensures done { IfOk result (λ done. IsDoneFor snap.now done) }
+    ensures reply { IfOk result (λ done. (body : Body) → IsBodyOf old.now body → IsBodyOf new.now body
+        → done.reply ≡ reply.SetAttr (Ok tt) (change_of old.now.number (node_with old.now.inode body)
+        (node_with new.now.inode body))) }
+    ensures written { IfOk result (λ done. (object : ObjectBytes) × (done.written.items ≡ object ∷ [])
+        × IsInodeObject snap.now.geometry new.now.number new.now.inode object) }
 {
     let addr = snap.geometry.inode_addr(new.number);
+    let bytes = new.inode.write(alloc)?;
     let mut written = Vec::new(alloc);
-    written.push(Object::new(addr, new.inode.write(alloc)?))?;
+    written.push(Object::new(addr, bytes))?;
     let reply = Reply::SetAttr {
         outcome: Ok(()),
         object: old.change_to(new),
@@ -74,7 +106,10 @@ fn set_attr(
 ) -> Result<Done, Stop>
     requires { sets_only_mode wanted.now ≡ true }
     ensures ok { IfOk result (λ done. IsDoneFor snap.now done) }
+    ensures step { IfOk result (λ done. IsStepOf snap.now.geometry ctx.now
+        (call.SetAttr object.now wanted.now guard.now) done) }
     ensures err { IfErr result (λ stop. IsNew snap.now stop) }
+    ensures io { IfErr result (λ stop. NoneStand snap.now stop) }
 {
     let found = match find(alloc, snap, object)? {
         Ok(found) => found,
@@ -99,7 +134,9 @@ fn set_attr(
 fn work(alloc: Global, ctx: &Ctx, call: &Call, snap: &Snap) -> Result<Done, Stop>
     requires { has_rules call.now ≡ true }
     ensures ok { IfOk result (λ done. IsDoneFor snap.now done) }
+    ensures step { IfOk result (λ done. IsStepOf snap.now.geometry ctx.now call.now done) }
     ensures err { IfErr result (λ stop. IsNew snap.now stop) }
+    ensures io { IfErr result (λ stop. NoneStand snap.now stop) }
 {
     match call {
         Call::GetAttr { object } => get_attr(alloc, snap, object),
@@ -136,7 +173,8 @@ fn work(alloc: Global, ctx: &Ctx, call: &Call, snap: &Snap) -> Result<Done, Stop
 /// written.
 pub fn plan(alloc: Global, ctx: &Ctx, call: &Call, snap: &Snap) -> Plan
     requires { has_rules call.now ≡ true }
-    ensures { IsPlanFor snap.now result }
+    ensures plan { IsPlanFor snap.now result }
+    ensures step { IsStepPlan snap.now.geometry ctx.now call.now result }
 {
     match work(alloc, ctx, call, snap) {
         Ok(done) => Plan::Done(done),

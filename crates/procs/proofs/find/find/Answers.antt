@@ -1,6 +1,9 @@
-use Rattle.std.proofs.Common.{rules, sym, ◌∙◌, arith}
+use Rattle.std.proofs.Common.{rules, ◌≡◌, sym, ◌∙◌, ◌+◌, arith, subst, Err, IfErr}
+use Rattle.procs.specs.Steps.{NoneStand}
 use Rattle.procs.proofs.FoundThere.{stale_free, stale_stamp, found, is_free, is_used, stamps_same}
 use Rattle.procs.proofs.FoundThere.{stamps_differ}
+use Rattle.procs.proofs.FarThere.{none_name_others}
+use Rattle.procs.proofs.InodeThere.{indirect_long}
 use Rattle.procs.proofs.find.find.Goals.{then-eq-via-then-eq, then-eq-via-else-eq+then-ne}
 use Rattle.procs.proofs.find.find.Goals as goal
 
@@ -31,3 +34,19 @@ returns-clause-tells c = λ blocks tree stands saw.
     (omega (arith, c.if-number-eq0.false)) (omega (arith, c.if-number-snap.false))
     (is_used c.in_ok-inode.inode.kind (sym c.eq.ensures ∙ c.if-eq.false))
     (stamps_same c.in_ok-inode.inode.stamp c.in-Some.stamp (sym c.ne.ensures ∙ c.if-ne.false))
+    (c.directly_used.result + c.in_ok-used.field-0)
+    (λ i. c.directly_used.ensures.count i
+    + c.in_ok-used.ensures.used blocks saw (indirect_long c.args.snap.now.geometry blocks tree
+    c.in-Some.number c.in_ok-inode.inode stands (omega (arith, c.if-number-snap.false))
+    (c.in_ok-inode.ensures.there blocks saw)
+    (is_used c.in_ok-inode.inode.kind (sym c.eq.ensures ∙ c.if-eq.false))) i)
+
+pub returns-in_err-used-clause-io : goal.returns-in_err-used-clause-io
+returns-in_err-used-clause-io c =
+    let same : c.from_residual-in_err-used.result ≡ Err c.in_err-used.field-0.0 = search rules in
+    let none : NoneStand c.args.snap.now c.in_err-used.field-0.0 =
+    none_name_others c.args.snap.now c.in-Some.number c.in_ok-inode.inode c.in_err-used.field-0.0
+    (omega (arith, c.if-number-snap.false))
+    (is_used c.in_ok-inode.inode.kind (sym c.eq.ensures ∙ c.if-eq.false))
+    c.in_ok-inode.ensures.there c.in_err-used.ensures.io in
+    subst (λ r. IfErr r (λ why. NoneStand c.args.snap.now why)) (sym same) none

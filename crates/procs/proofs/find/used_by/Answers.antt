@@ -1,6 +1,10 @@
-use Rattle.std.proofs.Common.{rules, ◌≡◌, sym, ap, ◌∙◌, arith}
+use Rattle.std.proofs.Common.{rules, sym, ap, ◌∙◌}
 use Rattle.disk.specs.declared.block.BlockNo.{BlockNo}
-use Rattle.procs.proofs.ReadThere.{held_there}
+use Rattle.procs.proofs.ReadThere.{held_there, whole_there}
+use Rattle.std.specs.List.{list_all}
+use Rattle.limits.specs.declared.TheConstants.{INDIRECT_INDEXES}
+use Rattle.layout.specs.Fields.{numbers_at}
+use Rattle.layout.specs.InodeForm.{is_data_block_or_none}
 use Rattle.procs.proofs.find.used_by.Goals as goal
 
 pub returns-in-Ok-clause-used : goal.returns-in-Ok-clause-used
@@ -9,3 +13,15 @@ returns-in-Ok-clause-used c = λ blocks saw long.
     (ap (λ (b : BlockNo). b.0) c.whole.ensures.value.0) c.whole.ensures.value.1 c.whole.ensures.value.2
     (c.in_ok-bytes.ensures.there blocks saw) long (let h = c.if-indirect-eq0.false in search rules)
     (rw c.in-Ok.is at c.in_ok-numbers.ensures.ok) c.mapped.ensures.count
+
+pub returns-in-Err-clause-io : goal.returns-in-Err-clause-io
+returns-in-Err-clause-io c = λ blocks saw long. (
+  (let h = c.if-indirect-eq0.false in search rules),
+  ap (λ block. list_all
+      (is_data_block_or_none c.args.snap.now.geometry.blocks c.args.snap.now.geometry.inodes)
+      (numbers_at INDIRECT_INDEXES 0 block))
+      (sym (whole_there blocks c.args.indirect c.whole.result c.in_ok-bytes.bytes.now
+      (ap (λ (b : BlockNo). b.0) c.whole.ensures.value.0) c.whole.ensures.value.1 c.whole.ensures.value.2
+      (c.in_ok-bytes.ensures.there blocks saw) long))
+      ∙ (rw c.in-Err.is at c.in_ok-numbers.ensures.refused),
+)

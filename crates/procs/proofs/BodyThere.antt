@@ -1,0 +1,74 @@
+-- What was found of a file is its body's kind and size, and the number of blocks that it uses.
+use Rattle.std.proofs.Common.{◌≡◌, ℕ, sym, ap, ◌∙◌, ◌%◌, ◌/◌, length, nat_eq, nat_le, nat_lt}
+use Rattle.std.proofs.Common.{cond, not, min, true}
+use Rattle.limits.specs.declared.TheConstants.{BLOCK_BYTES, DIRECT_INDEXES, LARGEST_FILE, TARGET_BYTES}
+use Rattle.disk.specs.Crash.{Image}
+use Rattle.model.specs.Node.{Body}
+use Rattle.layout.specs.declared.geometry.Geometry.{Geometry}
+use Rattle.layout.specs.declared.inode.Inode.{Inode}
+use Rattle.layout.specs.declared.inode.InodeKind.{InodeKind}
+use Rattle.layout.specs.declared.inode.InodeKind.TheVariants.{Free, Regular, Directory, Link}
+use Rattle.layout.specs.Decode.{IsOfKind, regular_in, directory_in, link_in}
+use Rattle.layout.specs.InodeForm.{is_sound_kind, is_sound_file, is_sound_map, is_sound_regular}
+use Rattle.layout.specs.InodeForm.{is_sound_directory, is_sound_link, names_first}
+use Rattle.procs.specs.declared.attributes.FoundFile.{FoundFile}
+use Rattle.procs.specs.FoundFile.{IsBodyOf, file_kind}
+use Rattle.procs.proofs.AllTests.{all_three, all_two, all_five, all_seven, no_more, same_number}
+use Rattle.procs.proofs.FileSizes.{regular_size, directory_size, link_size}
+use Rattle.procs.proofs.UsedBlocks.{counted, regular_counted, directory_counted, link_counted}
+
+-- what each kind of file has in it is such
+abbrev pub BodyHas : (P : Body → Type 0) → ℕ → Image → Inode → InodeKind → Type 0
+BodyHas P inodes content inode Free = Unit {0}
+BodyHas P inodes content inode Regular = P (regular_in content inode)
+BodyHas P inodes content inode Directory = P (directory_in inodes content inode)
+BodyHas P inodes content inode Link = P (link_in content inode)
+
+pub anything : (inodes : ℕ) (content : Image) (inode : Inode) (kind : InodeKind)
+    → BodyHas (λ _. Unit {0}) inodes content inode kind
+anything inodes content inode Free = tt
+anything inodes content inode Regular = tt
+anything inodes content inode Directory = tt
+anything inodes content inode Link = tt
+
+module _ (g : Geometry) (content : Image) (found : FoundFile)
+    (long : (number : ℕ) → length (content number) ≡ BLOCK_BYTES)
+    (direct : length found.inode.direct ≡ DIRECT_INDEXES)
+    (used : found.used ≡ counted content found.inode) where
+  abbrev i : Inode
+  i = found.inode
+
+  pub has_body : (kind : InodeKind) → i.kind ≡ kind → is_sound_kind g.blocks g.inodes kind i ≡ true
+      → IsOfKind g content kind i → BodyHas (IsBodyOf found) g.inodes content found.inode kind
+  has_body Free is good file = tt
+  has_body Regular is good file =
+      let three = all_three (is_sound_file i) (is_sound_map g.blocks g.inodes i) (is_sound_regular i) good in
+      let small = all_two (nat_le i.size LARGEST_FILE) (nat_eq i.parent 0) three.2 in
+      record {
+        kind = ap file_kind (sym is);
+        size = regular_size content i direct long (no_more i.size LARGEST_FILE small.0);
+        used = regular_counted g content i direct file.mapped ∙ sym used;
+      }
+  has_body Directory is good file =
+      let three = all_three (is_sound_file i) (is_sound_map g.blocks g.inodes i) (is_sound_directory g.inodes i)
+      good in
+      let rules = all_seven (nat_le 2 i.nlink) (nat_le i.size LARGEST_FILE) (nat_eq (i.size % BLOCK_BYTES) 0)
+      (nat_lt 0 i.parent) (nat_lt i.parent g.inodes)
+      (names_first (min (i.size / BLOCK_BYTES) DIRECT_INDEXES) i.direct)
+      (cond (nat_lt DIRECT_INDEXES (i.size / BLOCK_BYTES)) (not (nat_eq i.indirect 0)) (nat_eq i.indirect 0))
+      three.2 in
+      record {
+        kind = ap file_kind (sym is);
+        size = directory_size i.size (same_number (i.size % BLOCK_BYTES) 0 rules.2);
+        used = directory_counted g content i direct file.spans (no_more i.size LARGEST_FILE rules.1) rules.6
+            ∙ sym used;
+      }
+  has_body Link is good file =
+      let three = all_three (is_sound_file i) (is_sound_map g.blocks g.inodes i) (is_sound_link i) good in
+      let rules = all_five (nat_le 1 i.size) (nat_le i.size TARGET_BYTES) (nat_eq i.parent 0)
+      (names_first 1 i.direct) (nat_eq i.indirect 0) three.2 in
+      record {
+        kind = ap file_kind (sym is);
+        size = link_size content i direct long (no_more i.size TARGET_BYTES rules.1);
+        used = link_counted g content i direct rules.3 rules.4 ∙ sym used;
+      }

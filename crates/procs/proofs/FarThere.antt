@@ -1,0 +1,71 @@
+-- An indirect block that names what is no data block is in no blocks that stand for a tree.
+use Rattle.std.proofs.Common.{◌≡◌, ℕ, ◌<◌, sym, ap, ◌∙◌, refl, Bool, true, false, cond, List, [], ◌∷◌}
+use Rattle.std.proofs.Common.{◌++◌, nat_eq, nat_le, replicate, Ok}
+use Rattle.std.specs.List.{list_all}
+use Rattle.limits.specs.declared.TheConstants.{INDIRECT_INDEXES, TARGET_BYTES}
+use Rattle.disk.specs.Crash.{Image}
+use Rattle.layout.specs.declared.geometry.Geometry.{Geometry}
+use Rattle.layout.specs.declared.inode.Inode.{Inode}
+use Rattle.layout.specs.declared.inode.InodeKind.{InodeKind}
+use Rattle.layout.specs.declared.inode.InodeKind.TheVariants.{Free, Regular, Directory, Link}
+use Rattle.layout.specs.Decode.{inode_at, numbers_of, IsMapped, IsOfKind}
+use Rattle.layout.specs.Fields.{numbers_at}
+use Rattle.layout.specs.InodeForm.{is_data_block_or_none, is_sound_kind, is_sound_file, is_sound_map}
+use Rattle.layout.specs.InodeForm.{is_sound_link, names_first}
+use Rattle.layout.specs.Parts.{content_in}
+use Rattle.procs.specs.declared.snap.Snap.{Snap}
+use Rattle.procs.specs.declared.stop.Stop.{Stop}
+use Rattle.procs.specs.declared.stop.Stop.TheVariants as stop
+use Rattle.procs.specs.Steps.{Saw, NamesOthers, NoneStand}
+use Rattle.procs.proofs.AllTests.{all_three, all_five, all_two}
+use Rattle.procs.proofs.InodeThere.{is_sound, is_of_kind, indirect_is, indirect_long}
+
+-- a test that all pass is passed by the last ones
+last_pass : (test : ℕ → Bool) (xs ys : List ℕ) → list_all test (xs ++ ys) ≡ true → list_all test ys ≡ true
+last_pass test [] ys e = e
+last_pass test (x ∷ xs) ys e = last_pass test xs ys (all_two (test x) (list_all test (xs ++ ys)) e).1
+
+module _ (g : Geometry) (content : Image) (inode : Inode) (some : nat_eq inode.indirect 0 ≡ false) where
+  abbrev far : List ℕ
+  far = numbers_at INDIRECT_INDEXES 0 (content inode.indirect)
+
+  abbrev test : ℕ → Bool
+  test = is_data_block_or_none g.blocks g.inodes
+
+  mapped_far : IsMapped g content inode → list_all test far ≡ true
+  unfolding numbers_of
+  mapped_far mapped =
+      ap (λ b. list_all test (cond b (replicate INDIRECT_INDEXES 0) far)) (sym some)
+      ∙ last_pass test inode.direct (cond (nat_eq inode.indirect 0) (replicate INDIRECT_INDEXES 0) far)
+      mapped.numbers
+
+  pub far_pass : (kind : InodeKind) → (kind ≡ Free → ⊥) → is_sound_kind g.blocks g.inodes kind inode ≡ true
+      → IsOfKind g content kind inode → list_all test far ≡ true
+  far_pass Free used good file = absurd (used refl)
+  far_pass Regular used good file = mapped_far file.mapped
+  far_pass Directory used good file = mapped_far file.mapped
+  far_pass Link used good file =
+      let three = all_three (is_sound_file inode) (is_sound_map g.blocks g.inodes inode) (is_sound_link inode)
+      good in
+      let rules = all_five (nat_le 1 inode.size) (nat_le inode.size TARGET_BYTES) (nat_eq inode.parent 0)
+      (names_first 1 inode.direct) (nat_eq inode.indirect 0) three.2 in
+      let clash : true ≡ false = sym rules.4 ∙ some in cc
+
+pub none_name_others : (snap : Snap) (number : ℕ) (inode : Inode) (why : Stop)
+    → number < snap.geometry.inodes → (inode.kind ≡ Free → ⊥)
+    → ((blocks : Image) → Saw blocks snap → inode_at snap.geometry blocks number ≡ Ok inode)
+    → NamesOthers snap inode.indirect why → NoneStand snap why
+none_name_others snap number inode (stop.Need addr) less used there names = tt
+none_name_others snap number inode stop.NoMemory less used there names = tt
+none_name_others snap number inode stop.Io less used there names = λ blocks tree stands saw.
+    let read : inode_at snap.geometry blocks number ≡ Ok inode = there blocks saw in
+    let told = names blocks saw (indirect_long snap.geometry blocks tree number inode stands less read used) in
+    let passed = far_pass snap.geometry (content_in snap.geometry blocks) inode told.0 inode.kind used
+    (is_sound snap.geometry blocks tree number inode stands less read)
+    (is_of_kind snap.geometry blocks tree number inode stands less read) in
+    let same : list_all (is_data_block_or_none snap.geometry.blocks snap.geometry.inodes)
+    (numbers_at INDIRECT_INDEXES 0 (blocks inode.indirect)) ≡ true =
+    ap (λ block. list_all (is_data_block_or_none snap.geometry.blocks snap.geometry.inodes)
+    (numbers_at INDIRECT_INDEXES 0 block))
+    (sym (indirect_is snap.geometry blocks tree number inode stands less read used told.0)) ∙ passed in
+    let clash : true ≡ false = sym same ∙ told.1 in cc

@@ -1,0 +1,125 @@
+-- What is known of an inode that was read in blocks that stand for a tree, and of its blocks.
+use Rattle.std.proofs.Common.{◌≡◌, ℕ, ◌+◌, ◌-◌, ◌%◌, ◌<◌, sym, ap, ◌∙◌, refl, subst, Bool, true, false, cond}
+use Rattle.std.proofs.Common.{◌||◌, length, take, drop, replicate, nat_eq, nat_le, nat_lt, List, Ok, Err}
+use Rattle.std.proofs.Common.{arith}
+use Rattle.std.specs.List.{list_all}
+use Rattle.std.proofs.lemmas.Bool.{lt-ltb}
+use Rattle.limits.specs.declared.TheConstants.{BLOCK_BYTES, INDIRECT_INDEXES, INODES_PER_BLOCK, INODE_BYTES}
+use Rattle.disk.specs.Crash.{Image}
+use Rattle.model.specs.Sound.{AreBytes}
+use Rattle.model.specs.Tree.{Tree}
+use Rattle.model.specs.Tree as model
+use Rattle.layout.specs.declared.fault.LayoutFault.TheVariants.{Range}
+use Rattle.layout.specs.declared.geometry.Geometry.{Geometry}
+use Rattle.layout.specs.declared.inode.Inode.{Inode}
+use Rattle.layout.specs.declared.inode.InodeKind.{InodeKind}
+use Rattle.layout.specs.declared.inode.InodeKind.TheVariants.{Free, Regular, Directory, Link}
+use Rattle.layout.specs.Decode.{IsFile, IsOfKind, inode_at}
+use Rattle.layout.specs.InodeForm.{is_sound_inode, is_sound_kind, is_sound_file, is_sound_map, is_sound_regular}
+use Rattle.layout.specs.InodeForm.{is_sound_directory, is_sound_link, is_data_block_or_none}
+use Rattle.layout.specs.Geometry.{inode_block, inode_offset, is_data, data_at}
+use Rattle.layout.specs.Parts.{content_in}
+use Rattle.layout.specs.Stands.{Stands}
+use Rattle.layout.proofs.Fits.{IsRead, read_fits}
+use Rattle.layout.proofs.WrittenBytes.{taken, dropped}
+use Rattle.procs.proofs.AllTests.{all_two, all_three, is_less, same_number}
+use Rattle.procs.proofs.UsedBlocks.{counted}
+use Rattle.layout.specs.Fields.{numbers_at, count_of}
+
+filled : (is : Bool) (block : List ℕ) → (is ≡ true → length block ≡ BLOCK_BYTES)
+    → length (cond is block (replicate BLOCK_BYTES 0)) ≡ BLOCK_BYTES
+filled true block long = long refl
+filled false block long = refl
+
+map_is : (blocks inodes : ℕ) (kind : InodeKind) (inode : Inode) → (kind ≡ Free → ⊥)
+    → is_sound_kind blocks inodes kind inode ≡ true → is_sound_map blocks inodes inode ≡ true
+map_is blocks inodes Free inode used e = absurd (used refl)
+map_is blocks inodes Regular inode used e =
+    (all_three (is_sound_file inode) (is_sound_map blocks inodes inode) (is_sound_regular inode) e).1
+map_is blocks inodes Directory inode used e =
+    (all_three (is_sound_file inode) (is_sound_map blocks inodes inode) (is_sound_directory inodes inode) e).1
+map_is blocks inodes Link inode used e =
+    (all_three (is_sound_file inode) (is_sound_map blocks inodes inode) (is_sound_link inode) e).1
+
+data_of : (none is : Bool) → none ≡ false → (none || is) ≡ true → is ≡ true
+data_of true is some e = cc
+data_of false is some e = e
+
+module _ (g : Geometry) (blocks : Image) (tree : Tree) (n : ℕ) (inode : Inode)
+    (stands : Stands g blocks tree) (less : n < g.inodes) (read : inode_at g blocks n ≡ Ok inode) where
+  inodes_are : tree.geometry.inodes ≡ g.inodes
+  inodes_are = ap (λ (one : model.Geometry). one.inodes) stands.parts.geometry
+
+  whole : g.inodes % INODES_PER_BLOCK ≡ 0
+  whole = let is = stands.parts.sound.geometry.whole_blocks in ap (λ k. k % INODES_PER_BLOCK) (sym inodes_are)
+      ∙ is
+
+  on_disk : inode_block g.blocks g.inodes n < g.blocks
+  on_disk =
+      let room = stands.parts.sound.geometry.blocks in
+      let are : tree.geometry.data_blocks ≡ g.blocks - data_at g.blocks g.inodes =
+      ap (λ (one : model.Geometry). one.data_blocks) stands.parts.geometry in
+      omega (arith, room, are, less, whole)
+
+  bytes_there : AreBytes (take INODE_BYTES (drop (inode_offset n) (blocks (inode_block g.blocks g.inodes n))))
+  bytes_there =
+      part_bytes INODE_BYTES (inode_offset n) (blocks (inode_block g.blocks g.inodes n))
+      (stands.bytes (inode_block g.blocks g.inodes n) on_disk).1
+    where
+      part_bytes : (len from : ℕ) (bytes : List ℕ) → AreBytes bytes → AreBytes (take len (drop from bytes))
+      part_bytes len from bytes are = (taken len (dropped from (record { are = are }))).are
+
+  pub is_read : IsRead g.blocks g.inodes inode
+  unfolding inode_at
+  is_read = read_fits g.blocks g.inodes
+      (take INODE_BYTES (drop (inode_offset n) (blocks (inode_block g.blocks g.inodes n)))) bytes_there inode
+      read
+
+  pub is_sound : is_sound_kind g.blocks g.inodes inode.kind inode ≡ true
+  unfolding is_sound_inode
+  is_sound = is_read.good
+
+  pub is_of_kind : IsOfKind g (content_in g blocks) inode.kind inode
+  is_of_kind =
+      subst (IsFile g (content_in g blocks))
+      (ap (λ b. cond b (inode_at g blocks n) (Err Range)) (lt-ltb n g.inodes less) ∙ read)
+      (stands.parts.has.inodes n less)
+
+  -- ---- its blocks
+
+  pub long : (number : ℕ) → length (content_in g blocks number) ≡ BLOCK_BYTES
+  long number = filled (is_data g.blocks g.inodes number) (blocks number) (λ is.
+      (stands.bytes number (is_less number g.blocks
+      (all_two (nat_le (data_at g.blocks g.inodes) number) (nat_lt number g.blocks) is).1)).0)
+
+  maps : (inode.kind ≡ Free → ⊥)
+      → (list_all (is_data_block_or_none g.blocks g.inodes) inode.direct ≡ true)
+      × (is_data_block_or_none g.blocks g.inodes inode.indirect ≡ true)
+  maps used = all_two (list_all (is_data_block_or_none g.blocks g.inodes) inode.direct)
+      (is_data_block_or_none g.blocks g.inodes inode.indirect)
+      (map_is g.blocks g.inodes inode.kind inode used is_sound)
+
+  pub indirect_is : (inode.kind ≡ Free → ⊥) → nat_eq inode.indirect 0 ≡ false
+      → content_in g blocks inode.indirect ≡ blocks inode.indirect
+  indirect_is used some =
+      ap (λ b. cond b (blocks inode.indirect) (replicate BLOCK_BYTES 0))
+      (data_of (nat_eq inode.indirect 0) (is_data g.blocks g.inodes inode.indirect) some (maps used).1)
+
+  pub indirect_long : (inode.kind ≡ Free → ⊥) → length (blocks inode.indirect) ≡ BLOCK_BYTES
+  indirect_long used = by_test (nat_eq inode.indirect 0) refl
+    where
+      by_test : (none : Bool) → nat_eq inode.indirect 0 ≡ none → length (blocks inode.indirect) ≡ BLOCK_BYTES
+      by_test true e = let is = same_number inode.indirect 0 e in
+          (stands.bytes inode.indirect (omega (arith, is, on_disk))).0
+      by_test false e = ap (λ (l : List ℕ). length l) (sym (indirect_is used e)) ∙ long inode.indirect
+
+  -- the same is counted in its data blocks
+  pub same_counted : (inode.kind ≡ Free → ⊥) → counted blocks inode ≡ counted (content_in g blocks) inode
+  same_counted used = ap (λ k. count_of inode.direct + k) (by_test (nat_eq inode.indirect 0) refl)
+    where
+      by_test : (none : Bool) → nat_eq inode.indirect 0 ≡ none
+          → cond none 0 (count_of (numbers_at INDIRECT_INDEXES 0 (blocks inode.indirect)) + 1)
+          ≡ cond none 0 (count_of (numbers_at INDIRECT_INDEXES 0 (content_in g blocks inode.indirect)) + 1)
+      by_test true e = refl
+      by_test false e = ap (λ block. count_of (numbers_at INDIRECT_INDEXES 0 block) + 1)
+          (sym (indirect_is used e))
