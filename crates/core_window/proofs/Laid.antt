@@ -14,7 +14,8 @@ use Rattle.disk.specs.declared.block.BlockNo.{BlockNo}
 use Rattle.wal.specs.Log.{Log, newest, or_else, blocks_of as group_blocks}
 use Rattle.wal.specs.Overlay.{content_or}
 use Rattle.wal.specs.Effects.{newest_in}
-use Rattle.txn.specs.Group.{spliced, is_among, blocks_after, laid, base_in, IsLaid}
+use Rattle.objects.specs.Spliced.{spliced}
+use Rattle.txn.specs.Group.{is_among, blocks_after, laid, base_in, IsLaid}
 use Rattle.txn.specs.Object.{ObjectBytes}
 use Rattle.txn.specs.Present.{present_of, content_in}
 use Rattle.txn.specs.Records.{lies_in}

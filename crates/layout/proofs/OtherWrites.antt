@@ -10,7 +10,8 @@ use Rattle.layout.specs.declared.fault.LayoutFault.TheVariants.{Range}
 use Rattle.layout.specs.declared.geometry.Geometry.{Geometry}
 use Rattle.layout.specs.Decode.{inode_at}
 use Rattle.layout.specs.InodeForm.{read_inode}
-use Rattle.layout.specs.Parts.{parts_of, put, table_of, content_in, bits_of, spliced, with_bytes}
+use Rattle.objects.specs.Spliced.{spliced}
+use Rattle.layout.specs.Parts.{parts_of, put, table_of, content_in, bits_of, with_bytes}
 use Rattle.layout.specs.Geometry.{bitmap_blocks, inode_bitmap_at, table_at, data_at, is_data, inode_block}
 use Rattle.layout.specs.Geometry.{inode_offset}
 use Rattle.layout.proofs.Written.{not_same, elsewhere, here, same_bits, same_bits_below}

@@ -13,7 +13,8 @@ use Rattle.layout.specs.declared.geometry.Geometry.{Geometry}
 use Rattle.layout.specs.declared.inode.Inode.{Inode}
 use Rattle.layout.specs.Decode.{inode_at}
 use Rattle.layout.specs.InodeForm.{read_inode}
-use Rattle.layout.specs.Parts.{parts_of, put, table_of, bits_of, bit_at, spliced, with_bytes}
+use Rattle.objects.specs.Spliced.{spliced}
+use Rattle.layout.specs.Parts.{parts_of, put, table_of, bits_of, bit_at, with_bytes}
 use Rattle.layout.specs.Geometry.{bitmap_blocks, inode_bitmap_at, data_at, is_data, inode_block, inode_offset}
 use Rattle.layout.proofs.Splices.{there, ahead, behind}
 

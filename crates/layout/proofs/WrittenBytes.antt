@@ -7,7 +7,7 @@ use Rattle.model.specs.Sound.{AreBytes}
 use Rattle.layout.specs.declared.inode.Inode.{Inode}
 use Rattle.layout.specs.InodeForm.{inode_bytes, head_bytes, middle_bytes, tail_bytes, number_of_kind}
 use Rattle.layout.specs.InodeForm.{verifier_bytes}
-use Rattle.layout.specs.Parts.{spliced}
+use Rattle.objects.specs.Spliced.{spliced}
 use Rattle.layout.proofs.FreshBytes.{IsBytes, join, four, eight, fours}
 
 pub taken : {bytes : List ℕ} (k : ℕ) → IsBytes bytes → IsBytes (take k bytes)

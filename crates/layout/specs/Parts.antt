@@ -1,9 +1,10 @@
 -- What is read of an image's blocks: the table of inodes, the data blocks and the bits of the bitmaps. Blocks
 -- stand for trees through these parts alone, so that a write is one change of one part.
-use Rattle.std.specs.Prelude.{ℕ, ◌+◌, ◌*◌, ◌/◌, ◌%◌, ◌^◌, Bool, cond, if◌then◌else◌, List, ◌++◌, take, drop}
-use Rattle.std.specs.Prelude.{length, ◌&&◌, nat_eq, nat_lt, get_or, replicate, Result, Err}
+use Rattle.std.specs.Prelude.{ℕ, ◌+◌, ◌*◌, ◌/◌, ◌%◌, ◌^◌, Bool, cond, if◌then◌else◌, List}
+use Rattle.std.specs.Prelude.{◌&&◌, nat_eq, nat_lt, get_or, replicate, Result, Err}
 use Rattle.limits.specs.declared.TheConstants.{BITS_PER_BLOCK, BLOCK_BYTES, FIRST_HOME_BLOCK}
 use Rattle.disk.specs.Crash.{Image}
+use Rattle.objects.specs.Spliced.{spliced}
 use Rattle.layout.specs.declared.fault.LayoutFault.{LayoutFault}
 use Rattle.layout.specs.declared.fault.LayoutFault.TheVariants.{Range}
 use Rattle.layout.specs.declared.geometry.Geometry.{Geometry}
@@ -48,10 +49,6 @@ parts_of g blocks = record {
   block_bits = bits_of blocks FIRST_HOME_BLOCK (bitmap_blocks g.blocks);
   inode_bits = bits_of blocks (inode_bitmap_at g.blocks) (bitmap_blocks g.inodes);
 }
-
--- a block with these bytes at an offset
-abbrev pub spliced : List ℕ → ℕ → List ℕ → List ℕ
-spliced content offset bytes = take offset content ++ bytes ++ drop (offset + length bytes) content
 
 -- the blocks with these bytes in one of them
 abbrev pub with_bytes : Image → ℕ → ℕ → List ℕ → Image

@@ -5,9 +5,9 @@ use thiserror::Error;
 #[derive(Clone, Copy, Debug, PartialEq, Eq, Error)]
 pub enum LayoutFault {
     #[error("Magic")]
-    Magic = 1,
+    Magic,
     #[error("Version")]
-    Version = 2,
+    Version,
     #[error("Range")]
-    Range = 3,
+    Range,
 }

@@ -2,6 +2,7 @@ pub mod Answered
 pub mod Attributed
 mod Determined
 pub mod Formatted
+pub mod Handled
 pub mod Joined
 pub mod Maps
 pub mod Replaced

@@ -1,1 +1,2 @@
 pub mod Addr
+pub mod Spliced

@@ -25,7 +25,7 @@ use Rattle.procs.specs.declared.attributes.FoundFile.{FoundFile}
 use Rattle.procs.specs.FoundFile.{IsBodyOf}
 use Rattle.procs.specs.Steps.{IsFoundIn}
 use Rattle.procs.proofs.BodyThere.{BodyHas, anything, has_body}
-use Rattle.procs.proofs.Handles.{handled, stamped_ok}
+use Rattle.model.proofs.Handled.{handled, stamped_ok}
 use Rattle.procs.proofs.InodeThere.{is_read, is_sound, is_of_kind, long, same_counted}
 use Rattle.procs.proofs.UsedBlocks.{counted}
 

@@ -6,7 +6,6 @@ pub mod BodyThere
 pub mod OnlyMode
 pub mod WrittenMode
 pub mod ReadThere
-pub mod Handles
 pub mod FoundThere
 pub mod FarThere
 pub mod StepsOf

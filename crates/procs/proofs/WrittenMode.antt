@@ -24,7 +24,8 @@ use Rattle.layout.specs.declared.geometry.Geometry.{Geometry}
 use Rattle.layout.specs.declared.inode.Inode.{Inode}
 use Rattle.layout.specs.Decode.{inode_at, node_with}
 use Rattle.layout.specs.InodeForm.{Touch, touched, SoundTouch}
-use Rattle.layout.specs.Parts.{spliced, with_inode}
+use Rattle.objects.specs.Spliced.{spliced}
+use Rattle.layout.specs.Parts.{with_inode}
 use Rattle.layout.specs.Stands.{Stands}
 use Rattle.layout.proofs.ChangedInode.{touched_stands, node_of}
 use Rattle.txn.specs.Object.{ObjectBytes}

@@ -19,22 +19,22 @@ use thiserror::Error;
 pub enum SessionFault {
     /// A record isn't one fragment, announces too much, or has no header that can be read.
     #[error("Record")]
-    Record = 1,
+    Record,
     /// A read failed and wasn't interrupted, or there were too many of them.
     #[error("Input")]
-    Input = 2,
+    Input,
     /// A write of a reply failed.
     #[error("Output")]
-    Output = 3,
+    Output,
     /// A record found no memory.
     #[error("NoMemory")]
-    NoMemory = 4,
+    NoMemory,
     /// The input ends inside a record.
     #[error("Truncated")]
-    Truncated = 5,
+    Truncated,
     /// The last settling failed.
     #[error("Device")]
-    Device = 6,
+    Device,
 }
 
 /// Answers the records of a stream in their order, each call at the moment, and gives the count of the

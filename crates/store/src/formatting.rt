@@ -15,13 +15,13 @@ use thiserror::Error;
 #[derive(Clone, Copy, Debug, PartialEq, Eq, Error)]
 pub enum FormatFault {
     #[error("Size")]
-    Size = 1,
+    Size,
     #[error("Inodes")]
-    Inodes = 2,
+    Inodes,
     #[error("Device")]
-    Device = 3,
+    Device,
     #[error("NoMemory")]
-    NoMemory = 4,
+    NoMemory,
 }
 
 impl From<AllocError> for FormatFault {

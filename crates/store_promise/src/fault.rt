@@ -7,21 +7,21 @@ use thiserror::Error;
 pub enum OpenFault {
     /// The image has no blocks, or its first one doesn't begin as that of an image does.
     #[error("Magic")]
-    Magic = 1,
+    Magic,
     /// The format's version isn't the one that is read here.
     #[error("Version")]
-    Version = 2,
+    Version,
     /// The sizes of the super block aren't lawful or aren't the device's, a byte that no field has isn't zero,
     /// or no boot number is left.
     #[error("Range")]
-    Range = 3,
+    Range,
     /// The headers of the log aren't those of a log.
     #[error("Log")]
-    Log = 4,
+    Log,
     /// A call of the device failed.
     #[error("Device")]
-    Device = 5,
+    Device,
     /// An allocation failed.
     #[error("NoMemory")]
-    NoMemory = 6,
+    NoMemory,
 }

@@ -1,9 +1,10 @@
 -- The blocks that objects lie in.
-use Rattle.std.specs.Prelude.{◌≡◌, ℕ, ◌+◌, Bool, if◌then◌else◌, Option, Some, None, List, [], ◌∷◌, ◌++◌}
-use Rattle.std.specs.Prelude.{nat_eq, take, drop, length, replicate}
+use Rattle.std.specs.Prelude.{◌≡◌, Bool, if◌then◌else◌, Option, Some, None, List, [], ◌∷◌, ◌++◌}
+use Rattle.std.specs.Prelude.{nat_eq, replicate}
 use Rattle.limits.specs.declared.TheConstants.{BLOCK_BYTES}
 use Rattle.disk.specs.Device.{Content}
 use Rattle.std.specs.List.{list_any}
+use Rattle.objects.specs.Spliced.{spliced}
 use Rattle.disk.specs.declared.block.BlockNo.{BlockNo}
 use Rattle.wal.specs.Log.{Log, newest}
 use Rattle.txn.specs.Object.{ObjectBytes}
@@ -23,10 +24,6 @@ blocks_after blocks (o ∷ os) =
 -- the blocks that the objects lie in, each once
 abbrev pub blocks_of : List ObjectBytes → List BlockNo
 blocks_of objects = blocks_after [] objects
-
--- a block with these bytes at an offset
-abbrev pub spliced : Content → ℕ → List ℕ → Content
-spliced content offset bytes = take offset content ++ bytes ++ drop (offset + length bytes) content
 
 -- a block's content with those of the objects laid over it that lie in the block, later ones over earlier
 -- ones

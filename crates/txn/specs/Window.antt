@@ -7,7 +7,7 @@ use Rattle.disk.specs.Crash.{Image}
 use Rattle.objects.specs.declared.addr.Addr.{Addr}
 use Rattle.wal.specs.Law.{with_changes}
 use Rattle.wal.specs.Log.{Log, installed_place, newest, place_before}
-use Rattle.txn.specs.Group.{spliced}
+use Rattle.objects.specs.Spliced.{spliced}
 use Rattle.txn.specs.Object.{ObjectBytes}
 
 -- what a commit read, and what it wrote

@@ -8,11 +8,11 @@ use wal::Seq;
 #[derive(Clone, Copy, Debug, PartialEq, Eq, Drop, Error)]
 pub enum BeginFault {
     #[error("Spent")]
-    Spent = 1,
+    Spent,
     #[error("NoMemory")]
-    NoMemory = 2,
+    NoMemory,
     #[error("Broken")]
-    Broken = 3,
+    Broken,
 }
 
 /// What came of a wish to read an object. The bytes are the object's current ones.

@@ -16,11 +16,11 @@ use thiserror::Error;
 #[derive(Clone, Copy, Debug, PartialEq, Eq, Error)]
 pub enum RpcFault {
     #[error("a mark announces more than a record may have")]
-    TooLong = 1,
+    TooLong,
     #[error("no call")]
-    NotACall = 2,
+    NotACall,
     #[error("no memory")]
-    NoMemory = 3,
+    NoMemory,
 }
 
 /// The bytes of the stream that aren't handed out yet.

@@ -10,17 +10,17 @@ use thiserror::Error;
 #[derive(Clone, Copy, Debug, PartialEq, Eq, Error)]
 pub enum XdrFault {
     #[error("the bytes end inside an item")]
-    Short = 1,
+    Short,
     #[error("padding that isn't zero")]
-    Padding = 2,
+    Padding,
     #[error("a value that isn't listed")]
-    Value = 3,
+    Value,
     #[error("a length past its bound")]
-    Length = 4,
+    Length,
     #[error("bytes are left over")]
-    Left = 5,
+    Left,
     #[error("no memory")]
-    NoMemory = 6,
+    NoMemory,
 }
 
 impl From<AllocError> for XdrFault {

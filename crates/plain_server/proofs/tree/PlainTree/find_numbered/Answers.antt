@@ -4,7 +4,7 @@ use Rattle.nfs_types.specs.declared.handle.Stamp.{Stamp}
 use Rattle.model.specs.Find.{stamped}
 use Rattle.plain_server.specs.Plain.{node_of, tree_of}
 use Rattle.plain_server.proofs.Found.{absent, first_of}
-use Rattle.plain_server.proofs.Handles.{handled, stamped_ok, stale_boot, stale_transaction}
+use Rattle.model.proofs.Handled.{handled, stamped_ok, stale_boot, stale_transaction}
 use Rattle.plain_server.proofs.tree.PlainTree.find_numbered.Goals as goal
 use Rattle.plain_server.proofs.tree.PlainTree.find_numbered.Goals.{else-boot-file-via-then-boot-file+else-transaction-file}
 use Rattle.plain_server.proofs.tree.PlainTree.find_numbered.Goals.{else-boot-file-via-else-boot-file}

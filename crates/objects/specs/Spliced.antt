@@ -1,0 +1,6 @@
+-- A block's bytes with those of an object in their place.
+use Rattle.std.specs.Prelude.{ℕ, ◌+◌, List, ◌++◌, take, drop, length}
+
+-- bytes with others in the place of those from an offset on
+abbrev pub spliced : List ℕ → ℕ → List ℕ → List ℕ
+spliced content offset bytes = take offset content ++ bytes ++ drop (offset + length bytes) content
