@@ -50,8 +50,8 @@ module _ (g : Geometry) (content : Image) (found : FoundFile)
         used = regular_counted g content i direct file.mapped ∙ sym used;
       }
   has_body Directory is good file =
-      let three = all_three (is_sound_file i) (is_sound_map g.blocks g.inodes i) (is_sound_directory g.inodes i)
-      good in
+      let three = all_three (is_sound_file i) (is_sound_map g.blocks g.inodes i)
+      (is_sound_directory g.inodes i) good in
       let rules = all_seven (nat_le 2 i.nlink) (nat_le i.size LARGEST_FILE) (nat_eq (i.size % BLOCK_BYTES) 0)
       (nat_lt 0 i.parent) (nat_lt i.parent g.inodes)
       (names_first (min (i.size / BLOCK_BYTES) DIRECT_INDEXES) i.direct)

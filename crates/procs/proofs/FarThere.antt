@@ -59,7 +59,8 @@ none_name_others snap number inode (stop.Need addr) less used there names = tt
 none_name_others snap number inode stop.NoMemory less used there names = tt
 none_name_others snap number inode stop.Io less used there names = λ blocks tree stands saw.
     let read : inode_at snap.geometry blocks number ≡ Ok inode = there blocks saw in
-    let told = names blocks saw (indirect_long snap.geometry blocks tree number inode stands less read used) in
+    let told = names blocks saw
+    (indirect_long snap.geometry blocks tree number inode stands less read used) in
     let passed = far_pass snap.geometry (content_in snap.geometry blocks) inode told.0 inode.kind used
     (is_sound snap.geometry blocks tree number inode stands less read)
     (is_of_kind snap.geometry blocks tree number inode stands less read) in

@@ -15,8 +15,8 @@ use Rattle.layout.specs.declared.inode.Inode.{Inode}
 use Rattle.layout.specs.declared.inode.InodeKind.{InodeKind}
 use Rattle.layout.specs.declared.inode.InodeKind.TheVariants.{Free, Regular, Directory, Link}
 use Rattle.layout.specs.Decode.{IsFile, IsOfKind, inode_at}
-use Rattle.layout.specs.InodeForm.{is_sound_inode, is_sound_kind, is_sound_file, is_sound_map, is_sound_regular}
-use Rattle.layout.specs.InodeForm.{is_sound_directory, is_sound_link, is_data_block_or_none}
+use Rattle.layout.specs.InodeForm.{is_sound_inode, is_sound_kind, is_sound_file, is_sound_map}
+use Rattle.layout.specs.InodeForm.{is_sound_regular, is_sound_directory, is_sound_link, is_data_block_or_none}
 use Rattle.layout.specs.Geometry.{inode_block, inode_offset, is_data, data_at}
 use Rattle.layout.specs.Parts.{content_in}
 use Rattle.layout.specs.Stands.{Stands}

@@ -59,8 +59,8 @@ pub told_is : (g : Geometry) (blocks : Image) (tree : Tree) (ctx : Ctx) (object 
     → step tree ctx (call.GetAttr object) (reply.GetAttr outcome) tree
 told_is g blocks tree ctx object (Ok f) (Ok attributes) stands is told =
     let node_is : node_with f.inode is.0.body ≡ is.0 =
-    node_of g blocks tree f.number f.inode is.0 stands (found-stands tree object.bytes (f.number, is.0) is.1) is.2
-    in
+    node_of g blocks tree f.number f.inode is.0 stands
+    (found-stands tree object.bytes (f.number, is.0) is.1) is.2 in
     record {
       told = ap (λ (a : Attributes). Ok a) (told is.0.body is.3 ∙ ap (attributes_of f.number) node_is)
           ∙ sym (ap attributes_found is.1);
@@ -124,8 +124,8 @@ module _ (g : Geometry) (blocks : Image) (tree : Tree) (ctx : Ctx) (object : Han
       } in
       let there : IsInodeObject g f.number new.inode object_is =
       subst (λ k. IsInodeObject g k new.inode object_is) number_is laid in
-      let done = is_step g blocks tree ctx object wanted guard f.number node f.inode new.inode object_is stands
-      now only is.1 (sym (passed node.body ∙ ap (refusal ctx wanted guard) node_is)) is.2 set there in
+      let done = is_step g blocks tree ctx object wanted guard f.number node f.inode new.inode object_is
+      stands now only is.1 (sym (passed node.body ∙ ap (refusal ctx wanted guard) node_is)) is.2 set there in
       let told_now : told
       ≡ reply.SetAttr (Ok tt) (change_of f.number node (node_with new.inode node.body)) =
       tells node.body is.3 body
@@ -148,8 +148,8 @@ pub stepped : (g : Geometry) (ctx : Ctx) (object : Handle) (wanted : NewAttribut
     → ((object_is : ObjectBytes) × (done.written.items ≡ object_is ∷ [])
     × IsInodeObject g new.number new.inode object_is)
     → IsStepOf g ctx (call.SetAttr object wanted guard) done
-stepped g ctx object wanted guard f new done items read_is only found passed tells number_is used_is set laid =
-    λ blocks tree now stands read.
+stepped g ctx object wanted guard f new done items read_is only found passed tells number_is used_is set
+    laid = λ blocks tree now stands read.
     let is = found blocks tree stands (subst (AreAsRead blocks) read_is read) in
     let one = written g blocks tree ctx object wanted guard f stands is new done.reply laid.0 now only passed
     tells number_is used_is set laid.2 in (
@@ -159,8 +159,8 @@ stepped g ctx object wanted guard f new done items read_is only found passed tel
     )
 
 -- an inode's object alone is written
-pub one_written : (g : Geometry) (number : ℕ) (inode : Inode) (object : ObjectBytes) (items : List ObjectBytes)
-    (result : Result Done AllocError)
+pub one_written : (g : Geometry) (number : ℕ) (inode : Inode) (object : ObjectBytes)
+    (items : List ObjectBytes) (result : Result Done AllocError)
     → IfOk result (λ done. done.written.items ≡ items) → items ≡ object ∷ []
     → IsInodeObject g number inode object
     → IfOk result (λ done. (one : ObjectBytes) × (done.written.items ≡ one ∷ [])

@@ -16,8 +16,8 @@ use Rattle.layout.proofs.Used.{regular_held, first_count}
 use Rattle.procs.proofs.AllTests.{all_two}
 use Rattle.procs.proofs.FileSizes.{all-length}
 
--- what is counted of an inode: what it names directly, and, where it has one, the indirect block and what that
--- names
+-- what is counted of an inode: what it names directly, and, where it has one, the indirect block and what
+-- that names
 abbrev pub counted : Image → Inode → ℕ
 counted content inode =
     count_of inode.direct
@@ -57,7 +57,8 @@ module _ (g : Geometry) (content : Image) (inode : Inode) (direct : length inode
 
     pub directory_counted : names_first (span_of inode) (numbers_of content inode) ≡ true
         → inode.size ≤ LARGEST_FILE
-        → cond (nat_lt DIRECT_INDEXES (span_of inode)) (not (nat_eq inode.indirect 0)) (nat_eq inode.indirect 0)
+        → cond (nat_lt DIRECT_INDEXES (span_of inode)) (not (nat_eq inode.indirect 0))
+        (nat_eq inode.indirect 0)
         ≡ true
         → span_of inode + cond (nat_lt DIRECT_INDEXES (span_of inode)) 1 0 ≡ counted content inode
     directory_counted spans small right =
@@ -67,7 +68,8 @@ module _ (g : Geometry) (content : Image) (inode : Inode) (direct : length inode
         let few : span_of inode ≤ length (numbers_of content inode) = omega (arith, all, small) in
         let count : count_by is_some (numbers_of content inode) ≡ span_of inode =
         first_count (span_of inode) (numbers_of content inode) few parts.0 parts.1 in
-        (λ i. sym count i + one_more (nat_lt DIRECT_INDEXES (span_of inode)) (nat_eq inode.indirect 0) right i)
+        (λ i. sym count i
+        + one_more (nat_lt DIRECT_INDEXES (span_of inode)) (nat_eq inode.indirect 0) right i)
         ∙ all_counted
       where
         one_more : (far none : Bool) → cond far (not none) none ≡ true

@@ -73,7 +73,8 @@ IsFoundIn g blocks tree handle (Err status) = find_file tree handle ≡ Err stat
 
 -- the plan failed as the indirect block of this number names what is no data block
 abbrev pub NamesOthers : Snap → ℕ → Stop → Type 0
-NamesOthers snap indirect stop.Io = (blocks : Image) → Saw blocks snap → length (blocks indirect) ≡ BLOCK_BYTES
+NamesOthers snap indirect stop.Io = (blocks : Image) → Saw blocks snap
+    → length (blocks indirect) ≡ BLOCK_BYTES
     → (nat_eq indirect 0 ≡ false)
     × (list_all (is_data_block_or_none snap.geometry.blocks snap.geometry.inodes)
     (numbers_at INDIRECT_INDEXES 0 (blocks indirect)) ≡ false)

@@ -40,7 +40,8 @@ fn used_by(alloc: Global, snap: &Snap, indirect: u32) -> Result<u32, Stop>
     ensures ok { IfOk result (λ used. used ≤ INDIRECT_INDEXES + 1) }
     ensures used { IfOk result (λ used. (blocks : Image) → Saw blocks snap.now
         → length (blocks indirect) ≡ BLOCK_BYTES
-        → used ≡ cond (nat_eq indirect 0) 0 (count_of (numbers_at INDIRECT_INDEXES 0 (blocks indirect)) + 1)) }
+        → used ≡ cond (nat_eq indirect 0) 0
+        (count_of (numbers_at INDIRECT_INDEXES 0 (blocks indirect)) + 1)) }
     ensures err { IfErr result (λ stop. IsNew snap.now stop) }
     ensures io { IfErr result (λ stop. NamesOthers snap.now indirect stop) }
 {

@@ -170,7 +170,8 @@ fn work(alloc: Global, ctx: &Ctx, call: &Call, snap: &Snap) -> Result<Done, Stop
 
 /// What a call needs next, or what comes of it, by what was read so far. It asks for one object at a time,
 /// and begins anew each time. An object that the layout refuses makes it IO, with nothing told and nothing
-/// written.
+/// written. Where blocks stand for a tree what comes of the call is a step of the sequential server, so that
+/// it is never IO there.
 pub fn plan(alloc: Global, ctx: &Ctx, call: &Call, snap: &Snap) -> Plan
     requires { has_rules call.now ≡ true }
     ensures plan { IsPlanFor snap.now result }

@@ -9,5 +9,5 @@ returns-clause-step c = λ ctx.
     c.args.snap.now.objects.items (reply.GetAttr c.outcome_of-outcome.result) c.in_ok-told.ensures.done.read
     c.in_ok-told.ensures.reply c.in_ok-told.ensures.written
     (λ blocks tree stands saw. told_is c.args.snap.now.geometry blocks tree ctx c.args.object.now
-    c.in_ok-found.found c.outcome_of-outcome.result stands (c.in_ok-found.ensures.tells blocks tree stands saw)
-    c.outcome_of-outcome.ensures)
+    c.in_ok-found.found c.outcome_of-outcome.result stands
+    (c.in_ok-found.ensures.tells blocks tree stands saw) c.outcome_of-outcome.ensures)

@@ -10,26 +10,30 @@ returns-in-Err-clause-step c =
     unwritten c.args.snap.now.geometry c.args.ctx.now
     (call.SetAttr c.args.object.now c.args.wanted.now c.args.guard.now) c.in_ok-left-in-Err.field-0
     c.args.snap.now.objects.items (reply.SetAttr (Err c.in-Err.status) untold)
-    c.in_ok-left-in-Err.ensures.done.read c.in_ok-left-in-Err.ensures.reply c.in_ok-left-in-Err.ensures.written
+    c.in_ok-left-in-Err.ensures.done.read c.in_ok-left-in-Err.ensures.reply
+    c.in_ok-left-in-Err.ensures.written
     (λ blocks tree stands saw. not_found tree c.args.ctx.now c.args.object.now c.args.wanted.now
-    c.args.guard.now c.in-Err.status untold refl ((rw c.in-Err.is at c.in_ok-found.ensures.tells) blocks tree stands saw))
+    c.args.guard.now c.in-Err.status untold refl
+    ((rw c.in-Err.is at c.in_ok-found.ensures.tells) blocks tree stands saw))
 
 pub returns-in_ok-left-in-Some-clause-step : goal.returns-in_ok-left-in-Some-clause-step
 returns-in_ok-left-in-Some-clause-step c =
     unwritten c.args.snap.now.geometry c.args.ctx.now
     (call.SetAttr c.args.object.now c.args.wanted.now c.args.guard.now) c.in_ok-left-in-Some.field-0
     c.args.snap.now.objects.items (reply.SetAttr (Err c.in-Some.status) c.change_to.result)
-    c.in_ok-left-in-Some.ensures.done.read c.in_ok-left-in-Some.ensures.reply c.in_ok-left-in-Some.ensures.written
+    c.in_ok-left-in-Some.ensures.done.read c.in_ok-left-in-Some.ensures.reply
+    c.in_ok-left-in-Some.ensures.written
     (λ blocks tree stands saw. left_alone c.args.snap.now.geometry blocks tree c.args.ctx.now
     c.args.object.now c.args.wanted.now c.args.guard.now c.in-Ok.found stands
-    ((rw c.in-Ok.is at c.in_ok-found.ensures.tells) blocks tree stands saw) c.in-Some.status c.change_to.result c.in-Some.ensures
-    c.change_to.ensures)
+    ((rw c.in-Ok.is at c.in_ok-found.ensures.tells) blocks tree stands saw) c.in-Some.status
+    c.change_to.result c.in-Some.ensures c.change_to.ensures)
 
 pub returns-in_ok-changed-in-None-clause-step : goal.returns-in_ok-changed-in-None-clause-step
 returns-in_ok-changed-in-None-clause-step c =
     stepped c.args.snap.now.geometry c.args.ctx.now c.args.object.now c.args.wanted.now c.args.guard.now
     c.in-Ok.found c.with_mode-new.result c.in_ok-changed-in-None.field-0 c.args.snap.now.objects.items
-    c.in_ok-changed-in-None.ensures.done.read c.requires (rw c.in-Ok.is at c.in_ok-found.ensures.tells) c.in-None.ensures
+    c.in_ok-changed-in-None.ensures.done.read c.requires
+    (rw c.in-Ok.is at c.in_ok-found.ensures.tells) c.in-None.ensures
     c.in_ok-changed-in-None.ensures.reply c.with_mode-new.ensures.number c.with_mode-new.ensures.used
     (record {
       node = c.with_mode-new.ensures.node;
