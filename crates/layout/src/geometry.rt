@@ -34,7 +34,8 @@ pub struct Geometry {
 }
 
 impl Geometry {
-    /// The geometry of an image of these sizes. The blocks are tested before the inodes.
+    /// The geometry of an image of these sizes. Blocks below 1024 or above 1048576 are refused first (Size); then
+    /// inodes below 32, above 65536 or no multiple of 32, and what leaves fewer than 64 data blocks (Inodes).
     pub fn new(blocks: u32, inodes: u32) -> Result<Geometry, GeometryFault>
         ensures ok { IfOk result (λ g. (g.blocks ≡ blocks) × (g.inodes ≡ inodes) × IsLawful blocks inodes) }
         ensures err { IfErr result (λ _. IsLawful blocks inodes → ⊥) }
