@@ -31,7 +31,7 @@ filled : (is : Bool) (block : List ℕ) → (is ≡ true → length block ≡ BL
 filled true block long = long refl
 filled false block long = refl
 
-map_is : (blocks inodes : ℕ) (kind : InodeKind) (inode : Inode) → (kind ≡ Free → ⊥)
+pub map_is : (blocks inodes : ℕ) (kind : InodeKind) (inode : Inode) → (kind ≡ Free → ⊥)
     → is_sound_kind blocks inodes kind inode ≡ true → is_sound_map blocks inodes inode ≡ true
 map_is blocks inodes Free inode used e = absurd (used refl)
 map_is blocks inodes Regular inode used e =
@@ -41,7 +41,7 @@ map_is blocks inodes Directory inode used e =
 map_is blocks inodes Link inode used e =
     (all_three (is_sound_file inode) (is_sound_map blocks inodes inode) (is_sound_link inode) e).1
 
-data_of : (none is : Bool) → none ≡ false → (none || is) ≡ true → is ≡ true
+pub data_of : (none is : Bool) → none ≡ false → (none || is) ≡ true → is ≡ true
 data_of true is some e = cc
 data_of false is some e = e
 

@@ -1,3 +1,4 @@
+pub mod AskedFor
 pub mod AllTests
 pub mod InodeThere
 pub mod FileSizes

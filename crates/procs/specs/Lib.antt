@@ -1,3 +1,5 @@
 pub mod Snap
 pub mod FoundFile
 pub mod Steps
+pub mod Asks
+pub mod Planned

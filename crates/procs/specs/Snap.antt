@@ -5,8 +5,6 @@ use Rattle.objects.specs.declared.addr.Addr.{Addr}
 use Rattle.disk.specs.declared.block.BlockNo.{BlockNo}
 use Rattle.txn.specs.Object.{ObjectBytes}
 use Rattle.procs.specs.declared.done.Done.{Done}
-use Rattle.procs.specs.declared.next.Plan.{Plan}
-use Rattle.procs.specs.declared.next.Plan.TheVariants as plan
 use Rattle.procs.specs.declared.snap.Snap.{Snap}
 use Rattle.procs.specs.declared.stop.Stop.{Stop}
 use Rattle.procs.specs.declared.stop.Stop.TheVariants as stop
@@ -39,10 +37,3 @@ pub record IsDoneFor (snap : Snap) (done : Done) : Type 0 where
   pub read : done.read.items ≡ snap.objects.items
   pub blocks : done.blocks ≡ snap.geometry.blocks
   pub inodes : done.inodes ≡ snap.geometry.inodes
-
--- a plan asks for something new, or is done with what was read
-abbrev pub IsPlanFor : Snap → Plan → Type 0
-IsPlanFor snap (plan.Need addr) = is_seen addr snap.objects.items ≡ false
-IsPlanFor snap (plan.Claim block) = is_claimed block snap.claims.items ≡ false
-IsPlanFor snap (plan.Done done) = IsDoneFor snap done
-IsPlanFor snap plan.NoMemory = Unit {0}

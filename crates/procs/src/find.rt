@@ -6,6 +6,7 @@ ghost use Rattle.disk.specs.Crash.{Image};
 ghost use Rattle.layout.specs.Decode.{inode_at};
 ghost use Rattle.txn.specs.Window.{object_at};
 ghost use Rattle.procs.specs.Snap.{IsNew};
+ghost use Rattle.procs.specs.Asks.{WasRead, WasReadInode, IsAskedInode, IsAskedOfFile, IsAskedWhole};
 ghost use Rattle.layout.specs.Stands.{Stands};
 ghost use Rattle.model.specs.Tree.{Tree};
 ghost use Rattle.procs.specs.Steps.{Saw, NoneStand, NamesOthers, IsFoundIn};
@@ -28,6 +29,7 @@ fn bytes_at(snap: &Snap, addr: Addr) -> Result<&[u8], Stop>
     ensures err { IfErr result (λ stop. IsNew snap.now stop) }
     ensures io { IfErr result (λ stop. NoneStand snap.now stop) }
     ensures need { IfErr result (λ why. why ≡ stop.Need addr) }
+    ensures read { IfOk result (λ bytes. WasRead snap.now.objects.items addr bytes.now) }
 {
     match snap.get(addr) {
         Some(object) => Ok(object.bytes()),
@@ -44,6 +46,7 @@ fn used_by(alloc: Global, snap: &Snap, indirect: u32) -> Result<u32, Stop>
         (count_of (numbers_at INDIRECT_INDEXES 0 (blocks indirect)) + 1)) }
     ensures err { IfErr result (λ stop. IsNew snap.now stop) }
     ensures io { IfErr result (λ stop. NamesOthers snap.now indirect stop) }
+    ensures asks { IfErr result (λ stop. IsAskedWhole indirect stop) }
 {
     if indirect == 0 {
         return Ok(0);
@@ -60,6 +63,8 @@ fn inode_of(snap: &Snap, number: u32) -> Result<Inode, Stop>
     requires { number < snap.now.geometry.inodes }
     ensures there { IfOk result (λ inode. (blocks : Image) → Saw blocks snap.now
         → inode_at snap.now.geometry blocks number ≡ Ok inode) }
+    ensures read { IfOk result (λ inode. WasReadInode snap.now.geometry snap.now.objects.items number inode) }
+    ensures asks { IfErr result (λ stop. IsAskedInode snap.now.geometry number stop) }
     ensures err { IfErr result (λ stop. IsNew snap.now stop) }
     ensures io { IfErr result (λ stop. NoneStand snap.now stop) }
 {
@@ -79,7 +84,10 @@ pub(crate) fn find(
 ) -> Result<Result<FoundFile, Status>, Stop>
     ensures err { IfErr result (λ stop. IsNew snap.now stop) }
     ensures io { IfErr result (λ stop. NoneStand snap.now stop) }
+    ensures asks { IfErr result (λ stop. IsAskedOfFile snap.now handle.now.bytes stop) }
     ensures ok { IfOk result (λ found. IfOk found (λ f. f.number < snap.now.geometry.inodes)) }
+    ensures read { IfOk result (λ found. IfOk found (λ f. WasReadInode snap.now.geometry snap.now.objects.items
+        f.number f.inode)) }
     ensures tells { IfOk result (λ found. (blocks : Image) (tree : Tree)
         → Stands snap.now.geometry blocks tree → Saw blocks snap.now
         → IsFoundIn snap.now.geometry blocks tree handle.now.bytes found) }

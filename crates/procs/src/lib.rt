@@ -1,6 +1,7 @@
 //! The procedures: what is to be read for a call, and what comes of it.
 #![tactic(auto)]
 
+mod asks;
 mod attributes;
 mod done;
 mod find;
@@ -13,6 +14,7 @@ mod steps;
 mod stop;
 mod work;
 
+pub use asks::what_is_asked_for_is_home;
 pub use done::Done;
 pub use next::Plan;
 pub use refused::refused_reply;

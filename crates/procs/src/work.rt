@@ -1,5 +1,5 @@
 //! Plans: what a call needs next, or what comes of it.
-ghost use Rattle.std.specs.Prelude.{◌≡◌, true, ◌<◌, ◌∷◌, [], Ok, Err, IfErr, IfOk};
+ghost use Rattle.std.specs.Prelude.{◌≡◌, true, ◌<◌, ◌∷◌, [], All, Ok, Err, IfErr, IfOk};
 ghost use Rattle.nfs_types.specs.declared.call.Call.TheVariants as call;
 ghost use Rattle.nfs_types.specs.declared.ctx.Ctx.{Ctx};
 ghost use Rattle.nfs_types.specs.declared.reply.Reply.TheVariants as reply;
@@ -10,7 +10,9 @@ ghost use Rattle.txn.specs.Object.{ObjectBytes};
 ghost use Rattle.procs.specs.FoundFile.{IsBodyOf};
 ghost use Rattle.procs.specs.Steps.{IsTold, IsStepOf, IsStepPlan, IsInodeObject, NoneStand};
 ghost use Rattle.model.specs.Calls.{has_rules, sets_only_mode};
-ghost use Rattle.procs.specs.Snap.{IsNew, IsPlanFor, IsDoneFor};
+ghost use Rattle.procs.specs.Asks.{IsAsked, IsAskedOfFile, IsWritable, WasReadInode};
+ghost use Rattle.procs.specs.Planned.{EndsFrom, IsPlanFor};
+ghost use Rattle.procs.specs.Snap.{IsNew, IsDoneFor};
 
 use crate::attributes::FoundFile;
 use crate::done::Done;
@@ -47,10 +49,11 @@ fn outcome_of(found: Result<FoundFile, Status>) -> Result<Attributes, Status>
 
 // GETATTR (RFC 1813, section 3.3.1).
 fn get_attr(alloc: Global, snap: &Snap, object: &Handle) -> Result<Done, Stop>
-    ensures ok { IfOk result (λ done. IsDoneFor snap.now done) }
+    ensures ok { IfOk result (λ done. EndsFrom snap.now done) }
     ensures step { IfOk result (λ done. (ctx : Ctx)
         → IsStepOf snap.now.geometry ctx (call.GetAttr object.now) done) }
     ensures err { IfErr result (λ stop. IsNew snap.now stop) }
+    ensures asks { IfErr result (λ stop. IsAskedOfFile snap.now object.now.bytes stop) }
     ensures io { IfErr result (λ stop. NoneStand snap.now stop) }
 {
     let found = find(alloc, snap, object)?;
@@ -77,6 +80,8 @@ fn left(
 fn changed(alloc: Global, snap: &Snap, old: &FoundFile, new: &FoundFile) -> Result<Done, AllocError>
     requires number { new.now.number < snap.now.geometry.inodes }
     requires same { new.now.number ≡ old.now.number }
+    requires read { WasReadInode snap.now.geometry snap.now.objects.items old.now.number old.now.inode }
+    ensures writable { IfOk result (λ done. All (IsWritable snap.now) done.written.items) }
     ensures done { IfOk result (λ done. IsDoneFor snap.now done) }
     ensures reply { IfOk result (λ done. (body : Body) → IsBodyOf old.now body → IsBodyOf new.now body
         → done.reply ≡ reply.SetAttr (Ok tt) (change_of old.now.number (node_with old.now.inode body)
@@ -105,10 +110,11 @@ fn set_attr(
     guard: &Option<Moment>,
 ) -> Result<Done, Stop>
     requires { sets_only_mode wanted.now ≡ true }
-    ensures ok { IfOk result (λ done. IsDoneFor snap.now done) }
+    ensures ok { IfOk result (λ done. EndsFrom snap.now done) }
     ensures step { IfOk result (λ done. IsStepOf snap.now.geometry ctx.now
         (call.SetAttr object.now wanted.now guard.now) done) }
     ensures err { IfErr result (λ stop. IsNew snap.now stop) }
+    ensures asks { IfErr result (λ stop. IsAskedOfFile snap.now object.now.bytes stop) }
     ensures io { IfErr result (λ stop. NoneStand snap.now stop) }
 {
     let found = match find(alloc, snap, object)? {
@@ -133,9 +139,10 @@ fn set_attr(
 // What comes of a call that is served, or what stands in its way.
 fn work(alloc: Global, ctx: &Ctx, call: &Call, snap: &Snap) -> Result<Done, Stop>
     requires { has_rules call.now ≡ true }
-    ensures ok { IfOk result (λ done. IsDoneFor snap.now done) }
+    ensures ok { IfOk result (λ done. EndsFrom snap.now done) }
     ensures step { IfOk result (λ done. IsStepOf snap.now.geometry ctx.now call.now done) }
     ensures err { IfErr result (λ stop. IsNew snap.now stop) }
+    ensures asks { IfErr result (λ stop. IsAsked snap.now call.now stop) }
     ensures io { IfErr result (λ stop. NoneStand snap.now stop) }
 {
     match call {
@@ -174,7 +181,7 @@ fn work(alloc: Global, ctx: &Ctx, call: &Call, snap: &Snap) -> Result<Done, Stop
 /// it is never IO there.
 pub fn plan(alloc: Global, ctx: &Ctx, call: &Call, snap: &Snap) -> Plan
     requires { has_rules call.now ≡ true }
-    ensures plan { IsPlanFor snap.now result }
+    ensures plan { IsPlanFor call.now snap.now result }
     ensures step { IsStepPlan snap.now.geometry ctx.now call.now result }
 {
     match work(alloc, ctx, call, snap) {

@@ -1,5 +1,7 @@
 use Rattle.std.proofs.Common.{rules, ◌≡◌, sym, ◌∙◌, ◌+◌, arith, subst, Err, IfErr}
+use Rattle.procs.specs.Asks.{IsAskedOfFile}
 use Rattle.procs.specs.Steps.{NoneStand}
+use Rattle.procs.proofs.AskedFor.{asks_inode, asks_indirect}
 use Rattle.procs.proofs.FoundThere.{stale_free, stale_stamp, found, is_free, is_used, stamps_same}
 use Rattle.procs.proofs.FoundThere.{stamps_differ}
 use Rattle.procs.proofs.FarThere.{none_name_others}
@@ -50,3 +52,22 @@ returns-in_err-used-clause-io c =
     (is_used c.in_ok-inode.inode.kind (sym c.eq.ensures ∙ c.if-eq.false))
     c.in_ok-inode.ensures.there c.in_err-used.ensures.io in
     subst (λ r. IfErr r (λ why. NoneStand c.args.snap.now why)) (sym same) none
+
+pub returns-in_err-inode-clause-asks : goal.returns-in_err-inode-clause-asks
+returns-in_err-inode-clause-asks c =
+    let same : c.from_residual.result ≡ Err c.in_err-inode.field-0.0 = search rules in
+    let asks : IsAskedOfFile c.args.snap.now c.args.handle.now.bytes c.in_err-inode.field-0.0 =
+    asks_inode c.args.snap.now c.args.handle.now.bytes c.in-Some.number c.in-Some.stamp
+    c.in-Some.ensures.some (omega (arith, c.if-number-snap.false)) c.in_err-inode.field-0.0
+    c.in_err-inode.ensures.asks in
+    subst (λ r. IfErr r (λ why. IsAskedOfFile c.args.snap.now c.args.handle.now.bytes why)) (sym same) asks
+
+pub returns-in_err-used-clause-asks : goal.returns-in_err-used-clause-asks
+returns-in_err-used-clause-asks c =
+    let same : c.from_residual-in_err-used.result ≡ Err c.in_err-used.field-0.0 = search rules in
+    let asks : IsAskedOfFile c.args.snap.now c.args.handle.now.bytes c.in_err-used.field-0.0 =
+    asks_indirect c.args.snap.now c.args.handle.now.bytes c.in-Some.number c.in-Some.stamp
+    c.in-Some.ensures.some (omega (arith, c.if-number-snap.false)) c.in_ok-inode.inode
+    c.in_ok-inode.ensures.read (is_used c.in_ok-inode.inode.kind (sym c.eq.ensures ∙ c.if-eq.false))
+    c.in_err-used.field-0.0 c.in_err-used.ensures.asks in
+    subst (λ r. IfErr r (λ why. IsAskedOfFile c.args.snap.now c.args.handle.now.bytes why)) (sym same) asks

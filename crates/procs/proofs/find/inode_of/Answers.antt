@@ -16,3 +16,16 @@ returns-in-Err-clause-io c = λ blocks tree stands saw.
     c.inode_addr.ensures.block c.inode_addr.ensures.offset c.inode_addr.ensures.len
     (c.in_ok-bytes.ensures.there blocks saw)
     ∙ sym c.in-Err.ensures)
+
+pub returns-in-Ok-clause-read : goal.returns-in-Ok-clause-read
+returns-in-Ok-clause-read c = record {
+  addr = c.inode_addr.result;
+  at = record {
+    block = c.inode_addr.ensures.block;
+    offset = c.inode_addr.ensures.offset;
+    len = c.inode_addr.ensures.len;
+  };
+  bytes = c.in_ok-bytes.bytes.now;
+  read = c.in_ok-bytes.ensures.read;
+  is_inode = sym c.in-Ok.ensures;
+}

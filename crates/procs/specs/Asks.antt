@@ -1,0 +1,112 @@
+-- What a call may ask to read, and to claim, by what was read for it so far.
+use Rattle.std.specs.Prelude.{◌≡◌, ◌≢◌, ℕ, ◌<◌, true, false, ◌⊎◌, Contains, List, Ok}
+use Rattle.limits.specs.declared.TheConstants.{INODE_BYTES}
+use Rattle.nfs_types.specs.Handle.{handle_bytes}
+use Rattle.nfs_types.specs.declared.call.Call.{Call}
+use Rattle.nfs_types.specs.declared.call.Call.TheVariants as call
+use Rattle.nfs_types.specs.declared.handle.Stamp.{Stamp}
+use Rattle.disk.specs.declared.block.BlockNo.{BlockNo}
+use Rattle.objects.specs.declared.addr.Addr.{Addr}
+use Rattle.layout.specs.declared.geometry.Geometry.{Geometry}
+use Rattle.layout.specs.declared.inode.Inode.{Inode}
+use Rattle.layout.specs.declared.inode.InodeKind.TheVariants.{Free}
+use Rattle.layout.specs.Geometry.{inode_block, inode_offset}
+use Rattle.layout.specs.InodeForm.{read_inode}
+use Rattle.txn.specs.Object.{ObjectBytes}
+use Rattle.txn.specs.Outcomes.{IsWhole}
+use Rattle.procs.specs.declared.snap.Snap.{Snap}
+use Rattle.procs.specs.declared.stop.Stop.{Stop}
+use Rattle.procs.specs.declared.stop.Stop.TheVariants as stop
+use Rattle.procs.specs.Snap.{is_seen, is_claimed, same_addr}
+
+-- the address is that of an inode
+pub record IsInodeAddr (g : Geometry) (number : ℕ) (addr : Addr) : Type 0 where
+  pub block : addr.block.0 ≡ inode_block g.blocks g.inodes number
+  pub offset : addr.offset ≡ inode_offset number
+  pub len : addr.len ≡ INODE_BYTES
+
+-- the handle has the form of one that names the inode of this number
+pub record NamesInode (g : Geometry) (handle : List ℕ) (number : ℕ) : Type 0 where
+  pub stamp : Stamp
+  pub spelled : handle ≡ handle_bytes number stamp
+  pub within : number < g.inodes
+
+-- these bytes were read at the address
+pub record WasRead (objects : List ObjectBytes) (addr : Addr) (bytes : List ℕ) : Type 0 where
+  pub object : ObjectBytes
+  pub there : Contains objects object
+  pub at : same_addr addr object.addr ≡ true
+  pub bytes_are : object.bytes ≡ bytes
+
+-- this inode was read under the number
+pub record WasReadInode (g : Geometry) (objects : List ObjectBytes) (number : ℕ) (inode : Inode) : Type 0
+  where
+    pub addr : Addr
+    pub at : IsInodeAddr g number addr
+    pub bytes : List ℕ
+    pub read : WasRead objects addr bytes
+    pub is_inode : read_inode g.blocks g.inodes bytes ≡ Ok inode
+
+-- Of the file that a handle names, the inode is asked for, and then the indirect block that the inode names.
+pub data AsksOfFile (g : Geometry) (handle : List ℕ) (objects : List ObjectBytes) (addr : Addr) : Type 0 where
+  inode : (number : ℕ) → NamesInode g handle number → IsInodeAddr g number addr
+      → AsksOfFile g handle objects addr
+  indirect : (number : ℕ) (inode : Inode) (block : BlockNo) → NamesInode g handle number
+      → WasReadInode g objects number inode → inode.kind ≢ Free
+      → block.0 ≡ inode.indirect → block.0 ≢ 0 → IsWhole block addr → AsksOfFile g handle objects addr
+
+-- what a call may ask to read; one without rules asks for nothing
+abbrev pub Asks : Geometry → Call → List ObjectBytes → Addr → Type 0
+Asks g call.Null objects addr = ⊥
+Asks g (call.GetAttr object) objects addr = AsksOfFile g object.bytes objects addr
+Asks g (call.SetAttr object attributes guard) objects addr = AsksOfFile g object.bytes objects addr
+Asks g (call.Lookup name) objects addr = ⊥
+Asks g (call.Access object bits) objects addr = ⊥
+Asks g (call.ReadLink link) objects addr = ⊥
+Asks g (call.Read file offset count) objects addr = ⊥
+Asks g (call.Write file offset count stability bytes) objects addr = ⊥
+Asks g (call.Create name how) objects addr = ⊥
+Asks g (call.MkDir name attributes) objects addr = ⊥
+Asks g (call.SymLink name attributes target) objects addr = ⊥
+Asks g (call.MkNod name special) objects addr = ⊥
+Asks g (call.Remove name) objects addr = ⊥
+Asks g (call.RmDir name) objects addr = ⊥
+Asks g (call.Rename source target) objects addr = ⊥
+Asks g (call.Link file name) objects addr = ⊥
+Asks g (call.ReadDir directory cookie verifier count) objects addr = ⊥
+Asks g (call.ReadDirPlus directory cookie verifier directory_count greatest_count) objects addr = ⊥
+Asks g (call.FsStat object) objects addr = ⊥
+Asks g (call.FsInfo object) objects addr = ⊥
+Asks g (call.PathConf object) objects addr = ⊥
+Asks g (call.Commit file offset count) objects addr = ⊥
+
+-- what a call may ask to claim: no call with rules claims a block yet
+abbrev pub Claims : Geometry → Call → List ObjectBytes → BlockNo → Type 0
+Claims g asked objects block = ⊥
+
+-- a plan stops for the inode of a number, for a whole block, and for what the file of a handle asks for
+abbrev pub IsAskedInode : Geometry → ℕ → Stop → Type 0
+IsAskedInode g number (stop.Need addr) = IsInodeAddr g number addr
+IsAskedInode g number stop.Io = Unit {0}
+IsAskedInode g number stop.NoMemory = Unit {0}
+
+abbrev pub IsAskedWhole : ℕ → Stop → Type 0
+IsAskedWhole number (stop.Need addr) = (block : BlockNo) × (block.0 ≡ number) × (number ≢ 0)
+    × IsWhole block addr
+IsAskedWhole number stop.Io = Unit {0}
+IsAskedWhole number stop.NoMemory = Unit {0}
+
+abbrev pub IsAskedOfFile : Snap → List ℕ → Stop → Type 0
+IsAskedOfFile snap handle (stop.Need addr) = AsksOfFile snap.geometry handle snap.objects.items addr
+IsAskedOfFile snap handle stop.Io = Unit {0}
+IsAskedOfFile snap handle stop.NoMemory = Unit {0}
+
+abbrev pub IsAsked : Snap → Call → Stop → Type 0
+IsAsked snap asked (stop.Need addr) = Asks snap.geometry asked snap.objects.items addr
+IsAsked snap asked stop.Io = Unit {0}
+IsAsked snap asked stop.NoMemory = Unit {0}
+
+-- the object has an address that was read, or is a whole block that was claimed
+abbrev pub IsWritable : Snap → ObjectBytes → Type 0
+IsWritable snap object = (is_seen object.addr snap.objects.items ≡ true)
+    ⊎ ((is_claimed object.addr.block snap.claims.items ≡ true) × IsWhole object.addr.block object.addr)

@@ -1,0 +1,23 @@
+-- What a plan says.
+use Rattle.std.specs.Prelude.{◌≡◌, false, All}
+use Rattle.nfs_types.specs.declared.call.Call.{Call}
+use Rattle.procs.specs.declared.done.Done.{Done}
+use Rattle.procs.specs.declared.next.Plan.{Plan}
+use Rattle.procs.specs.declared.next.Plan.TheVariants as plan
+use Rattle.procs.specs.declared.snap.Snap.{Snap}
+use Rattle.procs.specs.Asks.{Asks, Claims, IsWritable}
+use Rattle.procs.specs.Snap.{IsDoneFor, is_claimed, is_seen}
+
+-- what is done names all that was read, and writes nothing else than that and what was claimed
+pub record EndsFrom (snap : Snap) (done : Done) : Type 0 where
+  pub named : IsDoneFor snap done
+  pub writable : All (IsWritable snap) done.written.items
+
+-- a plan asks for something new that its call asks for, or is done with what was read
+abbrev pub IsPlanFor : Call → Snap → Plan → Type 0
+IsPlanFor call snap (plan.Need addr) = (is_seen addr snap.objects.items ≡ false)
+    × Asks snap.geometry call snap.objects.items addr
+IsPlanFor call snap (plan.Claim block) = (is_claimed block snap.claims.items ≡ false)
+    × Claims snap.geometry call snap.objects.items block
+IsPlanFor call snap (plan.Done done) = EndsFrom snap done
+IsPlanFor call snap plan.NoMemory = Unit {0}

@@ -1,0 +1,14 @@
+//! A law on what a call asks for.
+ghost use Rattle.objects.specs.declared.addr.Addr.{Addr};
+ghost use Rattle.nfs_types.specs.declared.call.Call.{Call};
+ghost use Rattle.layout.specs.declared.geometry.Geometry.{Geometry};
+ghost use Rattle.std.specs.Prelude.{List};
+ghost use Rattle.txn.specs.Object.{ObjectBytes};
+ghost use Rattle.wal_law.specs.Log.{IsHomeOn};
+ghost use Rattle.procs.specs.Asks.{Asks};
+
+/// What a call may ask to read lies behind the log and within the image.
+pub fn what_is_asked_for_is_home()
+    ensures { (g : Geometry) (call : Call) (objects : List ObjectBytes) (addr : Addr)
+        → Asks g call objects addr → IsHomeOn g.blocks addr.block }
+{}
