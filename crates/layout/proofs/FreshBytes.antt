@@ -71,11 +71,11 @@ fours (n ∷ numbers) = join (four n) (fours numbers)
 
 -- ---- the blocks
 
-record IsBlock (bytes : List ℕ) : Type 0 where
-  long : length bytes ≡ BLOCK_BYTES
-  each : IsBytes bytes
+pub record IsBlock (bytes : List ℕ) : Type 0 where
+  pub long : length bytes ≡ BLOCK_BYTES
+  pub each : IsBytes bytes
 
-zero_block : IsBlock (replicate BLOCK_BYTES 0)
+pub zero_block : IsBlock (replicate BLOCK_BYTES 0)
 zero_block = record { long = length-replicate {A = ℕ} BLOCK_BYTES 0; each = zeros BLOCK_BYTES }
 
 magic : IsBytes MAGIC_BYTES
@@ -284,12 +284,14 @@ module _ (g : Geometry) (moment : Moment) where
   pub is_fresh : IsFresh g moment (fresh g moment)
   unfolding fresh
   is_fresh = record {
-    bytes = λ number less. let block = each_block number in (block.long, block.each.are);
     super = refl;
     header = refl;
     start = refl;
-    blocks = in_blocks;
-    inodes = in_inodes;
-    root = in_table;
-    free = λ k some less. in_free k some;
+    homes = record {
+      bytes = λ number home less. let block = each_block number in (block.long, block.each.are);
+      blocks = in_blocks;
+      inodes = in_inodes;
+      root = in_table;
+      free = λ k some less. in_free k some;
+    };
   }

@@ -21,7 +21,7 @@ use Rattle.layout.specs.declared.fault.LayoutFault.TheVariants.{Range}
 use Rattle.layout.specs.declared.geometry.Geometry.{Geometry}
 use Rattle.layout.specs.Decode.{IsFile, IsDirectory, file_of, inode_at, numbers_of, named_in}
 use Rattle.layout.specs.Fields.{four_at, numbers_at}
-use Rattle.layout.specs.Fresh.{IsFresh, root_inode, is_outside}
+use Rattle.layout.specs.Fresh.{HasFreshHomes, root_inode, is_outside}
 use Rattle.layout.specs.InodeForm.{fields_of}
 use Rattle.layout.specs.Owners.{IsMarked, owned, owned_by, is_used, is_marked_block, is_marked_inode}
 use Rattle.layout.specs.Parts.{Parts, parts_of, table_of, content_in, bit_at}
@@ -103,7 +103,7 @@ or_true true = refl
 or_true false = refl
 
 module _ (g : Geometry) (moment : Moment) (image : Image) (lawful : IsLawful g.blocks g.inodes)
-    (now : SoundTime moment) (fresh : IsFresh g moment image) where
+    (now : SoundTime moment) (fresh : HasFreshHomes g moment image) where
   one_below : 1 < g.inodes
   one_below = let few = lawful.1.0 in omega (arith, few)
 

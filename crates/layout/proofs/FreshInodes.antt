@@ -15,7 +15,7 @@ use Rattle.layout.specs.declared.inode.Inode.{Inode}
 use Rattle.layout.specs.declared.inode.InodeKind.TheVariants.{Free, Directory}
 use Rattle.layout.specs.Decode.{inode_at}
 use Rattle.layout.specs.Fields.{four_at, eight_at, numbers_at, four_bytes, eight_bytes}
-use Rattle.layout.specs.Fresh.{IsFresh, root_inode, root_block}
+use Rattle.layout.specs.Fresh.{HasFreshHomes, root_inode, root_block}
 use Rattle.layout.specs.InodeForm.{read_inode, fields_of, is_sound_inode, inode_bytes, head_bytes}
 use Rattle.layout.specs.InodeForm.{middle_bytes, tail_bytes, rest_is_zero, kind_of_number}
 use Rattle.layout.specs.Geometry.{IsLawful, inode_block, inode_offset, table_at}
@@ -124,7 +124,7 @@ above n some not = elim (cases_lt 1 n) [
 ]
 
 module _ (g : Geometry) (moment : Moment) (image : Image) (lawful : IsLawful g.blocks g.inodes)
-    (now : SoundTime moment) (fresh : IsFresh g moment image) where
+    (now : SoundTime moment) (fresh : HasFreshHomes g moment image) where
   abbrev at : ℕ → List ℕ
   at number = take INODE_BYTES (drop (inode_offset number) (image (inode_block g.blocks g.inodes number)))
 

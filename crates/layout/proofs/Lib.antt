@@ -19,3 +19,4 @@ pub mod Marks
 pub mod OtherWrites
 pub mod Mapped
 pub mod Used
+pub mod FreshHomes

@@ -1,5 +1,5 @@
 -- The blocks of an image that was just made.
-use Rattle.std.specs.Prelude.{◌≡◌, ℕ, ◌+◌, ◌-◌, ◌*◌, ◌/◌, ◌<◌, Bool, ◌||◌, cond, List, ◌++◌, length, map}
+use Rattle.std.specs.Prelude.{◌≡◌, ℕ, ◌+◌, ◌-◌, ◌*◌, ◌/◌, ◌<◌, ◌≤◌, Bool, ◌||◌, cond, List, ◌++◌, length, map}
 use Rattle.std.specs.Prelude.{nat_eq, nat_le, nat_lt, replicate, None}
 use Rattle.std.specs.List.{range_with_len}
 use Rattle.limits.specs.declared.TheConstants.{BITS_PER_BLOCK, BLOCK_BYTES, DIRECT_INDEXES, FIRST_HOME_BLOCK}
@@ -59,15 +59,11 @@ bitmap_block marked first = map (λ index. byte_of marked (first + 8 * index)) (
 abbrev pub is_outside : ℕ → ℕ → ℕ → Bool
 is_outside below past number = nat_lt number below || nat_le past number
 
--- An image that was just made, whatever its slots and its data blocks hold: the super block, an empty log,
--- bitmaps in which no data block is marked and no inode but 0 and the root, and a table of free inodes with
--- the root.
-pub record IsFresh (g : Geometry) (moment : Moment) (image : Image) : Type 0 where
-  pub bytes : (number : ℕ) → number < g.blocks → (length (image number) ≡ BLOCK_BYTES)
-      × AreBytes (image number)
-  pub super : image SUPER_BLOCK ≡ super_bytes (record { geometry = g; boot = 0 })
-  pub header : image LOG_HEADER_BLOCK ≡ replicate BLOCK_BYTES 0
-  pub start : image START_BLOCK ≡ replicate BLOCK_BYTES 0
+-- The homes of an image that was just made, whatever its data blocks hold: bitmaps in which no data block is
+-- marked and no inode but 0 and the root, and a table of free inodes with the root.
+pub record HasFreshHomes (g : Geometry) (moment : Moment) (image : Image) : Type 0 where
+  pub bytes : (number : ℕ) → FIRST_HOME_BLOCK ≤ number → number < g.blocks
+      → (length (image number) ≡ BLOCK_BYTES) × AreBytes (image number)
   pub blocks : (k : ℕ) → k < bitmap_blocks g.blocks
       → image (FIRST_HOME_BLOCK + k)
       ≡ bitmap_block (is_outside (data_at g.blocks g.inodes) g.blocks) (BITS_PER_BLOCK * k)
@@ -77,6 +73,13 @@ pub record IsFresh (g : Geometry) (moment : Moment) (image : Image) : Type 0 whe
   pub root : image (table_at g.blocks g.inodes) ≡ root_block moment
   pub free : (k : ℕ) → 0 < k → k < g.inodes / INODES_PER_BLOCK
       → image (table_at g.blocks g.inodes + k) ≡ replicate BLOCK_BYTES 0
+
+-- An image that was just made, whatever its slots hold: the super block, an empty log, and fresh homes.
+pub record IsFresh (g : Geometry) (moment : Moment) (image : Image) : Type 0 where
+  pub super : image SUPER_BLOCK ≡ super_bytes (record { geometry = g; boot = 0 })
+  pub header : image LOG_HEADER_BLOCK ≡ replicate BLOCK_BYTES 0
+  pub start : image START_BLOCK ≡ replicate BLOCK_BYTES 0
+  pub homes : HasFreshHomes g moment image
 
 -- one of them, whose slots and data blocks are zeros
 unfoldable pub fresh : Geometry → Moment → Image

@@ -8,3 +8,4 @@ pub mod SlotForm
 pub mod Stands
 pub mod SuperForm
 pub mod Fresh
+pub mod Homes

@@ -5,17 +5,18 @@ ghost use Rattle.model.specs.Format.{format_tree};
 ghost use Rattle.model.specs.Sound.{SoundTime};
 ghost use Rattle.nfs_types.specs.declared.ctx.Moment.{Moment};
 ghost use Rattle.layout.specs.declared.geometry.Geometry.{Geometry};
-ghost use Rattle.layout.specs.Fresh.{IsFresh, fresh};
+ghost use Rattle.layout.specs.Fresh.{HasFreshHomes, IsFresh, fresh};
+ghost use Rattle.layout.specs.Homes.{homes_of};
 ghost use Rattle.layout.specs.Geometry.{IsLawful};
 ghost use Rattle.layout.specs.Stands.{Stands, geometry_of};
 ghost use Rattle.layout.specs.SuperForm.{IsSuper, super_bytes};
 ghost use Rattle.layout.specs.declared.super_block.Super.{Super};
 
-/// The blocks of a fresh image stand for the tree with the root alone.
+/// The homes of a fresh image stand for the tree with the root alone.
 pub fn a_fresh_image_stands_for_the_format_tree()
     ensures { (g : Geometry) (moment : Moment) (image : Image) → IsLawful g.blocks g.inodes → SoundTime moment
-        → IsFresh g moment image
-        → Stands g image (format_tree (geometry_of g) moment) }
+        → HasFreshHomes g moment image
+        → Stands g (homes_of g.blocks image) (format_tree (geometry_of g) moment) }
 {}
 
 /// There is a fresh image of each lawful size.

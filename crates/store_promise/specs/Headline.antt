@@ -1,22 +1,36 @@
 -- What a store promises of a whole run, on a device that keeps its model.
 use Rattle.std.specs.Prelude.{◌≡◌, ℕ, ◌+◌, ◌≤◌, take, length, count_by, Contains}
-use Rattle.disk.specs.Crash.{Image}
+use Rattle.disk.specs.Crash.{Image, IsAtRest, IsCrashImage}
 use Rattle.disk.specs.Device.{Device}
+use Rattle.layout.specs.declared.geometry.Geometry.{Geometry}
 use Rattle.model.specs.After.{after}
 use Rattle.model.specs.Tree.{Tree}
 use Rattle.store_promise.specs.declared.transcript.Answer.{Answer}
 use Rattle.store_promise.specs.GoodImage.{IsGoodImage}
 use Rattle.store_promise.specs.History.{IsHistory}
-use Rattle.store_promise.specs.Openings.{AtEachStop, IsBootOf, IsLater, IsOpened}
-use Rattle.store_promise.specs.Schedule.{Schedule, AreTaken, AreTimely}
+use Rattle.store_promise.specs.LogTold.{settled_told}
+use Rattle.store_promise.specs.Openings.{AtEachStop, IsBootOf, IsLater, IsOpened, LeavesImages}
+use Rattle.store_promise.specs.Schedule.{Schedule, AreTaken, AreTimely, told_before}
 use Rattle.store_promise.specs.Transcript.{Transcript, entries_of, device_calls, commits_by, fails}
 use Rattle.store_promise.specs.Verdicts.{IsStableAnswer, IsCoveredWrite, AreAnswers}
 
+-- What was promised to last by a clock, of a run whose events began at another over a log that ended at this
+-- position, is among so many procedures: those that were answered as stable by then, the writes that an answer
+-- to a COMMIT covers, and the places that the steps told as settled.
+pub record HoldsPromised (position : ℕ) (events : Schedule) (start : ℕ) (t : Transcript) (clock count : ℕ) : Type 0
+  where
+    pub stable : (a : Answer) (place : ℕ) → Contains t.answers a → start + a.clock ≤ clock
+        → IsStableAnswer t a place → place ≤ count
+    pub covered : (a : Answer) (place : ℕ) → Contains t.answers a → start + a.clock ≤ clock
+        → IsCoveredWrite t a place → place ≤ count
+    pub settled : (index : ℕ) → index ≤ length t.steps → start + device_calls t index ≤ clock
+        → settled_told (told_before position events t.steps index).log ≤ count
+
 -- An image that a stop at a clock left is good, with the tree after the first so many procedures of the
--- history, which were committed by then: among them are all that were answered as stable by then, and the
--- writes that an answer to a COMMIT covers. Its boot number is the opening's once that has ended.
-pub record HasPrefix (size first : ℕ) (tree : Tree) (start : ℕ) (t : Transcript) (clock : ℕ)
-    (image : Image) : Type 0 where
+-- history, which were committed by then, and among which is what was promised to last. Its boot number is the
+-- opening's once that has ended.
+pub record HasPrefix (size first : ℕ) (tree : Tree) (position : ℕ) (events : Schedule) (start : ℕ)
+    (t : Transcript) (clock : ℕ) (image : Image) : Type 0 where
   pub boot : ℕ
   pub boot_is : IsBootOf first boot
   pub raised : start ≤ clock → boot ≡ first + 1
@@ -25,10 +39,12 @@ pub record HasPrefix (size first : ℕ) (tree : Tree) (start : ℕ) (t : Transcr
   pub count : ℕ
   pub committed : count ≤ commits_by start t clock
   pub prefix : after tree (take count (entries_of t)) left
-  pub stable : (a : Answer) (place : ℕ) → Contains t.answers a → start + a.clock ≤ clock
-      → IsStableAnswer t a place → place ≤ count
-  pub covered : (a : Answer) (place : ℕ) → Contains t.answers a → start + a.clock ≤ clock
-      → IsCoveredWrite t a place → place ≤ count
+  pub holds : HoldsPromised position events start t clock count
+
+-- the geometry of an image of so many blocks that has this tree
+pub record IsGeometryOf (size : ℕ) (tree : Tree) (g : Geometry) : Type 0 where
+  pub blocks : g.blocks ≡ size
+  pub inodes : g.inodes ≡ tree.geometry.inodes
 
 -- The promise of a run with so many workers, which took events on a device whose image had this tree and this
 -- boot number, and left the device as it became:
@@ -41,8 +57,10 @@ pub record KeepsPromise (before later : Device) (tree : Tree) (first workers : �
   pub past : IsLater opened later
   pub calls : later.clock ≡ opened.clock + device_calls t (length t.steps)
   pub failures : later.failures ≡ opened.failures + count_by fails t.steps
-  -- whatever a stop leaves has the tree of a prefix, which holds what was acknowledged
-  pub stops : AtEachStop before later (HasPrefix later.size first tree opened.clock t)
+  -- a stop leaves some image, and whatever it leaves has the tree of a prefix, which holds what was promised to
+  -- last
+  pub left : LeavesImages before later
+  pub stops : AtEachStop before later (HasPrefix later.size first tree position events opened.clock t)
   -- the replies are the sequential server's
   pub last : Tree
   pub leads : after tree (entries_of t) last
@@ -50,9 +68,21 @@ pub record KeepsPromise (before later : Device) (tree : Tree) (first workers : �
   pub history : IsHistory events t
   pub answers : AreAnswers events t
   -- every event is taken
-  pub taken : AreTaken position workers events t.steps
+  pub geometry : Geometry
+  pub geometry_is : IsGeometryOf later.size tree geometry
+  pub taken : AreTaken geometry position workers events t.steps
 
--- What is promised: a run of calls at a moment keeps it, on an image that is good.
-abbrev pub IsPromised : Device → Device → Tree → ℕ → ℕ → Schedule → Transcript → Type 0
-IsPromised before later tree first workers events t = AreTimely events
+-- What a run stands on: the device keeps its model, is at rest, and holds a good image with this tree and this
+-- boot number; and calls are handed over at moments below a second.
+pub record MayRun (keeps_model : Type 0) (before : Device) (tree : Tree) (first : ℕ)
+    (events : Schedule) : Type 0 where
+  pub model : keeps_model
+  pub rest : IsAtRest before
+  pub good : (image : Image) → IsCrashImage before before.clock image
+      → IsGoodImage before.size image tree first
+  pub timely : AreTimely events
+
+-- What is promised: a run that stands on this keeps its promise.
+abbrev pub IsPromised : Type 0 → Device → Device → Tree → ℕ → ℕ → Schedule → Transcript → Type 0
+IsPromised keeps_model before later tree first workers events t = MayRun keeps_model before tree first events
     → KeepsPromise before later tree first workers events t

@@ -1,14 +1,16 @@
 -- What an opening, and the making of an image, do to a device.
-use Rattle.std.specs.Prelude.{◌≡◌, ℕ, ◌+◌, ◌-◌, ◌^◌, ◌<◌, ◌≤◌, ◌⊎◌}
+use Rattle.std.specs.Prelude.{◌≡◌, ◌≢◌, ℕ, ◌+◌, ◌-◌, ◌^◌, ◌<◌, ◌≤◌, ◌⊎◌}
 use Rattle.limits.specs.declared.TheConstants.{SUPER_BLOCK}
-use Rattle.disk.specs.Crash.{Image, IsCrashImage}
-use Rattle.disk.specs.Device.{Device}
+use Rattle.disk.specs.Crash.{Image, IsAtRest, IsCrashImage}
+use Rattle.disk.specs.Device.{Content, Device, current, newest}
 use Rattle.model.specs.Tree.{Tree}
 use Rattle.nfs_types.specs.declared.ctx.Moment.{Moment}
 use Rattle.layout.specs.declared.geometry.Geometry.{Geometry}
 use Rattle.layout.specs.Fresh.{IsFresh}
-use Rattle.layout.specs.SuperForm.{HasMagic}
-use Rattle.wal.specs.Overlay.{start_in, end_in}
+use Rattle.layout.specs.declared.fault.LayoutFault.TheVariants as layout_fault
+use Rattle.layout.specs.declared.super_block.Super.{Super}
+use Rattle.layout.specs.SuperForm.{HasMagic, IsNoSuper, IsSuper}
+use Rattle.wal.specs.Overlay.{start_in, end_in, IsInRange, HasHomes}
 use Rattle.store_promise.specs.declared.fault.OpenFault.{OpenFault}
 use Rattle.store_promise.specs.declared.fault.OpenFault.TheVariants as fault
 use Rattle.store_promise.specs.GoodImage.{IsGoodImage}
@@ -25,6 +27,11 @@ pub record IsLater (before later : Device) : Type 0 where
 abbrev pub AtEachStop : Device → Device → (ℕ → Image → Type 0) → Type 0
 AtEachStop before later holds = (clock : ℕ) (image : Image) → before.clock ≤ clock → clock ≤ later.clock
     → IsCrashImage later clock image → holds clock image
+
+-- each stop leaves some image
+abbrev pub LeavesImages : Device → Device → Type 0
+LeavesImages before later = (clock : ℕ) → before.clock ≤ clock → clock ≤ later.clock
+    → (image : Image) × IsCrashImage later clock image
 
 -- the boot number is that before an opening, or that of it
 abbrev pub IsBootOf : ℕ → ℕ → Type 0
@@ -48,6 +55,7 @@ pub record IsOpened (before opened : Device) (tree : Tree) (first position : ℕ
   pub past : IsLater before opened
   pub begun : before.clock < opened.clock
   pub failures : opened.failures ≡ before.failures
+  pub left : LeavesImages before opened
   pub keeps : KeepsTree before opened tree first
   pub last : (image : Image) × IsCrashImage opened (opened.clock - 1) image
       × IsGoodImage opened.size image tree first
@@ -68,8 +76,43 @@ IsCauseOf fault.Log before later first = ⊥
 -- An opening of a good image that was refused for a cause: the tree stays at each stop.
 pub record IsRefused (before later : Device) (tree : Tree) (first : ℕ) (cause : OpenFault) : Type 0 where
   pub past : IsLater before later
+  pub left : LeavesImages before later
   pub keeps : KeepsTree before later tree first
   pub because : IsCauseOf cause before later first
+
+-- what the blocks hold, by their newest contents
+abbrev pub held_by : Device → Image
+held_by d block = newest (current d block)
+
+-- the sizes of the super block aren't the device's, or no boot number is left
+abbrev pub IsOfAnother : ℕ → Content → Type 0
+IsOfAnother size content = (super : Super) × IsSuper content super
+    × ((super.geometry.blocks ≢ size) ⊎ (2 ^ 64 ≤ super.boot + 1))
+
+-- an image of so many blocks shows why it isn't opened: by its super block first, then by its log's headers
+abbrev pub IsShownBy : OpenFault → ℕ → Image → Type 0
+IsShownBy fault.Magic size image = (size ≡ 0) ⊎ IsNoSuper (image SUPER_BLOCK) layout_fault.Magic
+IsShownBy fault.Version size image = IsNoSuper (image SUPER_BLOCK) layout_fault.Version
+IsShownBy fault.Range size image = IsNoSuper (image SUPER_BLOCK) layout_fault.Range
+    ⊎ IsOfAnother size (image SUPER_BLOCK)
+IsShownBy fault.Log size image = (super : Super) × IsSuper (image SUPER_BLOCK) super
+    × (super.geometry.blocks ≡ size) × ((IsInRange image × HasHomes size image) → ⊥)
+IsShownBy fault.Device size image = ⊥
+IsShownBy fault.NoMemory size image = ⊥
+
+-- calls were made, and no block has changed
+pub record WasOnlyRead (before later : Device) : Type 0 where
+  pub past : IsLater before later
+  pub same : (clock block : ℕ) → before.clock ≤ clock → clock ≤ later.clock
+      → later.contents clock block ≡ current before block
+  pub spoiled : (block : ℕ) → later.spoiled block ≡ before.spoiled block
+
+-- An opening of any image, good or not, that was refused: for a counted failure or an allocation that failed,
+-- or for what the image shows, and then it was only read.
+abbrev pub IsRefusedFor : OpenFault → Device → Device → Type 0
+IsRefusedFor fault.Device before later = IsLater before later × (before.failures < later.failures)
+IsRefusedFor fault.NoMemory before later = IsLater before later
+IsRefusedFor cause before later = WasOnlyRead before later × IsShownBy cause before.size (held_by before)
 
 -- what a stop may leave while an image is made: an image from before, one that has no super block, or the
 -- fresh one
@@ -77,9 +120,22 @@ abbrev pub IsLeftByFormat : Device → Geometry → Moment → Image → Type 0
 IsLeftByFormat before g moment image = (IsCrashImage before before.clock image)
     ⊎ ((HasMagic (image SUPER_BLOCK) → ⊥) ⊎ IsFresh g moment image)
 
--- An image was made at the moment: each stop on the way leaves the old one, none, or the fresh one, and in
--- the end there is the fresh one.
-pub record IsFormatted (before later : Device) (g : Geometry) (moment : Moment) : Type 0 where
+-- A device is on the way to an image that was made at the moment: each stop leaves the old image, none, or the
+-- fresh one.
+pub record IsMaking (before later : Device) (g : Geometry) (moment : Moment) : Type 0 where
   pub past : IsLater before later
+  pub size : later.size ≡ g.blocks
+  pub left : LeavesImages before later
   pub stops : AtEachStop before later (λ at image. IsLeftByFormat before g moment image)
+
+-- An image was made: no call failed, the device is at rest, and holds the fresh image.
+pub record IsFormatted (before later : Device) (g : Geometry) (moment : Moment) : Type 0 where
+  pub making : IsMaking before later g moment
+  pub failures : later.failures ≡ before.failures
+  pub rest : IsAtRest before → IsAtRest later
   pub fresh : (image : Image) → IsCrashImage later later.clock image → IsFresh g moment image
+
+-- A format that a device call ended, which failed.
+pub record HasFailedToFormat (before later : Device) (g : Geometry) (moment : Moment) : Type 0 where
+  pub making : IsMaking before later g moment
+  pub failures : before.failures < later.failures

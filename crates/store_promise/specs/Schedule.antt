@@ -1,13 +1,17 @@
 -- Which events apply, and what step each may make, told from the events and steps before it alone.
-use Rattle.std.specs.Prelude.{◌≡◌, ℕ, ◌+◌, ◌^◌, ◌<◌, ◌≤◌, ◌⊎◌, Bool, true, false, if◌then◌else◌, nat_eq}
-use Rattle.std.specs.Prelude.{nat_le, List, [], ◌∷◌, take, Option, Some, None, Ok, Err, length, slice_get}
+use Rattle.std.specs.Prelude.{◌≡◌, ◌≢◌, ℕ, ◌+◌, ◌^◌, ◌<◌, ◌≤◌, ◌⊎◌, Bool, true, false, if◌then◌else◌, nat_eq}
+use Rattle.std.specs.Prelude.{nat_le, List, [], ◌∷◌, map, take, Option, Some, None, Ok, Err, length, slice_get}
 use Rattle.std.specs.List.{zip, list_any}
-use Rattle.limits.specs.declared.TheConstants.{CHANGED_BLOCKS, LOG_SLOTS}
+use Rattle.limits.specs.declared.TheConstants.{BLOCK_BYTES, CHANGED_BLOCKS, LOG_SLOTS}
 use Rattle.disk.specs.declared.block.BlockNo.{BlockNo}
 use Rattle.objects.specs.declared.addr.Addr.{Addr}
+use Rattle.nfs_types.specs.declared.call.Call.{Call}
+use Rattle.layout.specs.declared.geometry.Geometry.{Geometry}
 use Rattle.model.specs.Calls.{has_rules}
 use Rattle.model.specs.Sound.{SoundTime}
+use Rattle.procs.specs.Asks.{Asks, Claims}
 use Rattle.procs.specs.Snap.{is_claimed, same_addr}
+use Rattle.txn.specs.Object.{ObjectBytes}
 use Rattle.txn.specs.declared.outcomes.BeginFault.TheVariants as fault
 use Rattle.store_promise.specs.declared.events.Committing.{Committing}
 use Rattle.store_promise.specs.declared.events.Committing.TheVariants as committing
@@ -18,10 +22,11 @@ use Rattle.store_promise.specs.declared.events.Step.{Step}
 use Rattle.store_promise.specs.declared.events.Step.TheVariants as step
 use Rattle.store_promise.specs.declared.events.Wish.{Wish}
 use Rattle.store_promise.specs.declared.events.Wish.TheVariants as wish
-use Rattle.store_promise.specs.LogTold.{DeviceCall, Free, Taken, Made, LogTold, empty_log, log_moved}
+use Rattle.store_promise.specs.LogTold.{CallTold, idle, out, was_made, LogTold, empty_log, log_moved}
 use Rattle.store_promise.specs.LogTold.{may_log_told, may_install_told, settled_told}
-use Rattle.store_promise.specs.Progress.{Begun, Progress, Idle, Called, Planning, ReadDue, Returned, IsEnding}
-use Rattle.store_promise.specs.Progress.{Waiting, progressed}
+use Rattle.store_promise.specs.Progress.{Begun, Progress, Idle, At, Stage, Called, Planning, Reading, Read}
+use Rattle.store_promise.specs.Progress.{Refused, Again, Waiting, progressed, has_taken, is_fetching}
+use Rattle.store_promise.specs.Progress.{is_loaded}
 
 -- a schedule is any list of events
 abbrev pub Schedule : Type 0
@@ -40,57 +45,57 @@ IsTimely event.InstIo = Unit {0}
 abbrev pub AreTimely : Schedule → Type 0
 AreTimely events = (index : ℕ) (event : Event) → slice_get events index ≡ Some event → IsTimely event
 
--- what is told of a worker, of the count of transactions, and of the log
+-- what is told of the workers, of the count of transactions, and of the log
 pub record Told : Type 0 where
-  pub worker : Progress
+  pub workers : ℕ → Progress
   pub begun : ℕ
   pub log : LogTold
 
 -- before the first event, where the log ends at a position
 abbrev pub at_first : ℕ → Told
-at_first position = record { worker = Idle; begun = 0; log = empty_log position }
+at_first position = record { workers = λ worker. Idle; begun = 0; log = empty_log position }
 
--- the event is one of this worker's
-abbrev pub is_of : ℕ → Event → Bool
-is_of number (event.Call worker credential moment call) = nat_eq worker number
-is_of number (event.Work worker) = nat_eq worker number
-is_of number (event.Read worker) = nat_eq worker number
-is_of number event.Log = false
-is_of number event.LogIo = false
-is_of number event.Install = false
-is_of number event.InstIo = false
+-- the workers, of whom this one is so far
+abbrev pub with_worker : (ℕ → Progress) → ℕ → Progress → ℕ → Progress
+with_worker workers number progress = λ other. if nat_eq other number then progress else workers other
 
--- how far a worker is after a step of an event of its own
-abbrev pub after_own : Bool → Event → Step → Progress → Progress
-after_own broken (event.Call worker credential moment call) made progress = Called call
-after_own broken _ made progress = progressed broken made progress
+-- how far the workers are after an event that made a step: that of its own has gone on
+abbrev pub workers_after : Told → Event → Step → ℕ → Progress
+workers_after told (event.Call worker credential moment call) made =
+    with_worker told.workers worker
+    (At (record { credential = credential; moment = moment; call = call }) Called)
+workers_after told (event.Work worker) made =
+    with_worker told.workers worker (progressed told.log.broken made (told.workers worker))
+workers_after told (event.Read worker) made =
+    with_worker told.workers worker (progressed told.log.broken made (told.workers worker))
+workers_after told event.Log made = told.workers
+workers_after told event.LogIo made = told.workers
+workers_after told event.Install made = told.workers
+workers_after told event.InstIo made = told.workers
 
 abbrev pub begun_after : ℕ → Step → ℕ
 begun_after begun (step.Begun (Ok number)) = begun + 1
 begun_after begun _ = begun
 
 -- what is told after an event, which made a step or none
-abbrev pub told_after : ℕ → Told → Event → Option Step → Told
-told_after number told event None = told
-told_after number told event (Some made) = record {
-  worker = if is_of number event then after_own told.log.broken event made told.worker else told.worker;
+abbrev pub told_after : Told → Event → Option Step → Told
+told_after told event None = told
+told_after told event (Some made) = record {
+  workers = workers_after told event made;
   begun = begun_after told.begun made;
   log = log_moved told.log made;
 }
 
-abbrev pub told_along : ℕ → Told → List (Event × Option Step) → Told
-told_along number told [] = told
-told_along number told (first ∷ others) = told_along number (told_after number told first.0 first.1) others
+abbrev pub told_along : Told → List (Event × Option Step) → Told
+told_along told [] = told
+told_along told (first ∷ others) = told_along (told_after told first.0 first.1) others
+
+-- ---- what a worker may do
 
 -- a worker without a call takes one
 abbrev pub IsStepOfCall : Progress → Option Step → Type 0
 IsStepOfCall Idle made = made ≡ Some step.Called
-IsStepOfCall (Called call) made = made ≡ None
-IsStepOfCall (Planning call begun) made = made ≡ None
-IsStepOfCall (ReadDue call begun block) made = made ≡ None
-IsStepOfCall (Returned call begun block ok) made = made ≡ None
-IsStepOfCall (IsEnding call why) made = made ≡ None
-IsStepOfCall (Waiting call place) made = made ≡ None
+IsStepOfCall (At job stage) made = made ≡ None
 
 -- a transaction takes the next number; a broken store begins none, nor does one whose numbers are spent
 abbrev pub IsBeginning : Told → Step → Type 0
@@ -109,32 +114,76 @@ IsStepOfCalled told false made = made ≡ step.Replied
 abbrev pub is_held : Addr → List Addr → Bool
 is_held addr held = list_any (λ other. same_addr addr other) held
 
--- a wish is never for a block that holds no object
-abbrev pub IsWish : Wish → Type 0
-IsWish wish.Outside = ⊥
-IsWish _ = Unit {0}
+-- these objects are those that the transaction holds
+abbrev pub AreHeld : Begun → List ObjectBytes → Type 0
+AreHeld begun objects = map (λ (object : ObjectBytes). object.addr) objects ≡ begun.held
 
--- What a commit may be answered: the next place, after which the tail holds as much as before and what the
--- change adds to it; and each refusal with its cause. What was read stays as it was while it is held, so no
--- change is foreign.
-abbrev pub IsCommitting : LogTold → Committing → Type 0
-IsCommitting log (committing.Committed place tail) =
-    (log.broken ≡ false) × (place.0 ≡ log.places + 1) × (log.tail ≤ tail) × (tail ≤ log.tail + CHANGED_BLOCKS)
-    × (tail ≤ LOG_SLOTS)
-IsCommitting log committing.Broken = log.broken ≡ true
-IsCommitting log committing.Foreign = ⊥
-IsCommitting log committing.Spent =
-    (log.broken ≡ false) × ((2 ^ 64 ≤ log.places + 1) ⊎ (2 ^ 64 ≤ log.position + CHANGED_BLOCKS))
-IsCommitting log committing.Full = (log.broken ≡ false) × (LOG_SLOTS < log.tail + CHANGED_BLOCKS)
-IsCommitting log committing.NoMemory = log.broken ≡ false
+-- the call asks for the object, by what its transaction holds and hasn't got
+pub record IsAskedFor (g : Geometry) (call : Call) (begun : Begun) (addr : Addr) : Type 0 where
+  pub unheld : is_held addr begun.held ≡ false
+  pub objects : List ObjectBytes
+  pub held : AreHeld begun objects
+  pub asks : Asks g call objects addr
 
--- A plan asks for an object or a block that it doesn't have, or is done and commits; or it finds no memory.
-abbrev pub IsStepOfPlan : LogTold → Begun → Step → Type 0
-IsStepOfPlan log begun (step.Wanted addr answer) = (is_held addr begun.held ≡ false) × IsWish answer
-IsStepOfPlan log begun (step.Claimed block answer) = (is_claimed block begun.claimed ≡ false) × IsWish answer
-IsStepOfPlan log begun (step.Commit answer) = IsCommitting log answer
-IsStepOfPlan log begun (step.Ended ending.NoMemory) = Unit {0}
-IsStepOfPlan log begun _ = ⊥
+-- it asks to claim the block
+pub record IsClaimAskedFor (g : Geometry) (call : Call) (begun : Begun) (block : BlockNo) : Type 0 where
+  pub unclaimed : is_claimed block begun.claimed ≡ false
+  pub objects : List ObjectBytes
+  pub held : AreHeld begun objects
+  pub claims : Claims g call objects block
+
+-- another worker is so
+pub record IsSoOfAnother (told : Told) (worker : ℕ) (is : Progress → Bool) : Type 0 where
+  pub other : ℕ
+  pub differs : other ≢ worker
+  pub so : is (told.workers other) ≡ true
+
+-- What a wish to read some bytes of a block may be answered: Busy only where another worker has taken one of
+-- them, Loading only where another fetches the block, Fetch only where no object of the block was had, and
+-- never Outside, as no call asks for what lies elsewhere.
+abbrev pub IsWish : Told → ℕ → Begun → BlockNo → ℕ → ℕ → Wish → Type 0
+IsWish told worker begun block offset len wish.Held = Unit {0}
+IsWish told worker begun block offset len wish.Busy = IsSoOfAnother told worker (has_taken block offset len)
+IsWish told worker begun block offset len wish.Fetch = is_loaded block begun ≡ false
+IsWish told worker begun block offset len wish.Loading = IsSoOfAnother told worker (is_fetching block)
+IsWish told worker begun block offset len wish.Outside = ⊥
+IsWish told worker begun block offset len wish.NoMemory = Unit {0}
+
+-- what a wish to claim a block may be answered: the same, but that nothing is fetched
+abbrev pub IsClaimWish : Told → ℕ → Begun → BlockNo → Wish → Type 0
+IsClaimWish told worker begun block wish.Fetch = ⊥
+IsClaimWish told worker begun block other = IsWish told worker begun block 0 BLOCK_BYTES other
+
+-- a place is left, and enough log positions for so many blocks
+pub record HasNumbers (log : LogTold) (blocks : ℕ) : Type 0 where
+  pub place : log.places + 1 < 2 ^ 64
+  pub positions : log.position + blocks < 2 ^ 64
+
+-- What a commit may be answered that brings the tail so many blocks: the next place; or why it is refused. What
+-- was read stays as it was while it is held, so that no change is foreign.
+abbrev pub IsCommitting : LogTold → ℕ → Committing → Type 0
+IsCommitting log blocks (committing.Committed place) =
+    (log.broken ≡ false) × (place.0 ≡ log.places + 1) × HasNumbers log blocks
+    × (log.tail + blocks ≤ LOG_SLOTS)
+IsCommitting log blocks committing.Broken = log.broken ≡ true
+IsCommitting log blocks committing.Foreign = ⊥
+IsCommitting log blocks committing.Spent = (log.broken ≡ false) × (HasNumbers log blocks → ⊥)
+IsCommitting log blocks committing.Full =
+    (log.broken ≡ false) × HasNumbers log blocks × (LOG_SLOTS < log.tail + blocks)
+IsCommitting log blocks committing.NoMemory =
+    (log.broken ≡ false) × HasNumbers log blocks × (log.tail + blocks ≤ LOG_SLOTS)
+
+-- A worker with a transaction goes by the plan of its call: it asks for what that asks for, or commits, or
+-- finds no memory.
+abbrev pub IsStepOfPlan : Geometry → Told → ℕ → Call → Begun → Step → Type 0
+IsStepOfPlan g told worker call begun (step.Wanted addr answer) =
+    IsAskedFor g call begun addr × IsWish told worker begun addr.block addr.offset addr.len answer
+IsStepOfPlan g told worker call begun (step.Claimed block answer) =
+    IsClaimAskedFor g call begun block × IsClaimWish told worker begun block answer
+IsStepOfPlan g told worker call begun (step.Commit blocks answer) =
+    (blocks ≤ CHANGED_BLOCKS) × IsCommitting told.log blocks answer
+IsStepOfPlan g told worker call begun (step.Ended ending.NoMemory) = Unit {0}
+IsStepOfPlan g told worker call begun _ = ⊥
 
 -- the place is found settled where it is
 abbrev pub IsStepOfWaiting : LogTold → ℕ → Step → Type 0
@@ -143,21 +192,21 @@ IsStepOfWaiting log place (step.Stable seq settled) = (seq.0 ≡ place)
 IsStepOfWaiting log place _ = ⊥
 
 -- a worker with a call, of which no read is due, goes on with it
-abbrev pub IsStepWith : Told → Progress → Step → Type 0
-IsStepWith told Idle made = ⊥
-IsStepWith told (Called call) made = IsStepOfCalled told (has_rules call) made
-IsStepWith told (Planning call begun) made = IsStepOfPlan told.log begun made
-IsStepWith told (ReadDue call begun block) made = ⊥
-IsStepWith told (Returned call begun block ok) made =
-    made ≡ (if ok then step.Fetched block else step.FetchFailed block)
-IsStepWith told (IsEnding call why) made = made ≡ step.Ended why
-IsStepWith told (Waiting call place) made = IsStepOfWaiting told.log place made
+abbrev pub IsStepWith : Geometry → Told → ℕ → Call → Stage → Step → Type 0
+IsStepWith g told worker call Called made = IsStepOfCalled told (has_rules call) made
+IsStepWith g told worker call (Planning begun) made = IsStepOfPlan g told worker call begun made
+IsStepWith g told worker call (Reading begun addr) made = ⊥
+IsStepWith g told worker call (Read begun addr true) made = made ≡ step.Fetched addr.block
+IsStepWith g told worker call (Read begun addr false) made = made ≡ step.FetchFailed addr.block
+IsStepWith g told worker call (Refused begun why) made = made ≡ step.Ended ending.Refused
+IsStepWith g told worker call (Again begun) made = made ≡ step.Ended ending.Again
+IsStepWith g told worker call (Waiting place) made = IsStepOfWaiting told.log place made
 
-abbrev pub IsStepOfWork : Told → Progress → Option Step → Type 0
-IsStepOfWork told Idle made = made ≡ None
-IsStepOfWork told (ReadDue call begun block) made = made ≡ None
-IsStepOfWork told progress (Some made) = IsStepWith told progress made
-IsStepOfWork told progress None = ⊥
+abbrev pub IsStepOfWork : Geometry → Told → ℕ → Progress → Option Step → Type 0
+IsStepOfWork g told worker Idle made = made ≡ None
+IsStepOfWork g told worker (At job (Reading begun addr)) made = made ≡ None
+IsStepOfWork g told worker (At job stage) (Some made) = IsStepWith g told worker job.call stage made
+IsStepOfWork g told worker (At job stage) None = ⊥
 
 -- a read that is due is made
 abbrev pub IsReadOf : BlockNo → Option Step → Type 0
@@ -165,8 +214,10 @@ IsReadOf block (Some (step.Read read ok)) = read ≡ block
 IsReadOf block _ = ⊥
 
 abbrev pub IsStepOfRead : Progress → Option Step → Type 0
-IsStepOfRead (ReadDue call begun block) made = IsReadOf block made
+IsStepOfRead (At job (Reading begun addr)) made = IsReadOf addr.block made
 IsStepOfRead _ made = made ≡ None
+
+-- ---- what the log and the installer may do
 
 -- the call that was made is given back, and where none is out the next is taken, if one is to be had
 abbrev pub IsNextOfLog : Bool → Option Step → Type 0
@@ -179,71 +230,77 @@ IsNextOfInstaller true (Some (step.InstNext call)) = Unit {0}
 IsNextOfInstaller true _ = ⊥
 IsNextOfInstaller false made = made ≡ None
 
-abbrev pub IsStepOfLog : LogTold → DeviceCall → Option Step → Type 0
-IsStepOfLog log Free made = IsNextOfLog (may_log_told log) made
-IsStepOfLog log (Taken call) made = made ≡ None
-IsStepOfLog log (Made call ok) made = made ≡ Some (step.LogDone ok)
+abbrev pub IsStepOfLog : LogTold → CallTold → Option Step → Type 0
+IsStepOfLog log idle made = IsNextOfLog (may_log_told log) made
+IsStepOfLog log (out call) made = made ≡ None
+IsStepOfLog log (was_made call ok) made = made ≡ Some (step.LogDone ok)
 
-abbrev pub IsStepOfInstaller : LogTold → DeviceCall → Option Step → Type 0
-IsStepOfInstaller log Free made = IsNextOfInstaller (may_install_told log) made
-IsStepOfInstaller log (Taken call) made = made ≡ None
-IsStepOfInstaller log (Made call ok) made = made ≡ Some (step.InstDone ok)
+abbrev pub IsStepOfInstaller : LogTold → CallTold → Option Step → Type 0
+IsStepOfInstaller log idle made = IsNextOfInstaller (may_install_told log) made
+IsStepOfInstaller log (out call) made = made ≡ None
+IsStepOfInstaller log (was_made call ok) made = made ≡ Some (step.InstDone ok)
 
 -- the call that is out is made
-abbrev pub IsStepOfLogIo : DeviceCall → Option Step → Type 0
-IsStepOfLogIo (Taken call) (Some (step.LogIo ok)) = Unit {0}
-IsStepOfLogIo (Taken call) _ = ⊥
-IsStepOfLogIo Free made = made ≡ None
-IsStepOfLogIo (Made call ok) made = made ≡ None
+abbrev pub IsStepOfLogIo : CallTold → Option Step → Type 0
+IsStepOfLogIo (out call) (Some (step.LogIo ok)) = Unit {0}
+IsStepOfLogIo (out call) _ = ⊥
+IsStepOfLogIo idle made = made ≡ None
+IsStepOfLogIo (was_made call ok) made = made ≡ None
 
-abbrev pub IsStepOfInstIo : DeviceCall → Option Step → Type 0
-IsStepOfInstIo (Taken call) (Some (step.InstIo ok)) = Unit {0}
-IsStepOfInstIo (Taken call) _ = ⊥
-IsStepOfInstIo Free made = made ≡ None
-IsStepOfInstIo (Made call ok) made = made ≡ None
+abbrev pub IsStepOfInstIo : CallTold → Option Step → Type 0
+IsStepOfInstIo (out call) (Some (step.InstIo ok)) = Unit {0}
+IsStepOfInstIo (out call) _ = ⊥
+IsStepOfInstIo idle made = made ≡ None
+IsStepOfInstIo (was_made call ok) made = made ≡ None
 
 -- An event that applies makes a step of its kind, and one that doesn't makes none.
-abbrev pub IsStepOf : Told → Event → Option Step → Type 0
-IsStepOf told (event.Call worker credential moment call) made = IsStepOfCall told.worker made
-IsStepOf told (event.Work worker) made = IsStepOfWork told told.worker made
-IsStepOf told (event.Read worker) made = IsStepOfRead told.worker made
-IsStepOf told event.Log made = IsStepOfLog told.log told.log.log_call made
-IsStepOf told event.LogIo made = IsStepOfLogIo told.log.log_call made
-IsStepOf told event.Install made = IsStepOfInstaller told.log told.log.inst_call made
-IsStepOf told event.InstIo made = IsStepOfInstIo told.log.inst_call made
+abbrev pub IsStepOf : Geometry → Told → Event → Option Step → Type 0
+IsStepOf g told (event.Call worker credential moment call) made = IsStepOfCall (told.workers worker) made
+IsStepOf g told (event.Work worker) made = IsStepOfWork g told worker (told.workers worker) made
+IsStepOf g told (event.Read worker) made = IsStepOfRead (told.workers worker) made
+IsStepOf g told event.Log made = IsStepOfLog told.log told.log.log_call made
+IsStepOf g told event.LogIo made = IsStepOfLogIo told.log.log_call made
+IsStepOf g told event.Install made = IsStepOfInstaller told.log told.log.inst_call made
+IsStepOf g told event.InstIo made = IsStepOfInstIo told.log.inst_call made
 
--- what is told of a worker before the event of an index
-abbrev pub told_before : ℕ → Schedule → List (Option Step) → ℕ → ℕ → Told
-told_before position events steps number index =
-    told_along number (at_first position) (take index (zip events steps))
+-- ---- along a run
+
+-- what is told before the event of an index
+abbrev pub told_before : ℕ → Schedule → List (Option Step) → ℕ → Told
+told_before position events steps index = told_along (at_first position) (take index (zip events steps))
 
 -- how far a worker is before the event of an index, which the log's position has no part in
 abbrev pub progress_before : Schedule → List (Option Step) → ℕ → ℕ → Progress
-progress_before events steps number index = (told_before 0 events steps number index).worker
-
--- a write or a barrier failed, and the log was told of it before the event of an index
-abbrev pub is_broken_before : Schedule → List (Option Step) → ℕ → Bool
-is_broken_before events steps index = (told_before 0 events steps 0 index).log.broken
+progress_before events steps worker index = (told_before 0 events steps index).workers worker
 
 -- the worker that an event is of; those of the log and the installer are of none
 abbrev pub worker_of : Event → Option ℕ
 worker_of (event.Call worker credential moment call) = Some worker
 worker_of (event.Work worker) = Some worker
 worker_of (event.Read worker) = Some worker
-worker_of _ = None
+worker_of event.Log = None
+worker_of event.LogIo = None
+worker_of event.Install = None
+worker_of event.InstIo = None
 
--- The events are taken from the first on, of so many workers, each once, over a log that ends at a position:
--- all, or fewer, which only want of memory to tell of the next may cause (tests show that). Each makes the
--- step that it may make, and an event of a worker that isn't there makes none.
-pub record AreTaken (position workers : ℕ) (events : Schedule) (steps : List (Option Step)) : Type 0 where
+-- the event is of no worker, or of one of so many
+abbrev pub IsOfOne : ℕ → Option ℕ → Type 0
+IsOfOne workers None = Unit {0}
+IsOfOne workers (Some worker) = worker < workers
+
+-- what the event of an index makes: the step that it may make, and none where it is of a worker that isn't
+-- there
+pub record IsTaken (g : Geometry) (workers : ℕ) (told : Told) (event : Event) (made : Option Step) : Type 0
+  where
+    pub own : IsOfOne workers (worker_of event) → IsStepOf g told event made
+    pub others : (IsOfOne workers (worker_of event) → ⊥) → made ≡ None
+
+-- The events are taken from the first on, of so many workers, each once, over an image of this geometry whose
+-- log ends at a position: all, or fewer, which only want of memory to tell of the next may cause (tests show
+-- that).
+pub record AreTaken (g : Geometry) (position workers : ℕ) (events : Schedule)
+    (steps : List (Option Step)) : Type 0 where
   pub fewer : length steps ≤ length events
-  pub own : (index worker : ℕ) (event : Event) (made : Option Step) → slice_get events index ≡ Some event
+  pub each : (index : ℕ) (event : Event) (made : Option Step) → slice_get events index ≡ Some event
       → slice_get steps index ≡ Some made
-      → worker_of event ≡ Some worker → worker < workers
-      → IsStepOf (told_before position events steps worker index) event made
-  pub log : (index : ℕ) (event : Event) (made : Option Step) → slice_get events index ≡ Some event
-      → slice_get steps index ≡ Some made
-      → worker_of event ≡ None → IsStepOf (told_before position events steps 0 index) event made
-  pub others : (index worker : ℕ) (event : Event) (made : Option Step) → slice_get events index ≡ Some event
-      → slice_get steps index ≡ Some made
-      → worker_of event ≡ Some worker → workers ≤ worker → made ≡ None
+      → IsTaken g workers (told_before position events steps index) event made

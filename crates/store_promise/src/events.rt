@@ -41,15 +41,26 @@ pub enum Wish {
     NoMemory,
 }
 
-/// What a commit was answered: its place, and how many blocks the open tail of the log holds then.
+/// What a commit was answered: its place, or why it is refused.
 #[derive(Clone, Copy, Debug, PartialEq, Eq)]
 pub enum Committing {
-    Committed(Seq, usize),
+    Committed(Seq),
     Full,
     Foreign,
     NoMemory,
     Broken,
     Spent,
+}
+
+/// Why a call is refused.
+#[derive(Clone, Copy, Debug, PartialEq, Eq)]
+pub enum Cause {
+    /// A read of it failed, or the store is broken.
+    Io,
+    /// A counter is spent.
+    Spent,
+    /// An allocation failed.
+    NoMemory,
 }
 
 /// Why a transaction is ended without a change.
@@ -77,7 +88,8 @@ pub enum Step {
     Claimed(BlockNo, Wish),
     Fetched(BlockNo),
     FetchFailed(BlockNo),
-    Commit(Committing),
+    /// How many blocks the change would add to the open tail of the log, and what the commit was answered.
+    Commit(usize, Committing),
     /// The transaction was ended without a change.
     Ended(Ending),
     /// Whether the place is settled.

@@ -10,7 +10,7 @@ mod promises;
 mod transcript;
 
 pub use answers::{CallAnswer, Entry, Verdict};
-pub use events::{Committing, Ending, Event, Step, Wish};
+pub use events::{Cause, Committing, Ending, Event, Step, Wish};
 pub use fault::OpenFault;
 pub use fresh::a_fresh_image_is_good;
 pub use promises::{

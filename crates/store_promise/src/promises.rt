@@ -13,7 +13,7 @@ ghost use Rattle.store_promise.specs.declared.transcript.Committed.{Committed};
 ghost use Rattle.store_promise.specs.GoodImage.{IsGoodImage};
 ghost use Rattle.store_promise.specs.Headline.{KeepsPromise};
 ghost use Rattle.store_promise.specs.Openings.{IsOpened};
-ghost use Rattle.store_promise.specs.LogTold.{Free, may_log_told};
+ghost use Rattle.store_promise.specs.LogTold.{idle, may_log_told};
 ghost use Rattle.store_promise.specs.Schedule.{Schedule, told_before};
 ghost use Rattle.store_promise.specs.Transcript.{Transcript, device_calls, entries_of, fails, step_at};
 ghost use Rattle.store_promise.specs.Verdicts.{IsStableAnswer};
@@ -64,10 +64,10 @@ pub fn half_a_group_breaks_the_promise()
 /// An answer with the reply of a procedure that is to be answered once it is stable, given with the commit,
 /// breaks the promise.
 pub fn no_stable_answer_comes_with_its_commit()
-    ensures { (before later : Device) (tree : Tree) (first workers index place tail : ℕ) (events : Schedule)
+    ensures { (before later : Device) (tree : Tree) (first workers index place blocks : ℕ) (events : Schedule)
         (t : Transcript) (a : Answer)
         → slice_get t.answers index ≡ Some a → IsStableAnswer t a place
-        → step_at t a.event ≡ Some (step.Commit (committing.Committed (record { 0 = place }) tail))
+        → step_at t a.event ≡ Some (step.Commit blocks (committing.Committed (record { 0 = place })))
         → KeepsPromise before later tree first workers events t → ⊥ }
 {}
 
@@ -89,7 +89,7 @@ pub fn the_log_passes_over_no_event()
     ensures { (before later : Device) (tree : Tree) (first workers index : ℕ) (events : Schedule)
         (t : Transcript)
         → slice_get events index ≡ Some event.Log → slice_get t.steps index ≡ Some None
-        → ((position : ℕ) → may_log_told (told_before position events t.steps 0 index).log ≡ true)
-        → ((position : ℕ) → (told_before position events t.steps 0 index).log.log_call ≡ Free)
+        → ((position : ℕ) → may_log_told (told_before position events t.steps index).log ≡ true)
+        → ((position : ℕ) → (told_before position events t.steps index).log.log_call ≡ idle)
         → KeepsPromise before later tree first workers events t → ⊥ }
 {}

@@ -4,7 +4,9 @@ use Rattle.model.specs.Sound.{SoundGeometry}
 use Rattle.model.proofs.Formatted.{sound}
 use Rattle.layout.specs.declared.geometry.Geometry.{Geometry}
 use Rattle.layout.specs.Geometry.{IsLawful}
+use Rattle.layout.specs.Homes.{homes_of}
 use Rattle.layout.specs.Stands.{geometry_of}
+use Rattle.layout.proofs.FreshHomes.{are_blocks, of_homes}
 use Rattle.layout.proofs.FreshFiles.{marked, files, mapped}
 use Rattle.layout.proofs.fresh.a_fresh_image_stands_for_the_format_tree.Goals as goal
 
@@ -21,15 +23,17 @@ lawful-sound g lawful =
     }
 
 pub returns : goal.returns
-returns c = λ g moment image lawful now fresh. record {
-  bytes = fresh.bytes;
-  parts = record {
-    geometry = refl;
-    sound = sound (geometry_of g) moment (lawful-sound g lawful) now;
-    has = record {
-      inodes = mapped g moment image lawful now fresh;
-      files = files g moment image lawful now fresh;
-    };
-    marked = marked g moment image lawful now fresh;
-  };
-}
+returns c = λ g moment image lawful now fresh.
+    let homes = of_homes g moment image lawful fresh in
+    record {
+      bytes = λ number less. are_blocks g moment image lawful fresh number;
+      parts = record {
+        geometry = refl;
+        sound = sound (geometry_of g) moment (lawful-sound g lawful) now;
+        has = record {
+          inodes = mapped g moment (homes_of g.blocks image) lawful now homes;
+          files = files g moment (homes_of g.blocks image) lawful now homes;
+        };
+        marked = marked g moment (homes_of g.blocks image) lawful now homes;
+      };
+    }

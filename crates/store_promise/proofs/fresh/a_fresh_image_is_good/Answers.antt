@@ -3,6 +3,7 @@ use Rattle.std.proofs.Common.{◌≡◌, ℕ, ◌≤◌, Some, refl, sym, ap, �
 use Rattle.disk.specs.Crash.{Image}
 use Rattle.layout.specs.declared.geometry.Geometry.{Geometry}
 use Rattle.layout.specs.Fresh.{IsFresh}
+use Rattle.layout.specs.Homes.{homes_of}
 use Rattle.layout.specs.Stands.{Stands, geometry_of}
 use Rattle.layout.specs.SuperForm.{IsSuper}
 use Rattle.limits.specs.declared.TheConstants.{ROOT}
@@ -45,8 +46,8 @@ returns c = λ g moment image lawful now fresh.
       boot_is = refl;
       range = record { order = omega (arith, starts_at, ends_at); slots = omega (arith, starts_at, ends_at) };
       homes = λ k less. absurd (omega (arith, less, starts_at, ends_at));
-      stands = subst (λ (blocks : Image). Stands g blocks (format_tree (geometry_of g) moment))
+      stands = subst (λ (blocks : Image). Stands g (homes_of g.blocks blocks) (format_tree (geometry_of g) moment))
           (λ i block. sym (empty block) i)
-          (c.a_fresh_image_stands_for_the_format_tree.ensures g moment image lawful now fresh);
+          (c.a_fresh_image_stands_for_the_format_tree.ensures g moment image lawful now fresh.homes);
       stamps = made_before g moment image fresh;
     }

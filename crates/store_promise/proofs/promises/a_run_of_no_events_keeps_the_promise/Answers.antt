@@ -1,11 +1,15 @@
 -- With nothing in the lists each promise is of nothing, and the prefix is the opening's tree.
-use Rattle.std.proofs.Common.{arith, ◌≡◌, ◌+◌, ◌<◌, ◌≤◌, ◌⊎◌, inl, inr, ℕ, Some, None, [], refl, subst}
+use Rattle.std.proofs.Common.{arith, ◌≡◌, ◌+◌, ◌<◌, ◌≤◌, ◌⊎◌, inl, inr, ℕ, zero, suc, Some, None, [], refl, subst, ap, sym}
 use Rattle.std.proofs.lemmas.Bool.{cases_lt}
 use Rattle.disk.specs.Crash.{Image, IsCrashImage}
 use Rattle.disk.specs.Device.{Device}
 use Rattle.model.specs.Tree.{Tree}
-use Rattle.store_promise.specs.Headline.{HasPrefix}
+use Rattle.model.specs.Tree as model
+use Rattle.store_promise.specs.Headline.{HasPrefix, HoldsPromised, IsGeometryOf}
+use Rattle.store_promise.specs.GoodImage.{IsGoodImage}
 use Rattle.store_promise.specs.Openings.{IsOpened, IsLater}
+use Rattle.store_promise.specs.LogTold.{settled_told}
+use Rattle.store_promise.specs.Schedule.{told_before}
 use Rattle.store_promise.specs.Transcript.{Transcript}
 use Rattle.store_promise.proofs.promises.a_run_of_no_events_keeps_the_promise.Goals as goal
 
@@ -21,11 +25,23 @@ nothing first = record { boot = first + 1; history = []; answers = []; steps = [
 itself : (device : Device) → IsLater device device
 itself device = record { size = refl; clock = omega arith; past = λ clock block _. refl }
 
+-- nothing was promised to last, and the empty log tells place 0 alone as settled
+holds : (position start clock first : ℕ) → HoldsPromised position [] start (nothing first) clock 0
+holds position start clock first = record {
+  stable = λ a place given by told. absurd (no-less given.0 given.1);
+  covered = λ a place given by told. absurd (no-less given.0 given.1);
+  settled = λ index from by. none_told index from;
+}
+  where
+    none_told : (index : ℕ) → index ≤ 0 → settled_told (told_before position [] [] index).log ≤ 0
+    none_told zero from = omega arith
+    none_told (suc index) from = absurd (no-less index (omega (arith, from)))
+
 -- a stop before the opening's end
 before_end : (before later : Device) (tree : Tree) (first position clock : ℕ) (image : Image)
     → IsOpened before later tree first position
     → before.clock ≤ clock → clock < later.clock → IsCrashImage later clock image
-    → HasPrefix later.size first tree later.clock (nothing first) clock image
+    → HasPrefix later.size first tree position [] later.clock (nothing first) clock image
 before_end before later tree first position clock image opened from less crash =
     let found = opened.keeps clock image from (omega (arith, less)) crash in
     record {
@@ -37,15 +53,14 @@ before_end before later tree first position clock image opened from less crash =
       count = 0;
       committed = omega arith;
       prefix = refl;
-      stable = λ a place given by told. absurd (no-less given.0 given.1);
-      covered = λ a place given by told. absurd (no-less given.0 given.1);
+      holds = holds position later.clock clock first;
     }
 
 -- a stop at its end
 at_end : (before later : Device) (tree : Tree) (first position clock : ℕ) (image : Image)
     → IsOpened before later tree first position
     → clock ≡ later.clock → IsCrashImage later clock image
-    → HasPrefix later.size first tree later.clock (nothing first) clock image
+    → HasPrefix later.size first tree position [] later.clock (nothing first) clock image
 at_end before later tree first position clock image opened same crash = record {
   boot = first + 1;
   boot_is = inr refl;
@@ -55,19 +70,25 @@ at_end before later tree first position clock image opened same crash = record {
   count = 0;
   committed = omega arith;
   prefix = refl;
-  stable = λ a place given by told. absurd (no-less given.0 given.1);
-  covered = λ a place given by told. absurd (no-less given.0 given.1);
+  holds = holds position later.clock clock first;
 }
 
 either : (before later : Device) (tree : Tree) (first position clock : ℕ) (image : Image)
     → IsOpened before later tree first position
     → before.clock ≤ clock → clock ≤ later.clock → IsCrashImage later clock image → (clock < later.clock)
     ⊎ (later.clock ≤ clock)
-    → HasPrefix later.size first tree later.clock (nothing first) clock image
+    → HasPrefix later.size first tree position [] later.clock (nothing first) clock image
 either before later tree first position clock image opened from to crash (inl less) =
     before_end before later tree first position clock image opened from less crash
 either before later tree first position clock image opened from to crash (inr reached) =
     at_end before later tree first position clock image opened (omega (arith, to, reached)) crash
+
+geometry_of_image : (size boot : ℕ) (tree : Tree) (image : Image) (good : IsGoodImage size image tree boot)
+    → IsGeometryOf size tree good.super.geometry
+geometry_of_image size boot tree image good = record {
+  blocks = good.size_is;
+  inodes = ap (λ (g : model.Geometry). g.inodes) (sym good.stands.parts.geometry);
+}
 
 pub returns : goal.returns
 returns c = λ before later tree first position workers opened. record {
@@ -77,6 +98,7 @@ returns c = λ before later tree first position workers opened. record {
   past = itself later;
   calls = omega arith;
   failures = omega arith;
+  left = opened.left;
   stops = λ clock image from to crash. either before later tree first position clock image opened from to
       crash (cases_lt clock later.clock);
   last = tree;
@@ -90,15 +112,14 @@ returns c = λ before later tree first position workers opened. record {
   };
   answers = record {
     each = λ index a same. absurd (no-some a same);
-    once = λ one other a b first second same _ _. absurd (no-some a same);
     placed_once = λ one other place a b same _ _ _. absurd (no-some a same);
     ordered = λ one other a b same _ _. absurd (no-some a same);
     whole = λ index worker event same _ _ _ _. absurd (no-some event same);
   };
+  geometry = (opened.last).2.super.geometry;
+  geometry_is = geometry_of_image later.size first tree opened.last.0 opened.last.2;
   taken = record {
     fewer = omega arith;
-    own = λ index worker event made same _ _ _. absurd (no-some event same);
-    log = λ index event made same _ _. absurd (no-some event same);
-    others = λ index worker event made same _ _ _. absurd (no-some event same);
+    each = λ index event made same _. absurd (no-some event same);
   };
 }

@@ -1,6 +1,17 @@
+use Rattle.std.proofs.Common.{◌≡◌, ap, sym, ◌∙◌, Some, subst}
+use Rattle.nfs_types.specs.declared.call.Call.{Call}
+use Rattle.nfs_types.specs.declared.ctx.Ctx.{Ctx}
+use Rattle.store_promise.specs.declared.events.Event.{Event}
+use Rattle.store_promise.specs.declared.events.Event.TheVariants as event
+use Rattle.store_promise.proofs.Told.{was_handed, handed}
 use Rattle.store_promise.proofs.promises.an_entry_was_called.Goals as goal
 
 pub returns : goal.returns
 returns c = λ before later tree first workers index events t entry is_entry uncalled kept.
     let committed = kept.history.each index entry is_entry in
-    uncalled committed.handed.at committed.handed.event
+    let found = was_handed events t.steps entry.event entry.worker committed.job _ committed.planned in
+    let same : handed entry.worker committed.job
+    ≡ event.Call entry.worker entry.ctx.credential entry.ctx.moment entry.call =
+    λ i. event.Call entry.worker (sym committed.ctx i).credential (sym committed.ctx i).moment
+    (sym committed.call i) in
+    uncalled found.0 (found.1 ∙ ap (λ (e : Event). Some e) same)
