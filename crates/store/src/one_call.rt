@@ -53,7 +53,7 @@ fn go_on<D: CrashDisk>(alloc: Global, store: &mut Store<D>, worker: &mut Worker)
 {
     let _ = worker.read(&mut store.disk);
     match worker.step(alloc, &mut store.core) {
-        Some(Step::Commit(Committing::Full)) | Some(Step::Stable(_, false)) => {
+        Some(Step::Commit(_, Committing::Full)) | Some(Step::Stable(_, false)) => {
             let _ = settle(store);
         }
         _ => {}

@@ -7,7 +7,7 @@ use disk::CrashDisk;
 use nfs_types::{Call, Credential, Ctx, Moment, Reply};
 use procs::{Done, Snap};
 use std::alloc::Global;
-use store_promise::{CallAnswer, Entry, Step, Verdict};
+use store_promise::{CallAnswer, Cause, Entry, Step, Verdict};
 use txn::{Core, FetchIo, Seq, Tx};
 
 // A call that was handed over, with what its procedure is run with.
@@ -36,14 +36,6 @@ pub(crate) enum Phase {
     // The procedure was committed at this place, and is answered once the place is settled, or can't be any
     // more.
     Waiting(Seq),
-}
-
-// Why a call is refused.
-#[derive(Clone, Copy, Debug, PartialEq, Eq)]
-pub(crate) enum Cause {
-    Io,
-    Spent,
-    NoMemory,
 }
 
 /// A worker: the state of one procedure. What its steps commit and answer lies ready to be taken.

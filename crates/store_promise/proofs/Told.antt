@@ -1,5 +1,7 @@
 -- What is told along the events, one after another.
 use Rattle.std.proofs.Common.{◌≡◌, ℕ, zero, suc, ◌+◌, ap, sym, ◌∙◌, refl, subst, Bool, true, false, if◌then◌else◌}
+use Rattle.std.proofs.Common.{◌<◌, ◌≤◌}
+use Rattle.std.proofs.lemmas.Bool.{cases_lt}
 use Rattle.std.proofs.Common.{List, [], ◌∷◌, ◌++◌, Option, Some, None, take, slice_get, nat_eq, arith, ◌⊎◌, inl, inr}
 use Rattle.std.specs.List.{zip}
 use Rattle.std.specs.Option.{option_map}
@@ -8,9 +10,10 @@ use Rattle.model.specs.Calls.{is_answered_stable}
 use Rattle.store_promise.specs.declared.events.Event.{Event}
 use Rattle.store_promise.specs.declared.events.Event.TheVariants as event
 use Rattle.store_promise.specs.declared.events.Step.{Step}
-use Rattle.store_promise.specs.Progress.{Job, Progress, Idle, At, Stage, Called, going_on, progressed, stage_after}
-use Rattle.store_promise.specs.Schedule.{Schedule, Told, at_first, told_after, told_along, told_before}
-use Rattle.store_promise.specs.Schedule.{progress_before, with_worker, workers_after}
+use Rattle.store_promise.specs.Progress.{Begun, Job, Progress, Idle, At, Stage, Called, Planning, going_on, progressed, stage_after}
+use Rattle.store_promise.specs.Schedule.{Schedule, Opening, Told, at_first, told_after, told_along, told_before}
+use Rattle.store_promise.specs.Schedule.{AreTaken, IsOfOne, IsStepOfPlan, IsStepOfWork, IsTaken}
+use Rattle.store_promise.specs.Schedule.{progress_before, with_worker, worker_of, workers_after}
 use Rattle.store_promise.specs.Transcript.{Transcript, made, step_at}
 
 abbrev pub Pairs : Type 0
@@ -36,14 +39,14 @@ pairs_one_more (one ∷ events) (step ∷ steps) (suc index) e m is_event is_ste
     ap (λ (pairs : Pairs). (one, step) ∷ pairs) (pairs_one_more events steps index e m is_event is_step)
 
 -- after an event is told what it leads to
-pub told_next : (position : ℕ) (events : Schedule) (steps : List (Option Step)) (index : ℕ) (e : Event)
+pub told_next : (events : Schedule) (steps : List (Option Step)) (index : ℕ) (e : Event)
     (m : Option Step)
     → slice_get events index ≡ Some e → slice_get steps index ≡ Some m
-    → told_before position events steps (suc index)
-    ≡ told_after (told_before position events steps index) e m
-told_next position events steps index e m is_event is_step =
-    ap (λ pairs. told_along (at_first position) pairs) (pairs_one_more events steps index e m is_event is_step)
-    ∙ along_one_more (at_first position) (take index (zip events steps)) (e, m)
+    → told_before events steps (suc index)
+    ≡ told_after (told_before events steps index) e m
+told_next events steps index e m is_event is_step =
+    ap (λ pairs. told_along at_first pairs) (pairs_one_more events steps index e m is_event is_step)
+    ∙ along_one_more at_first (take index (zip events steps)) (e, m)
 
 pub step_is : (t : Transcript) (index : ℕ) (one : Step) → step_at t index ≡ Some one
     → slice_get t.steps index ≡ Some (Some one)
@@ -60,10 +63,10 @@ itself worker = grind (arith, nat_tests)
 pub own_next : (events : Schedule) (steps : List (Option Step)) (index worker : ℕ) (one : Step)
     → slice_get events index ≡ Some (event.Work worker) → slice_get steps index ≡ Some (Some one)
     → progress_before events steps worker (suc index)
-    ≡ progressed (told_before 0 events steps index).log.broken one (progress_before events steps worker index)
+    ≡ progressed (told_before events steps index).log.broken one (progress_before events steps worker index)
 own_next events steps index worker one is_event is_step =
-    ap (λ (told : Told). told.workers worker) (told_next 0 events steps index _ _ is_event is_step)
-    ∙ ap (λ b. if b then progressed (told_before 0 events steps index).log.broken one
+    ap (λ (told : Told). told.workers worker) (told_next events steps index _ _ is_event is_step)
+    ∙ ap (λ b. if b then progressed (told_before events steps index).log.broken one
     (progress_before events steps worker index) else progress_before events steps worker index)
     (itself worker)
 
@@ -167,9 +170,114 @@ pub was_handed : (events : Schedule) (steps : List (Option Step)) (index worker 
     → progress_before events steps worker index ≡ At job stage
     → (at : ℕ) × (slice_get events at ≡ Some (handed worker job))
 was_handed events steps index worker job stage is =
-    found (along_comes (take index (zip events steps)) (at_first 0) worker job stage is)
+    found (along_comes (take index (zip events steps)) at_first worker job stage is)
   where
     found : HasJob Idle job ⊎ WasAmong (take index (zip events steps)) (handed worker job)
         → (at : ℕ) × (slice_get events at ≡ Some (handed worker job))
     found (inl had) = let never = had.1 in cc
     found (inr among) = (among.0, event_at events steps index among.0 (handed worker job) among.1 among.2)
+
+-- ---- past the last event, or the last step, nothing more is told
+
+no_event : (events : Schedule) (steps : List (Option Step)) (index : ℕ) → slice_get events index ≡ None
+    → take (suc index) (zip events steps) ≡ take index (zip events steps)
+no_event [] steps zero is = refl
+no_event [] steps (suc index) is = refl
+no_event (one ∷ events) [] zero is = refl
+no_event (one ∷ events) [] (suc index) is = refl
+no_event (one ∷ events) (step ∷ steps) zero is = cc
+no_event (one ∷ events) (step ∷ steps) (suc index) is =
+    ap (λ (pairs : Pairs). (one, step) ∷ pairs) (no_event events steps index is)
+
+no_step : (events : Schedule) (steps : List (Option Step)) (index : ℕ) → slice_get steps index ≡ None
+    → take (suc index) (zip events steps) ≡ take index (zip events steps)
+no_step [] steps zero is = refl
+no_step [] steps (suc index) is = refl
+no_step (one ∷ events) [] zero is = refl
+no_step (one ∷ events) [] (suc index) is = refl
+no_step (one ∷ events) (step ∷ steps) zero is = cc
+no_step (one ∷ events) (step ∷ steps) (suc index) is =
+    ap (λ (pairs : Pairs). (one, step) ∷ pairs) (no_step events steps index is)
+
+-- ---- what is taken is what may be
+
+module _ (o : Opening) (workers : ℕ) (events : Schedule) (steps : List (Option Step))
+    (taken : AreTaken o workers events steps) where
+  -- a step of a worker that plans is one of its plan
+  pub planned_step : (index worker : ℕ) (job : Job) (begun : Begun) (one : Step)
+      → slice_get events index ≡ Some (event.Work worker) → worker < workers
+      → slice_get steps index ≡ Some (Some one)
+      → progress_before events steps worker index ≡ At job (Planning begun)
+      → IsStepOfPlan o (told_before events steps index) worker job.call begun one
+  planned_step index worker job begun one is_event less is_step planning =
+      subst (λ p. IsStepOfWork o (told_before events steps index) worker p (Some one)) planning
+      ((taken.each index (event.Work worker) (Some one) is_event is_step).own less)
+
+  -- a step is made only of a worker that is there
+  pub only_of_some : (index worker : ℕ) (one : Step) → slice_get events index ≡ Some (event.Work worker)
+      → slice_get steps index ≡ Some (Some one) → worker < workers
+  only_of_some index worker one is_event is_step = elim (cases_lt worker workers) [
+    | inl less ↦ less
+    | inr past ↦
+        let none = (taken.each index (event.Work worker) (Some one) is_event is_step).others
+        (λ less. omega (arith, less, past)) in cc
+  ]
+
+  module _ (other : ℕ) (past : workers ≤ other) where
+    abbrev stays : Told → Type 0
+    stays told = told.workers other ≡ Idle
+
+    by_worker : (told : Told) (number : ℕ) (progress : Progress) (same : Bool)
+        → nat_eq other number ≡ same → number < workers → stays told
+        → (if same then progress else told.workers other) ≡ Idle
+    by_worker told number progress true is less idle =
+        absurd (above number (grind (arith, nat_tests)) less)
+      where
+        above : (number : ℕ) → other ≡ number → number < workers → ⊥
+        above number same less = omega (arith, same, less, past)
+    by_worker told number progress false is less idle = idle
+
+    one_of : (told : Told) (number : ℕ) (e : Event) (one : Step) → worker_of e ≡ Some number
+        → IsTaken o workers told e (Some one) → number < workers
+    one_of told number e one is own = elim (cases_lt number workers) [
+      | inl less ↦ less
+      | inr far ↦
+          let none = own.others (λ its.
+          let less : number < workers = subst (IsOfOne workers) is its in omega (arith, less, far)) in cc
+    ]
+
+    stays_after : (told : Told) (e : Event) (m : Option Step) → IsTaken o workers told e m → stays told
+        → stays (told_after told e m)
+    stays_after told e None own idle = idle
+    stays_after told (event.Call number credential moment call) (Some one) own idle =
+        by_worker told number _ (nat_eq other number) refl (one_of told number _ one refl own) idle
+    stays_after told (event.Work number) (Some one) own idle =
+        by_worker told number _ (nat_eq other number) refl (one_of told number _ one refl own) idle
+    stays_after told (event.Read number) (Some one) own idle =
+        by_worker told number _ (nat_eq other number) refl (one_of told number _ one refl own) idle
+    stays_after told event.Log (Some one) own idle = idle
+    stays_after told event.LogIo (Some one) own idle = idle
+    stays_after told event.Install (Some one) own idle = idle
+    stays_after told event.InstIo (Some one) own idle = idle
+
+    same_told : (index : ℕ) → take (suc index) (zip events steps) ≡ take index (zip events steps)
+        → stays (told_before events steps index) → stays (told_before events steps (suc index))
+    same_told index is idle = ap (λ pairs. (told_along at_first pairs).workers other) is ∙ idle
+
+    by_step : (index : ℕ) (e : Event) → slice_get events index ≡ Some e → (m : Option (Option Step))
+        → slice_get steps index ≡ m → stays (told_before events steps index)
+        → stays (told_before events steps (suc index))
+    by_step index e is_event None is_step idle = same_told index (no_step events steps index is_step) idle
+    by_step index e is_event (Some m) is_step idle =
+        ap (λ (told : Told). told.workers other) (told_next events steps index e m is_event is_step)
+        ∙ stays_after (told_before events steps index) e m (taken.each index e m is_event is_step) idle
+
+    by_event : (index : ℕ) (e : Option Event) → slice_get events index ≡ e
+        → stays (told_before events steps index) → stays (told_before events steps (suc index))
+    by_event index None is_event idle = same_told index (no_event events steps index is_event) idle
+    by_event index (Some e) is_event idle = by_step index e is_event (slice_get steps index) refl idle
+
+    -- a worker that isn't there has no call
+    pub idle_beyond : (index : ℕ) → stays (told_before events steps index)
+    idle_beyond zero = refl
+    idle_beyond (suc index) = by_event index (slice_get events index) refl (idle_beyond index)

@@ -10,26 +10,24 @@ use Rattle.store_promise.specs.GoodImage.{IsGoodImage}
 use Rattle.store_promise.specs.History.{IsHistory}
 use Rattle.store_promise.specs.LogTold.{settled_told}
 use Rattle.store_promise.specs.Openings.{AtEachStop, IsBootOf, IsLater, IsOpened, LeavesImages}
-use Rattle.store_promise.specs.Schedule.{Schedule, AreTaken, AreTimely, told_before}
+use Rattle.store_promise.specs.Schedule.{Schedule, Opening, AreTaken, AreTimely, told_before}
 use Rattle.store_promise.specs.Transcript.{Transcript, entries_of, device_calls, commits_by, fails}
 use Rattle.store_promise.specs.Verdicts.{IsStableAnswer, IsCoveredWrite, AreAnswers}
 
--- What was promised to last by a clock, of a run whose events began at another over a log that ended at this
--- position, is among so many procedures: those that were answered as stable by then, the writes that an answer
+-- What was promised to last by a clock, of a run whose events began at another, is among so many procedures: those that were answered as stable by then, the writes that an answer
 -- to a COMMIT covers, and the places that the steps told as settled.
-pub record HoldsPromised (position : ℕ) (events : Schedule) (start : ℕ) (t : Transcript) (clock count : ℕ) : Type 0
-  where
-    pub stable : (a : Answer) (place : ℕ) → Contains t.answers a → start + a.clock ≤ clock
-        → IsStableAnswer t a place → place ≤ count
-    pub covered : (a : Answer) (place : ℕ) → Contains t.answers a → start + a.clock ≤ clock
-        → IsCoveredWrite t a place → place ≤ count
-    pub settled : (index : ℕ) → index ≤ length t.steps → start + device_calls t index ≤ clock
-        → settled_told (told_before position events t.steps index).log ≤ count
+pub record HoldsPromised (events : Schedule) (start : ℕ) (t : Transcript) (clock count : ℕ) : Type 0 where
+  pub stable : (a : Answer) (place : ℕ) → Contains t.answers a → start + a.clock ≤ clock
+      → IsStableAnswer t a place → place ≤ count
+  pub covered : (a : Answer) (place : ℕ) → Contains t.answers a → start + a.clock ≤ clock
+      → IsCoveredWrite t a place → place ≤ count
+  pub settled : (index : ℕ) → index ≤ length t.steps → start + device_calls t index ≤ clock
+      → settled_told (told_before events t.steps index).log ≤ count
 
 -- An image that a stop at a clock left is good, with the tree after the first so many procedures of the
 -- history, which were committed by then, and among which is what was promised to last. Its boot number is the
 -- opening's once that has ended.
-pub record HasPrefix (size first : ℕ) (tree : Tree) (position : ℕ) (events : Schedule) (start : ℕ)
+pub record HasPrefix (size first : ℕ) (tree : Tree) (events : Schedule) (start : ℕ)
     (t : Transcript) (clock : ℕ) (image : Image) : Type 0 where
   pub boot : ℕ
   pub boot_is : IsBootOf first boot
@@ -39,7 +37,7 @@ pub record HasPrefix (size first : ℕ) (tree : Tree) (position : ℕ) (events :
   pub count : ℕ
   pub committed : count ≤ commits_by start t clock
   pub prefix : after tree (take count (entries_of t)) left
-  pub holds : HoldsPromised position events start t clock count
+  pub holds : HoldsPromised events start t clock count
 
 -- the geometry of an image of so many blocks that has this tree
 pub record IsGeometryOf (size : ℕ) (tree : Tree) (g : Geometry) : Type 0 where
@@ -52,15 +50,16 @@ pub record KeepsPromise (before later : Device) (tree : Tree) (first workers : �
     (t : Transcript) : Type 0 where
   -- an opening comes first, and then the device calls that the steps tell, and no others
   pub opened : Device
-  pub position : ℕ
-  pub opening : IsOpened before opened tree first position
+  pub opening : Opening
+  pub opens : IsOpened before opened tree first opening.position
+  pub geometry : IsGeometryOf later.size tree opening.geometry
   pub past : IsLater opened later
   pub calls : later.clock ≡ opened.clock + device_calls t (length t.steps)
   pub failures : later.failures ≡ opened.failures + count_by fails t.steps
   -- a stop leaves some image, and whatever it leaves has the tree of a prefix, which holds what was promised to
   -- last
   pub left : LeavesImages before later
-  pub stops : AtEachStop before later (HasPrefix later.size first tree position events opened.clock t)
+  pub stops : AtEachStop before later (HasPrefix later.size first tree events opened.clock t)
   -- the replies are the sequential server's
   pub last : Tree
   pub leads : after tree (entries_of t) last
@@ -68,9 +67,7 @@ pub record KeepsPromise (before later : Device) (tree : Tree) (first workers : �
   pub history : IsHistory events t
   pub answers : AreAnswers events t
   -- every event is taken
-  pub geometry : Geometry
-  pub geometry_is : IsGeometryOf later.size tree geometry
-  pub taken : AreTaken geometry position workers events t.steps
+  pub taken : AreTaken opening workers events t.steps
 
 -- What a run stands on: the device keeps its model, is at rest, and holds a good image with this tree and this
 -- boot number; and calls are handed over at moments below a second.

@@ -18,8 +18,8 @@ pub data CallTold : Type 0 where
 pub record LogTold : Type 0 where
   -- the count of commits, which is the place of the last
   pub places : ℕ
-  -- the log position behind all changes
-  pub position : ℕ
+  -- how many log positions the commits have taken
+  pub appended : ℕ
   -- the blocks that the tail holds, and the place of the first commit that changed one of them, 0 where it is
   -- empty
   pub tail : ℕ
@@ -39,11 +39,11 @@ pub record LogTold : Type 0 where
   pub log_call : CallTold
   pub inst_call : CallTold
 
--- a log without changes that ends at a position
-abbrev pub empty_log : ℕ → LogTold
-empty_log position = record {
+-- a log without changes
+abbrev pub empty_log : LogTold
+empty_log = record {
   places = 0;
-  position = position;
+  appended = 0;
   tail = 0;
   tail_first = 0;
   taken = 0;
@@ -81,7 +81,7 @@ first_with log blocks = if nat_lt 0 log.tail then log.tail_first else if nat_lt 
 abbrev pub with_commit : LogTold → ℕ → LogTold
 with_commit log blocks = record log {
   places = log.places + 1;
-  position = log.position + blocks;
+  appended = log.appended + blocks;
   tail = log.tail + blocks;
   tail_first = first_with log blocks;
 }

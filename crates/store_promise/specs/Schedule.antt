@@ -51,9 +51,9 @@ pub record Told : Type 0 where
   pub begun : ℕ
   pub log : LogTold
 
--- before the first event, where the log ends at a position
-abbrev pub at_first : ℕ → Told
-at_first position = record { workers = λ worker. Idle; begun = 0; log = empty_log position }
+-- before the first event
+abbrev pub at_first : Told
+at_first = record { workers = λ worker. Idle; begun = 0; log = empty_log }
 
 -- the workers, of whom this one is so far
 abbrev pub with_worker : (ℕ → Progress) → ℕ → Progress → ℕ → Progress
@@ -154,36 +154,41 @@ abbrev pub IsClaimWish : Told → ℕ → Begun → BlockNo → Wish → Type 0
 IsClaimWish told worker begun block wish.Fetch = ⊥
 IsClaimWish told worker begun block other = IsWish told worker begun block 0 BLOCK_BYTES other
 
+-- where an image's parts lie, and the log position at which an opening left the log
+pub record Opening : Type 0 where
+  pub geometry : Geometry
+  pub position : ℕ
+
 -- a place is left, and enough log positions for so many blocks
-pub record HasNumbers (log : LogTold) (blocks : ℕ) : Type 0 where
+pub record HasNumbers (o : Opening) (log : LogTold) (blocks : ℕ) : Type 0 where
   pub place : log.places + 1 < 2 ^ 64
-  pub positions : log.position + blocks < 2 ^ 64
+  pub positions : o.position + log.appended + blocks < 2 ^ 64
 
 -- What a commit may be answered that brings the tail so many blocks: the next place; or why it is refused. What
 -- was read stays as it was while it is held, so that no change is foreign.
-abbrev pub IsCommitting : LogTold → ℕ → Committing → Type 0
-IsCommitting log blocks (committing.Committed place) =
-    (log.broken ≡ false) × (place.0 ≡ log.places + 1) × HasNumbers log blocks
+abbrev pub IsCommitting : Opening → LogTold → ℕ → Committing → Type 0
+IsCommitting o log blocks (committing.Committed place) =
+    (log.broken ≡ false) × (place.0 ≡ log.places + 1) × HasNumbers o log blocks
     × (log.tail + blocks ≤ LOG_SLOTS)
-IsCommitting log blocks committing.Broken = log.broken ≡ true
-IsCommitting log blocks committing.Foreign = ⊥
-IsCommitting log blocks committing.Spent = (log.broken ≡ false) × (HasNumbers log blocks → ⊥)
-IsCommitting log blocks committing.Full =
-    (log.broken ≡ false) × HasNumbers log blocks × (LOG_SLOTS < log.tail + blocks)
-IsCommitting log blocks committing.NoMemory =
-    (log.broken ≡ false) × HasNumbers log blocks × (log.tail + blocks ≤ LOG_SLOTS)
+IsCommitting o log blocks committing.Broken = log.broken ≡ true
+IsCommitting o log blocks committing.Foreign = ⊥
+IsCommitting o log blocks committing.Spent = (log.broken ≡ false) × (HasNumbers o log blocks → ⊥)
+IsCommitting o log blocks committing.Full =
+    (log.broken ≡ false) × HasNumbers o log blocks × (LOG_SLOTS < log.tail + blocks)
+IsCommitting o log blocks committing.NoMemory =
+    (log.broken ≡ false) × HasNumbers o log blocks × (log.tail + blocks ≤ LOG_SLOTS)
 
 -- A worker with a transaction goes by the plan of its call: it asks for what that asks for, or commits, or
 -- finds no memory.
-abbrev pub IsStepOfPlan : Geometry → Told → ℕ → Call → Begun → Step → Type 0
-IsStepOfPlan g told worker call begun (step.Wanted addr answer) =
-    IsAskedFor g call begun addr × IsWish told worker begun addr.block addr.offset addr.len answer
-IsStepOfPlan g told worker call begun (step.Claimed block answer) =
-    IsClaimAskedFor g call begun block × IsClaimWish told worker begun block answer
-IsStepOfPlan g told worker call begun (step.Commit blocks answer) =
-    (blocks ≤ CHANGED_BLOCKS) × IsCommitting told.log blocks answer
-IsStepOfPlan g told worker call begun (step.Ended ending.NoMemory) = Unit {0}
-IsStepOfPlan g told worker call begun _ = ⊥
+abbrev pub IsStepOfPlan : Opening → Told → ℕ → Call → Begun → Step → Type 0
+IsStepOfPlan o told worker call begun (step.Wanted addr answer) =
+    IsAskedFor o.geometry call begun addr × IsWish told worker begun addr.block addr.offset addr.len answer
+IsStepOfPlan o told worker call begun (step.Claimed block answer) =
+    IsClaimAskedFor o.geometry call begun block × IsClaimWish told worker begun block answer
+IsStepOfPlan o told worker call begun (step.Commit blocks answer) =
+    (blocks ≤ CHANGED_BLOCKS) × IsCommitting o told.log blocks answer
+IsStepOfPlan o told worker call begun (step.Ended ending.NoMemory) = Unit {0}
+IsStepOfPlan o told worker call begun _ = ⊥
 
 -- the place is found settled where it is
 abbrev pub IsStepOfWaiting : LogTold → ℕ → Step → Type 0
@@ -192,21 +197,21 @@ IsStepOfWaiting log place (step.Stable seq settled) = (seq.0 ≡ place)
 IsStepOfWaiting log place _ = ⊥
 
 -- a worker with a call, of which no read is due, goes on with it
-abbrev pub IsStepWith : Geometry → Told → ℕ → Call → Stage → Step → Type 0
-IsStepWith g told worker call Called made = IsStepOfCalled told (has_rules call) made
-IsStepWith g told worker call (Planning begun) made = IsStepOfPlan g told worker call begun made
-IsStepWith g told worker call (Reading begun addr) made = ⊥
-IsStepWith g told worker call (Read begun addr true) made = made ≡ step.Fetched addr.block
-IsStepWith g told worker call (Read begun addr false) made = made ≡ step.FetchFailed addr.block
-IsStepWith g told worker call (Refused begun why) made = made ≡ step.Ended ending.Refused
-IsStepWith g told worker call (Again begun) made = made ≡ step.Ended ending.Again
-IsStepWith g told worker call (Waiting place) made = IsStepOfWaiting told.log place made
+abbrev pub IsStepWith : Opening → Told → ℕ → Call → Stage → Step → Type 0
+IsStepWith o told worker call Called made = IsStepOfCalled told (has_rules call) made
+IsStepWith o told worker call (Planning begun) made = IsStepOfPlan o told worker call begun made
+IsStepWith o told worker call (Reading begun addr) made = ⊥
+IsStepWith o told worker call (Read begun addr true) made = made ≡ step.Fetched addr.block
+IsStepWith o told worker call (Read begun addr false) made = made ≡ step.FetchFailed addr.block
+IsStepWith o told worker call (Refused begun why) made = made ≡ step.Ended ending.Refused
+IsStepWith o told worker call (Again begun) made = made ≡ step.Ended ending.Again
+IsStepWith o told worker call (Waiting place) made = IsStepOfWaiting told.log place made
 
-abbrev pub IsStepOfWork : Geometry → Told → ℕ → Progress → Option Step → Type 0
-IsStepOfWork g told worker Idle made = made ≡ None
-IsStepOfWork g told worker (At job (Reading begun addr)) made = made ≡ None
-IsStepOfWork g told worker (At job stage) (Some made) = IsStepWith g told worker job.call stage made
-IsStepOfWork g told worker (At job stage) None = ⊥
+abbrev pub IsStepOfWork : Opening → Told → ℕ → Progress → Option Step → Type 0
+IsStepOfWork o told worker Idle made = made ≡ None
+IsStepOfWork o told worker (At job (Reading begun addr)) made = made ≡ None
+IsStepOfWork o told worker (At job stage) (Some made) = IsStepWith o told worker job.call stage made
+IsStepOfWork o told worker (At job stage) None = ⊥
 
 -- a read that is due is made
 abbrev pub IsReadOf : BlockNo → Option Step → Type 0
@@ -254,24 +259,24 @@ IsStepOfInstIo idle made = made ≡ None
 IsStepOfInstIo (was_made call ok) made = made ≡ None
 
 -- An event that applies makes a step of its kind, and one that doesn't makes none.
-abbrev pub IsStepOf : Geometry → Told → Event → Option Step → Type 0
-IsStepOf g told (event.Call worker credential moment call) made = IsStepOfCall (told.workers worker) made
-IsStepOf g told (event.Work worker) made = IsStepOfWork g told worker (told.workers worker) made
-IsStepOf g told (event.Read worker) made = IsStepOfRead (told.workers worker) made
-IsStepOf g told event.Log made = IsStepOfLog told.log told.log.log_call made
-IsStepOf g told event.LogIo made = IsStepOfLogIo told.log.log_call made
-IsStepOf g told event.Install made = IsStepOfInstaller told.log told.log.inst_call made
-IsStepOf g told event.InstIo made = IsStepOfInstIo told.log.inst_call made
+abbrev pub IsStepOf : Opening → Told → Event → Option Step → Type 0
+IsStepOf o told (event.Call worker credential moment call) made = IsStepOfCall (told.workers worker) made
+IsStepOf o told (event.Work worker) made = IsStepOfWork o told worker (told.workers worker) made
+IsStepOf o told (event.Read worker) made = IsStepOfRead (told.workers worker) made
+IsStepOf o told event.Log made = IsStepOfLog told.log told.log.log_call made
+IsStepOf o told event.LogIo made = IsStepOfLogIo told.log.log_call made
+IsStepOf o told event.Install made = IsStepOfInstaller told.log told.log.inst_call made
+IsStepOf o told event.InstIo made = IsStepOfInstIo told.log.inst_call made
 
 -- ---- along a run
 
 -- what is told before the event of an index
-abbrev pub told_before : ℕ → Schedule → List (Option Step) → ℕ → Told
-told_before position events steps index = told_along (at_first position) (take index (zip events steps))
+abbrev pub told_before : Schedule → List (Option Step) → ℕ → Told
+told_before events steps index = told_along at_first (take index (zip events steps))
 
--- how far a worker is before the event of an index, which the log's position has no part in
+-- how far a worker is before the event of an index
 abbrev pub progress_before : Schedule → List (Option Step) → ℕ → ℕ → Progress
-progress_before events steps worker index = (told_before 0 events steps index).workers worker
+progress_before events steps worker index = (told_before events steps index).workers worker
 
 -- the worker that an event is of; those of the log and the installer are of none
 abbrev pub worker_of : Event → Option ℕ
@@ -290,17 +295,16 @@ IsOfOne workers (Some worker) = worker < workers
 
 -- what the event of an index makes: the step that it may make, and none where it is of a worker that isn't
 -- there
-pub record IsTaken (g : Geometry) (workers : ℕ) (told : Told) (event : Event) (made : Option Step) : Type 0
+pub record IsTaken (o : Opening) (workers : ℕ) (told : Told) (event : Event) (made : Option Step) : Type 0
   where
-    pub own : IsOfOne workers (worker_of event) → IsStepOf g told event made
+    pub own : IsOfOne workers (worker_of event) → IsStepOf o told event made
     pub others : (IsOfOne workers (worker_of event) → ⊥) → made ≡ None
 
--- The events are taken from the first on, of so many workers, each once, over an image of this geometry whose
--- log ends at a position: all, or fewer, which only want of memory to tell of the next may cause (tests show
--- that).
-pub record AreTaken (g : Geometry) (position workers : ℕ) (events : Schedule)
-    (steps : List (Option Step)) : Type 0 where
-  pub fewer : length steps ≤ length events
-  pub each : (index : ℕ) (event : Event) (made : Option Step) → slice_get events index ≡ Some event
-      → slice_get steps index ≡ Some made
-      → IsTaken g workers (told_before position events steps index) event made
+-- The events are taken from the first on, of so many workers, each once, after an opening: all, or fewer, which
+-- only want of memory to tell of the next may cause (tests show that).
+pub record AreTaken (o : Opening) (workers : ℕ) (events : Schedule) (steps : List (Option Step)) : Type 0
+  where
+    pub fewer : length steps ≤ length events
+    pub each : (index : ℕ) (event : Event) (made : Option Step) → slice_get events index ≡ Some event
+        → slice_get steps index ≡ Some made
+        → IsTaken o workers (told_before events steps index) event made

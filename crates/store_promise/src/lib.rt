@@ -12,10 +12,12 @@ mod transcript;
 pub use answers::{CallAnswer, Entry, Verdict};
 pub use events::{Cause, Committing, Ending, Event, Step, Wish};
 pub use fault::OpenFault;
-pub use fresh::a_fresh_image_is_good;
+pub use fresh::{a_fresh_image_is_good, a_made_image_may_run};
 pub use promises::{
-    a_failure_that_is_told_was_counted, a_run_of_no_events_keeps_the_promise, an_entry_was_called,
+    a_failure_that_is_told_was_counted, a_full_log_is_full, a_run_of_no_events_keeps_the_promise,
+    a_stop_leaves_an_image, a_worker_goes_by_its_plan, an_entry_was_called,
     half_a_group_breaks_the_promise, no_stable_answer_bears_place_0,
-    no_stable_answer_comes_with_its_commit, the_log_passes_over_no_event, what_is_stable_is_kept,
+    no_stable_answer_comes_with_its_commit, one_worker_is_never_busy, the_log_passes_over_no_event,
+    what_is_stable_is_kept, what_is_told_as_settled_is_kept,
 };
 pub use transcript::{Answer, Committed, Run};

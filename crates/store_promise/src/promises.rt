@@ -1,10 +1,17 @@
 //! Laws on the promise of a run.
 ghost use Rattle.std.specs.Prelude.{◌≡◌, ◌≢◌, ◌+◌, ◌<◌, ◌≤◌, ℕ, List, [], ◌∷◌, slice_get, Some, None, true};
 ghost use Rattle.std.specs.Prelude.{Contains, count_by, length, take};
+ghost use Rattle.limits.specs.declared.TheConstants.{LOG_SLOTS};
 ghost use Rattle.disk.specs.Crash.{Image, IsCrashImage};
 ghost use Rattle.disk.specs.Device.{Device};
 ghost use Rattle.model.specs.After.{after};
 ghost use Rattle.model.specs.Tree.{Tree};
+ghost use Rattle.objects.specs.declared.addr.Addr.{Addr};
+ghost use Rattle.layout.specs.declared.geometry.Geometry.{Geometry};
+ghost use Rattle.procs.specs.Asks.{Asks};
+ghost use Rattle.txn.specs.Object.{ObjectBytes};
+ghost use Rattle.store_promise.specs.declared.events.Wish.{Wish};
+ghost use Rattle.store_promise.specs.declared.events.Wish.TheVariants as wish;
 ghost use Rattle.store_promise.specs.declared.events.Committing.TheVariants as committing;
 ghost use Rattle.store_promise.specs.declared.events.Event.TheVariants as event;
 ghost use Rattle.store_promise.specs.declared.events.Step.TheVariants as step;
@@ -13,8 +20,9 @@ ghost use Rattle.store_promise.specs.declared.transcript.Committed.{Committed};
 ghost use Rattle.store_promise.specs.GoodImage.{IsGoodImage};
 ghost use Rattle.store_promise.specs.Headline.{KeepsPromise};
 ghost use Rattle.store_promise.specs.Openings.{IsOpened};
-ghost use Rattle.store_promise.specs.LogTold.{idle, may_log_told};
-ghost use Rattle.store_promise.specs.Schedule.{Schedule, told_before};
+ghost use Rattle.store_promise.specs.LogTold.{idle, may_log_told, settled_told};
+ghost use Rattle.store_promise.specs.Progress.{Begun, Job, At, Planning};
+ghost use Rattle.store_promise.specs.Schedule.{Schedule, progress_before, told_before};
 ghost use Rattle.store_promise.specs.Transcript.{Transcript, device_calls, entries_of, fails, step_at};
 ghost use Rattle.store_promise.specs.Verdicts.{IsStableAnswer};
 
@@ -89,7 +97,61 @@ pub fn the_log_passes_over_no_event()
     ensures { (before later : Device) (tree : Tree) (first workers index : ℕ) (events : Schedule)
         (t : Transcript)
         → slice_get events index ≡ Some event.Log → slice_get t.steps index ≡ Some None
-        → ((position : ℕ) → may_log_told (told_before position events t.steps index).log ≡ true)
-        → ((position : ℕ) → (told_before position events t.steps index).log.log_call ≡ idle)
+        → may_log_told (told_before events t.steps index).log ≡ true
+        → (told_before events t.steps index).log.log_call ≡ idle
+        → KeepsPromise before later tree first workers events t → ⊥ }
+{}
+
+/// A place that the steps told as settled, and that some stop after it loses, breaks the promise.
+pub fn what_is_told_as_settled_is_kept()
+    ensures { (before later : Device) (tree : Tree) (first workers clock place index : ℕ) (events : Schedule)
+        (t : Transcript) (image : Image)
+        → before.clock ≤ clock → clock ≤ later.clock → IsCrashImage later clock image
+        → index ≤ length t.steps
+        → later.clock + device_calls t index ≤ clock + device_calls t (length t.steps)
+        → place ≤ settled_told (told_before events t.steps index).log
+        → ((count boot : ℕ) (left : Tree) → place ≤ count → after tree (take count (entries_of t)) left
+        → IsGoodImage later.size image left boot → ⊥)
+        → KeepsPromise before later tree first workers events t → ⊥ }
+{}
+
+/// A device that a stop leaves without an image, of which each promise would be of nothing, breaks the promise.
+pub fn a_stop_leaves_an_image()
+    ensures { (before later : Device) (tree : Tree) (first workers clock : ℕ) (events : Schedule)
+        (t : Transcript)
+        → before.clock ≤ clock → clock ≤ later.clock
+        → ((image : Image) → IsCrashImage later clock image → ⊥)
+        → KeepsPromise before later tree first workers events t → ⊥ }
+{}
+
+/// A worker that asks for what the plan of its call doesn't ask for breaks the promise.
+pub fn a_worker_goes_by_its_plan()
+    ensures { (before later : Device) (tree : Tree) (first workers index worker : ℕ) (events : Schedule)
+        (t : Transcript) (job : Job) (begun : Begun) (addr : Addr) (answer : Wish)
+        → slice_get events index ≡ Some (event.Work worker) → worker < workers
+        → slice_get t.steps index ≡ Some (Some (step.Wanted addr answer))
+        → progress_before events t.steps worker index ≡ At job (Planning begun)
+        → ((g : Geometry) (objects : List ObjectBytes) → Asks g job.call objects addr → ⊥)
+        → KeepsPromise before later tree first workers events t → ⊥ }
+{}
+
+/// One worker alone that is told Busy, of which it could wait for ever, breaks the promise.
+pub fn one_worker_is_never_busy()
+    ensures { (before later : Device) (tree : Tree) (first index worker : ℕ) (events : Schedule)
+        (t : Transcript) (job : Job) (begun : Begun) (addr : Addr)
+        → slice_get events index ≡ Some (event.Work worker)
+        → slice_get t.steps index ≡ Some (Some (step.Wanted addr wish.Busy))
+        → progress_before events t.steps worker index ≡ At job (Planning begun)
+        → KeepsPromise before later tree first 1 events t → ⊥ }
+{}
+
+/// A commit that is told Full where the tail and the change together find room breaks the promise.
+pub fn a_full_log_is_full()
+    ensures { (before later : Device) (tree : Tree) (first workers index worker blocks : ℕ) (events : Schedule)
+        (t : Transcript) (job : Job) (begun : Begun)
+        → slice_get events index ≡ Some (event.Work worker) → worker < workers
+        → slice_get t.steps index ≡ Some (Some (step.Commit blocks committing.Full))
+        → progress_before events t.steps worker index ≡ At job (Planning begun)
+        → (told_before events t.steps index).log.tail + blocks ≤ LOG_SLOTS
         → KeepsPromise before later tree first workers events t → ⊥ }
 {}

@@ -1,5 +1,5 @@
 //! What a run tells.
-ghost use Rattle.std.specs.Prelude.{◌≡◌, ◌<◌, [], ◌∷◌, ◌++◌, OnOk, vec_len, vec_capacity};
+ghost use Rattle.std.specs.Prelude.{◌≡◌, ◌<◌, [], ◌∷◌, ◌++◌, length, OnOk, vec_len, vec_capacity};
 
 use crate::answers::{CallAnswer, Entry, Verdict};
 use crate::events::Step;
@@ -72,6 +72,15 @@ impl Run {
     /// Tells of a procedure that the event now taken has committed.
     pub fn note_entry(&mut self, worker: usize, clock: u64, entry: Entry)
         requires { vec_len self.old.history < vec_capacity self.old.history }
+        ensures history { self.new.history.items ≡ self.old.history.items ++ record {
+          worker = worker;
+          ctx = entry.ctx;
+          call = entry.call;
+          reply = entry.reply;
+          event = length self.old.steps.items;
+          clock = clock;
+        } ∷ [] }
+        ensures boot { self.new.boot ≡ self.old.boot }
         ensures steps { self.new.steps ≡ self.old.steps }
         ensures answers { self.new.answers ≡ self.old.answers }
     {
@@ -89,6 +98,14 @@ impl Run {
     /// Tells of an answer that the event now taken has given.
     pub fn note_answer(&mut self, worker: usize, clock: u64, answer: CallAnswer)
         requires { vec_len self.old.answers < vec_capacity self.old.answers }
+        ensures answers { self.new.answers.items ≡ self.old.answers.items ++ record {
+          worker = worker;
+          verdict = answer.verdict;
+          place = answer.place;
+          event = length self.old.steps.items;
+          clock = clock;
+        } ∷ [] }
+        ensures boot { self.new.boot ≡ self.old.boot }
         ensures steps { self.new.steps ≡ self.old.steps }
         ensures history { self.new.history ≡ self.old.history }
     {
@@ -106,6 +123,7 @@ impl Run {
     pub fn note_step(&mut self, step: Option<Step>)
         requires { vec_len self.old.steps < vec_capacity self.old.steps }
         ensures steps { self.new.steps.items ≡ self.old.steps.items ++ step ∷ [] }
+        ensures boot { self.new.boot ≡ self.old.boot }
         ensures history { self.new.history ≡ self.old.history }
         ensures answers { self.new.answers ≡ self.old.answers }
     {

@@ -15,6 +15,7 @@ mod want;
 mod window;
 
 pub use change::Change;
+pub use group::added_blocks;
 pub use object::Object;
 pub use outcomes::{BeginFault, Claim, Commit, Want};
 pub use state::Core;

@@ -2,15 +2,15 @@
 //! ends in.
 ghost use Rattle.std.specs.Prelude.{◌≡◌, ◌≤◌, Some, None, true, length, IfOk};
 
-use super::{Cause, Job, Phase, Worker};
+use super::{Job, Phase, Worker};
 use crate::options::put;
 use disk::BlockNo;
 use nfs_types::{Reply, Status};
 use objects::Addr;
 use procs::{Done, Plan, is_answered_stable, plan, refused_reply};
 use std::alloc::{AllocError, Global};
-use store_promise::{Committing, Ending, Entry, Step, Verdict, Wish};
-use txn::{Claim, Commit, Core, Seq, Tx, Want};
+use store_promise::{Cause, Committing, Ending, Entry, Step, Verdict, Wish};
+use txn::{Change, Claim, Commit, Core, Seq, Tx, Want, added_blocks};
 
 impl Worker {
     ghost use Rattle.store.specs.declared.workers.Phase.TheVariants.{Planning, Waiting};
@@ -165,10 +165,11 @@ impl Worker {
         let Ok((told, kept)) = twice(done.reply()) else {
             return self.lack(core, tx);
         };
+        let blocks = added_blocks(done.written());
         let answer = match core.commit(alloc, tx, done) {
             Commit::Committed(place) => {
                 self.committed(place, told, kept);
-                Committing::Committed(place, core.tail())
+                Committing::Committed(place)
             }
             Commit::Full(tx, _) => {
                 self.go_on(tx, Phase::Planning);
@@ -191,7 +192,7 @@ impl Worker {
                 Committing::Spent
             }
         };
-        Step::Commit(answer)
+        Step::Commit(blocks, answer)
     }
 
     // The procedure was committed at this place. It is answered at once, or when its place is settled.

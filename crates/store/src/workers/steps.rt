@@ -1,13 +1,13 @@
 //! The steps of a worker besides planning.
 ghost use Rattle.std.specs.Prelude.{◌≡◌, Some, None, true};
 
-use super::{Cause, Phase, Worker};
+use super::{Phase, Worker};
 use crate::options::put;
 use layout::Geometry;
 use nfs_types::{Call, Status};
 use procs::{Done, Snap, has_rules, refused_reply};
 use std::alloc::Global;
-use store_promise::{CallAnswer, Ending, Step, Verdict};
+use store_promise::{CallAnswer, Cause, Ending, Step, Verdict};
 use txn::{BeginFault, Core, Seq, Tx};
 
 impl Worker {

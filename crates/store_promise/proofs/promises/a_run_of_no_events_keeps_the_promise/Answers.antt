@@ -26,14 +26,14 @@ itself : (device : Device) → IsLater device device
 itself device = record { size = refl; clock = omega arith; past = λ clock block _. refl }
 
 -- nothing was promised to last, and the empty log tells place 0 alone as settled
-holds : (position start clock first : ℕ) → HoldsPromised position [] start (nothing first) clock 0
-holds position start clock first = record {
+holds : (start clock first : ℕ) → HoldsPromised [] start (nothing first) clock 0
+holds start clock first = record {
   stable = λ a place given by told. absurd (no-less given.0 given.1);
   covered = λ a place given by told. absurd (no-less given.0 given.1);
   settled = λ index from by. none_told index from;
 }
   where
-    none_told : (index : ℕ) → index ≤ 0 → settled_told (told_before position [] [] index).log ≤ 0
+    none_told : (index : ℕ) → index ≤ 0 → settled_told (told_before [] [] index).log ≤ 0
     none_told zero from = omega arith
     none_told (suc index) from = absurd (no-less index (omega (arith, from)))
 
@@ -41,7 +41,7 @@ holds position start clock first = record {
 before_end : (before later : Device) (tree : Tree) (first position clock : ℕ) (image : Image)
     → IsOpened before later tree first position
     → before.clock ≤ clock → clock < later.clock → IsCrashImage later clock image
-    → HasPrefix later.size first tree position [] later.clock (nothing first) clock image
+    → HasPrefix later.size first tree [] later.clock (nothing first) clock image
 before_end before later tree first position clock image opened from less crash =
     let found = opened.keeps clock image from (omega (arith, less)) crash in
     record {
@@ -53,14 +53,14 @@ before_end before later tree first position clock image opened from less crash =
       count = 0;
       committed = omega arith;
       prefix = refl;
-      holds = holds position later.clock clock first;
+      holds = holds later.clock clock first;
     }
 
 -- a stop at its end
 at_end : (before later : Device) (tree : Tree) (first position clock : ℕ) (image : Image)
     → IsOpened before later tree first position
     → clock ≡ later.clock → IsCrashImage later clock image
-    → HasPrefix later.size first tree position [] later.clock (nothing first) clock image
+    → HasPrefix later.size first tree [] later.clock (nothing first) clock image
 at_end before later tree first position clock image opened same crash = record {
   boot = first + 1;
   boot_is = inr refl;
@@ -70,14 +70,14 @@ at_end before later tree first position clock image opened same crash = record {
   count = 0;
   committed = omega arith;
   prefix = refl;
-  holds = holds position later.clock clock first;
+  holds = holds later.clock clock first;
 }
 
 either : (before later : Device) (tree : Tree) (first position clock : ℕ) (image : Image)
     → IsOpened before later tree first position
     → before.clock ≤ clock → clock ≤ later.clock → IsCrashImage later clock image → (clock < later.clock)
     ⊎ (later.clock ≤ clock)
-    → HasPrefix later.size first tree position [] later.clock (nothing first) clock image
+    → HasPrefix later.size first tree [] later.clock (nothing first) clock image
 either before later tree first position clock image opened from to crash (inl less) =
     before_end before later tree first position clock image opened from less crash
 either before later tree first position clock image opened from to crash (inr reached) =
@@ -93,8 +93,9 @@ geometry_of_image size boot tree image good = record {
 pub returns : goal.returns
 returns c = λ before later tree first position workers opened. record {
   opened = later;
-  position = position;
-  opening = opened;
+  opening = record { geometry = opened.last.2.super.geometry; position = position };
+  opens = opened;
+  geometry = geometry_of_image later.size first tree opened.last.0 opened.last.2;
   past = itself later;
   calls = omega arith;
   failures = omega arith;
@@ -116,8 +117,6 @@ returns c = λ before later tree first position workers opened. record {
     ordered = λ one other a b same _ _. absurd (no-some a same);
     whole = λ index worker event same _ _ _ _. absurd (no-some event same);
   };
-  geometry = (opened.last).2.super.geometry;
-  geometry_is = geometry_of_image later.size first tree opened.last.0 opened.last.2;
   taken = record {
     fewer = omega arith;
     each = λ index event made same _. absurd (no-some event same);

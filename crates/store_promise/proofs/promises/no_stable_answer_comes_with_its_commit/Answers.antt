@@ -71,7 +71,7 @@ module _ (events : Schedule) (t : Transcript) (a : Answer) (place blocks : ℕ) 
       answer.so_far ∙ ap (At answer.job) planning.1 in
       let next = own_next events t.steps a.event a.worker (committing_at blocks place) answer.event
       (step_is t a.event (committing_at blocks place) made) in
-      let broken = (told_before 0 events t.steps a.event).log.broken in
+      let broken = (told_before events t.steps a.event).log.broken in
       unstable (is_answered_stable answer.job.call) answer.job place
       (ap is_idle (sym (ap (λ n. progress_before events t.steps a.worker n) (one_more a.event) ∙ next
       ∙ ap (progressed broken (committing_at blocks place)) before)) ∙ answer.ends)

@@ -16,6 +16,6 @@ passes log (was_made call ok) free may made = cc
 
 pub returns : goal.returns
 returns c = λ before later tree first workers index events t is_event is_made may free kept.
-    let told = told_before kept.position events t.steps index in
-    passes told.log told.log.log_call (free kept.position) (may kept.position)
+    let told = told_before events t.steps index in
+    passes told.log told.log.log_call free may
     ((kept.taken.each index _ None is_event is_made).own tt)
