@@ -1,12 +1,13 @@
 //! Serving a stream: the calls of its records, one after the other, and their replies.
 ghost use Rattle.std.specs.Prelude.{◌≡◌, ◌<◌, ◌≤◌, ◌↔◌, IsTrue, IsSome, IfOk, IfSome, None, length};
+ghost use Rattle.nfs_types.specs.declared.program.ProgramReply.TheVariants as replies;
 ghost use Rattle.session_wire.specs.Replies.{IsSpellable, body_of};
 ghost use Rattle.session_wire.specs.Results.{HasSpelling};
 
 use bytes::Bytes;
 use disk::CrashDisk;
 use limits::{MOST_READS, PIECE_BYTES};
-use nfs_types::{Moment, Reply};
+use nfs_types::{Credential, Moment, ProgramCall, Reply};
 use session_wire::rpc::{Records, Refusal, RpcFault};
 use session_wire::{Judged, RpcReply, judge, reply_bytes};
 use std::alloc::Global;
@@ -161,10 +162,34 @@ fn serve_record<D: CrashDisk, W: Write>(
                 credential,
                 call,
             },
-        ) => {
+        ) => serve_call(alloc, store, xid, credential, call, writer, moment),
+    }
+}
+
+// Answers one call. MOUNT isn't served yet, and no record is taken for a call of it.
+fn serve_call<D: CrashDisk, W: Write>(
+    alloc: Global,
+    store: &mut Store<D>,
+    xid: u32,
+    credential: Credential,
+    call: ProgramCall,
+    writer: &mut W,
+    moment: Moment,
+) -> Result<(), SessionFault>
+    requires { store.old.core.out ≡ None }
+    ensures { store.new.core.out ≡ None }
+{
+    match call {
+        ProgramCall::Nfs(call) => {
             let verdict = procedure(alloc, store, credential, moment, call);
             put(alloc, writer, xid, reply_to(&verdict))
         }
+        ProgramCall::Mount(_) => put(
+            alloc,
+            writer,
+            xid,
+            RpcReply::Refused(Refusal::ProgramUnavailable),
+        ),
     }
 }
 
@@ -174,7 +199,7 @@ pub fn reply_to(verdict: &Verdict) -> RpcReply<'_>
     ensures no_memory { verdict.now ≡ Verdict.NoMemory → result ≡ RpcReply.Refused Refusal.SystemError }
 {
     match verdict {
-        Verdict::Reply(reply) if has_spelling(reply) => RpcReply::Done(reply),
+        Verdict::Reply(reply) if has_spelling(reply) => RpcReply::Nfs(reply),
         Verdict::Reply(_) | Verdict::NoMemory => RpcReply::Refused(Refusal::SystemError),
     }
 }
@@ -194,9 +219,9 @@ fn put<W: Write>(
     writer.flush().map_err(|_| SessionFault::Output)
 }
 
-// Whether the reply is one that can be spelled so far.
+// Whether the reply is one of NFS that can be spelled so far.
 fn has_spelling(reply: &Reply) -> bool
-    ensures { IsTrue result ↔ HasSpelling reply.now }
+    ensures { IsTrue result ↔ HasSpelling (replies.Nfs reply.now) }
 {
     match reply {
         Reply::Null | Reply::GetAttr { .. } | Reply::SetAttr { .. } => true,
