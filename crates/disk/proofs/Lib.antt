@@ -1,3 +1,4 @@
+pub mod BlockLemmas
 pub mod MemoryLemmas
 pub mod CrashLemmas
 pub mod FileLemmas

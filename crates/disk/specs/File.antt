@@ -1,15 +1,27 @@
 -- A device over a file, read off what its blocks held when it was opened and the calls since.
-use Rattle.std.specs.Prelude.{◌≡◌, ℕ, Bool, false, List, [], ◌∷◌, ◌++◌, length, take, count_by, nat_eq, ◌&&◌}
+use Rattle.std.specs.Prelude.{◌≡◌, ℕ, Bool, false, List, [], ◌∷◌, ◌++◌, length, take, count_by, nat_eq, ◌&&◌, ◌<◌, replicate, All}
 use Rattle.std.specs.Prelude.{if◌then◌else◌, Result, Ok, Err, is_err}
 use Rattle.std.specs.List.{list_any}
 use Rattle.disk.specs.declared.device.Failed.{Failed}
 use Rattle.disk.specs.declared.file_disk.FileCall.{FileCall}
 use Rattle.disk.specs.declared.file_disk.FileCall.TheVariants.{Read, Write, Barrier}
+use Rattle.limits.specs.declared.TheConstants.{BLOCK_BYTES}
+use Rattle.disk.specs.Blocks.{IsBlock}
 use Rattle.disk.specs.Device.{Content, Device, newest, newest_alone, is_on}
 
 -- the calls so far, each with its result
 abbrev pub Calls : Type 0
 Calls = List (FileCall × Result Unit Failed)
+
+-- the bytes that a call brought or wrote; a barrier has none, and counts as zeros
+abbrev pub bytes_of : FileCall → Content
+bytes_of (Read at bytes) = bytes.value
+bytes_of (Write at bytes) = bytes.value
+bytes_of (Barrier side) = replicate BLOCK_BYTES 0
+
+-- each call brought or wrote a block
+abbrev pub AreOfBlocks : Calls → Type 0
+AreOfBlocks calls = All (λ call. IsBlock (bytes_of call.0)) calls
 
 -- what a call does to the contents of a block: a write that failed counts as made
 abbrev pub effect : ℕ → FileCall → Result Unit Failed → List Content → List Content
@@ -56,3 +68,8 @@ IsExplainedCall first earlier (Barrier side) = Unit
 abbrev pub IsExplained : (ℕ → Content) → Calls → Type 0
 IsExplained first calls = (earlier later : Calls) (call : FileCall) → calls ≡ earlier ++ (call, Ok tt) ∷ later
     → IsExplainedCall first earlier call
+
+-- What the blocks held when the file was opened were blocks, and explains what each read brought.
+pub record KeepsModel (first : ℕ → Content) (size : ℕ) (calls : Calls) : Type 0 where
+  pub blocks : (block : ℕ) → block < size → IsBlock (first block)
+  pub explained : IsExplained first calls

@@ -1,7 +1,9 @@
 //! A device over a file of the system.
 ghost use Rattle.std.specs.Prelude.{◌≡◌, ℕ, ◌*◌, List, [], ◌∷◌, ◌++◌, IfOk};
 ghost use Rattle.limits.specs.declared.TheConstants.{BLOCK_BYTES};
+ghost use Rattle.disk.specs.Blocks.{IsBlock};
 ghost use Rattle.disk.specs.Crash.{IsAtRest};
+ghost use Rattle.disk.specs.File.{AreOfBlocks, bytes_of};
 
 use crate::{Block, BlockNo, CrashDisk, Failed, Side};
 use http_server::Log;
@@ -74,6 +76,7 @@ pub struct FileDisk<F: BlockFile> {
     file: F,
     blocks: u32,
     calls: Log<FileCall, Result<(), Failed>>,
+    ghost whole: { AreOfBlocks calls.items },
 }
 
 // Opens a file, or makes it where there is none. One that was made is its owner's alone, and its folder is
@@ -107,7 +110,7 @@ fn offset(block: BlockNo) -> u64
 }
 
 impl<F: BlockFile> FileDisk<F> {
-    ghost use Rattle.disk.specs.File.{file_device, IsExplained};
+    ghost use Rattle.disk.specs.File.{file_device};
 
     /// A device of the first blocks of a file whose writes are settled.
     pub fn over(file: F, blocks: u32) -> FileDisk<F>
@@ -155,6 +158,7 @@ impl<F: BlockFile> FileDisk<F> {
     }
 
     fn note(&mut self, call: &FileCall, outcome: &Result<(), Failed>)
+        requires { IsBlock (bytes_of call.now) }
         ensures noted { self.new.calls.items ≡ self.old.calls.items ++ (call.now, outcome.now) ∷ [] }
         ensures file { self.new.file ≡ self.old.file }
         ensures blocks { self.new.blocks ≡ self.old.blocks }
@@ -164,11 +168,14 @@ impl<F: BlockFile> FileDisk<F> {
 }
 
 impl<F: BlockFile> CrashDisk for FileDisk<F> {
-    ghost use Rattle.disk.specs.File.{file_device, IsExplained};
+    ghost use Rattle.disk.specs.File.{file_device, KeepsModel};
+    ghost use Rattle.disk.specs.FileBlocks.{file_blocks};
 
     ghost device = { λ d. file_device (F.held d.file) d.blocks d.calls.items };
 
-    ghost keeps_model = { λ d. IsExplained (F.held d.file) d.calls.items };
+    ghost keeps_model = { λ d. KeepsModel (F.held d.file) d.blocks d.calls.items };
+
+    ghost whole = { λ d keeps. file_blocks (F.held d.file) d.blocks d.calls.items keeps d.whole };
 
     fn blocks(&self) -> u32 {
         self.blocks
@@ -176,6 +183,7 @@ impl<F: BlockFile> CrashDisk for FileDisk<F> {
 
     fn read(&mut self, block: BlockNo, out: &mut Block) -> Result<(), Failed> {
         let result = out.fill(&self.file, offset(block)).or(Err(Failed));
+        out.whole();
         self.note(&FileCall::Read(block, Snapshot::of(out)), &result);
         result
     }
@@ -185,6 +193,7 @@ impl<F: BlockFile> CrashDisk for FileDisk<F> {
             .file
             .write_block(offset(block), content.as_slice())
             .or(Err(Failed));
+        content.whole();
         self.note(&FileCall::Write(block, Snapshot::of(content)), &result);
         result
     }

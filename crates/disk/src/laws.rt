@@ -1,11 +1,27 @@
 //! Laws of devices, over definitions alone.
-ghost use Rattle.std.specs.Prelude.{◌≡◌, ℕ, ◌<◌, List, [], ◌∷◌, ◌++◌, Result, OnOk};
+ghost use Rattle.std.specs.Prelude.{◌≡◌, ℕ, ◌<◌, ◌≤◌, List, [], ◌∷◌, ◌++◌, Result, OnOk};
 ghost use Rattle.disk.specs.declared.device.Failed.{Failed};
 ghost use Rattle.disk.specs.declared.file_disk.FileCall.{FileCall};
-ghost use Rattle.disk.specs.Device.{Device, Content};
+ghost use Rattle.disk.specs.Device.{Device, Content, current, newest};
+ghost use Rattle.disk.specs.Blocks.{IsBlock, AreBlocks};
 ghost use Rattle.disk.specs.Crash.{Image, IsCrashImage, IsAtRest};
 ghost use Rattle.disk.specs.Overlap.{DeviceCall, Makes, MayOverlap, Swapped};
-ghost use Rattle.disk.specs.File.{Calls, IsExplainedCall, IsExplained};
+ghost use Rattle.disk.specs.File.{Calls, IsExplainedCall, KeepsModel};
+
+use crate::CrashDisk;
+
+/// What a device tells of are blocks, at each clock so far.
+pub fn a_device_tells_of_blocks<D: CrashDisk>(disk: &D)
+    ensures { D.keeps_model disk.now → AreBlocks (D.device disk.now) }
+{}
+
+/// Where a device tells of blocks, so is what a crash leaves, and the newest content of each block.
+pub fn a_crash_leaves_blocks()
+    ensures image { (d : Device) (clock : ℕ) (image : Image) → AreBlocks d → clock ≤ d.clock
+        → IsCrashImage d clock image → (block : ℕ) → block < d.size → IsBlock (image block) }
+    ensures newest { (d : Device) (block : ℕ) → AreBlocks d → block < d.size
+        → IsBlock (newest (current d block)) }
+{}
 
 /// Two crashes of a device at rest leave the same blocks.
 pub fn one_image_at_rest()
@@ -16,10 +32,12 @@ pub fn one_image_at_rest()
 
 /// A file that answers each read by the newest content keeps the model, whatever it held and whatever fails.
 pub fn honest_file_keeps_model()
-    ensures opened { (held : ℕ → Content) → IsExplained held [] }
-    ensures called { (held : ℕ → Content) (calls : Calls) (call : FileCall) (outcome : Result Unit Failed)
-        → IsExplained held calls → OnOk outcome (IsExplainedCall held calls call)
-        → IsExplained held (calls ++ (call, outcome) ∷ []) }
+    ensures opened { (held : ℕ → Content) (size : ℕ) → ((block : ℕ) → block < size → IsBlock (held block))
+        → KeepsModel held size [] }
+    ensures called { (held : ℕ → Content) (size : ℕ) (calls : Calls) (call : FileCall)
+        (outcome : Result Unit Failed)
+        → KeepsModel held size calls → OnOk outcome (IsExplainedCall held calls call)
+        → KeepsModel held size (calls ++ (call, outcome) ∷ []) }
 {}
 
 /// Two calls that may overlap in time may come in the other order, with the same results, and then leave the

@@ -13,5 +13,8 @@ mod mem_disk;
 pub use block::{Block, BlockNo, Side};
 pub use device::{CrashDisk, Failed};
 pub use file_disk::{BlockFile, FileCall, FileDisk};
-pub use laws::{honest_file_keeps_model, one_image_at_rest, overlapping_calls_commute};
+pub use laws::{
+    a_crash_leaves_blocks, a_device_tells_of_blocks, honest_file_keeps_model, one_image_at_rest,
+    overlapping_calls_commute,
+};
 pub use mem_disk::MemDisk;

@@ -33,18 +33,24 @@ split (c ∷ cs) (y ∷ ys) later e x h =
     ]
 
 pub returns-clause-opened : goal.returns-clause-opened
-returns-clause-opened c held earlier later call h =
-    absurd (let l = ap (λ (es : Calls). length es) h in
-    let m = length-append earlier ((call, Ok tt) ∷ later) in omega (arith, l, m))
+returns-clause-opened c held size blocks = record {
+  blocks = blocks;
+  explained = λ earlier later call h.
+      absurd (let l = ap (λ (es : Calls). length es) h in
+      let m = length-append earlier ((call, Ok tt) ∷ later) in omega (arith, l, m));
+}
 
 pub returns-clause-called : goal.returns-clause-called
-returns-clause-called c held calls call outcome before answered earlier later asked h =
-    elim (split calls earlier later (call, outcome) (asked, Ok tt) h) [
-      | inl p ↦
-          let result : outcome ≡ Ok tt = ap (λ t. t.1) p.1 in
-          let now : IsExplainedCall held calls call =
-          subst (λ (r : Result Unit Failed). OnOk r (IsExplainedCall held calls call)) result answered in
-          subst (λ (es : Calls). IsExplainedCall held es asked) p.0
-          (subst (λ (x : FileCall). IsExplainedCall held calls x) (ap (λ t. t.0) p.1) now)
-      | inr q ↦ before earlier q.0 asked q.1
-    ]
+returns-clause-called c held size calls call outcome before answered = record {
+  blocks = before.blocks;
+  explained = λ earlier later asked h.
+      elim (split calls earlier later (call, outcome) (asked, Ok tt) h) [
+        | inl p ↦
+            let result : outcome ≡ Ok tt = ap (λ t. t.1) p.1 in
+            let now : IsExplainedCall held calls call =
+            subst (λ (r : Result Unit Failed). OnOk r (IsExplainedCall held calls call)) result answered in
+            subst (λ (es : Calls). IsExplainedCall held es asked) p.0
+            (subst (λ (x : FileCall). IsExplainedCall held calls x) (ap (λ t. t.0) p.1) now)
+        | inr q ↦ before.explained earlier q.0 asked q.1
+      ];
+}

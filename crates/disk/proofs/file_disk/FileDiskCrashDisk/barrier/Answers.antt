@@ -3,7 +3,11 @@ use Rattle.disk.specs.declared.file_disk.FileCall.TheVariants.{Barrier}
 use Rattle.disk.specs.Device.{Device, HasSettled}
 use Rattle.disk.specs.File.{file_device}
 use Rattle.disk.proofs.FileLemmas.{moved, has_settled}
+use Rattle.disk.proofs.BlockLemmas.{zeros_block}
 use Rattle.disk.proofs.file_disk.FileDiskCrashDisk.barrier.Goals as goal
+
+pub note-requires : goal.note-requires
+note-requires g c = zeros_block
 
 pub returns-clause-call : goal.returns-clause-call
 returns-clause-call g c =

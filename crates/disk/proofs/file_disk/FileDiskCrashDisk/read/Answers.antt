@@ -21,7 +21,7 @@ returns-clause-newest g c model clean =
     let old = c.args.self.now in
     let model : IsExplained (g.F.BlockFile.held old.file) (old.calls.items
     ++ (Read c.args.block c.of.result, c.or-result.result) ∷ []) =
-    rw (← c.note.ensures.noted, ← c.note.ensures.file) model in
+    rw (← c.note.ensures.noted, ← c.note.ensures.file) model.explained in
     let read = explained (g.F.BlockFile.held old.file) old.calls.items c.args.block c.of.result
     c.or-result.result model clean in
     rw c.of.ensures at read
