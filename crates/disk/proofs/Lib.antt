@@ -3,3 +3,4 @@ pub mod MemoryLemmas
 pub mod CrashLemmas
 pub mod FileLemmas
 pub mod OverlapLemmas
+pub mod StoredLemmas

@@ -1,15 +1,15 @@
 -- What a device over a file tells of are blocks: a proof, for the law of every device.
-use Rattle.std.specs.Prelude.{ℕ, ◌-◌, ◌<◌, Bool, true, false, List, [], ◌∷◌, ◌++◌, length, take, nat_eq}
+use Rattle.std.specs.Prelude.{ℕ, ◌-◌, ◌<◌, Bool, true, false, List, [], ◌∷◌, ◌++◌, length, take}
 use Rattle.std.specs.Prelude.{if◌then◌else◌, Result, Ok, Err}
 use Rattle.std.proofs.Common.{arith}
 use Rattle.std.proofs.lemmas.List.{length-append, length-drop}
 use Rattle.std.proofs.lemmas.List.Elements.{All-append, All-nil, All-cons, All-head, All-tail, All-take, All-drop}
 use Rattle.disk.specs.declared.device.Failed.{Failed}
-use Rattle.disk.specs.declared.file_disk.FileCall.{FileCall}
-use Rattle.disk.specs.declared.file_disk.FileCall.TheVariants.{Read, Write, Barrier}
+use Rattle.disk.specs.declared.file.FileCall.{FileCall}
+use Rattle.disk.specs.declared.file.FileCall.TheVariants.{Read, Write, Sync}
 use Rattle.disk.specs.Device.{Content, newest_alone, is_on}
 use Rattle.disk.specs.Blocks.{IsBlock, AreContents, AreBlocks}
-use Rattle.disk.specs.File.{Calls, bytes_of, effect, contents_after, file_device, AreOfBlocks, KeepsModel}
+use Rattle.disk.specs.File.{Calls, bytes_of, is_at, effect, contents_after, file_device, AreOfBlocks, KeepsModel}
 
 one_more : (old : List Content) (content : Content) → AreContents old → IsBlock content
     → AreContents (old ++ content ∷ [])
@@ -33,10 +33,10 @@ after_one : (block : ℕ) (call : FileCall) (result : Result Unit Failed) (conte
     → IsBlock (bytes_of call) → AreContents contents → AreContents (effect block call result contents)
 after_one block (Read at bytes) result contents is are = are
 after_one block (Write at bytes) result contents is are =
-    either (nat_eq block at.0) (contents ++ bytes.value ∷ []) contents (one_more contents bytes.value are is) are
-after_one block (Barrier side) (Ok u) contents is are =
+    either (is_at block at) (contents ++ bytes.value ∷ []) contents (one_more contents bytes.value are is) are
+after_one block (Sync side) (Ok u) contents is are =
     either (is_on side block) (newest_alone contents) contents (one_left contents are) are
-after_one block (Barrier side) (Err u) contents is are = are
+after_one block (Sync side) (Err u) contents is are = are
 
 after_all : (block : ℕ) (contents : List Content) (calls : Calls) → AreOfBlocks calls → AreContents contents
     → AreContents (contents_after block contents calls)

@@ -8,6 +8,7 @@ use limits::{BLOCK_BYTES, LOG_HEADER_BLOCK, START_BLOCK};
 use std::alloc::{AllocError, Global};
 use std::io;
 use std::marker::Model;
+use std::os::unix::fs::FileExt;
 
 /// The number of a block of an image, from 0.
 #[derive(Clone, Copy, Debug, Default, PartialEq, Eq, PartialOrd, Ord)]
@@ -102,6 +103,6 @@ impl Block {
 
     /// Reads the bytes of a file from an offset on. Where that fails, some of them may have come.
     pub(crate) fn fill<F: BlockFile>(&mut self, file: &F, offset: u64) -> io::Result<()> {
-        file.read_block(offset, &mut self.bytes[..])
+        file.read_exact_at(&mut self.bytes[..], offset)
     }
 }

@@ -1,12 +1,12 @@
 //! Laws of devices, over definitions alone.
-ghost use Rattle.std.specs.Prelude.{◌≡◌, ℕ, ◌<◌, ◌≤◌, List, [], ◌∷◌, ◌++◌, Result, OnOk};
+ghost use Rattle.std.specs.Prelude.{◌≡◌, ℕ, ◌<◌, ◌≤◌, Result};
 ghost use Rattle.disk.specs.declared.device.Failed.{Failed};
-ghost use Rattle.disk.specs.declared.file_disk.FileCall.{FileCall};
+ghost use Rattle.disk.specs.declared.file.Held.{Held};
 ghost use Rattle.disk.specs.Device.{Device, Content, current, newest};
 ghost use Rattle.disk.specs.Blocks.{IsBlock, AreBlocks};
 ghost use Rattle.disk.specs.Crash.{Image, IsCrashImage, IsAtRest};
 ghost use Rattle.disk.specs.Overlap.{DeviceCall, Makes, MayOverlap, Swapped};
-ghost use Rattle.disk.specs.File.{Calls, IsExplainedCall, KeepsModel};
+ghost use Rattle.disk.specs.File.{Calls, EachFits, IsHonest, KeepsModel, held_in};
 
 use crate::CrashDisk;
 
@@ -30,14 +30,18 @@ pub fn one_image_at_rest()
         → (block : ℕ) → block < d.size → one block ≡ other block }
 {}
 
-/// A file that answers each read by the newest content keeps the model, whatever it held and whatever fails.
+/// A file that held blocks, whichever they were, and answers each read by what is stored keeps the model,
+/// whatever fails.
 pub fn honest_file_keeps_model()
-    ensures opened { (held : ℕ → Content) (size : ℕ) → ((block : ℕ) → block < size → IsBlock (held block))
-        → KeepsModel held size [] }
-    ensures called { (held : ℕ → Content) (size : ℕ) (calls : Calls) (call : FileCall)
-        (outcome : Result Unit Failed)
-        → KeepsModel held size calls → OnOk outcome (IsExplainedCall held calls call)
-        → KeepsModel held size (calls ++ (call, outcome) ∷ []) }
+    ensures { (held : ℕ → Content) (size : ℕ) (calls : Calls)
+        → ((block : ℕ) → block < size → IsBlock (held block)) → EachFits (IsHonest held) calls
+        → KeepsModel held size calls }
+{}
+
+/// Each image may be what a file held.
+pub fn each_image_may_be_held()
+    ensures { (image : Image) (size : ℕ) → (held : Held)
+        × ((block : ℕ) → block < size → held_in held.blocks.items block ≡ image block) }
 {}
 
 /// Two calls that may overlap in time may come in the other order, with the same results, and then leave the
