@@ -1,6 +1,9 @@
 //! Serving a stream: the calls of its records, one after the other, and their replies.
-ghost use Rattle.std.specs.Prelude.{◌≡◌, ◌<◌, ◌≤◌, ◌↔◌, IsTrue, IsSome, IfOk, IfSome, None, length};
+ghost use Rattle.std.specs.Prelude.{◌≡◌, ◌<◌, ◌≤◌, ◌↔◌, IsTrue, IsSome, IfOk, IfSome, OnOk, None, length};
+ghost use Rattle.std.specs.Io.KnownBytes.{IsAtEnd};
 ghost use Rattle.nfs_types.specs.declared.program.ProgramReply.TheVariants as replies;
+ghost use Rattle.store.specs.Opening.{store_of};
+ghost use Rattle.session.specs.Serving.{HasServed, client_of};
 ghost use Rattle.session_wire.specs.Replies.{IsSpellable, body_of};
 ghost use Rattle.session_wire.specs.Results.{HasSpelling};
 
@@ -41,6 +44,7 @@ pub enum SessionFault {
 /// Answers the records of a stream in their order, each call at the moment, and gives the count of the
 /// replies. At the end of the input everything is settled. The records before a fault are answered, and then,
 /// but after Output, what can be settled is settled too.
+#[tactic(auto, using(crate::specs::Serving::has_served))]
 pub fn serve<D: CrashDisk, R: Read, W: Write>(
     alloc: Global,
     store: &mut Store<D>,
@@ -49,7 +53,12 @@ pub fn serve<D: CrashDisk, R: Read, W: Write>(
     moment: Moment,
 ) -> Result<u64, SessionFault>
     requires { store.old.core.out ≡ None }
-    ensures { store.new.core.out ≡ None }
+    ensures idle { store.new.core.out ≡ None }
+    ensures served { HasServed
+        (store_of (D.device store.old.disk) store.old.core store.old.boot)
+        (client_of (R.remaining reader.old) (W.contents writer.old)) moment result
+        (store_of (D.device store.new.disk) store.new.core store.new.boot)
+        (client_of (R.remaining reader.new) (W.contents writer.new)) }
 {
     let served = serve_all(alloc, store, reader, writer, moment);
     match served {
@@ -75,7 +84,8 @@ fn serve_all<D: CrashDisk, R: Read, W: Write>(
     moment: Moment,
 ) -> Result<u64, SessionFault>
     requires { store.old.core.out ≡ None }
-    ensures { store.new.core.out ≡ None }
+    ensures idle { store.new.core.out ≡ None }
+    ensures end { OnOk result (IsAtEnd (R.remaining reader.new)) }
 {
     let mut records = Records::new(alloc);
     let mut piece = [0; PIECE_BYTES];
@@ -101,7 +111,9 @@ fn serve_all<D: CrashDisk, R: Read, W: Write>(
 // Reads bytes of the input, and tells how many. None is told where the read was interrupted: the next one
 // goes on.
 fn read_piece<R: Read>(reader: &mut R, piece: &mut [u8]) -> Result<Option<usize>, SessionFault>
-    ensures { IfOk result (λ o. IfSome o (λ count. count ≤ length piece.new)) }
+    requires { 0 < length piece.old }
+    ensures count { IfOk result (λ o. IfSome o (λ count. count ≤ length piece.new)) }
+    ensures end { IfOk result (λ o. IfSome o (λ count. count ≡ 0 → IsAtEnd (R.remaining reader.new))) }
 {
     match reader.read(piece) {
         Ok(count) => Ok(Some(count)),
