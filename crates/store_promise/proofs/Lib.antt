@@ -1,1 +1,5 @@
 pub mod Told
+pub mod OneSetAttr
+pub mod OneSetAttrAlong
+pub mod OneSetAttrTold
+pub mod OneSetAttrStops
