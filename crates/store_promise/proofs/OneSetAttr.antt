@@ -1,17 +1,16 @@
 -- The run of one SETATTR, event by event.
-use Rattle.std.proofs.Common.{◌≡◌, ℕ, zero, suc, ◌+◌, ◌<◌, ◌≤◌, ◌^◌, ap, sym, ◌∙◌, refl, subst, Bool, true, false, arith}
-use Rattle.std.proofs.Common.{List, [], ◌∷◌, Option, Some, None, take, slice_get, length, nat_eq, ◌&&◌, not, Ok}
+use Rattle.std.proofs.Common.{◌≡◌, ℕ, ◌+◌, ◌<◌, ◌^◌, refl, Bool, true, false, arith}
+use Rattle.std.proofs.Common.{[], Option, Ok}
 use Rattle.std.specs.List.{zip}
-use Rattle.layout.specs.declared.geometry.Geometry.{Geometry}
-use Rattle.model.specs.Calls.{has_rules, sets_only_mode}
+use Rattle.model.specs.Calls.{sets_only_mode}
 use Rattle.procs.specs.Asks.{Asks}
 use Rattle.store_promise.specs.declared.events.Event.{Event}
 use Rattle.store_promise.specs.declared.events.Step.{Step}
 use Rattle.store_promise.specs.declared.events.Step.TheVariants as step
 use Rattle.store_promise.specs.OneSetAttr.{OneSetAttr, asked, events_of, steps_of}
-use Rattle.store_promise.specs.Schedule.{AreTaken, IsBeginning, IsOfOne, IsStepOf, IsStepOfCalled, IsTaken}
-use Rattle.store_promise.specs.Schedule.{Opening, Told, at_first, told_after, told_along, told_before, worker_of}
-use Rattle.store_promise.proofs.OneSetAttrAlong.{Along, each, tested, all_along, ◌then◌}
+use Rattle.store_promise.specs.Schedule.{AreTaken, IsOfOne, IsStepOf, IsStepOfCalled, IsTaken}
+use Rattle.store_promise.specs.Schedule.{Opening, Told, at_first, told_before, worker_of}
+use Rattle.store_promise.proofs.OneSetAttrAlong.{Along, each, ◌then◌}
 
 -- ---- each step is one that may be made
 
@@ -24,14 +23,17 @@ begins told false has whole next = cc
 abbrev MayMake : Opening → ℕ → Told → Event → Option Step → Type 0
 MayMake o index told e m = IsOfOne 1 (worker_of e) × IsStepOf o told e m
 
-is_taken : (o : Opening) (told : Told) (e : Event) (m : Option Step) → IsOfOne 1 (worker_of e) × IsStepOf o told e m
+is_taken : (o : Opening) (index : ℕ) (told : Told) (e : Event) (m : Option Step) → MayMake o index told e m
     → IsTaken o 1 told e m
-is_taken o told e m may = record { own = λ _. may.1; others = λ no. absurd (no may.0) }
+is_taken o index told e m may = record { own = λ _. may.1; others = λ no. absurd (no may.0) }
 
 module _ (o : Opening) (one : OneSetAttr) (room : o.position + 1 < 2 ^ 64)
     (rules : sets_only_mode one.attributes ≡ true) (asks : Asks o.geometry (asked one) [] one.addr) where
   less : 0 < 1
   less = omega arith
+
+  within : o.position + 0 + 1 < 2 ^ 64
+  within = omega (arith, room)
 
   pub along : Along (MayMake o) at_first (zip (events_of one) (steps_of one))
   along =
@@ -41,11 +43,12 @@ module _ (o : Opening) (one : OneSetAttr) (room : o.position + 1 < 2 ^ 64)
       then (less, refl)
       then (less, refl)
       then (less, (record { unheld = refl; objects = []; held = refl; asks = asks }, tt))
-      then (less, (omega arith, (refl, refl, record { place = omega arith; positions = omega (arith, room) }, omega arith)))
-      then (tt, tt) then (tt, tt) then (tt, refl)
-      then (tt, tt) then (tt, tt) then (tt, refl)
-      then (tt, tt) then (tt, tt) then (tt, refl)
-      then (tt, tt) then (tt, tt) then (tt, refl)
+      then (
+        less,
+        (omega arith, (refl, refl, record { place = omega arith; positions = within }, omega arith)),
+      )
+      then (tt, tt) then (tt, tt) then (tt, refl) then (tt, tt) then (tt, tt) then (tt, refl)
+      then (tt, tt) then (tt, tt) then (tt, refl) then (tt, tt) then (tt, tt) then (tt, refl)
       then (less, (refl, refl))
       then tt
 
@@ -53,5 +56,6 @@ module _ (o : Opening) (one : OneSetAttr) (room : o.position + 1 < 2 ^ 64)
   taken = record {
     fewer = omega arith;
     each = λ index e m is_event is_step.
-        is_taken o _ e m (each (MayMake o) at_first (events_of one) (steps_of one) along index e m is_event is_step);
+        is_taken o index _ e m
+        (each (MayMake o) at_first (events_of one) (steps_of one) along index e m is_event is_step);
   }

@@ -1,6 +1,7 @@
 -- What is shown once along a list of events and steps holds of the event of each index.
-use Rattle.std.proofs.Common.{◌≡◌, ℕ, zero, suc, ◌<◌, ◌≤◌, ap, sym, ◌∙◌, refl, subst, Bool, true, false, ◌&&◌, arith}
-use Rattle.std.proofs.Common.{List, [], ◌∷◌, ◌++◌, Option, Some, None, take, slice_get, length}
+use Rattle.std.proofs.Common.{◌≡◌, ℕ, zero, suc, subst, Bool, true, ◌&&◌}
+use Rattle.std.proofs.Common.{List, [], ◌∷◌, Option, Some, None, take, slice_get}
+use Rattle.std.proofs.lemmas.Bool.{and_parts}
 use Rattle.std.specs.List.{zip}
 use Rattle.store_promise.specs.declared.events.Event.{Event}
 use Rattle.store_promise.specs.declared.events.Step.{Step}
@@ -18,15 +19,14 @@ Along fact told (pair ∷ others) =
     fact 0 told pair.0 pair.1 × Along (λ index. fact (suc index)) (told_after told pair.0 pair.1) others
 
 infixr 2 ◌then◌
-
 -- of the first pair, and of those behind it
 pub ◌then◌ : {A B : Type 0} → A → B → A × B
 a then b = (a, b)
 
-is_one : {A : Type 0} (one other : A) → Some one ≡ Some other → one ≡ other
+pub is_one : {A : Type 0} (one other : A) → Some one ≡ Some other → one ≡ other
 is_one one other same = cc
 
-no-one : {A : Type 0} (one : A) → None ≡ Some one → ⊥
+pub no-one : {A : Type 0} (one : A) → None ≡ Some one → ⊥
 no-one one same = cc
 
 pub each : (fact : Fact) (told : Told) (events : Schedule) (steps : List (Option Step))
@@ -39,7 +39,7 @@ each fact told (one ∷ events) (step ∷ steps) along zero e m is_event is_step
     subst (λ m. fact 0 told e m) (is_one step m is_step)
     (subst (λ e. fact 0 told e step) (is_one one e is_event) along.0)
 each fact told (one ∷ events) (step ∷ steps) along (suc index) e m is_event is_step =
-    each (λ index. fact (suc index)) (told_after told one step) events steps along.1 index e m is_event is_step
+    each (λ at. fact (suc at)) (told_after told one step) events steps along.1 index e m is_event is_step
 
 -- ---- by a test
 
@@ -52,25 +52,15 @@ all_along test told [] = true
 all_along test told (pair ∷ others) =
     test 0 told pair.0 pair.1 && all_along (λ index. test (suc index)) (told_after told pair.0 pair.1) others
 
-left_of : (a b : Bool) → a && b ≡ true → a ≡ true
-left_of true b both = refl
-left_of false b both = cc
-
-right_of : (a b : Bool) → a && b ≡ true → b ≡ true
-right_of true b both = both
-right_of false b both = cc
-
 abbrev Passes : Test → Fact
 Passes test = λ index told e m. test index told e m ≡ true
 
 by_test : (test : Test) (told : Told) (pairs : Pairs) → all_along test told pairs ≡ true
     → Along (Passes test) told pairs
 by_test test told [] all = tt
-by_test test told (pair ∷ others) all = (
-  left_of (test 0 told pair.0 pair.1) _ all,
-  by_test (λ index. test (suc index)) (told_after told pair.0 pair.1) others
-      (right_of (test 0 told pair.0 pair.1) _ all),
-)
+by_test test told (pair ∷ others) all =
+    let both = and_parts (test 0 told pair.0 pair.1) _ all in
+    (both.0, by_test (λ index. test (suc index)) (told_after told pair.0 pair.1) others both.1)
 
 pub tested : (test : Test) (told : Told) (events : Schedule) (steps : List (Option Step))
     → all_along test told (zip events steps) ≡ true → (index : ℕ) (e : Event) (m : Option Step)

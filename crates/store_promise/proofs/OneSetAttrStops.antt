@@ -1,6 +1,6 @@
 -- What stops leave of the run of one SETATTR.
-use Rattle.std.proofs.Common.{◌≡◌, ℕ, zero, suc, ◌+◌, ◌<◌, ◌≤◌, ap, sym, ◌∙◌, refl, subst, Bool, true, false, arith}
-use Rattle.std.proofs.Common.{[], ◌∷◌, cond, if◌then◌else◌, nat_le, nat_lt, inl, inr, ◌⊎◌, Contains, take}
+use Rattle.std.proofs.Common.{◌≡◌, ℕ, ◌+◌, ◌<◌, ◌≤◌, ap, sym, refl, subst, Bool, true, false, arith}
+use Rattle.std.proofs.Common.{[], ◌∷◌, cond, nat_le, nat_lt, inl, inr, ◌⊎◌, Contains}
 use Rattle.std.proofs.Common.{eq-or-lt_of_le}
 use Rattle.std.proofs.lemmas.Bool.{cases_lt}
 use Rattle.std.proofs.lemmas.Bool.Decides.{nat_tests}
@@ -12,10 +12,10 @@ use Rattle.store_promise.specs.declared.transcript.Answer.{Answer}
 use Rattle.store_promise.specs.declared.transcript.Committed.{Committed}
 use Rattle.store_promise.specs.GoodImage.{IsGoodImage}
 use Rattle.store_promise.specs.Headline.{HasPrefix, HoldsPromised}
-use Rattle.store_promise.specs.OneSetAttr.{OneSetAttr, LeavesTrees, WentOnByFive, answer_at, asked, ctx_in, entry_in}
-use Rattle.store_promise.specs.OneSetAttr.{events_of, told_of}
+use Rattle.store_promise.specs.OneSetAttr.{OneSetAttr, LeavesTrees, WentOnByFive, answer_at, asked}
+use Rattle.store_promise.specs.OneSetAttr.{ctx_in, entry_in, events_of, told_of}
 use Rattle.store_promise.specs.Openings.{AtEachStop, IsLater, IsOpened, LeavesImages}
-use Rattle.store_promise.specs.Transcript.{commits_by, device_calls}
+use Rattle.store_promise.specs.Transcript.{commits_by}
 use Rattle.store_promise.specs.Verdicts.{is_write}
 use Rattle.store_promise.proofs.OneSetAttrTold.{entry_is, only_contained, settled}
 
@@ -70,14 +70,14 @@ module _ (boot : ℕ) (one : OneSetAttr) (start clock : ℕ) where
 -- ---- each stop
 
 -- a device that went on leaves what it left
-same_crash : (before later : Device) (clock : ℕ) (image : Image) → IsLater before later → clock ≤ before.clock
-    → IsCrashImage later clock image → IsCrashImage before clock image
+same_crash : (before later : Device) (clock : ℕ) (image : Image) → IsLater before later
+    → clock ≤ before.clock → IsCrashImage later clock image → IsCrashImage before clock image
 same_crash before later clock image past to crash = λ block less.
     subst (λ held. Contains held (image block)) (past.past clock block to)
     (crash block (subst (λ size. block < size) (sym past.size) less))
 
-crash_still : (before later : Device) (clock : ℕ) (image : Image) → IsLater before later → clock ≤ before.clock
-    → IsCrashImage before clock image → IsCrashImage later clock image
+crash_still : (before later : Device) (clock : ℕ) (image : Image) → IsLater before later
+    → clock ≤ before.clock → IsCrashImage before clock image → IsCrashImage later clock image
 crash_still before later clock image past to crash = λ block less.
     subst (λ held. Contains held (image block)) (sym (past.past clock block to))
     (crash block (subst (λ size. block < size) past.size less))

@@ -1,32 +1,30 @@
 -- What the run of one SETATTR tells: its one entry, its one answer, and what was told as settled when.
-use Rattle.std.proofs.Common.{◌≡◌, ℕ, zero, suc, ◌+◌, ◌<◌, ◌≤◌, ap, sym, ◌∙◌, refl, subst, Bool, true, false, arith}
-use Rattle.std.proofs.Common.{List, [], ◌∷◌, Option, Some, None, take, slice_get, length, cond, nat_eq, nat_lt}
-use Rattle.std.proofs.Common.{nat_le, eq-or-lt_of_le, ◌&&◌, ◌||◌, not, Contains, ◌⊎◌, inl, inr}
+use Rattle.std.proofs.Common.{◌≡◌, ℕ, zero, suc, ◌+◌, ◌<◌, ◌≤◌, ap, sym, ◌∙◌, refl, subst, Bool, true, false}
+use Rattle.std.proofs.Common.{arith, [], ◌∷◌, Option, Some, None, slice_get, cond, nat_eq, nat_lt}
+use Rattle.std.proofs.Common.{nat_le, slice_index_or, add-one, eq-or-lt_of_le, ◌&&◌, ◌||◌, not, Contains}
+use Rattle.std.proofs.Common.{inl, inr}
+use Rattle.std.proofs.lemmas.Bool.{leb-true}
 use Rattle.std.proofs.lemmas.Bool.Decides.{nat_tests}
-use Rattle.std.proofs.lemmas.Option.{slice_get_within, slice_get_cases}
+use Rattle.std.proofs.lemmas.Option.{slice_get_within, slice_get-get_or}
 use Rattle.store_promise.specs.declared.events.Committing.TheVariants as committing
 use Rattle.store_promise.specs.declared.events.Event.{Event}
+use Rattle.store_promise.specs.declared.events.Event.TheVariants as event
 use Rattle.store_promise.specs.declared.events.Step.{Step}
 use Rattle.store_promise.specs.declared.events.Step.TheVariants as step
 use Rattle.store_promise.specs.declared.transcript.Answer.{Answer}
 use Rattle.store_promise.specs.declared.transcript.Committed.{Committed}
 use Rattle.store_promise.specs.History.{IsHistory, WasCommitted}
 use Rattle.store_promise.specs.LogTold.{settled_told}
-use Rattle.store_promise.specs.OneSetAttr.{OneSetAttr, answer_at, asked, entry_in, events_of, steps_of, told_of}
-use Rattle.store_promise.specs.Progress.{is_idle, Begun, Job, Planning, Waiting}
-use Rattle.store_promise.specs.Schedule.{Told, at_first, progress_before, told_after, told_before, worker_of}
+use Rattle.store_promise.specs.OneSetAttr.{OneSetAttr, answer_at, asked, entry_in, events_of, steps_of}
+use Rattle.store_promise.specs.OneSetAttr.{told_of}
+use Rattle.store_promise.specs.Progress.{is_idle, Waiting}
+use Rattle.store_promise.specs.Schedule.{Told, at_first, told_after, told_before, worker_of}
 use Rattle.store_promise.specs.Transcript.{Transcript, committed_at, device_calls, step_at}
 use Rattle.store_promise.specs.Verdicts.{AreAnswers, IsAnswer}
-use Rattle.store_promise.proofs.OneSetAttrAlong.{Test, tested}
+use Rattle.store_promise.proofs.OneSetAttrAlong.{Test, is_one, no-one, tested}
 use Rattle.store_promise.proofs.Told.{step_is, told_next}
 
 -- ---- a list of one
-
-no-one : {A : Type 0} (x : A) → None ≡ Some x → ⊥
-no-one x same = cc
-
-is_one : {A : Type 0} (x y : A) → Some x ≡ Some y → x ≡ y
-is_one x y same = cc
 
 only : {A : Type 0} (x y : A) (index : ℕ) → slice_get (x ∷ []) index ≡ Some y → (index ≡ 0) × (x ≡ y)
 only x y zero same = (refl, is_one x y same)
@@ -36,16 +34,16 @@ pub only_contained : {A : Type 0} (x y : A) → Contains (x ∷ []) y → x ≡ 
 only_contained x y (zero, less, same) = same
 only_contained x y (suc index, less, same) = absurd (omega (arith, less))
 
--- there is an event where there is a step
+-- the event and the step of an index
 event_beside : (one : OneSetAttr) (index : ℕ) → index < 20
     → (e : Event) × (slice_get (events_of one) index ≡ Some e)
-event_beside one index less = elim (slice_get_cases (events_of one) index).1 [
-  | inl found ↦ (found.0, found.2)
-  | inr past ↦ absurd (past_end index less past.0)
-]
-  where
-    past_end : (index : ℕ) → index < 20 → 20 ≤ index → ⊥
-    past_end index less past = omega (arith, less, past)
+event_beside one index less =
+    (slice_index_or (events_of one) index event.Log, slice_get-get_or (events_of one) index event.Log less)
+
+step_beside : (one : OneSetAttr) (index : ℕ) → index < 20
+    → (m : Option Step) × (slice_get (steps_of one) index ≡ Some m)
+step_beside one index less =
+    (slice_index_or (steps_of one) index None, slice_get-get_or (steps_of one) index None less)
 
 -- ---- what is told as settled
 
@@ -74,12 +72,6 @@ ends_there true after there passed busy idle = cc
 ends_there false true there passed busy idle = passed
 ends_there false false there passed busy idle = cc
 
-one_more : (n : ℕ) → n + 1 ≡ suc n
-one_more n = omega arith
-
-at_most : (a b : ℕ) → nat_le a b ≡ true → a ≤ b
-at_most a b le = grind (arith, nat_tests)
-
 module _ (boot : ℕ) (one : OneSetAttr) where
   abbrev t : Transcript
   t = told_of boot one
@@ -90,23 +82,15 @@ module _ (boot : ℕ) (one : OneSetAttr) where
   abbrev bound : ℕ → ℕ
   bound index = cond (nat_lt (device_calls t index) 5) 0 1
 
-  step_beside : (index : ℕ) → index < 20 → (m : Option Step) × (slice_get (steps_of one) index ≡ Some m)
-  step_beside index less = elim (slice_get_cases (steps_of one) index).1 [
-    | inl found ↦ (found.0, found.2)
-    | inr past ↦ absurd (past_end index less past.0)
-  ]
-    where
-      past_end : (index : ℕ) → index < 20 → 20 ≤ index → ⊥
-      past_end index less past = omega (arith, less, past)
-
   settled_before_end : (index : ℕ) → index < 20 → settled_told (told_at index).log ≤ bound index
   settled_before_end index less =
       let e = event_beside one index less in
-      let m = step_beside index less in
-      at_most _ _ (tested (settled_late boot one) at_first (events_of one) (steps_of one) refl index e.0 m.0 e.1 m.1)
+      let m = step_beside one index less in
+      leb-true _ _
+      (tested (settled_late boot one) at_first (events_of one) (steps_of one) refl index e.0 m.0 e.1 m.1)
 
   at_end : settled_told (told_at 20).log ≤ bound 20
-  at_end = at_most (settled_told (told_at 20).log) (bound 20) refl
+  at_end = leb-true (settled_told (told_at 20).log) (bound 20) refl
 
   pub settled : (index : ℕ) → index ≤ 20 → settled_told (told_at index).log ≤ bound index
   settled index within = elim (eq-or-lt_of_le within) [
@@ -157,8 +141,7 @@ module _ (boot : ℕ) (one : OneSetAttr) where
         (subst (λ c. WasCommitted (events_of one) t 1 c) found.1 was_committed);
     whole = λ at place blocks is.
         let six = commit_at at place blocks is in
-        let first : 1 ≡ place = ap (λ n. place_of (step_at t n)) (sym six) ∙ ap place_of is in
-        (
+        let first : 1 ≡ place = ap (λ n. place_of (step_at t n)) (sym six) ∙ ap place_of is in (
           entry_in boot one,
           subst (λ p. committed_at t p ≡ Some (entry_in boot one)) first refl,
           sym six,
@@ -195,14 +178,15 @@ module _ (boot : ℕ) (one : OneSetAttr) where
       → worker_of e ≡ Some worker → is_idle ((told_at index).workers worker) ≡ false
       → is_idle ((told_at (index + 1)).workers worker) ≡ true → 19 ≡ index
   end_at index worker e is_event less own busy idle =
-      let m = step_beside index less in
+      let m = step_beside one index less in
       let next : told_at (index + 1) ≡ told_after (told_at index) e m.0 =
-      ap told_at (one_more index) ∙ told_next (events_of one) (steps_of one) index e m.0 is_event m.1 in
+      ap told_at (add-one index) ∙ told_next (events_of one) (steps_of one) index e m.0 is_event m.1 in
       let passed = tested ends_last at_first (events_of one) (steps_of one) refl index e m.0 is_event m.1 in
       let same : nat_eq index 19 ≡ true =
       ends_there (is_idle ((told_at index).workers worker))
       (is_idle ((told_after (told_at index) e m.0).workers worker)) (nat_eq index 19)
-      (subst (λ w. not (ends_own w (told_at index) (told_after (told_at index) e m.0)) || nat_eq index 19 ≡ true)
+      (subst
+      (λ w. not (ends_own w (told_at index) (told_after (told_at index) e m.0)) || nat_eq index 19 ≡ true)
       own passed) busy (sym (ap (λ (told : Told). is_idle (told.workers worker)) next) ∙ idle) in
       grind (arith, nat_tests)
 

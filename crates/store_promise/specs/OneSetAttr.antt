@@ -19,7 +19,6 @@ use Rattle.wal_law.specs.declared.calls.IoCall.{IoCall}
 use Rattle.wal_law.specs.declared.calls.IoCall.TheVariants.{Write, Barrier}
 use Rattle.store_promise.specs.declared.answers.Verdict.TheVariants as verdict
 use Rattle.store_promise.specs.declared.events.Committing.TheVariants as committing
-use Rattle.store_promise.specs.declared.events.Event.{Event}
 use Rattle.store_promise.specs.declared.events.Event.TheVariants as event
 use Rattle.store_promise.specs.declared.events.Step.{Step}
 use Rattle.store_promise.specs.declared.events.Step.TheVariants as step
@@ -31,8 +30,8 @@ use Rattle.store_promise.specs.Openings.{IsLater, LeavesImages}
 use Rattle.store_promise.specs.Schedule.{Schedule}
 use Rattle.store_promise.specs.Transcript.{Transcript}
 
--- what such a run is of: for whom and when its call is made, what that asks, where the inode of its file lies,
--- the log slot that its block goes to and the block of the log's header, and what it is replied
+-- what such a run is of: for whom and when its call is made, what that asks, where the inode of its file
+-- lies, the log slot that its block goes to, the block of the log's header, and what it is replied
 pub record OneSetAttr : Type 0 where
   pub credential : Credential
   pub moment : Moment
@@ -69,8 +68,8 @@ log_call_steps call = step.LogNext call ∷ step.LogIo true ∷ step.LogDone tru
 -- transaction, the object wanted again; and it is committed
 abbrev pub events_to_commit : OneSetAttr → Schedule
 events_to_commit one =
-    event.Call 0 one.credential one.moment (asked one) ∷ event.Work 0 ∷ event.Work 0 ∷ event.Read 0 ∷ event.Work 0
-    ∷ event.Work 0 ∷ event.Work 0 ∷ []
+    event.Call 0 one.credential one.moment (asked one) ∷ event.Work 0 ∷ event.Work 0 ∷ event.Read 0
+    ∷ event.Work 0 ∷ event.Work 0 ∷ event.Work 0 ∷ []
 
 abbrev pub steps_to_commit : OneSetAttr → List Step
 steps_to_commit one =

@@ -15,8 +15,8 @@ ghost use Rattle.store_promise.specs.Openings.{IsOpened};
 
 use crate::promises::{no_stable_answer_comes_with_its_commit, what_is_stable_is_kept};
 
-/// A run of one SETATTR of the mode keeps the promise, where the device calls are made well: what a stop between
-/// the header's write and the barrier behind it leaves may have the old tree or the new one.
+/// A run of one SETATTR of the mode keeps the promise, where the device calls are made well: what a stop
+/// between the header's write and the barrier behind it leaves may have the old tree or the new one.
 pub fn a_run_of_one_setattr_keeps_the_promise()
     ensures { (before opened later : Device) (g : Geometry) (tree next : Tree) (first position : ℕ)
         (one : OneSetAttr)
@@ -27,8 +27,8 @@ pub fn a_run_of_one_setattr_keeps_the_promise()
         → KeepsPromise before later tree first 1 (events_of one) (told_of (first + 1) one) }
 {}
 
-/// The same run breaks the promise where, after the answer, some stop leaves an image that is good with the old
-/// tree alone, and that isn't what its entry leads to.
+/// The same run breaks the promise where, after the answer, some stop leaves an image that is good with the
+/// old tree alone, and that tree isn't what its entry leads to.
 pub fn a_run_that_loses_its_setattr_breaks_the_promise()
     ensures { (before later : Device) (tree : Tree) (first : ℕ) (one : OneSetAttr) (image : Image)
         → IsCrashImage later later.clock image

@@ -7,7 +7,8 @@ use Rattle.store_promise.proofs.OneSetAttrTold.{answers, history}
 use Rattle.store_promise.proofs.one_setattr.a_run_of_one_setattr_keeps_the_promise.Goals as goal
 
 pub returns : goal.returns
-returns c = λ before opened later g tree next first position one opens geometry room went trees rules asks steps.
+returns c = λ before opened later g tree next first position one opens geometry room went trees rules asks
+    steps.
     record {
       opened = opened;
       opening = record { geometry = g; position = position };

@@ -1,6 +1,6 @@
 -- Its one procedure is in the prefix that the stop leaves; so its entry leads from the old tree to that tree
 -- itself.
-use Rattle.std.proofs.Common.{◌≡◌, ℕ, zero, suc, ◌+◌, ◌≤◌, [], ◌∷◌, refl, subst, sym, ◌∙◌, arith, take}
+use Rattle.std.proofs.Common.{◌≡◌, ℕ, zero, suc, ◌+◌, ◌≤◌, [], ◌∷◌, refl, subst, sym, arith, take}
 use Rattle.model.specs.After.{after}
 use Rattle.model.specs.Step.{step}
 use Rattle.model.specs.Tree.{Tree}
