@@ -3,3 +3,4 @@ pub mod OneSetAttr
 pub mod OneSetAttrAlong
 pub mod OneSetAttrTold
 pub mod OneSetAttrStops
+pub mod OneSetAttrOnly

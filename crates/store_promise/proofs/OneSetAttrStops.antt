@@ -6,6 +6,7 @@ use Rattle.std.proofs.lemmas.Bool.{cases_lt}
 use Rattle.std.proofs.lemmas.Bool.Decides.{nat_tests}
 use Rattle.disk.specs.Crash.{Image, IsCrashImage}
 use Rattle.disk.specs.Device.{Device}
+use Rattle.nfs_types.specs.declared.reply.Reply.{Reply}
 use Rattle.model.specs.Step.{step}
 use Rattle.model.specs.Tree.{Tree}
 use Rattle.store_promise.specs.declared.transcript.Answer.{Answer}
@@ -21,11 +22,11 @@ use Rattle.store_promise.proofs.OneSetAttrTold.{entry_is, only_contained, settle
 
 -- ---- what was promised by a clock
 
-module _ (boot : ℕ) (one : OneSetAttr) (start clock : ℕ) where
-  is_last : (a : Answer) → Contains (answer_at one 19 5 ∷ []) a → 5 ≡ a.clock
-  is_last a given = ap (λ (a : Answer). a.clock) (only_contained (answer_at one 19 5) a given)
+module _ (boot : ℕ) (one : OneSetAttr) (reply : Reply) (start clock : ℕ) where
+  is_last : (a : Answer) → Contains (answer_at reply 19 5 ∷ []) a → 5 ≡ a.clock
+  is_last a given = ap (λ (a : Answer). a.clock) (only_contained (answer_at reply 19 5) a given)
 
-  never_written : (place : ℕ) (c : Committed) → entry_in boot one ≡ c → is_write c.call ≡ true → ⊥
+  never_written : (place : ℕ) (c : Committed) → entry_in boot one reply ≡ c → is_write c.call ≡ true → ⊥
   never_written place c same writes =
       let not : is_write c.call ≡ false = ap (λ (c : Committed). is_write c.call) (sym same) in
       cc
@@ -41,28 +42,28 @@ module _ (boot : ℕ) (one : OneSetAttr) (start clock : ℕ) where
   at_most_one false settled bound = bound
 
   -- before the last device call nothing was
-  pub holds_none : clock < start + 5 → HoldsPromised (events_of one) start (told_of boot one) clock 0
+  pub holds_none : clock < start + 5 → HoldsPromised (events_of one) start (told_of boot one reply) clock 0
   holds_none less = record {
     stable = λ a place given by stable.
         let five = is_last a given in absurd (omega (arith, five, by, less));
     covered = λ a place given by covered.
         let five = is_last a given in absurd (omega (arith, five, by, less));
-    settled = λ index within by. below_five _ _ by less (settled boot one index within);
+    settled = λ index within by. below_five _ _ by less (settled boot one reply index within);
   }
 
   -- and then place 1
-  pub holds_one : HoldsPromised (events_of one) start (told_of boot one) clock 1
+  pub holds_one : HoldsPromised (events_of one) start (told_of boot one reply) clock 1
   holds_one = record {
     stable = λ a place given by stable.
-        let first = (entry_is boot one place stable.entry stable.is_entry).0 in omega (arith, first);
+        let first = (entry_is boot one reply place stable.entry stable.is_entry).0 in omega (arith, first);
     covered = λ a place given by covered.
         absurd (never_written place covered.write
-        (entry_is boot one place covered.write covered.is_entry).1 covered.writes);
-    settled = λ index within by. at_most_one _ _ (settled boot one index within);
+        (entry_is boot one reply place covered.write covered.is_entry).1 covered.writes);
+    settled = λ index within by. at_most_one _ _ (settled boot one reply index within);
   }
 
   -- the procedure is committed after one device call
-  pub committed : start + 1 ≤ clock → 1 ≤ commits_by start (told_of boot one) clock
+  pub committed : start + 1 ≤ clock → 1 ≤ commits_by start (told_of boot one reply) clock
   committed by =
       let reached : nat_le (start + 1) clock ≡ true = grind (arith, nat_tests) in
       subst (λ b. 1 ≤ 0 + cond b 1 0) (sym reached) (omega arith)
@@ -83,11 +84,11 @@ crash_still before later clock image past to crash = λ block less.
     (crash block (subst (λ size. block < size) past.size less))
 
 module _ (before opened later : Device) (tree next : Tree) (first position : ℕ) (one : OneSetAttr)
-    (opens : IsOpened before opened tree first position) (went : WentOnByFive opened later)
+    (reply : Reply) (opens : IsOpened before opened tree first position) (went : WentOnByFive opened later)
     (trees : LeavesTrees opened later (first + 1) tree next)
-    (steps : step tree (ctx_in (first + 1) one) (asked one) one.reply next) where
+    (steps : step tree (ctx_in (first + 1) one) (asked one) reply next) where
   abbrev Holds : ℕ → Image → Type 0
-  Holds = HasPrefix later.size first tree (events_of one) opened.clock (told_of (first + 1) one)
+  Holds = HasPrefix later.size first tree (events_of one) opened.clock (told_of (first + 1) one reply)
 
   -- before the opening's end
   while_opening : (clock : ℕ) (image : Image) → before.clock ≤ clock → clock < opened.clock
@@ -104,7 +105,7 @@ module _ (before opened later : Device) (tree next : Tree) (first position : ℕ
         count = 0;
         committed = omega arith;
         prefix = refl;
-        holds = holds_none (first + 1) one opened.clock clock (omega (arith, less));
+        holds = holds_none (first + 1) one reply opened.clock clock (omega (arith, less));
       }
 
   -- with the old tree
@@ -119,7 +120,7 @@ module _ (before opened later : Device) (tree next : Tree) (first position : ℕ
     count = 0;
     committed = omega arith;
     prefix = refl;
-    holds = holds_none (first + 1) one opened.clock clock less;
+    holds = holds_none (first + 1) one reply opened.clock clock less;
   }
 
   -- with the new one
@@ -132,9 +133,9 @@ module _ (before opened later : Device) (tree next : Tree) (first position : ℕ
     left = next;
     good = good;
     count = 1;
-    committed = committed (first + 1) one opened.clock clock by;
+    committed = committed (first + 1) one reply opened.clock clock by;
     prefix = (next, steps, refl);
-    holds = holds_one (first + 1) one opened.clock clock;
+    holds = holds_one (first + 1) one reply opened.clock clock;
   }
 
   by_header : (image : Image) → IsCrashImage later (opened.clock + 4) image

@@ -31,7 +31,7 @@ use Rattle.store_promise.specs.Schedule.{Schedule}
 use Rattle.store_promise.specs.Transcript.{Transcript}
 
 -- what such a run is of: for whom and when its call is made, what that asks, where the inode of its file
--- lies, the log slot that its block goes to, the block of the log's header, and what it is replied
+-- lies, the log slot that its block goes to, and the block of the log's header
 pub record OneSetAttr : Type 0 where
   pub credential : Credential
   pub moment : Moment
@@ -41,7 +41,6 @@ pub record OneSetAttr : Type 0 where
   pub addr : Addr
   pub slot : BlockNo
   pub header : BlockNo
-  pub reply : Reply
 
 abbrev pub asked : OneSetAttr → Call
 asked one = call.SetAttr one.object one.attributes one.guard
@@ -97,41 +96,41 @@ steps_of one = map (λ made. Some made)
 -- ---- what is told
 
 -- the procedure is committed by the seventh event, after the read alone
-abbrev pub entry_in : ℕ → OneSetAttr → Committed
-entry_in boot one = record {
+abbrev pub entry_in : ℕ → OneSetAttr → Reply → Committed
+entry_in boot one reply = record {
   worker = 0;
   ctx = ctx_in boot one;
   call = asked one;
-  reply = one.reply;
+  reply = reply;
   event = 6;
   clock = 1;
 }
 
 -- an answer with its reply, by this event and at this clock
-abbrev pub answer_at : OneSetAttr → ℕ → ℕ → Answer
-answer_at one event clock = record {
+abbrev pub answer_at : Reply → ℕ → ℕ → Answer
+answer_at reply event clock = record {
   worker = 0;
-  verdict = verdict.Reply one.reply;
+  verdict = verdict.Reply reply;
   place = Some (record { 0 = 1 });
   event = event;
   clock = clock;
 }
 
-abbrev pub told_with : ℕ → OneSetAttr → Answer → Transcript
-told_with boot one answer = record {
+abbrev pub told_with : ℕ → OneSetAttr → Reply → Answer → Transcript
+told_with boot one reply answer = record {
   boot = boot;
-  history = entry_in boot one ∷ [];
+  history = entry_in boot one reply ∷ [];
   answers = answer ∷ [];
   steps = steps_of one;
 }
 
 -- it is answered by the last event, after all five device calls
-abbrev pub told_of : ℕ → OneSetAttr → Transcript
-told_of boot one = told_with boot one (answer_at one 19 5)
+abbrev pub told_of : ℕ → OneSetAttr → Reply → Transcript
+told_of boot one reply = told_with boot one reply (answer_at reply 19 5)
 
 -- one that doesn't wait is answered by the event of its commit
-abbrev pub told_too_early : ℕ → OneSetAttr → Transcript
-told_too_early boot one = told_with boot one (answer_at one 6 1)
+abbrev pub told_too_early : ℕ → OneSetAttr → Reply → Transcript
+told_too_early boot one reply = told_with boot one reply (answer_at reply 6 1)
 
 -- ---- the device
 
