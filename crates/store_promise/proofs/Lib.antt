@@ -1,1 +1,6 @@
 pub mod Told
+pub mod OneSetAttr
+pub mod OneSetAttrAlong
+pub mod OneSetAttrTold
+pub mod OneSetAttrStops
+pub mod OneSetAttrOnly

@@ -1,0 +1,61 @@
+-- The run of one SETATTR, event by event.
+use Rattle.std.proofs.Common.{◌≡◌, ℕ, ◌+◌, ◌<◌, ◌^◌, refl, Bool, true, false, arith}
+use Rattle.std.proofs.Common.{[], Option, Ok}
+use Rattle.std.specs.List.{zip}
+use Rattle.model.specs.Calls.{sets_only_mode}
+use Rattle.procs.specs.Asks.{Asks}
+use Rattle.store_promise.specs.declared.events.Event.{Event}
+use Rattle.store_promise.specs.declared.events.Step.{Step}
+use Rattle.store_promise.specs.declared.events.Step.TheVariants as step
+use Rattle.store_promise.specs.OneSetAttr.{OneSetAttr, asked, events_of, steps_of}
+use Rattle.store_promise.specs.Schedule.{AreTaken, IsOfOne, IsStepOf, IsStepOfCalled, IsTaken}
+use Rattle.store_promise.specs.Schedule.{Opening, Told, at_first, told_before, worker_of}
+use Rattle.store_promise.proofs.OneSetAttrAlong.{Along, each, ◌then◌}
+
+-- ---- each step is one that may be made
+
+begins : (told : Told) (rules : Bool) → rules ≡ true → told.log.broken ≡ false → 1 ≡ told.begun + 1
+    → IsStepOfCalled told rules (step.Begun (Ok 1))
+begins told true has whole next = (whole, next)
+begins told false has whole next = cc
+
+-- the event is of the one worker, or of none, and makes a step that it may make
+abbrev MayMake : Opening → ℕ → Told → Event → Option Step → Type 0
+MayMake o index told e m = IsOfOne 1 (worker_of e) × IsStepOf o told e m
+
+is_taken : (o : Opening) (index : ℕ) (told : Told) (e : Event) (m : Option Step) → MayMake o index told e m
+    → IsTaken o 1 told e m
+is_taken o index told e m may = record { own = λ _. may.1; others = λ no. absurd (no may.0) }
+
+module _ (o : Opening) (one : OneSetAttr) (room : o.position + 1 < 2 ^ 64)
+    (rules : sets_only_mode one.attributes ≡ true) (asks : Asks o.geometry (asked one) [] one.addr) where
+  less : 0 < 1
+  less = omega arith
+
+  within : o.position + 0 + 1 < 2 ^ 64
+  within = omega (arith, room)
+
+  pub along : Along (MayMake o) at_first (zip (events_of one) (steps_of one))
+  along =
+      (less, refl)
+      then (less, begins (told_before (events_of one) (steps_of one) 1) _ rules refl refl)
+      then (less, (record { unheld = refl; objects = []; held = refl; asks = asks }, refl))
+      then (less, refl)
+      then (less, refl)
+      then (less, (record { unheld = refl; objects = []; held = refl; asks = asks }, tt))
+      then (
+        less,
+        (omega arith, (refl, refl, record { place = omega arith; positions = within }, omega arith)),
+      )
+      then (tt, tt) then (tt, tt) then (tt, refl) then (tt, tt) then (tt, tt) then (tt, refl)
+      then (tt, tt) then (tt, tt) then (tt, refl) then (tt, tt) then (tt, tt) then (tt, refl)
+      then (less, (refl, refl))
+      then tt
+
+  pub taken : AreTaken o 1 (events_of one) (steps_of one)
+  taken = record {
+    fewer = omega arith;
+    each = λ index e m is_event is_step.
+        is_taken o index _ e m
+        (each (MayMake o) at_first (events_of one) (steps_of one) along index e m is_event is_step);
+  }
