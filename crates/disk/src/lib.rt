@@ -10,6 +10,7 @@ mod file_disk;
 mod history;
 mod laws;
 mod mem_disk;
+mod room;
 
 pub use block::{Block, BlockNo, Side};
 pub use device::{CrashDisk, Failed};
