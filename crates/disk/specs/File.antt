@@ -25,9 +25,9 @@ abbrev pub AreOfBlocks : Calls → Type 0
 AreOfBlocks calls = All (λ call. IsBlock (bytes_of call.0)) calls
 
 -- what a block held when the file was opened: zeros, where nothing is said of it
-abbrev pub held_in : List (BlockNo × Content) → ℕ → Content
-held_in [] block = replicate BLOCK_BYTES 0
-held_in (pair ∷ pairs) block = if nat_eq block pair.0.0 then pair.1 else held_in pairs block
+abbrev pub first_in : List (BlockNo × Content) → ℕ → Content
+first_in [] block = replicate BLOCK_BYTES 0
+first_in (pair ∷ pairs) block = if nat_eq block pair.0.0 then pair.1 else first_in pairs block
 
 -- so many blocks of an image, with their numbers
 abbrev pub pairs_of : (ℕ → Content) → ℕ → List (BlockNo × Content)

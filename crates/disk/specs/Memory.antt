@@ -1,5 +1,5 @@
 -- A device in memory, read off what it holds now and what it held at each call before.
-use Rattle.std.specs.Prelude.{ℕ, ◌+◌, List, [], map, length, slice_index_or, count_by, Contains}
+use Rattle.std.specs.Prelude.{◌≡◌, ℕ, ◌+◌, List, [], map, length, slice_index_or, count_by, Contains}
 use Rattle.std.specs.List.{list_any}
 use Rattle.disk.specs.Device.{Content, Device, current, newest}
 use Rattle.disk.specs.Crash.{Image}
@@ -45,6 +45,14 @@ to_fail d = d.fails.items
 -- the next call is to fail
 abbrev pub IsDue : MemDisk → Type 0
 IsDue d = Contains (to_fail d) (length (past_of d) + 1)
+
+-- how often memory was refused to the device
+abbrev pub refusals : MemDisk → ℕ
+refusals d = length d.room.refused.items
+
+-- memory was refused to the call that lies between
+abbrev pub IsFull : MemDisk → MemDisk → Type 0
+IsFull old new = refusals new ≡ refusals old + 1
 
 -- the newest content of each block
 abbrev pub image_of : MemDisk → Image

@@ -99,13 +99,13 @@ impl<F: BlockFile> NotedFile<F> {
 /// What the blocks of a file held when it was opened. It is for proofs alone: no code can read it, and it takes
 /// no memory. A function that is handed one is proved for each.
 #[derive(Drop)]
-pub struct Held {
+pub struct FirstContents {
     blocks: Log<BlockNo, Block>,
 }
 
-impl Held {
+impl FirstContents {
     /// What a file held, whatever that was: no clause says it.
-    pub fn whatever() -> Held {
-        Held { blocks: Log::new() }
+    pub fn whatever() -> FirstContents {
+        FirstContents { blocks: Log::new() }
     }
 }

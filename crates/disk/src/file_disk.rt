@@ -2,10 +2,10 @@
 ghost use Rattle.std.specs.Prelude.{◌≡◌, ◌*◌, [], IfOk};
 ghost use Rattle.limits.specs.declared.TheConstants.{BLOCK_BYTES};
 ghost use Rattle.disk.specs.Crash.{IsAtRest};
-ghost use Rattle.disk.specs.File.{file_device, held_in};
+ghost use Rattle.disk.specs.File.{file_device, first_in};
 
 use crate::file::NotedFile;
-use crate::{Block, BlockFile, BlockNo, CrashDisk, Failed, Held, Side};
+use crate::{Block, BlockFile, BlockNo, CrashDisk, Failed, FirstContents, Side};
 use limits::BLOCK_BYTES;
 use std::fs::{File, Files, OpenFile, OpenOptions};
 use std::io;
@@ -21,7 +21,7 @@ const OWNER_ALONE: u32 = 0o600;
 pub struct FileDisk<F: BlockFile> {
     file: NotedFile<F>,
     blocks: u32,
-    held: Held,
+    first: FirstContents,
 }
 
 // Opens a file, or makes it where there is none. One that was made is its owner's alone, and its folder is
@@ -59,36 +59,36 @@ impl<F: BlockFile> FileDisk<F> {
     pub fn over(file: F, blocks: u32) -> FileDisk<F>
         ensures size { result.blocks ≡ blocks }
         ensures fresh { result.file.calls.items ≡ [] }
-        ensures rest { IsAtRest (file_device (held_in result.held.blocks.items) result.blocks
+        ensures rest { IsAtRest (file_device (first_in result.first.blocks.items) result.blocks
             result.file.calls.items) }
     {
         FileDisk {
             file: NotedFile::new(file),
             blocks,
-            held: Held::whatever(),
+            first: FirstContents::whatever(),
         }
     }
 
-    /// The same device, of a file that held this when it was opened: so a function over any `held` tells of the
-    /// device, whatever its file held.
-    pub fn holding(self, held: Held) -> FileDisk<F>
+    /// The same device, of a file that held this when it was opened: so a function over any `first` tells of
+    /// the device, whatever its file held.
+    pub fn beginning_with(self, first: FirstContents) -> FileDisk<F>
         requires { self.file.calls.items ≡ [] }
-        ensures held { result.held ≡ held }
+        ensures first { result.first ≡ first }
         ensures size { result.blocks ≡ self.blocks }
         ensures fresh { result.file.calls.items ≡ [] }
-        ensures rest { IsAtRest (file_device (held_in held.blocks.items) result.blocks result.file.calls.items) }
+        ensures rest { IsAtRest (file_device (first_in first.blocks.items) result.blocks result.file.calls.items) }
     {
         FileDisk {
             file: self.file,
             blocks: self.blocks,
-            held,
+            first,
         }
     }
 
     /// Opens a file of blocks, locks it, and then settles it. Its blocks are the whole ones of its length, up
     /// to the greatest number of them.
     pub fn open<R: Files<File = F>>(rt: &R, path: &str) -> io::Result<FileDisk<F>>
-        ensures rest { IfOk result (λ d. IsAtRest (file_device (held_in d.held.blocks.items) d.blocks
+        ensures rest { IfOk result (λ d. IsAtRest (file_device (first_in d.first.blocks.items) d.blocks
             d.file.calls.items)) }
         ensures fresh { IfOk result (λ d. d.file.calls.items ≡ []) }
     {
@@ -103,7 +103,7 @@ impl<F: BlockFile> FileDisk<F> {
     /// stay, and new ones are zeros. One that was made is its owner's alone, and its folder is settled too.
     pub fn create<R: Files<File = F>>(rt: &R, path: &str, blocks: u32) -> io::Result<FileDisk<F>>
         ensures size { IfOk result (λ d. d.blocks ≡ blocks) }
-        ensures rest { IfOk result (λ d. IsAtRest (file_device (held_in d.held.blocks.items) d.blocks
+        ensures rest { IfOk result (λ d. IsAtRest (file_device (first_in d.first.blocks.items) d.blocks
             d.file.calls.items)) }
         ensures fresh { IfOk result (λ d. d.file.calls.items ≡ []) }
     {
@@ -119,11 +119,11 @@ impl<F: BlockFile> CrashDisk for FileDisk<F> {
     ghost use Rattle.disk.specs.File.{KeepsModel};
     ghost use Rattle.disk.specs.FileBlocks.{file_blocks};
 
-    ghost device = { λ d. file_device (held_in d.held.blocks.items) d.blocks d.file.calls.items };
+    ghost device = { λ d. file_device (first_in d.first.blocks.items) d.blocks d.file.calls.items };
 
-    ghost keeps_model = { λ d. KeepsModel (held_in d.held.blocks.items) d.blocks d.file.calls.items };
+    ghost keeps_model = { λ d. KeepsModel (first_in d.first.blocks.items) d.blocks d.file.calls.items };
 
-    ghost whole = { λ d keeps. file_blocks (held_in d.held.blocks.items) d.blocks d.file.calls.items keeps
+    ghost whole = { λ d keeps. file_blocks (first_in d.first.blocks.items) d.blocks d.file.calls.items keeps
         d.file.whole };
 
     fn blocks(&self) -> u32 {

@@ -1,12 +1,12 @@
 //! Laws of devices, over definitions alone.
 ghost use Rattle.std.specs.Prelude.{◌≡◌, ℕ, ◌<◌, ◌≤◌, Result};
 ghost use Rattle.disk.specs.declared.device.Failed.{Failed};
-ghost use Rattle.disk.specs.declared.file.Held.{Held};
+ghost use Rattle.disk.specs.declared.file.FirstContents.{FirstContents};
 ghost use Rattle.disk.specs.Device.{Device, Content, current, newest};
 ghost use Rattle.disk.specs.Blocks.{IsBlock, AreBlocks};
 ghost use Rattle.disk.specs.Crash.{Image, IsCrashImage, IsAtRest};
 ghost use Rattle.disk.specs.Overlap.{DeviceCall, Makes, MayOverlap, Swapped};
-ghost use Rattle.disk.specs.File.{Calls, EachFits, IsHonest, KeepsModel, held_in};
+ghost use Rattle.disk.specs.File.{Calls, EachFits, IsHonest, KeepsModel, first_in};
 
 use crate::CrashDisk;
 
@@ -33,15 +33,15 @@ pub fn one_image_at_rest()
 /// A file that held blocks, whichever they were, and answers each read by what is stored keeps the model,
 /// whatever fails.
 pub fn honest_file_keeps_model()
-    ensures { (held : ℕ → Content) (size : ℕ) (calls : Calls)
-        → ((block : ℕ) → block < size → IsBlock (held block)) → EachFits (IsHonest held) calls
-        → KeepsModel held size calls }
+    ensures { (first : ℕ → Content) (size : ℕ) (calls : Calls)
+        → ((block : ℕ) → block < size → IsBlock (first block)) → EachFits (IsHonest first) calls
+        → KeepsModel first size calls }
 {}
 
 /// Each image may be what a file held.
-pub fn each_image_may_be_held()
-    ensures { (image : Image) (size : ℕ) → (held : Held)
-        × ((block : ℕ) → block < size → held_in held.blocks.items block ≡ image block) }
+pub fn a_file_may_begin_with_each_image()
+    ensures { (image : Image) (size : ℕ) → (first : FirstContents)
+        × ((block : ℕ) → block < size → first_in first.blocks.items block ≡ image block) }
 {}
 
 /// Two calls that may overlap in time may come in the other order, with the same results, and then leave the

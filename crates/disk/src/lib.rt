@@ -10,13 +10,14 @@ mod file_disk;
 mod history;
 mod laws;
 mod mem_disk;
+mod room;
 
 pub use block::{Block, BlockNo, Side};
 pub use device::{CrashDisk, Failed};
-pub use file::{BlockFile, FileCall, Held};
+pub use file::{BlockFile, FileCall, FirstContents};
 pub use file_disk::FileDisk;
 pub use laws::{
-    a_crash_leaves_blocks, a_device_tells_of_blocks, each_image_may_be_held,
+    a_crash_leaves_blocks, a_device_tells_of_blocks, a_file_may_begin_with_each_image,
     honest_file_keeps_model, one_image_at_rest, overlapping_calls_commute,
 };
 pub use mem_disk::MemDisk;

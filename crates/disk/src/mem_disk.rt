@@ -9,6 +9,7 @@ ghost use Rattle.disk.specs.Choice.{chosen};
 use crate::call_record::{Call, CallRecord};
 use crate::contents::Contents;
 use crate::history::History;
+use crate::room::Room;
 use crate::{Block, BlockNo, CrashDisk, Failed, Side};
 use std::alloc::{AllocError, Global};
 use std::snapshot::Snapshot;
@@ -16,7 +17,7 @@ use std::snapshot::Snapshot;
 /// A device in memory. What it held before each of its calls is kept for proofs alone, and takes no memory.
 #[derive(Drop)]
 pub struct MemDisk {
-    alloc: Global,
+    room: Room,
     blocks: Vec<Contents>,
     fails: Vec<u64>,
     history: History,
@@ -39,7 +40,7 @@ impl MemDisk {
         ensures rest { IfOk result (λ d. IsAtRest (memory_device d)) }
     {
         Ok(MemDisk {
-            alloc,
+            room: Room::new(alloc),
             blocks: zeros(alloc, blocks)?,
             fails: Vec::new(alloc),
             history: History::new(),
@@ -66,7 +67,7 @@ impl MemDisk {
         ensures none { to_fail result ≡ [] }
     {
         let MemDisk {
-            alloc,
+            room,
             mut blocks,
             mut fails,
             history: _,
@@ -74,7 +75,7 @@ impl MemDisk {
         choose(&mut blocks, digits);
         fails.clear();
         MemDisk {
-            alloc,
+            room,
             blocks,
             fails,
             history: History::new(),
@@ -137,6 +138,7 @@ impl MemDisk {
             ++ (before.now.value.items, record { call = call; result = outcome }) ∷ [] }
         ensures blocks { blocks_of self.new ≡ blocks_of self.old }
         ensures fails { to_fail self.new ≡ to_fail self.old }
+        ensures room { self.new.room ≡ self.old.room }
     {
         let noted = CallRecord {
             call,
@@ -147,9 +149,9 @@ impl MemDisk {
 }
 
 impl CrashDisk for MemDisk {
-    ghost use Rattle.std.specs.Prelude.{◌≢◌, ◌∷◌, ◌++◌, is_err, IsErr, IsOk, OnOk, false};
+    ghost use Rattle.std.specs.Prelude.{◌≢◌, ◌⊎◌, ◌∷◌, ◌++◌, slice_set, is_err, IsErr, IsOk, OnOk, false};
     ghost use Rattle.disk.specs.Device.{newest, current, CountsFailure, HasRead, HasWritten, HasSettled};
-    ghost use Rattle.disk.specs.Memory.{memory_device, blocks_of, to_fail, IsDue};
+    ghost use Rattle.disk.specs.Memory.{memory_device, blocks_of, to_fail, IsDue, IsFull};
     ghost use Rattle.disk.specs.MemoryBlocks.{memory_blocks};
 
     ghost device = { memory_device };
@@ -180,19 +182,23 @@ impl CrashDisk for MemDisk {
         result
     }
 
-    // A write that is to fail is made all the same, where it finds room. One that finds none fails and
-    // changes nothing.
+    // It fails exactly where it is to fail or memory was refused. Where none was refused it is made all the
+    // same, and else nothing changes.
     fn write(&mut self, block: BlockNo, content: &Block) -> Result<(), Failed>
         requires { block.0 < (memory_device self.old).size }
         ensures call { HasWritten (memory_device self.old) block.0 content.now result (memory_device self.new) }
         ensures failure { CountsFailure (memory_device self.old) (memory_device self.new) result }
-        ensures due { IsDue self.old → IsErr result }
-        ensures full { IsErr result → ¬ (IsDue self.old) → blocks_of self.new ≡ blocks_of self.old }
+        ensures due { IsErr result ↔ (IsDue self.old ⊎ IsFull self.old self.new) }
+        ensures full { IsFull self.old self.new → blocks_of self.new ≡ blocks_of self.old }
+        ensures made { ¬ (IsFull self.old self.new) → blocks_of self.new ≡ slice_set (blocks_of self.old) block.0
+            (current (memory_device self.old) block.0 ++ content.now ∷ []) }
         ensures fails { to_fail self.new ≡ to_fail self.old }
     {
         let before = Snapshot::of(&self.blocks);
         let due = self.outcome();
-        let made = self.blocks[block.0 as usize].append(self.alloc, content);
+        let made = self
+            .room
+            .append(&mut self.blocks[block.0 as usize], content);
         let result = if made.is_ok() { due } else { Err(Failed) };
         self.note(&before, Call::Write(block), result);
         result

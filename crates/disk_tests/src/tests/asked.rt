@@ -2,7 +2,7 @@
 
 use crate::tests::fake::{Fake, Step, Steps};
 use crate::tests::{Call, make};
-use disk::{Block, BlockNo, CrashDisk, Failed, FileDisk, Held, Side};
+use disk::{Block, BlockNo, CrashDisk, Failed, FileDisk, FirstContents, Side};
 use limits::BLOCK_BYTES;
 use std::alloc::Global;
 use std::test::Fail;
@@ -122,14 +122,14 @@ fn errors_of_a_file_are_failures(rt: HostRuntime) -> Result<(), Fail> {
 
 // A device that is told what its file held asks the same of it.
 #[test]
-fn what_was_held_changes_no_call(rt: HostRuntime) -> Result<(), Fail> {
+fn what_was_first_changes_no_call(rt: HostRuntime) -> Result<(), Fail> {
     let steps = Steps::new(rt.alloc(), usize::MAX, usize::MAX);
     let mut out = Block::zeros(rt.alloc())?;
     let file = Fake {
         steps: &steps,
         is_folder: false,
     };
-    let mut disk = FileDisk::over(file, BLOCKS).holding(Held::whatever());
+    let mut disk = FileDisk::over(file, BLOCKS).beginning_with(FirstContents::whatever());
     assert!(rt; make(&mut disk, Call::Read(BLOCK), &mut out) == Ok(3) && disk.blocks() == BLOCKS);
     assert!(rt; were_asked(steps, &[Step::ReadAt(12288, 4096)]));
     Ok(())

@@ -1,13 +1,13 @@
 use Rattle.std.proofs.Common.{sym, subst}
 use Rattle.disk.specs.Device.{HasSettled}
-use Rattle.disk.specs.File.{Calls, held_in, file_device}
+use Rattle.disk.specs.File.{Calls, first_in, file_device}
 use Rattle.disk.proofs.FileLemmas.{has_settled}
 use Rattle.disk.proofs.file_disk.FileDiskCrashDisk.barrier.Goals as goal
 
 pub returns-clause-call : goal.returns-clause-call
 returns-clause-call g c =
     let old = c.args.self.now in
-    let first = held_in old.held.blocks.items in
+    let first = first_in old.first.blocks.items in
     subst (λ (calls : Calls). HasSettled (file_device first old.blocks old.file.calls.items) c.args.side
     c.sync.result (file_device first old.blocks calls)) (sym c.sync.ensures)
     (has_settled first old.blocks old.file.calls.items c.args.side c.sync.result)
