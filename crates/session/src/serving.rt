@@ -1,5 +1,5 @@
 //! Serving a stream: the calls of its records, one after the other, and their replies.
-ghost use Rattle.std.specs.Prelude.{◌≡◌, ◌<◌, ◌≤◌, ◌↔◌, IsTrue, IsSome, IfOk, IfSome, None, length};
+ghost use Rattle.std.specs.Prelude.{◌≡◌, ◌<◌, ◌≤◌, ◌↔◌, IsTrue, IsSome, IfOk, IfSome, None, length, []};
 ghost use Rattle.session_wire.specs.Replies.{IsSpellable, body_of};
 ghost use Rattle.session_wire.specs.Results.{HasSpelling};
 
@@ -47,8 +47,8 @@ pub fn serve<D: CrashDisk, R: Read, W: Write>(
     writer: &mut W,
     moment: Moment,
 ) -> Result<u64, SessionFault>
-    requires { store.old.core.out ≡ None }
-    ensures { store.new.core.out ≡ None }
+    requires { store.old.core.out ≡ [] }
+    ensures { store.new.core.out ≡ [] }
 {
     let served = serve_all(alloc, store, reader, writer, moment);
     match served {
@@ -73,8 +73,8 @@ fn serve_all<D: CrashDisk, R: Read, W: Write>(
     writer: &mut W,
     moment: Moment,
 ) -> Result<u64, SessionFault>
-    requires { store.old.core.out ≡ None }
-    ensures { store.new.core.out ≡ None }
+    requires { store.old.core.out ≡ [] }
+    ensures { store.new.core.out ≡ [] }
 {
     let mut records = Records::new(alloc);
     let mut piece = [0; PIECE_BYTES];
@@ -118,8 +118,8 @@ fn serve_records<D: CrashDisk, W: Write>(
     moment: Moment,
     count: u64,
 ) -> Result<u64, SessionFault>
-    requires { store.old.core.out ≡ None }
-    ensures { store.new.core.out ≡ None }
+    requires { store.old.core.out ≡ [] }
+    ensures { store.new.core.out ≡ [] }
 {
     let mut replies = count;
     'records: while let Some(record) = next_record(alloc, records)? {
@@ -148,8 +148,8 @@ fn serve_record<D: CrashDisk, W: Write>(
     writer: &mut W,
     moment: Moment,
 ) -> Result<(), SessionFault>
-    requires { store.old.core.out ≡ None }
-    ensures { store.new.core.out ≡ None }
+    requires { store.old.core.out ≡ [] }
+    ensures { store.new.core.out ≡ [] }
 {
     match judge(alloc, record) {
         Err(_) => Err(SessionFault::NoMemory),

@@ -1,5 +1,5 @@
 //! Opening a store: what a crash left in the log is brought home, and the boot number rises.
-ghost use Rattle.std.specs.Prelude.{◌≡◌, ◌+◌, ◌^◌, ◌<◌, IfOk, None};
+ghost use Rattle.std.specs.Prelude.{◌≡◌, ◌+◌, ◌^◌, ◌<◌, IfOk, None, []};
 ghost use Rattle.wal.specs.Io.{IsCallWithin};
 ghost use Rattle.layout.specs.Geometry.{IsLawful};
 
@@ -20,7 +20,7 @@ use wal::{InstIo, Wal};
 /// (Range), the log isn't one (Log). Until then nothing is written. Later only Device and NoMemory come. A refusal
 /// hands the disk back.
 pub fn open<D: CrashDisk>(alloc: Global, disk: D) -> Result<Store<D>, (D, OpenFault)>
-    ensures { IfOk result (λ store. store.core.out ≡ None) }
+    ensures { IfOk result (λ store. store.core.out ≡ []) }
 {
     let mut disk = disk;
     match recover(alloc, &mut disk) {
@@ -33,7 +33,7 @@ pub fn open<D: CrashDisk>(alloc: Global, disk: D) -> Result<Store<D>, (D, OpenFa
 fn recover<D: CrashDisk>(alloc: Global, disk: &mut D) -> Result<(Core<Done>, u64), OpenFault>
     ensures size { IfOk result (λ opened. (D.device disk.new).size ≡ opened.0.log.blocks) }
     ensures lawful { IfOk result (λ opened. IsLawful opened.0.log.blocks opened.0.inodes) }
-    ensures idle { IfOk result (λ opened. opened.0.out ≡ None) }
+    ensures idle { IfOk result (λ opened. opened.0.out ≡ []) }
 {
     let mut block = Block::zeros(alloc).map_err(|_| OpenFault::NoMemory)?;
     let found = read_super(disk, &mut block)?;

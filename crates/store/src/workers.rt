@@ -74,7 +74,8 @@ pub(crate) struct Begun {
 }
 
 impl Begun {
-    ghost use Rattle.std.specs.Prelude.{◌≡◌, Some, None, true, is_some};
+    ghost use Rattle.std.specs.Prelude.{◌≡◌, Some, None, true, is_some, []};
+    ghost use Rattle.txn.specs.Out.{listed};
     ghost use Rattle.store.specs.Counts.{SameCounts};
 
     // Takes the transaction that is out.
@@ -103,9 +104,9 @@ impl Begun {
 
     // Gives the fetch back, and ends the transaction.
     fn end(self, core: &mut Core<Done>)
-        requires { core.old.out ≡ self.tx }
+        requires { core.old.out ≡ listed self.tx }
         ensures counts { SameCounts core.old core.new }
-        ensures ended { core.new.out ≡ None }
+        ensures ended { core.new.out ≡ [] }
     {
         let Begun { tx, io } = self;
         if let Some(io) = io {
@@ -118,7 +119,7 @@ impl Begun {
 }
 
 impl Worker {
-    ghost use Rattle.std.specs.Prelude.{◌≡◌, ◌↔◌, IsTrue, IsSome, None, true, is_some};
+    ghost use Rattle.std.specs.Prelude.{◌≡◌, ◌↔◌, IsTrue, IsSome, None, true, is_some, []};
     ghost use Rattle.txn.specs.Core.{CoreState};
     ghost use Rattle.store.specs.declared.workers.Phase.TheVariants.{Idle, Called, Reading};
     ghost use Rattle.store.specs.Counts.{SameCounts};
@@ -250,7 +251,7 @@ impl Worker {
     pub fn end(self, core: &mut Core<Done>)
         requires { Fits self core.old }
         ensures counts { SameCounts core.old core.new }
-        ensures ended { core.new.out ≡ None }
+        ensures ended { core.new.out ≡ [] }
     {
         let Worker {
             boot: _,
