@@ -13,7 +13,7 @@ use Rattle.layout.specs.declared.inode.InodeKind.TheVariants.{Free}
 use Rattle.layout.specs.Geometry.{inode_block, inode_offset}
 use Rattle.layout.specs.InodeForm.{read_inode}
 use Rattle.txn.specs.Object.{ObjectBytes}
-use Rattle.txn.specs.Outcomes.{IsWhole}
+use Rattle.txn.specs.Wishes.{IsWhole}
 use Rattle.procs.specs.declared.snap.Snap.{Snap}
 use Rattle.procs.specs.declared.stop.Stop.{Stop}
 use Rattle.procs.specs.declared.stop.Stop.TheVariants as stop

@@ -1,5 +1,5 @@
 -- What comes of serving a stream.
-use Rattle.std.specs.Prelude.{◌≡◌, ⊤, ℕ, List, Option, None, Result, Ok, Err}
+use Rattle.std.specs.Prelude.{◌≡◌, ⊤, ℕ, List, [], Option, Result, Ok, Err}
 use Rattle.std.specs.Io.KnownBytes.{IsAtEnd}
 use Rattle.nfs_types.specs.declared.ctx.Moment.{Moment}
 use Rattle.store.specs.Opening.{IsSettled, Opened}
@@ -21,7 +21,7 @@ IsEnded (Err fault) store client = ⊤
 
 -- what is known of a store and a client that were served with this answer
 pub record IsServing (result : Result ℕ SessionFault) (store : Opened) (client : Client) : Type 0 where
-  pub idle : store.core.out ≡ None
+  pub idle : store.core.out ≡ []
   pub ended : IsEnded result store client
 
 -- A store and a client were to be served, each call at the moment, which was answered so, and left them so. As

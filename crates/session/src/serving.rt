@@ -1,5 +1,5 @@
 //! Serving a stream: the calls of its records, one after the other, and their replies.
-ghost use Rattle.std.specs.Prelude.{◌≡◌, ◌<◌, ◌≤◌, ◌↔◌, IsTrue, IsSome, IfOk, IfSome, OnOk, None, length};
+ghost use Rattle.std.specs.Prelude.{◌≡◌, ◌<◌, ◌≤◌, ◌↔◌, IsTrue, IsSome, IfOk, IfSome, OnOk, None, length, []};
 ghost use Rattle.std.specs.Io.KnownBytes.{IsAtEnd};
 ghost use Rattle.nfs_types.specs.declared.program.ProgramReply.TheVariants as replies;
 ghost use Rattle.store.specs.Opening.{store_of};
@@ -52,8 +52,8 @@ pub fn serve<D: CrashDisk, R: Read, W: Write>(
     writer: &mut W,
     moment: Moment,
 ) -> Result<u64, SessionFault>
-    requires { store.old.core.out ≡ None }
-    ensures idle { store.new.core.out ≡ None }
+    requires { store.old.core.out ≡ [] }
+    ensures idle { store.new.core.out ≡ [] }
     ensures served { HasServed
         (store_of (D.device store.old.disk) store.old.core store.old.boot)
         (client_of (R.remaining reader.old) (W.contents writer.old)) moment result
@@ -83,8 +83,8 @@ fn serve_all<D: CrashDisk, R: Read, W: Write>(
     writer: &mut W,
     moment: Moment,
 ) -> Result<u64, SessionFault>
-    requires { store.old.core.out ≡ None }
-    ensures idle { store.new.core.out ≡ None }
+    requires { store.old.core.out ≡ [] }
+    ensures idle { store.new.core.out ≡ [] }
     ensures end { OnOk result (IsAtEnd (R.remaining reader.new)) }
 {
     let mut records = Records::new(alloc);
@@ -131,8 +131,8 @@ fn serve_records<D: CrashDisk, W: Write>(
     moment: Moment,
     count: u64,
 ) -> Result<u64, SessionFault>
-    requires { store.old.core.out ≡ None }
-    ensures { store.new.core.out ≡ None }
+    requires { store.old.core.out ≡ [] }
+    ensures { store.new.core.out ≡ [] }
 {
     let mut replies = count;
     'records: while let Some(record) = next_record(alloc, records)? {
@@ -161,8 +161,8 @@ fn serve_record<D: CrashDisk, W: Write>(
     writer: &mut W,
     moment: Moment,
 ) -> Result<(), SessionFault>
-    requires { store.old.core.out ≡ None }
-    ensures { store.new.core.out ≡ None }
+    requires { store.old.core.out ≡ [] }
+    ensures { store.new.core.out ≡ [] }
 {
     match judge(alloc, record) {
         Err(_) => Err(SessionFault::NoMemory),
@@ -188,8 +188,8 @@ fn serve_call<D: CrashDisk, W: Write>(
     writer: &mut W,
     moment: Moment,
 ) -> Result<(), SessionFault>
-    requires { store.old.core.out ≡ None }
-    ensures { store.new.core.out ≡ None }
+    requires { store.old.core.out ≡ [] }
+    ensures { store.new.core.out ≡ [] }
 {
     match call {
         ProgramCall::Nfs(call) => {

@@ -1,5 +1,5 @@
 -- What comes of opening a store.
-use Rattle.std.specs.Prelude.{◌≡◌, ℕ, ◌≤◌, None, false, length, Result, Ok, Err}
+use Rattle.std.specs.Prelude.{◌≡◌, ℕ, ◌≤◌, [], false, length, Result, Ok, Err}
 use Rattle.limits.specs.declared.TheConstants.{MOST_KEPT_COMMITS}
 use Rattle.disk.specs.Device.{Device}
 use Rattle.wal.specs.Log.{settled_place}
@@ -28,7 +28,7 @@ Opening = Result Opened (Device × OpenFault)
 
 -- what is known of a store that was opened
 abbrev pub IsOpening : Opening → Type 0
-IsOpening (Ok store) = (store.core.out ≡ None) × (store.device.size ≡ store.core.log.blocks)
+IsOpening (Ok store) = (store.core.out ≡ []) × (store.device.size ≡ store.core.log.blocks)
     × IsLawful store.core.log.blocks store.core.inodes
 IsOpening (Err refused) = Unit {0}
 

@@ -1,7 +1,8 @@
 -- What a worker has begun.
-use Rattle.std.specs.Prelude.{◌≡◌, ℕ, ◌<◌, Bool, true, false, Option, Some, None, is_some, IfSome}
+use Rattle.std.specs.Prelude.{◌≡◌, ℕ, ◌<◌, Bool, true, false, Option, Some, None, is_some, IfSome, [], ◌∷◌}
 use Rattle.model.specs.Calls.{has_rules}
 use Rattle.txn.specs.Core.{CoreState}
+use Rattle.txn.specs.Out.{listed}
 use Rattle.layout.specs.Geometry.{IsLawful}
 use Rattle.procs.specs.declared.next.Plan.{Plan}
 use Rattle.procs.specs.declared.next.Plan.TheVariants as plan
@@ -67,7 +68,7 @@ ReadsWithin blocks worker = IfSome worker.begun.io (λ io. io.block.0 < blocks)
 -- A worker fits a core: the transaction that is out is the worker's, the block that it reads is one of the
 -- image's, and what it needs to go on is there.
 pub record Fits (worker : Worker) (core : CoreState) : Type 0 where
-  pub out : core.out ≡ worker.begun.tx
+  pub out : core.out ≡ listed worker.begun.tx
   pub transaction : is_some worker.begun.tx ≡ has_transaction worker.phase
   pub fetch : is_some worker.begun.io ≡ has_fetch worker.phase
   pub reads : ReadsWithin core.log.blocks worker
@@ -76,7 +77,7 @@ pub record Fits (worker : Worker) (core : CoreState) : Type 0 where
 
 -- the worker's transaction was taken out of it, and what it needs to plan is there
 pub record IsHeld (worker : Worker) (tx : ℕ) (core : CoreState) : Type 0 where
-  pub out : core.out ≡ Some tx
+  pub out : core.out ≡ tx ∷ []
   pub none : worker.begun.tx ≡ None
   pub no_fetch : worker.begun.io ≡ None
   pub planned : IsPlanned worker

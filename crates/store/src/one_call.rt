@@ -1,5 +1,5 @@
 //! One call to its answer, by one thread.
-ghost use Rattle.std.specs.Prelude.{◌≡◌, None};
+ghost use Rattle.std.specs.Prelude.{◌≡◌, None, []};
 ghost use Rattle.store.specs.Worker.{Fits};
 
 use crate::opened::{Store, keeps_too_many, settle};
@@ -19,8 +19,8 @@ pub fn procedure<D: CrashDisk>(
     moment: Moment,
     call: Call,
 ) -> Verdict
-    requires { store.old.core.out ≡ None }
-    ensures { store.new.core.out ≡ None }
+    requires { store.old.core.out ≡ [] }
+    ensures { store.new.core.out ≡ [] }
 {
     let mut worker = Worker::new(store.boot);
     worker.hand(credential, moment, call);

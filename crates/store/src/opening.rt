@@ -1,5 +1,5 @@
 //! Opening a store: what a crash left in the log is brought home, and the boot number rises.
-ghost use Rattle.std.specs.Prelude.{◌≡◌, ◌+◌, ◌^◌, ◌<◌, IfOk, MatchResult, None, Ok, Err};
+ghost use Rattle.std.specs.Prelude.{◌≡◌, ◌+◌, ◌^◌, ◌<◌, IfOk, MatchResult, None, Ok, Err, []};
 ghost use Rattle.wal.specs.Io.{IsCallWithin};
 ghost use Rattle.layout.specs.Geometry.{IsLawful};
 ghost use Rattle.store.specs.Opening.{HasOpened, store_of};
@@ -22,7 +22,7 @@ use wal::{InstIo, Wal};
 /// hands the disk back.
 #[tactic(auto, using(crate::specs::Opening::has_opened))]
 pub fn open<D: CrashDisk>(alloc: Global, disk: D) -> Result<Store<D>, (D, OpenFault)>
-    ensures idle { IfOk result (λ store. store.core.out ≡ None) }
+    ensures idle { IfOk result (λ store. store.core.out ≡ []) }
     ensures opened { MatchResult result
         (λ store. HasOpened (D.device disk) (Ok (store_of (D.device store.disk) store.core store.boot)))
         (λ refused. HasOpened (D.device disk) (Err (D.device refused.0, refused.1))) }
@@ -38,7 +38,7 @@ pub fn open<D: CrashDisk>(alloc: Global, disk: D) -> Result<Store<D>, (D, OpenFa
 fn recover<D: CrashDisk>(alloc: Global, disk: &mut D) -> Result<(Core<Done>, u64), OpenFault>
     ensures size { IfOk result (λ opened. (D.device disk.new).size ≡ opened.0.log.blocks) }
     ensures lawful { IfOk result (λ opened. IsLawful opened.0.log.blocks opened.0.inodes) }
-    ensures idle { IfOk result (λ opened. opened.0.out ≡ None) }
+    ensures idle { IfOk result (λ opened. opened.0.out ≡ []) }
 {
     let mut block = Block::zeros(alloc).map_err(|_| OpenFault::NoMemory)?;
     let found = read_super(disk, &mut block)?;

@@ -66,7 +66,8 @@ pub(crate) struct Begun {
 }
 
 impl Begun {
-    ghost use Rattle.std.specs.Prelude.{◌≡◌, Some, None, true, is_some};
+    ghost use Rattle.std.specs.Prelude.{◌≡◌, Some, None, true, is_some, []};
+    ghost use Rattle.txn.specs.Out.{listed};
     ghost use Rattle.store.specs.Counts.{SameCounts};
 
     // Takes the transaction that is out.
@@ -95,9 +96,9 @@ impl Begun {
 
     // Gives the fetch back, and ends the transaction.
     fn end(self, core: &mut Core<Done>)
-        requires { core.old.out ≡ self.tx }
+        requires { core.old.out ≡ listed self.tx }
         ensures counts { SameCounts core.old core.new }
-        ensures ended { core.new.out ≡ None }
+        ensures ended { core.new.out ≡ [] }
     {
         let Begun { tx, io } = self;
         if let Some(io) = io {
@@ -110,7 +111,7 @@ impl Begun {
 }
 
 impl Worker {
-    ghost use Rattle.std.specs.Prelude.{◌≡◌, ◌↔◌, IsTrue, IsSome, None, true, is_some};
+    ghost use Rattle.std.specs.Prelude.{◌≡◌, ◌↔◌, IsTrue, IsSome, None, true, is_some, []};
     ghost use Rattle.txn.specs.Core.{CoreState};
     ghost use Rattle.store.specs.declared.workers.Phase.TheVariants.{Idle, Called, Reading};
     ghost use Rattle.store.specs.Counts.{SameCounts};
@@ -120,7 +121,7 @@ impl Worker {
     /// An idle worker of a store with this boot number. It fits each core that has no transaction out, and from
     /// then on that core alone: each method keeps it so, with whatever device of as many blocks.
     pub fn new(boot: u64) -> Worker
-        ensures fits { (core : CoreState) → core.out ≡ None → IsLawful core.log.blocks core.inodes
+        ensures fits { (core : CoreState) → core.out ≡ [] → IsLawful core.log.blocks core.inodes
             → Fits result core }
         ensures idle { result.phase ≡ Idle }
         ensures boot { result.boot ≡ boot }
@@ -246,7 +247,7 @@ impl Worker {
     pub fn end(self, core: &mut Core<Done>)
         requires { Fits self core.old }
         ensures counts { SameCounts core.old core.new }
-        ensures ended { core.new.out ≡ None }
+        ensures ended { core.new.out ≡ [] }
     {
         let Worker {
             boot: _,

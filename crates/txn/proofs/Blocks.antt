@@ -2,8 +2,8 @@
 use Rattle.std.proofs.Common.{◌≡◌, ◌≤◌, ◌<◌, Bool, true, false, cond, List, [], ◌∷◌, ◌++◌, length, arith}
 use Rattle.std.proofs.Common.{length-append, subst, sym}
 use Rattle.disk.specs.declared.block.BlockNo.{BlockNo}
-use Rattle.txn.specs.Object.{ObjectBytes}
-use Rattle.txn.specs.Group.{is_among, blocks_after}
+use Rattle.txn_law.specs.Object.{ObjectBytes}
+use Rattle.txn_law.specs.Group.{is_among, blocks_after}
 
 -- a block more or none
 pub grown : (blocks : List BlockNo) (block : BlockNo) (known : Bool)

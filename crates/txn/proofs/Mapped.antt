@@ -1,11 +1,16 @@
 -- Tests of a list's values, and of what is made of them.
 use Rattle.std.proofs.Common.{◌≡◌, refl, ap, sym, Bool, true, false, cond, ◌||◌, List, [], ◌∷◌, map, is_none}
+use Rattle.std.proofs.Common.{ℕ, ◌∙◌, ◌++◌, nat_lt, if◌then◌else◌}
+use Rattle.std.proofs.lemmas.List.{map-append}
 use Rattle.std.specs.List.{list_any, filter}
-use Rattle.txn.specs.Holds.{is_taken}
-use Rattle.txn.specs.Records.{lies_in, swept}
-use Rattle.txn.specs.Window.{Footprint}
-use Rattle.txn.specs.declared.holds.Hold.{Hold}
-use Rattle.txn.specs.declared.present.Present.{Present}
+use Rattle.wal_law.specs.Log.{Log, installed_place}
+use Rattle.txn_law.specs.Commit.{Planned, with_record, refreshed, committed}
+use Rattle.txn_law.specs.Core.{CoreState, ended}
+use Rattle.txn_law.specs.Holds.{is_taken}
+use Rattle.txn_law.specs.Records.{lies_in, swept}
+use Rattle.txn_law.specs.Window.{Footprint}
+use Rattle.txn_law.specs.declared.hold.Hold.{Hold}
+use Rattle.txn_law.specs.declared.present.Present.{Present}
 
 -- what is made of the values that pass is what passes of what is made of all
 pub map_filter : {X Y : Type 0} (f : X → Y) (p : Y → Bool) (xs : List X)
@@ -31,3 +36,34 @@ pub swept_of_map : {X : Type 0} (f : X → Footprint) (holds : List Hold) (xs : 
 swept_of_map f holds xs present =
     λ i. filter (λ entry. is_none entry.content || is_taken holds entry.block
     || sym (any_of_map f (λ kept. lies_in kept.read entry.block) xs) i) present
+
+-- the records with a commit's, told by the commits and by what is made of them
+pub recorded : {X : Type 0} (f : X → Footprint) (log : Log) (plan : Planned) (installed place : ℕ)
+    (xs : List X) (x : X) → installed ≡ installed_place log → place ≡ log.places
+    → f x ≡ record { place = place; read = plan.read; written = plan.written }
+    → map f (if nat_lt installed place then xs ++ x ∷ [] else xs) ≡ with_record log log.places plan (map f xs)
+recorded f log plan installed place xs x first last is =
+    go (nat_lt installed place) ∙ ap (λ n. chosen n place) first ∙ ap (λ n. chosen (installed_place log) n) last
+  where
+    chosen : ℕ → ℕ → List Footprint
+    chosen a b = if nat_lt a b then map f xs
+        ++ record { place = b; read = plan.read; written = plan.written } ∷ [] else map f xs
+
+    go : (t : Bool) → map f (if t then xs ++ x ∷ [] else xs)
+        ≡ (if t then map f xs ++ record { place = place; read = plan.read; written = plan.written } ∷ []
+        else map f xs)
+    go true = map-append f xs (x ∷ []) ∙ ap (λ y. map f xs ++ y ∷ []) is
+    go false = refl
+
+-- a commit leaves what it should, told by the parts
+pub committed_is : (old new : CoreState) (tx : ℕ) (plan : Planned) (log : Log) (present : List Present)
+    (records : List Footprint)
+    → new ≡ ended (record old { log = log; present = present; records = records }) tx
+    → present ≡ refreshed log old.present → records ≡ with_record log log.places plan old.records
+    → new ≡ committed old tx plan new.log
+committed_is old new tx plan log present records is here kept =
+    let one : new ≡ committed old tx plan log =
+    is ∙ ap (λ (xs : List Present). ended (record old { log = log; present = xs; records = records }) tx) here
+    ∙ ap (λ (rs : List Footprint). ended (record old { log = log; present = refreshed log old.present; records = rs })
+    tx) kept in
+    one ∙ ap (λ (l : Log). committed old tx plan l) (sym (ap (λ (core : CoreState). core.log) one))

@@ -1,8 +1,8 @@
 -- What a look for an object finds.
 use Rattle.std.specs.Prelude.{◌≡◌, ℕ, length}
 use Rattle.objects.specs.declared.addr.Addr.{Addr}
-use Rattle.txn.specs.Outcomes.{IsHeld, IsFetched}
-use Rattle.txn.specs.Core.{CoreState}
+use Rattle.txn_law.specs.Wishes.{IsHeld, IsFetched}
+use Rattle.txn_law.specs.Core.{CoreState}
 use Rattle.txn.specs.declared.want.Source.{Source}
 use Rattle.txn.specs.declared.want.Source.TheVariants as found
 

@@ -8,7 +8,7 @@ use crate::Object;
 /// counts of blocks and inodes of the image that it was worked out for.
 pub trait Change: Drop {
     ghost use Rattle.std.specs.Prelude.{List, ℕ};
-    ghost use Rattle.txn.specs.Object.{ObjectBytes};
+    ghost use Rattle.txn_law.specs.Object.{ObjectBytes};
 
     ghost objects_read: { Self → List ObjectBytes };
 

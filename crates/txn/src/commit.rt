@@ -1,28 +1,29 @@
 //! Committing a change.
 ghost use Rattle.std.specs.Prelude.{◌≡◌, ◌≤◌, ◌<◌, ◌↔◌, length, All, IsTrue, true};
-ghost use Rattle.wal.specs.Log.{IsHomeOn};
+ghost use Rattle.wal_law.specs.Log.{IsHomeOn};
 ghost use Rattle.limits.specs.declared.TheConstants.{CHANGED_BLOCKS};
-ghost use Rattle.txn.specs.Outcomes.{IsCommit, IsOwn, IsReadBy, HasBytes};
-ghost use Rattle.txn.specs.Holds.{hold_of, is_written};
-ghost use Rattle.txn.specs.Group.{blocks_of};
+ghost use Rattle.txn.specs.Outcomes.{IsCommit};
+ghost use Rattle.txn_law.specs.Commit.{IsOwn, IsReadBy, IsWrittenBy, HasBytes};
+ghost use Rattle.txn_law.specs.Group.{blocks_of};
 
 use crate::group::{blocks_of_objects, group_of};
 use crate::holds::{is_read_by, is_written_by};
 use crate::outcomes::Commit;
-use crate::present::{Present, content_of};
+use crate::present::{content_of, is_pending, refresh};
 use crate::records::keep;
-use crate::{Change, Core, Object, Tx};
+use crate::state::State;
+use crate::{Change, Object, Tx};
 use disk::BlockNo;
 use std::alloc::Global;
-use wal::{Append, Room, Wal};
+use wal::{Append, Room};
 
-impl<C: Change> Core<C> {
+impl<C: Change> State<C> {
     /// Commits a change at the next place, and ends its transaction. Broken: a write or a barrier has failed.
     /// Foreign: the change was planned for other counts than the core's, or writes what this transaction
     /// doesn't hold, or read what it doesn't hold for reading or what differs. Spent: no place is left, or
     /// too few positions of the log. Full: the open group and this change pass the log. These and NoMemory
     /// change nothing.
-    pub fn commit(&mut self, alloc: Global, tx: Tx, change: C) -> Commit<C>
+    pub(crate) fn commit(&mut self, alloc: Global, tx: Tx, change: C) -> Commit<C>
         requires { length (blocks_of (C.objects_written change)) ≤ CHANGED_BLOCKS }
         ensures { IsCommit self.old tx (record {
           read = C.objects_read change;
@@ -112,12 +113,22 @@ impl<C: Change> Core<C> {
         }
     }
 
-    // Whether the transaction holds these objects for writing.
+    // Whether the transaction holds these objects for writing, and no fetch of their blocks is pending.
     fn may_write(&self, transaction: u64, objects: &[Object]) -> bool
         ensures { IsTrue result
-            ↔ All (λ object. is_written (hold_of self.now.holds transaction object.addr) ≡ true) objects.now }
+            ↔ All (λ object. IsWrittenBy self.now transaction object.addr) objects.now }
     {
-        objects.iter().all(|object| is_written_by(&self.holds, transaction, object.addr()))
+        objects
+            .iter()
+            .all(|object| self.is_writable(transaction, object))
+    }
+
+    // Whether the transaction holds the object for writing, and no fetch of its block is pending.
+    fn is_writable(&self, transaction: u64, object: &Object) -> bool
+        ensures { IsTrue result ↔ IsWrittenBy self.now transaction object.now.addr }
+    {
+        let addr = object.addr();
+        is_written_by(&self.holds, transaction, addr) && !is_pending(&self.present, addr.block)
     }
 
     // Whether a change may write these blocks.
@@ -125,14 +136,5 @@ impl<C: Change> Core<C> {
         ensures { IsTrue result ↔ All (IsHomeOn self.now.log.blocks) blocks.now }
     {
         blocks.iter().all(|block| self.is_inside(*block))
-    }
-}
-
-// Makes each block in memory that the log has what the log has.
-fn refresh(present: &mut Vec<Present>, wal: &Wal) {
-    for entry in present.iter_mut() {
-        if let (Some(content), Some(newest)) = (entry.content.as_mut(), wal.latest(entry.block)) {
-            content.copy_from(newest);
-        }
     }
 }

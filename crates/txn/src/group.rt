@@ -1,17 +1,18 @@
 //! The blocks that a change writes, with the bytes that they get.
 ghost use Rattle.std.specs.Prelude.{◌≡◌, ◌≤◌, length, IfOk, All};
 ghost use Rattle.limits.specs.declared.TheConstants.{CHANGED_BLOCKS};
-ghost use Rattle.wal.specs.Log.{blocks_of as group_blocks};
-ghost use Rattle.wal.specs.Log.{newest};
-ghost use Rattle.txn.specs.Group.{blocks_of, is_among, base_in, laid, IsLaid};
-ghost use Rattle.txn.specs.Present.{present_of, content_in};
+ghost use Rattle.wal_law.specs.Log.{blocks_of as group_blocks};
+ghost use Rattle.wal_law.specs.Log.{newest};
+ghost use Rattle.txn_law.specs.Group.{blocks_of, is_among, base_in, laid, IsLaid};
+ghost use Rattle.txn_law.specs.Present.{present_of, content_in};
 
 use crate::Object;
-use crate::present::{Present, content_of};
+use crate::present::content_of;
 use arrayvec::ArrayVec;
 use disk::{Block, BlockNo};
 use limits::CHANGED_BLOCKS;
 use std::alloc::{AllocError, Global};
+use txn_law::Present;
 use wal::Wal;
 
 /// The numbers of a change's blocks.

@@ -1,24 +1,15 @@
 //! Who holds what.
 ghost use Rattle.std.specs.Prelude.{◌≡◌, ◌<◌, ◌≤◌, ◌↔◌, IsTrue, vec_len, vec_capacity};
-ghost use Rattle.txn.specs.Holds.{IsFree, is_taken, hold_of, is_read, is_written, joined, without_hold};
-ghost use Rattle.txn.specs.Holds.{with_hold, released};
+ghost use Rattle.txn_law.specs.Holds.{IsFree, exclusive, is_taken, hold_of, is_read, is_written, joined, without_hold};
+ghost use Rattle.txn_law.specs.Holds.{with_hold, released};
 
 use disk::BlockNo;
 use objects::Addr;
-
-/// An address that a transaction has taken. It holds the address for reading once it was told its bytes, and
-/// for writing then or once it claimed it. One whose block is still to be fetched is taken and not held.
-#[derive(Clone, Copy, Debug)]
-pub(crate) struct Hold {
-    pub(crate) transaction: u64,
-    pub(crate) addr: Addr,
-    pub(crate) is_read: bool,
-    pub(crate) is_claimed: bool,
-}
+use txn_law::Hold;
 
 /// Whether nobody has taken a byte of the address, but this transaction by this address.
 pub(crate) fn is_free(holds: &[Hold], transaction: u64, addr: Addr) -> bool
-    ensures { IsTrue result ↔ IsFree holds.now transaction addr }
+    ensures { IsTrue result ↔ IsFree holds.now transaction addr exclusive }
 {
     holds.iter().all(|hold| {
         !hold.addr.overlaps(addr) || hold.transaction == transaction && hold.addr == addr

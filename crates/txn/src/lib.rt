@@ -10,18 +10,18 @@ mod outcomes;
 mod present;
 mod records;
 mod state;
+mod transactions;
 mod tx;
 mod want;
-mod window;
 
 pub use change::Change;
 pub use group::added_blocks;
 pub use object::Object;
 pub use outcomes::{BeginFault, Claim, Commit, Want};
-pub use state::Core;
+pub use transactions::Core;
 pub use tx::{FetchIo, Stable, Tx};
-pub use wal::{InstIo, LogIo, Seq};
-pub use window::{
+pub use txn_law::{
     a_window_has_each_commit_that_is_not_installed, a_window_keeps_what_was_read,
     a_window_reads_one_content,
 };
+pub use wal::{InstIo, LogIo, Seq};

@@ -15,7 +15,7 @@ pub struct Object {
 
 impl Model for Object {
     ghost use Rattle.std.specs.Prelude.{◌≡◌, length};
-    ghost use Rattle.txn.specs.Object.{ObjectBytes};
+    ghost use Rattle.txn_law.specs.Object.{ObjectBytes};
 
     ghost Value = { ObjectBytes };
 

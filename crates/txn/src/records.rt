@@ -1,15 +1,15 @@
 //! The commits that aren't installed.
 ghost use Rattle.std.specs.Prelude.{◌≡◌, ◌<◌, ◌++◌, ◌∷◌, [], ◌||◌, if◌then◌else◌, is_none, nat_lt};
 ghost use Rattle.std.specs.List.{filter, list_any};
-ghost use Rattle.txn.specs.Holds.{is_taken};
-ghost use Rattle.txn.specs.Records.{lies_in};
+ghost use Rattle.txn_law.specs.Holds.{is_taken};
+ghost use Rattle.txn_law.specs.Records.{lies_in};
 ghost use Rattle.std.specs.VecDeque.{deque_len, deque_capacity};
 
-use crate::holds::{Hold, is_taken};
-use crate::present::Present;
+use crate::holds::is_taken;
 use crate::{Change, Object};
 use disk::BlockNo;
 use std::collections::VecDeque;
+use txn_law::{Hold, Present};
 use wal::Seq;
 
 /// A commit with its place.

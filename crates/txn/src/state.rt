@@ -1,16 +1,18 @@
-//! The core: who holds what, what is in memory, and the commits that aren't installed.
+//! The state of a core, and exactly what each method makes of it: who holds what, what is in memory, and the
+//! commits that aren't installed.
 ghost use Rattle.std.specs.Prelude.{◌≡◌, ◌≤◌, ◌+◌, ◌^◌, ◌↔◌, IsTrue, IsSome, IsNone, IfSome, IsErrOf, OnErr};
-ghost use Rattle.std.specs.Prelude.{IfOk, Some, None, true, false, is_some, if◌then◌else◌, [], length};
-ghost use Rattle.wal.specs.Log.{settled_place, installed_place, tail_count, IsHomeOn};
-ghost use Rattle.wal.specs.Io.{IsCallWithin};
-ghost use Rattle.wal.specs.Logger.{may_log, with_log_out, is_log_out, with_log_back};
-ghost use Rattle.wal.specs.Installer.{may_install, with_inst_out, is_inst_out, with_inst_back};
-ghost use Rattle.txn.specs.Core.{without, ended, past, installed};
-ghost use Rattle.txn.specs.Records.{swept};
+ghost use Rattle.txn.specs.Out.{listed};
+ghost use Rattle.std.specs.Prelude.{IfOk, ◌∷◌, true, false, is_some, if◌then◌else◌, [], length};
+ghost use Rattle.wal_law.specs.Log.{settled_place, installed_place, tail_count, IsHomeOn};
+ghost use Rattle.wal_law.specs.Calls.{LogCallGoesOut, LogCallComesBack, InstCallGoesOut, InstCallComesBack};
+ghost use Rattle.wal_law.specs.Io.{IsCallWithin};
+ghost use Rattle.wal_law.specs.Logger.{may_log, with_log_out, is_log_out, with_log_back};
+ghost use Rattle.wal_law.specs.Installer.{may_install, with_inst_out, is_inst_out, with_inst_back};
+ghost use Rattle.txn_law.specs.Core.{without, ended, past, installed};
+ghost use Rattle.txn_law.specs.Records.{swept};
 
-use crate::holds::{Hold, release};
+use crate::holds::release;
 use crate::outcomes::BeginFault;
-use crate::present::Present;
 use crate::records::{Record, forget, sweep};
 use crate::{Change, Stable, Tx};
 use disk::BlockNo;
@@ -18,11 +20,12 @@ use limits::FIRST_HOME_BLOCK;
 use std::alloc::Global;
 use std::collections::VecDeque;
 use std::marker::Model;
+use txn_law::{Hold, Present};
 use wal::{InstIo, LogIo, Seq, Wal};
 
-/// The transactional core of a store, for changes of one kind. It makes no device call: it hands them out.
+/// What a core has.
 #[derive(Drop)]
-pub struct Core<C: Change> {
+pub(crate) struct State<C: Change> {
     pub(crate) log: Wal,
     pub(crate) inodes: u32,
     // How many transactions were begun.
@@ -37,9 +40,10 @@ pub struct Core<C: Change> {
     pub(crate) records: VecDeque<Record<C>>,
 }
 
-impl<C: Change> Model for Core<C> {
+impl<C: Change> Model for State<C> {
     ghost use Rattle.std.specs.Prelude.{map};
-    ghost use Rattle.txn.specs.Core.{CoreState};
+    ghost use Rattle.txn.specs.Out.{listed};
+    ghost use Rattle.txn_law.specs.Core.{CoreState};
 
     ghost Value = { CoreState };
 
@@ -47,27 +51,27 @@ impl<C: Change> Model for Core<C> {
       log = c.log;
       inodes = c.inodes;
       begun = c.begun;
-      out = c.out;
+      out = listed c.out;
       holds = c.holds.items;
       present = c.present.items;
       records = map (λ r. record { place = r.place.0; read = C.objects_read r.change; written = C.objects_written r.change }) c.records.items;
     } };
 }
 
-impl<C: Change> Core<C> {
+impl<C: Change> State<C> {
     /// A core over a log, for an image with the log's blocks and this count of inodes.
-    pub fn new(alloc: Global, log: Wal, inodes: u32) -> Core<C>
+    pub(crate) fn new(alloc: Global, log: Wal, inodes: u32) -> State<C>
         ensures { result ≡ record {
           log = log;
           inodes = inodes;
           begun = 0;
-          out = None;
+          out = [];
           holds = [];
           present = [];
           records = [];
         } }
     {
-        Core {
+        State {
             log,
             inodes,
             begun: 0,
@@ -79,17 +83,17 @@ impl<C: Change> Core<C> {
     }
 
     /// The image's counts of blocks and of inodes.
-    pub fn counts(&self) -> (u32, u32)
+    pub(crate) fn counts(&self) -> (u32, u32)
         ensures { result ≡ (self.now.log.blocks, self.now.inodes) }
     {
         (self.log.blocks(), self.inodes)
     }
 
     /// Begins a transaction. Transactions are numbered from 1. Broken is tested first.
-    pub fn begin(&mut self) -> Result<Tx, BeginFault>
-        requires { self.old.out ≡ None }
+    pub(crate) fn begin(&mut self) -> Result<Tx, BeginFault>
+        requires { self.old.out ≡ [] }
         ensures begun { IfOk result (λ tx. (tx ≡ self.old.begun + 1)
-            × (self.new ≡ record self.old { begun = self.old.begun + 1; out = Some (self.old.begun + 1) })) }
+            × (self.new ≡ record self.old { begun = self.old.begun + 1; out = (self.old.begun + 1) ∷ [] })) }
         ensures refused { OnErr result (self.new ≡ self.old) }
         ensures broken { IsErrOf result BeginFault.Broken ↔ (self.old.log.broken ≡ true) }
         ensures spent { IsErrOf result BeginFault.Spent
@@ -108,7 +112,7 @@ impl<C: Change> Core<C> {
     }
 
     /// Ends a transaction without a change, and lets go of what it has taken.
-    pub fn abort(&mut self, tx: Tx)
+    pub(crate) fn abort(&mut self, tx: Tx)
         ensures { self.new ≡ ended self.old tx }
     {
         let Tx { number } = tx;
@@ -148,7 +152,7 @@ impl<C: Change> Core<C> {
     }
 
     /// Shows that the place is settled, where it is.
-    pub fn stable(&self, place: Seq) -> Option<Stable>
+    pub(crate) fn stable(&self, place: Seq) -> Option<Stable>
         ensures settled { IsSome result ↔ (place.0 ≤ settled_place self.now.log) }
         ensures place { IfSome result (λ stable. stable ≡ place.0) }
     {
@@ -160,69 +164,73 @@ impl<C: Change> Core<C> {
     }
 
     /// Whether every commit is settled.
-    pub fn is_settled(&self) -> bool
+    pub(crate) fn is_settled(&self) -> bool
         ensures { IsTrue result ↔ (settled_place self.now.log ≡ self.now.log.places) }
     {
         self.log.settled() == self.log.places()
     }
 
     /// How many commits it keeps: those that aren't installed.
-    pub fn kept(&self) -> usize
+    pub(crate) fn kept(&self) -> usize
         ensures { result ≡ length self.now.records }
     {
         self.records.len()
     }
 
     /// How many blocks the open tail of the log holds.
-    pub fn tail(&self) -> usize
+    pub(crate) fn tail(&self) -> usize
         ensures { result ≡ tail_count self.now.log }
     {
         self.log.tail()
     }
 
     /// Whether a write or a barrier has failed. Nothing is begun or committed any more.
-    pub fn broken(&self) -> bool
+    pub(crate) fn broken(&self) -> bool
         ensures { result ≡ self.now.log.broken }
     {
         self.log.broken()
     }
 
     /// The log's next device call, if there is one and none is out.
-    pub fn log_next(&mut self) -> Option<LogIo>
+    pub(crate) fn log_next(&mut self) -> Option<LogIo>
         ensures causes { is_some result ≡ may_log self.old.log }
         ensures some { IsSome result → self.new ≡ record self.old { log = with_log_out self.old.log } }
         ensures none { IsNone result → self.new ≡ self.old }
         ensures within { IfSome result (λ io. IsCallWithin self.new.log.blocks io.call) }
+        ensures law { IfSome result (λ io. LogCallGoesOut self.old.log io self.new.log) }
     {
         self.log.log_next()
     }
 
     /// Gives the log's device call back, with whether it was answered Ok.
-    pub fn log_done(&mut self, io: LogIo, ok: bool)
+    pub(crate) fn log_done(&mut self, io: LogIo, ok: bool)
         ensures log { self.new.log ≡ (if is_log_out self.old.log io then with_log_back self.old.log ok
             else self.old.log) }
         ensures blocks { self.new.log.blocks ≡ self.old.log.blocks }
         ensures others { self.new ≡ record self.old { log = self.new.log } }
+        ensures law { LogCallComesBack self.old.log io ok self.new.log }
     {
         self.log.log_done(io, ok);
     }
 
     /// The installer's next device call, if there is one and none is out.
-    pub fn inst_next(&mut self) -> Option<InstIo>
+    pub(crate) fn inst_next(&mut self) -> Option<InstIo>
         ensures causes { is_some result ≡ may_install self.old.log }
         ensures some { IsSome result → self.new ≡ record self.old { log = with_inst_out self.old.log } }
         ensures none { IsNone result → self.new ≡ self.old }
         ensures within { IfSome result (λ io. IsCallWithin self.new.log.blocks io.call) }
+        ensures law { IfSome result (λ io. InstCallGoesOut self.old.log io self.new.log) }
     {
         self.log.inst_next()
     }
 
     /// Gives the installer's device call back, with whether it was answered Ok.
-    pub fn inst_done(&mut self, io: InstIo, ok: bool)
+    pub(crate) fn inst_done(&mut self, io: InstIo, ok: bool)
         ensures log { self.new.log ≡ (if is_inst_out self.old.log io then with_inst_back self.old.log ok
             else self.old.log) }
         ensures blocks { self.new.log.blocks ≡ self.old.log.blocks }
         ensures others { self.new ≡ installed self.old self.new.log }
+        ensures law { InstCallComesBack self.old.log io ok self.new.log }
     {
         self.log.inst_done(io, ok);
         self.forget();
@@ -232,7 +240,7 @@ impl<C: Change> Core<C> {
 
 // Which transaction is out once this one has ended.
 fn without(transaction: u64, out: Option<u64>) -> Option<u64>
-    ensures { result ≡ without transaction out }
+    ensures { listed result ≡ without transaction (listed out) }
 {
     match out {
         Some(number) if number == transaction => None,

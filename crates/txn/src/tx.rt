@@ -37,7 +37,7 @@ pub struct FetchIo {
 }
 
 impl Model for FetchIo {
-    ghost use Rattle.txn.specs.Fetch.{Fetch};
+    ghost use Rattle.txn_law.specs.Fetch.{Fetch};
 
     ghost Value = { Fetch };
 

@@ -1,18 +1,22 @@
 //! Reading and claiming what a transaction works on.
 ghost use Rattle.std.specs.Prelude.{◌≡◌, IfOk, OnErr, true, false, length};
 ghost use Rattle.objects.specs.declared.addr.Addr.{Addr};
-ghost use Rattle.txn.specs.Outcomes.{IsWanted, IsWithin, IsWhole, IsClaimed};
-ghost use Rattle.txn.specs.Present.{present_of, is_pending};
-ghost use Rattle.txn.specs.Window.{part};
+ghost use Rattle.txn.specs.Outcomes.{IsWanted, IsWithin, IsClaimed};
+ghost use Rattle.txn_law.specs.Present.{present_of, is_pending};
+ghost use Rattle.txn_law.specs.Window.{part};
+ghost use Rattle.txn_law.specs.Wishes.{IsWhole};
+ghost use Rattle.txn_law.specs.Fetched.{fetched, fetch_failed};
 ghost use Rattle.txn.specs.Source.{IsSource, IsSourceWithin};
 
-use crate::holds::{Hold, is_free, take};
+use crate::holds::{is_free, take};
 use crate::outcomes::{Claim, Want};
-use crate::present::{add, content_of, index_of, is_pending};
-use crate::{Change, Core, FetchIo, Tx};
+use crate::present::{add, content_of, fill, is_pending, let_go};
+use crate::state::State;
+use crate::{Change, FetchIo, Tx};
 use disk::{Block, BlockNo};
 use objects::Addr;
 use std::alloc::{AllocError, Global};
+use txn_law::Hold;
 
 // What want found, before the transaction is handed back.
 enum Source {
@@ -20,12 +24,12 @@ enum Source {
     Fetch(FetchIo),
 }
 
-impl<C: Change> Core<C> {
+impl<C: Change> State<C> {
     /// Takes an object for reading. Outside: the block isn't one that a change may write. Busy: another
     /// transaction has taken a byte of it, or this one by another address. Loading: a fetch of the block is
     /// pending, and nothing is taken. Fetch: the block has to be read from home; the object is taken, and the
     /// same want after `fetched` answers Held or NoMemory. NoMemory: nothing has changed.
-    pub fn want(&mut self, alloc: Global, tx: Tx, addr: Addr) -> Want
+    pub(crate) fn want(&mut self, alloc: Global, tx: Tx, addr: Addr) -> Want
         ensures answer { IsWanted self.old tx addr result self.new }
         ensures within { IsWithin self.old.log.blocks addr.len result }
     {
@@ -46,7 +50,7 @@ impl<C: Change> Core<C> {
     }
 
     /// Takes a whole block for writing, whose bytes don't matter. It answers as `want` does, and never Fetch.
-    pub fn claim(&mut self, tx: Tx, block: BlockNo) -> Claim
+    pub(crate) fn claim(&mut self, tx: Tx, block: BlockNo) -> Claim
         ensures { (addr : Addr) × IsWhole block addr × IsClaimed self.old tx addr result self.new }
     {
         self.claim_at(tx, Addr::whole(block))
@@ -117,26 +121,20 @@ impl<C: Change> Core<C> {
     }
 
     /// Gives a fetch back with what was read. The block stays in memory while anyone has taken a part of it.
-    pub fn fetched(&mut self, io: FetchIo)
-        ensures { self.new ≡ record self.old { present = self.new.present } }
+    pub(crate) fn fetched(&mut self, io: FetchIo)
+        ensures { self.new ≡ fetched self.old io.block io.content }
     {
         let FetchIo { block, buffer } = io;
-        if let Some(i) = index_of(&self.present, block) {
-            let entry = &mut self.present[i];
-            if entry.content.is_none() {
-                entry.content = Some(buffer);
-            }
-        }
+        fill(&mut self.present, block, buffer);
         self.sweep();
     }
 
     /// Gives a fetch back that failed. The next want of the block asks for it again.
-    pub fn fetch_failed(&mut self, io: FetchIo)
-        ensures { self.new ≡ record self.old { present = self.new.present } }
+    pub(crate) fn fetch_failed(&mut self, io: FetchIo)
+        ensures { self.new ≡ fetch_failed self.old io.block }
     {
         let FetchIo { block, buffer: _ } = io;
-        self.present
-            .retain(|entry| entry.block != block || entry.content.is_some());
+        let_go(&mut self.present, block);
     }
 }
 

@@ -1,5 +1,5 @@
 //! A toy change over a device in memory: what no contract says of reading, committing, settling and refusing.
-ghost use Rattle.std.specs.Prelude.{◌≡◌, ◌≤◌, ◌+◌, length, IfOk, None, Some};
+ghost use Rattle.std.specs.Prelude.{◌≡◌, ◌≤◌, ◌+◌, length, IfOk, None, Some, [], ◌∷◌};
 ghost use Rattle.limits.specs.declared.TheConstants.{BLOCK_BYTES, CHANGED_BLOCKS};
 ghost use Rattle.txn.specs.Group.{blocks_of};
 ghost use Rattle.txn_tests.specs.declared.tests.TheConstants.{BLOCKS, INODES};
@@ -58,7 +58,7 @@ impl Change for Toy {
 
 // A core over an empty log that begins at a position.
 fn core(alloc: Global, start: u64) -> Result<Core<Toy>, Fail>
-    ensures out { IfOk result (λ core. core.out ≡ None) }
+    ensures out { IfOk result (λ core. core.out ≡ []) }
     ensures blocks { IfOk result (λ core. core.log.blocks ≡ BLOCKS) }
 {
     let found = Recovered {
@@ -144,9 +144,9 @@ enum Ended {
 }
 
 fn commit(alloc: Global, core: &mut Core<Toy>, tx: Tx, toy: Toy) -> Ended
-    requires { core.old.out ≡ Some tx }
+    requires { core.old.out ≡ tx ∷ [] }
     ensures blocks { core.new.log.blocks ≡ core.old.log.blocks }
-    ensures idle { core.new.out ≡ None }
+    ensures idle { core.new.out ≡ [] }
 {
     let (tx, ended) = match core.commit(alloc, tx, toy) {
         Commit::Committed(place) => return Ended::Place(place),
@@ -186,11 +186,11 @@ fn change<D: CrashDisk>(
     byte: u8,
 ) -> Result<Ended, Fail>
     requires size { (D.device disk.old).size ≡ core.old.log.blocks }
-    requires idle { core.old.out ≡ None }
+    requires idle { core.old.out ≡ [] }
     requires len { addr.len ≡ 8 }
     ensures size { (D.device disk.new).size ≡ core.new.log.blocks }
     ensures blocks { core.new.log.blocks ≡ core.old.log.blocks }
-    ensures idle { core.new.out ≡ None }
+    ensures idle { core.new.out ≡ [] }
 {
     let toy = change_of(alloc, addr, was, byte)?;
     let tx = core.begin()?;
@@ -274,7 +274,7 @@ fn three_changes<D: CrashDisk>(
     disk: &mut D,
 ) -> Result<[Ended; 3], Fail>
     requires size { (D.device disk.old).size ≡ core.old.log.blocks }
-    requires idle { core.old.out ≡ None }
+    requires idle { core.old.out ≡ [] }
     ensures size { (D.device disk.new).size ≡ core.new.log.blocks }
 {
     let first = change(alloc, core, disk, eight(8), 0, 7)?;
@@ -309,9 +309,9 @@ fn want_two<D: CrashDisk>(
     other: Addr,
 ) -> Result<(u64, [Seen; 2]), Fail>
     requires size { (D.device disk.old).size ≡ core.old.log.blocks }
-    requires idle { core.old.out ≡ None }
+    requires idle { core.old.out ≡ [] }
     ensures size { (D.device disk.new).size ≡ core.new.log.blocks }
-    ensures idle { core.new.out ≡ None }
+    ensures idle { core.new.out ≡ [] }
 {
     let tx = core.begin()?;
     let number = tx.number();
@@ -366,7 +366,7 @@ fn bytes_that_are_taken_by_another_address_are_busy(rt: HostRuntime) -> Result<(
 
 // Claims a block in a transaction of its own, and writes its first bytes.
 fn claim_and_write(alloc: Global, core: &mut Core<Toy>, block: BlockNo) -> Result<Ended, Fail>
-    requires { core.old.out ≡ None }
+    requires { core.old.out ≡ [] }
 {
     let addr = Addr::whole(block);
     let mut written = Vec::new(alloc);
@@ -460,7 +460,7 @@ fn a_failed_call_of_the_log_breaks_the_core(rt: HostRuntime) -> Result<(), Fail>
 
 // Begins a transaction and ends it.
 fn begin_and_end(core: &mut Core<Toy>) -> Result<(), BeginFault>
-    requires { core.old.out ≡ None }
+    requires { core.old.out ≡ [] }
 {
     let tx = core.begin()?;
     core.abort(tx);

@@ -12,3 +12,4 @@ pub use Rattle.wal_law.specs.Recovery
 pub use Rattle.wal_law.specs.Law
 pub use Rattle.wal_law.specs.Calls
 pub use Rattle.wal_law.specs.ReadBack
+pub use Rattle.wal_law.specs.Grows

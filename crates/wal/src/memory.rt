@@ -2,7 +2,7 @@
 ghost use Rattle.std.specs.Prelude.{◌≡◌, ◌≤◌, ◌<◌, ◌^◌, ◌+◌, length, IfOk, MatchOption, Some, None, All, map};
 ghost use Rattle.limits.specs.declared.TheConstants.{LOG_SLOTS, FIRST_HOME_BLOCK};
 ghost use Rattle.wal_law.specs.Log.{newest, settled_place, installed_place, tail_count, opened, IsHomeOn};
-ghost use Rattle.wal_law.specs.Log.{blocks_of};
+ghost use Rattle.wal_law.specs.Log.{blocks_of, IsLawful};
 ghost use Rattle.wal_law.specs.Room.{IsRoom};
 
 mod append;
@@ -77,6 +77,13 @@ impl Wal {
             places: 0,
             broken: false,
         })
+    }
+
+    /// What is true of every log.
+    pub fn lawful(&self)
+        ensures { IsLawful self.now }
+    {
+        let _ = &self.blocks;
     }
 
     /// The newest content of a block. One that the log doesn't have is home.

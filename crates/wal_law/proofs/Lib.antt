@@ -16,3 +16,4 @@ pub mod Opening
 pub mod Effects
 pub mod Beside
 pub mod OnlyRead
+pub mod Ends

@@ -10,3 +10,4 @@ pub mod Recovery
 pub mod Law
 pub mod Calls
 pub mod ReadBack
+pub mod Grows

@@ -14,6 +14,7 @@ ghost use Rattle.wal_law.specs.declared.recovery.Recovered.{Recovered};
 ghost use Rattle.wal_law.specs.Io.{Io, HasMade};
 ghost use Rattle.wal_law.specs.Log.{Log, IsLawful, newest, opened};
 ghost use Rattle.wal_law.specs.Room.{with_group};
+ghost use Rattle.wal_law.specs.Grows.{GrowsBy};
 ghost use Rattle.wal_law.specs.Logger.{IsNextLogCall, with_log_out, with_log_back};
 ghost use Rattle.wal_law.specs.Installer.{IsNextInstCall, with_inst_out, with_inst_back};
 ghost use Rattle.wal_law.specs.Overlay.{start_in, end_in, logged_in, IsInRange, over};
@@ -63,6 +64,12 @@ pub fn an_opening_begins_in_agreement()
 pub fn an_append_keeps_agreement()
     ensures { (log : Log) (group : List (BlockNo × Content)) → IsLawful log
         → KeepsAgreement log (with_group log group) }
+{}
+
+/// A group that is appended stands behind the end of each group before it.
+pub fn an_append_grows_the_log()
+    ensures { (log : Log) (group : List (BlockNo × Content)) → IsLawful log
+        → GrowsBy log group (with_group log group) }
 {}
 
 /// A read keeps the agreement, whatever is out.

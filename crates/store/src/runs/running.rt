@@ -1,5 +1,5 @@
 //! The events of a run.
-ghost use Rattle.std.specs.Prelude.{◌≡◌, None};
+ghost use Rattle.std.specs.Prelude.{◌≡◌, None, []};
 ghost use Rattle.store_promise.specs.Room.{HasRoom};
 ghost use Rattle.store.specs.Running.{RunsWell};
 
@@ -27,7 +27,7 @@ pub(super) struct Running<D: CrashDisk> {
 impl<D: CrashDisk> Running<D> {
     /// A run of an opened store in which nothing has happened yet.
     pub(super) fn new(store: Store<D>) -> Running<D>
-        requires { store.core.out ≡ None }
+        requires { store.core.out ≡ [] }
         ensures { RunsWell result.worker result.store.core result.log result.inst }
     {
         let boot = store.boot();

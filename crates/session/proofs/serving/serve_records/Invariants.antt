@@ -1,9 +1,9 @@
 -- no transaction is out, and each reply took bytes of the stream
-use Rattle.std.proofs.Common.{◌≡◌, None, length}
+use Rattle.std.proofs.Common.{◌≡◌, length, []}
 use Rattle.session.proofs.serving.serve_records.Given as goal
 
 abbrev pub invariant-records : goal.invariant-records
-invariant-records g l = l.store.core.out ≡ None
+invariant-records g l = l.store.core.out ≡ []
 
 abbrev pub decreases-records : goal.decreases-records
 decreases-records g l = length l.records

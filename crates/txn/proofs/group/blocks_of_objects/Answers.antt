@@ -1,6 +1,6 @@
 use Rattle.std.proofs.Common.{◌≡◌, ◌<◌, ◌+◌, ◌∷◌, ap, length, drop, drop-cons, add-one, false, refl, arith}
 use Rattle.std.proofs.Common.{lit<}
-use Rattle.txn.specs.Group.{is_among}
+use Rattle.txn_law.specs.Group.{is_among}
 use Rattle.txn.proofs.Blocks.{room_left}
 use Rattle.txn.proofs.group.blocks_of_objects.Goals as goal
 

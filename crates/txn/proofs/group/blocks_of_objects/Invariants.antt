@@ -1,6 +1,6 @@
 -- what is found so far, and the rest, are the blocks of all
 use Rattle.std.proofs.Common.{◌≡◌, drop}
-use Rattle.txn.specs.Group.{blocks_of, blocks_after}
+use Rattle.txn_law.specs.Group.{blocks_of, blocks_after}
 use Rattle.txn.proofs.group.blocks_of_objects.Given as goal
 
 abbrev pub invariant-loop-object : goal.invariant-loop-object

@@ -1,7 +1,7 @@
 -- the blocks so far are those that stand first, each with its content
 use Rattle.std.proofs.Common.{◌≡◌, take, All}
-use Rattle.wal.specs.Log.{blocks_of}
-use Rattle.txn.specs.Group.{IsLaid}
+use Rattle.wal_law.specs.Log.{blocks_of}
+use Rattle.txn_law.specs.Group.{IsLaid}
 use Rattle.txn.proofs.group.group_of.Given as goal
 
 abbrev pub invariant-loop-block : goal.invariant-loop-block

@@ -1,6 +1,6 @@
 -- the objects so far, and the rest, make the content of all
 use Rattle.std.proofs.Common.{◌≡◌, drop}
-use Rattle.txn.specs.Group.{laid}
+use Rattle.txn_law.specs.Group.{laid}
 use Rattle.txn.proofs.group.lay.Given as goal
 
 abbrev pub invariant-loop-object : goal.invariant-loop-object

@@ -1,7 +1,7 @@
 use Rattle.std.proofs.Common.{rules, not}
 use Rattle.std.proofs.lemmas.Fn.{filter_same}
-use Rattle.txn.specs.Holds.{is_hold_of}
-use Rattle.txn.specs.declared.holds.Hold.{Hold}
+use Rattle.txn_law.specs.Holds.{is_hold_of}
+use Rattle.txn_law.specs.declared.hold.Hold.{Hold}
 use Rattle.txn.proofs.holds.let_go.Goals as goal
 
 pub returns-clause-items : goal.returns-clause-items

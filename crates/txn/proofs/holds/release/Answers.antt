@@ -1,6 +1,6 @@
 use Rattle.std.proofs.Common.{rules, not, nat_eq}
 use Rattle.std.proofs.lemmas.Fn.{filter_same}
-use Rattle.txn.specs.declared.holds.Hold.{Hold}
+use Rattle.txn_law.specs.declared.hold.Hold.{Hold}
 use Rattle.txn.proofs.holds.release.Goals as goal
 
 pub returns : goal.returns

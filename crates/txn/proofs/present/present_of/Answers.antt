@@ -1,7 +1,7 @@
 use Rattle.std.proofs.Common.{rules, nat_eq}
 use Rattle.std.proofs.lemmas.Iterator.{YieldsList-from_slice}
 use Rattle.std.proofs.lemmas.Iterator.Search.{find_from_yields_List}
-use Rattle.txn.specs.declared.present.Present.{Present}
+use Rattle.txn_law.specs.declared.present.Present.{Present}
 use Rattle.txn.proofs.present.present_of.Goals as goal
 
 pub returns : goal.returns

@@ -1,9 +1,9 @@
 use Rattle.std.proofs.Common.{rules, ◌||◌, is_none}
 use Rattle.std.specs.List.{list_any}
 use Rattle.std.proofs.lemmas.Fn.{filter_same}
-use Rattle.txn.specs.Holds.{is_taken}
-use Rattle.txn.specs.Records.{lies_in}
-use Rattle.txn.specs.declared.present.Present.{Present}
+use Rattle.txn_law.specs.Holds.{is_taken}
+use Rattle.txn_law.specs.Records.{lies_in}
+use Rattle.txn_law.specs.declared.present.Present.{Present}
 use Rattle.txn.proofs.records.sweep.Goals as goal
 
 pub returns : goal.returns

@@ -1,6 +1,6 @@
 -- no transaction is out
-use Rattle.std.proofs.Common.{◌≡◌, None}
+use Rattle.std.proofs.Common.{◌≡◌, []}
 use Rattle.rows.proofs.tests.settling.most_kept.Given as goal
 
 abbrev pub invariant-calls : goal.invariant-calls
-invariant-calls l = l.store.core.out ≡ None
+invariant-calls l = l.store.core.out ≡ []

@@ -1,7 +1,9 @@
 use Rattle.std.proofs.Common.{sym, subst}
 use Rattle.wal_law.specs.Log.{Log}
 use Rattle.wal_law.specs.Effects.{HasAppended}
+use Rattle.wal_law.specs.Grows.{GrowsBy}
 use Rattle.wal_law.proofs.Effects.{seen_append}
+use Rattle.wal_law.proofs.Ends.{grows}
 use Rattle.wal_law.proofs.Beside.{appended}
 use Rattle.wal.proofs.memory.Wal.append.Goals as goal
 
@@ -10,6 +12,12 @@ returns-clause-seen c = λ done.
     subst (λ (log : Log). HasAppended c.args.self.now c.args.group.items log)
     (sym (c.add.ensures.appended done))
     (seen_append c.args.self.now c.args.group.items c.add.ensures.lawful)
+
+pub returns-clause-grows : goal.returns-clause-grows
+returns-clause-grows c = λ done.
+    subst (λ (log : Log). GrowsBy c.args.self.now c.args.group.items log)
+    (sym (c.add.ensures.appended done))
+    (grows c.args.self.now c.args.group.items c.add.ensures.lawful)
 
 pub returns-clause-law : goal.returns-clause-law
 returns-clause-law c =

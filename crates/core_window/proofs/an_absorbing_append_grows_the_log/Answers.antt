@@ -1,5 +1,0 @@
-use Rattle.core_window.proofs.Absorption.{grows_absorbed}
-use Rattle.core_window.proofs.an_absorbing_append_grows_the_log.Goals as goal
-
-pub returns : goal.returns
-returns c = grows_absorbed

@@ -1,5 +1,0 @@
-use Rattle.core_window.proofs.Commit.{none_window}
-use Rattle.core_window.proofs.an_empty_log_has_a_window.Goals as goal
-
-pub returns : goal.returns
-returns c = none_window

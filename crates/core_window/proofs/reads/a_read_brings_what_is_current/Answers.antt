@@ -1,5 +1,0 @@
-use Rattle.core_window.proofs.HomeReads.{read_current}
-use Rattle.core_window.proofs.reads.a_read_brings_what_is_current.Goals as goal
-
-pub returns : goal.returns
-returns c = read_current

@@ -1,8 +1,0 @@
-pub mod Window
-pub mod Steps
-pub mod HomeRead
-pub mod Absorb
-pub mod Core
-pub mod CoreCommit
-pub mod Tidy
-pub mod Fetched

@@ -1,0 +1,215 @@
+//! The transactional core.
+ghost use Rattle.std.specs.Prelude.{◌≡◌, ◌≤◌, ◌+◌, ◌^◌, ◌↔◌, IsTrue, IsSome, IsNone, IfSome, IsErrOf, OnErr};
+ghost use Rattle.std.specs.Prelude.{IfOk, ◌∷◌, true, false, is_some, if◌then◌else◌, [], length};
+ghost use Rattle.limits.specs.declared.TheConstants.{CHANGED_BLOCKS};
+ghost use Rattle.objects.specs.declared.addr.Addr.{Addr};
+ghost use Rattle.wal_law.specs.Log.{settled_place, tail_count};
+ghost use Rattle.wal_law.specs.Calls.{LogCallGoesOut, LogCallComesBack, InstCallGoesOut, InstCallComesBack};
+ghost use Rattle.wal_law.specs.Io.{IsCallWithin};
+ghost use Rattle.wal_law.specs.Logger.{may_log, with_log_out, is_log_out, with_log_back};
+ghost use Rattle.wal_law.specs.Installer.{may_install, with_inst_out, is_inst_out, with_inst_back};
+ghost use Rattle.txn_law.specs.Core.{ended, installed};
+ghost use Rattle.txn_law.specs.Fetched.{fetched, fetch_failed};
+ghost use Rattle.txn_law.specs.Group.{blocks_of};
+ghost use Rattle.txn_law.specs.Wishes.{IsWhole};
+ghost use Rattle.txn.specs.Outcomes.{IsWanted, IsWithin, IsClaimed, IsCommit};
+
+use crate::state::State;
+use crate::{BeginFault, Change, Claim, Commit, FetchIo, Stable, Tx, Want};
+use disk::BlockNo;
+use objects::Addr;
+use std::alloc::Global;
+use std::marker::Model;
+use wal::{InstIo, LogIo, Seq, Wal};
+
+/// The transactional core of a store, for changes of one kind. It makes no device call: it hands them out.
+#[derive(Drop)]
+pub struct Core<C: Change> {
+    state: State<C>,
+}
+
+impl<C: Change> Model for Core<C> {
+    ghost use Rattle.txn_law.specs.Core.{CoreState};
+
+    ghost Value = { CoreState };
+
+    ghost view = { λ c. c.state };
+}
+
+impl<C: Change> Core<C> {
+    /// A core over a log, for an image with the log's blocks and this count of inodes.
+    pub fn new(alloc: Global, log: Wal, inodes: u32) -> Core<C>
+        ensures { result ≡ record {
+          log = log;
+          inodes = inodes;
+          begun = 0;
+          out = [];
+          holds = [];
+          present = [];
+          records = [];
+        } }
+    {
+        Core {
+            state: State::new(alloc, log, inodes),
+        }
+    }
+
+    /// The image's counts of blocks and of inodes.
+    pub fn counts(&self) -> (u32, u32)
+        ensures { result ≡ (self.now.log.blocks, self.now.inodes) }
+    {
+        self.state.counts()
+    }
+
+    /// Begins a transaction. Transactions are numbered from 1. Broken is tested first.
+    pub fn begin(&mut self) -> Result<Tx, BeginFault>
+        requires { self.old.out ≡ [] }
+        ensures begun { IfOk result (λ tx. (tx ≡ self.old.begun + 1)
+            × (self.new ≡ record self.old { begun = self.old.begun + 1; out = (self.old.begun + 1) ∷ [] })) }
+        ensures refused { OnErr result (self.new ≡ self.old) }
+        ensures broken { IsErrOf result BeginFault.Broken ↔ (self.old.log.broken ≡ true) }
+        ensures spent { IsErrOf result BeginFault.Spent
+            ↔ ((self.old.log.broken ≡ false) × (self.old.begun + 1 ≡ 2 ^ 64)) }
+        ensures no_memory { IsErrOf result BeginFault.NoMemory → ⊥ }
+    {
+        self.state.begin()
+    }
+
+    /// Takes an object for reading. Outside: the block isn't one that a change may write. Busy: another
+    /// transaction has taken a byte of it, or this one by another address. Loading: a fetch of the block is
+    /// pending, and nothing is taken. Fetch: the block has to be read from home; the object is taken, and the
+    /// same want after `fetched` answers Held or NoMemory. NoMemory: nothing has changed.
+    pub fn want(&mut self, alloc: Global, tx: Tx, addr: Addr) -> Want
+        ensures answer { IsWanted self.old tx addr result self.new }
+        ensures within { IsWithin self.old.log.blocks addr.len result }
+    {
+        self.state.want(alloc, tx, addr)
+    }
+
+    /// Takes a whole block for writing, whose bytes don't matter. It answers as `want` does, and never Fetch.
+    pub fn claim(&mut self, tx: Tx, block: BlockNo) -> Claim
+        ensures { (addr : Addr) × IsWhole block addr × IsClaimed self.old tx addr result self.new }
+    {
+        self.state.claim(tx, block)
+    }
+
+    /// Gives a fetch back with what was read. The block stays in memory while anyone has taken a part of it.
+    pub fn fetched(&mut self, io: FetchIo)
+        ensures { self.new ≡ fetched self.old io.block io.content }
+    {
+        self.state.fetched(io);
+    }
+
+    /// Gives a fetch back that failed. The next want of the block asks for it again.
+    pub fn fetch_failed(&mut self, io: FetchIo)
+        ensures { self.new ≡ fetch_failed self.old io.block }
+    {
+        self.state.fetch_failed(io);
+    }
+
+    /// Commits a change at the next place, and ends its transaction. Broken: a write or a barrier has failed.
+    /// Foreign: the change was planned for other counts than the core's, or writes what this transaction
+    /// doesn't hold or whose fetch is pending, or read what it doesn't hold for reading or what differs.
+    /// Spent: no place is left, or too few positions of the log. Full: the open group and this change pass
+    /// the log. These and NoMemory change nothing.
+    pub fn commit(&mut self, alloc: Global, tx: Tx, change: C) -> Commit<C>
+        requires { length (blocks_of (C.objects_written change)) ≤ CHANGED_BLOCKS }
+        ensures { IsCommit self.old tx (record {
+          read = C.objects_read change;
+          written = C.objects_written change;
+          blocks = C.planned_blocks change;
+          inodes = C.planned_inodes change;
+        }) change result self.new }
+    {
+        self.state.commit(alloc, tx, change)
+    }
+
+    /// Ends a transaction without a change, and lets go of what it has taken.
+    pub fn abort(&mut self, tx: Tx)
+        ensures { self.new ≡ ended self.old tx }
+    {
+        self.state.abort(tx);
+    }
+
+    /// Shows that the place is settled, where it is.
+    pub fn stable(&self, place: Seq) -> Option<Stable>
+        ensures settled { IsSome result ↔ (place.0 ≤ settled_place self.now.log) }
+        ensures place { IfSome result (λ stable. stable ≡ place.0) }
+    {
+        self.state.stable(place)
+    }
+
+    /// Whether every commit is settled.
+    pub fn is_settled(&self) -> bool
+        ensures { IsTrue result ↔ (settled_place self.now.log ≡ self.now.log.places) }
+    {
+        self.state.is_settled()
+    }
+
+    /// How many commits it keeps: those that aren't installed.
+    pub fn kept(&self) -> usize
+        ensures { result ≡ length self.now.records }
+    {
+        self.state.kept()
+    }
+
+    /// How many blocks the open tail of the log holds.
+    pub fn tail(&self) -> usize
+        ensures { result ≡ tail_count self.now.log }
+    {
+        self.state.tail()
+    }
+
+    /// Whether a write or a barrier has failed. Nothing is begun or committed any more.
+    pub fn broken(&self) -> bool
+        ensures { result ≡ self.now.log.broken }
+    {
+        self.state.broken()
+    }
+}
+
+impl<C: Change> Core<C> {
+    /// The log's next device call, if there is one and none is out.
+    pub fn log_next(&mut self) -> Option<LogIo>
+        ensures causes { is_some result ≡ may_log self.old.log }
+        ensures some { IsSome result → self.new ≡ record self.old { log = with_log_out self.old.log } }
+        ensures none { IsNone result → self.new ≡ self.old }
+        ensures within { IfSome result (λ io. IsCallWithin self.new.log.blocks io.call) }
+        ensures law { IfSome result (λ io. LogCallGoesOut self.old.log io self.new.log) }
+    {
+        self.state.log_next()
+    }
+
+    /// Gives the log's device call back, with whether it was answered Ok.
+    pub fn log_done(&mut self, io: LogIo, ok: bool)
+        ensures log { self.new.log ≡ (if is_log_out self.old.log io then with_log_back self.old.log ok
+            else self.old.log) }
+        ensures blocks { self.new.log.blocks ≡ self.old.log.blocks }
+        ensures others { self.new ≡ record self.old { log = self.new.log } }
+        ensures law { LogCallComesBack self.old.log io ok self.new.log }
+    {
+        self.state.log_done(io, ok);
+    }
+
+    /// The installer's next device call, if there is one and none is out.
+    pub fn inst_next(&mut self) -> Option<InstIo>
+        ensures causes { is_some result ≡ may_install self.old.log }
+        ensures some { IsSome result → self.new ≡ record self.old { log = with_inst_out self.old.log } }
+        ensures none { IsNone result → self.new ≡ self.old }
+        ensures within { IfSome result (λ io. IsCallWithin self.new.log.blocks io.call) }
+        ensures law { IfSome result (λ io. InstCallGoesOut self.old.log io self.new.log) }
+    {
+        self.state.inst_next()
+    }
+
+    /// Gives the installer's device call back, with whether it was answered Ok.
+    pub fn inst_done(&mut self, io: InstIo, ok: bool)
+        ensures log { self.new.log ≡ (if is_inst_out self.old.log io then with_inst_back self.old.log ok
+            else self.old.log) }
+        ensures blocks { self.new.log.blocks ≡ self.old.log.blocks }
+        ensures others { self.new ≡ installed self.old self.new.log }
+        ensures law { InstCallComesBack self.old.log io ok self.new.log }
+    {
+        self.state.inst_done(io, ok);
+    }
+}

@@ -1,0 +1,137 @@
+-- Lemmas: a fetch keeps the window of the core.
+use Rattle.std.proofs.Common.{◌≡◌, ℕ, ◌+◌, Bool, true, false, not, cond, ◌&&◌, ◌||◌, nat_eq, if◌then◌else◌}
+use Rattle.std.proofs.Common.{List, [], ◌∷◌, take, All, Option, Some, None, refl, sym, ap, subst, ◌∙◌}
+use Rattle.std.specs.Prelude.{Contains, nat_le, is_some}
+use Rattle.std.specs.List.{filter}
+use Rattle.std.proofs.lemmas.Bool.{eqb-true}
+use Rattle.std.proofs.lemmas.List.Elements.{All-cons, All-weaker}
+use Rattle.disk.specs.Device.{Content}
+use Rattle.disk.specs.Crash.{Image}
+use Rattle.disk.specs.declared.block.BlockNo.{BlockNo}
+use Rattle.wal_law.specs.Calls.{home_after}
+use Rattle.wal_law.specs.Law.{with_changes}
+use Rattle.wal_law.specs.Log.{Log, newest, or_else}
+use Rattle.wal_law.specs.Overlay.{content_or}
+use Rattle.txn_law.specs.Core.{CoreState}
+use Rattle.txn_law.specs.declared.present.Present.{Present}
+use Rattle.txn_law.specs.CoreWindow.{with_entry, held_of, IsCoreWindow}
+use Rattle.txn_law.specs.Fetched.{filled, fetched, fetch_failed}
+use Rattle.txn_law.specs.Window.{now_of, IsPinned, ArePinned, IsCurrent, IsWindowOver}
+use Rattle.txn_law.proofs.HomeReads.{not_brought}
+use Rattle.txn_law.proofs.Moves.{home_is_current, other_memory}
+use Rattle.txn_law.proofs.Swept.{all_beside, in_beside, in_more, window_swept}
+
+pub home_stays : (base : Image) (log : Log) (ok : Bool) (block : ℕ) → newest log block ≡ None
+    → home_after base log ok block ≡ base block
+home_stays base log ok block none = go (ok && nat_le (log.installing + 2) log.inst_step)
+  where
+    go : (t : Bool) → (if t then with_changes base (take log.installing log.changes) else base) block
+        ≡ base block
+    go true = ap (λ o. content_or o (base block)) (not_brought log block none)
+    go false = refl
+
+-- a content that is there keeps what holds of all
+module _ (P : ℕ × Content → Type 0) (block : BlockNo) (content : Content) where
+  all_one : (at : BlockNo) (there : Option Content) (xs : List (ℕ × Content)) → P (at.0, content)
+      → All P (with_entry at there xs) → All P (with_entry at (or_else there (Some content)) xs)
+  all_one at (Some c) xs new h = h
+  all_one at None xs new h = All-cons P (at.0, content) xs new h
+
+  pub all_filled : P (block.0, content) → (present : List Present) → All P (held_of present)
+      → All P (held_of (filled present block content))
+  all_filled new [] h = h
+  all_filled new (entry ∷ later) h = go (all_filled new later) (nat_eq entry.block.0 block.0) refl
+    where
+      go : (All P (held_of later) → All P (held_of (filled later block content))) → (t : Bool)
+          → nat_eq entry.block.0 block.0 ≡ t
+          → All P (held_of (if t
+          then record { block = entry.block; content = or_else entry.content (Some content) } ∷ later
+          else entry ∷ filled later block content))
+      go rest true e =
+          all_one entry.block entry.content (held_of later)
+          (subst (λ (n : ℕ). P (n, content)) (sym (eqb-true entry.block.0 block.0 e)) new) h
+      go rest false e =
+          all_beside P (λ x. true) entry.block entry.content (held_of later)
+          (held_of (filled later block content)) rest h
+
+-- and what was there is still there
+module _ (number : ℕ) (old : Content) (block : BlockNo) (content : Content) where
+  in_one : (at : BlockNo) (there : Option Content) (xs : List (ℕ × Content))
+      → Contains (with_entry at there xs) (number, old)
+      → Contains (with_entry at (or_else there (Some content)) xs) (number, old)
+  in_one at (Some c) xs h = h
+  in_one at None xs h = in_more (at.0, content) (number, old) xs h
+
+  pub in_filled : (present : List Present) → Contains (held_of present) (number, old)
+      → Contains (held_of (filled present block content)) (number, old)
+  in_filled [] h = h
+  in_filled (entry ∷ later) h = go (in_filled later) (nat_eq entry.block.0 block.0)
+    where
+      go : (Contains (held_of later) (number, old)
+          → Contains (held_of (filled later block content)) (number, old)) → (t : Bool)
+          → Contains (held_of (if t
+          then record { block = entry.block; content = or_else entry.content (Some content) } ∷ later
+          else entry ∷ filled later block content)) (number, old)
+      go rest true = in_one entry.block entry.content (held_of later) h
+      go rest false =
+          in_beside number old (λ x. true) entry.block entry.content (held_of later)
+          (held_of (filled later block content)) rest h
+
+pub core_fetched : (base : Image) (core : CoreState) (block : BlockNo) (content : Content)
+    → newest core.log block.0 ≡ None → content ≡ base block.0 → IsCoreWindow base core
+    → IsCoreWindow base (fetched core block content)
+core_fetched base core block content none is h =
+    let now : Image = now_of base core.log core.records in
+    let kept : List (ℕ × Content) = held_of (filled core.present block content) in
+    window_swept base core.log core.records core.holds (filled core.present block content)
+    (other_memory base core.log core.records (held_of core.present) kept
+    (all_filled (IsCurrent now) block content (is
+    ∙ home_is_current base core.log core.records (held_of core.present) block.0 none h) core.present
+    h.memory)
+    (All-weaker (ArePinned (held_of core.present)) (ArePinned kept)
+    (λ commit pins. All-weaker (IsPinned (held_of core.present)) (IsPinned kept)
+    (λ object pin. (pin.0, in_filled object.addr.block.0 pin.0 block content core.present pin.1)) commit.read
+    pins) core.records h.pinned) h)
+
+-- a pending fetch has no content
+held_of-failed : (block : BlockNo) (present : List Present)
+    → held_of (filter (λ (entry : Present). not (nat_eq entry.block.0 block.0) || is_some entry.content)
+    present) ≡ held_of present
+held_of-failed block [] = refl
+held_of-failed block (entry ∷ later) =
+    go (held_of-failed block later) (nat_eq entry.block.0 block.0) entry.content refl
+  where
+    beside : (there : Option Content) (xs ys : List (ℕ × Content)) → xs ≡ ys
+        → with_entry entry.block there xs ≡ with_entry entry.block there ys
+    beside (Some c) xs ys e = ap (λ zs. (entry.block.0, c) ∷ zs) e
+    beside None xs ys e = e
+
+    go : held_of (filter (λ (e : Present). not (nat_eq e.block.0 block.0) || is_some e.content) later)
+        ≡ held_of later → (t : Bool) (there : Option Content) → entry.content ≡ there
+        → held_of (cond (not t || is_some entry.content)
+        (entry ∷ filter (λ (e : Present). not (nat_eq e.block.0 block.0) || is_some e.content) later)
+        (filter (λ (e : Present). not (nat_eq e.block.0 block.0) || is_some e.content) later))
+        ≡ with_entry entry.block entry.content (held_of later)
+    go rest false there e =
+        beside entry.content
+        (held_of (filter (λ (e : Present). not (nat_eq e.block.0 block.0) || is_some e.content) later))
+        (held_of later) rest
+    go rest true (Some c) e =
+        ap (λ (o : Option Content). held_of
+        (cond (is_some o) (entry ∷ filter (λ (e : Present). not (nat_eq e.block.0 block.0)
+        || is_some e.content) later)
+        (filter (λ (e : Present). not (nat_eq e.block.0 block.0) || is_some e.content) later))) e
+        ∙ beside entry.content
+        (held_of (filter (λ (e : Present). not (nat_eq e.block.0 block.0) || is_some e.content) later))
+        (held_of later) rest
+    go rest true None e =
+        ap (λ (o : Option Content). held_of
+        (cond (is_some o) (entry ∷ filter (λ (e : Present). not (nat_eq e.block.0 block.0)
+        || is_some e.content) later)
+        (filter (λ (e : Present). not (nat_eq e.block.0 block.0) || is_some e.content) later))) e
+        ∙ rest ∙ sym (ap (λ (o : Option Content). with_entry entry.block o (held_of later)) e)
+
+pub core_fetch_failed : (base : Image) (core : CoreState) (block : BlockNo) → IsCoreWindow base core
+    → IsCoreWindow base (fetch_failed core block)
+core_fetch_failed base core block h =
+    subst (λ held. IsWindowOver base core.log core.records held) (sym (held_of-failed block core.present)) h

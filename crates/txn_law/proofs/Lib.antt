@@ -1,0 +1,14 @@
+pub mod Commits
+pub mod Commit
+pub mod Moves
+pub mod Installed
+pub mod HomeReads
+pub mod Laid
+pub mod Absorption
+pub mod Swept
+pub mod CoreCommits
+pub mod Claims
+pub mod Wishes
+pub mod Fetches
+pub mod Found
+pub mod Entries

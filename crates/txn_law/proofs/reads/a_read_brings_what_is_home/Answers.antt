@@ -1,0 +1,5 @@
+use Rattle.txn_law.proofs.HomeReads.{read_home}
+use Rattle.txn_law.proofs.reads.a_read_brings_what_is_home.Goals as goal
+
+pub returns : goal.returns
+returns c = read_home

@@ -1,0 +1,14 @@
+use Rattle.txn_law.proofs.HomeReads.{readable_append, readable_read, readable_beside, contents_made}
+use Rattle.txn_law.proofs.reads.steps_keep_what_may_be_read.Goals as goal
+
+pub returns-clause-append : goal.returns-clause-append
+returns-clause-append c = readable_append
+
+pub returns-clause-read : goal.returns-clause-read
+returns-clause-read c = readable_read
+
+pub returns-clause-beside : goal.returns-clause-beside
+returns-clause-beside c = readable_beside
+
+pub returns-clause-contents : goal.returns-clause-contents
+returns-clause-contents c = contents_made

@@ -1,0 +1,53 @@
+-- What a contract sees of the core. Its lists have no promised order, but that of the commits.
+use Rattle.std.specs.Prelude.{◌≡◌, ℕ, not, true, List, nat_eq, nat_lt}
+use Rattle.std.specs.List.{filter, list_any}
+use Rattle.wal_law.specs.Log.{Log, installed_place}
+use Rattle.txn_law.specs.Holds.{released}
+use Rattle.txn_law.specs.Records.{swept}
+use Rattle.txn_law.specs.Window.{Footprint}
+use Rattle.txn_law.specs.declared.hold.Hold.{Hold}
+use Rattle.txn_law.specs.declared.present.Present.{Present}
+
+pub record CoreState : Type 0 where
+  -- the log in memory
+  pub log : Log
+  -- the count of the image's inodes
+  pub inodes : ℕ
+  -- how many transactions were begun
+  pub begun : ℕ
+  -- the transactions that are out
+  pub out : List ℕ
+  -- what transactions have taken
+  pub holds : List Hold
+  -- the blocks in memory besides the log's
+  pub present : List Present
+  -- the commits that aren't installed, oldest first
+  pub records : List Footprint
+
+-- the transaction is out
+abbrev pub IsOut : CoreState → ℕ → Type 0
+IsOut core tx = list_any (λ other. nat_eq other tx) core.out ≡ true
+
+-- the transactions that are out once this one has ended
+abbrev pub without : ℕ → List ℕ → List ℕ
+without tx out = filter (λ other. not (nat_eq other tx)) out
+
+-- the core once the transaction has ended
+abbrev pub ended : CoreState → ℕ → CoreState
+ended core tx = record core {
+  out = without tx core.out;
+  holds = released core.holds tx;
+  present = swept (released core.holds tx) core.records core.present;
+}
+
+-- the records of the commits past a place
+abbrev pub past : ℕ → List Footprint → List Footprint
+past place records = filter (λ kept. nat_lt place kept.place) records
+
+-- the core once its log has gone on, without the records of the commits that it has installed
+abbrev pub installed : CoreState → Log → CoreState
+installed core log = record core {
+  log = log;
+  records = past (installed_place log) core.records;
+  present = swept core.holds (past (installed_place log) core.records) core.present;
+}

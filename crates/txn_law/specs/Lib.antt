@@ -1,0 +1,16 @@
+pub mod Object
+pub mod Group
+pub mod Holds
+pub mod Present
+pub mod Records
+pub mod Window
+pub mod Core
+pub mod CoreWindow
+pub mod Fetch
+pub mod Wishes
+pub mod Fetched
+pub mod Steps
+pub mod Commit
+pub mod Absorb
+pub mod HomeRead
+pub mod Tidy

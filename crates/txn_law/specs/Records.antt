@@ -1,0 +1,23 @@
+-- The commits that aren't installed, and the blocks that are kept in memory for them.
+use Rattle.std.specs.Prelude.{Bool, ◌||◌, List, is_none, nat_eq}
+use Rattle.std.specs.List.{list_any, filter}
+use Rattle.disk.specs.declared.block.BlockNo.{BlockNo}
+use Rattle.txn_law.specs.Holds.{is_taken}
+use Rattle.txn_law.specs.Object.{ObjectBytes}
+use Rattle.txn_law.specs.Window.{Footprint}
+use Rattle.txn_law.specs.declared.hold.Hold.{Hold}
+use Rattle.txn_law.specs.declared.present.Present.{Present}
+
+-- whether one of the objects lies in the block
+abbrev pub lies_in : List ObjectBytes → BlockNo → Bool
+lies_in objects block = list_any (λ object. nat_eq object.addr.block.0 block.0) objects
+
+-- whether a kept record read a part of the block
+abbrev pub is_kept : List Footprint → BlockNo → Bool
+is_kept records block = list_any (λ kept. lies_in kept.read block) records
+
+-- the blocks that somebody has taken, that a kept record read, or whose fetch is pending
+abbrev pub swept : List Hold → List Footprint → List Present → List Present
+swept holds records present =
+    filter (λ entry. is_none entry.content || is_taken holds entry.block || is_kept records entry.block)
+    present

@@ -1,0 +1,51 @@
+-- What transactions have taken and what is in memory agree with one another and with the log.
+use Rattle.std.specs.Prelude.{◌≡◌, true, Some, None, List, [], ◌∷◌, All, length}
+use Rattle.limits.specs.declared.TheConstants.{BLOCK_BYTES}
+use Rattle.disk.specs.Device.{Content}
+use Rattle.objects.specs.Addr.{Overlap}
+use Rattle.wal_law.specs.declared.change.LogChange.{LogChange}
+use Rattle.wal_law.specs.Log.{Log, newest}
+use Rattle.txn_law.specs.Core.{CoreState}
+use Rattle.txn_law.specs.Holds.{Mode, mode_of, Excludes}
+use Rattle.txn_law.specs.Present.{present_of, content_in}
+use Rattle.txn_law.specs.declared.hold.Hold.{Hold}
+use Rattle.txn_law.specs.declared.present.Present.{Present}
+
+-- no byte of both is taken in modes that keep each other off
+abbrev pub AreBeside : Hold → Hold → Type 0
+AreBeside one other = Overlap one.addr other.addr → Excludes (mode_of one) (mode_of other) → ⊥
+
+-- no two holds share a byte
+abbrev pub AreApart : List Hold → Type 0
+AreApart [] = Unit {0}
+AreApart (hold ∷ later) = All (AreBeside hold) later × AreApart later
+
+-- what is held for reading is in memory
+abbrev pub IsReadHere : List Present → Hold → Type 0
+IsReadHere present hold = hold.is_read ≡ true → (content : Content)
+    × (content_in (present_of present hold.addr.block) ≡ Some content)
+
+-- what is claimed is a whole block
+abbrev pub IsClaimedWhole : Hold → Type 0
+IsClaimedWhole hold = hold.is_claimed ≡ true → (hold.addr.offset ≡ 0) × (hold.addr.len ≡ BLOCK_BYTES)
+
+-- a block has one entry
+abbrev pub IsOnce : List Present → Type 0
+IsOnce [] = Unit {0}
+IsOnce (entry ∷ later) = (present_of later entry.block ≡ None) × IsOnce later
+
+-- the log doesn't have a block whose fetch is pending
+abbrev pub IsUnlogged : Log → Present → Type 0
+IsUnlogged log entry = entry.content ≡ None → newest log entry.block.0 ≡ None
+
+-- the log has whole blocks
+abbrev pub IsWholeChange : LogChange → Type 0
+IsWholeChange change = length change.content ≡ BLOCK_BYTES
+
+pub record AreTidy (core : CoreState) : Type 0 where
+  pub apart : AreApart core.holds
+  pub read : All (IsReadHere core.present) core.holds
+  pub claimed : All IsClaimedWhole core.holds
+  pub once : IsOnce core.present
+  pub pending : All (IsUnlogged core.log) core.present
+  pub changes : All IsWholeChange core.log.changes

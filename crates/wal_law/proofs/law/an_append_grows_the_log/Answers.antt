@@ -1,0 +1,5 @@
+use Rattle.wal_law.proofs.Ends.{grows}
+use Rattle.wal_law.proofs.law.an_append_grows_the_log.Goals as goal
+
+pub returns : goal.returns
+returns c = grows
