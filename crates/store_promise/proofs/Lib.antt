@@ -1,3 +1,4 @@
+pub mod Stopped
 pub mod Told
 pub mod OneSetAttr
 pub mod OneSetAttrAlong

@@ -9,3 +9,4 @@ pub mod Verdicts
 pub mod Headline
 pub mod Room
 pub mod OneSetAttr
+pub mod OpenStore

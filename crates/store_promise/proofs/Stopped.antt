@@ -1,0 +1,119 @@
+-- What a stop leaves of an open store.
+use Rattle.std.proofs.Common.{◌≡◌, ℕ, zero, suc, ◌+◌, ◌-◌, ◌<◌, ◌≤◌, ◌⊎◌, inl, inr, ap, sym, ◌∙◌, refl, subst, arith}
+use Rattle.std.proofs.Common.{Bool, true, false, cond, if◌then◌else◌, ◌&&◌, List, [], ◌∷◌, Option, Some, None, length}
+use Rattle.std.proofs.Common.{take, drop, nat_eq, nat_le, nat_lt, replicate, slice_index_or, All, Contains}
+use Rattle.std.proofs.lemmas.Bool.{cases_lt}
+use Rattle.std.proofs.lemmas.Bool.Decides.{nat_tests}
+use Rattle.limits.specs.declared.TheConstants.{BLOCK_BYTES, FIRST_HOME_BLOCK, LOG_HEADER_BLOCK, SUPER_BLOCK}
+use Rattle.limits.specs.declared.TheConstants.{START_BLOCK}
+use Rattle.disk.specs.Crash.{Image, IsCrashImage}
+use Rattle.disk.specs.Device.{Content, Device, current}
+use Rattle.objects.specs.Spliced.{spliced}
+use Rattle.model.specs.After.{Entry, after}
+use Rattle.model.specs.Tree.{Tree}
+use Rattle.layout.specs.declared.geometry.Geometry.{Geometry}
+use Rattle.layout.specs.Homes.{homes_of, is_home}
+use Rattle.layout.specs.Stands.{Stands}
+use Rattle.wal_law.specs.declared.change.LogChange.{LogChange}
+use Rattle.wal_law.specs.Effects.{brought_home}
+use Rattle.wal_law.specs.Law.{Agrees, HomeAgrees, IsOutside, with_changes}
+use Rattle.wal_law.specs.Log.{IsHomeOn, IsLawful, Log, installed_place, newest_of, or_else, place_before}
+use Rattle.wal_law.specs.Overlay.{content_or}
+use Rattle.txn_law.specs.Object.{ObjectBytes}
+use Rattle.txn_law.specs.Window.{AreInLog, Footprint, IsInLog, IsWindowOver, after_commits, at_first, commits_among}
+use Rattle.txn_law.specs.Window.{opening, with_object, with_objects}
+use Rattle.store_promise.specs.OpenStore.{IsChain}
+
+-- ---- a chain holds up to each of its commits
+
+pub chain_to : (g : Geometry) (blocks : Image) (tree : Tree) (commits : List Footprint) (entries : List Entry)
+    (last : Tree) (k : ℕ)
+    → IsChain g blocks tree commits entries last → k ≤ length commits
+    → (left : Tree) × after tree (take k entries) left × Stands g (after_commits blocks (take k commits)) left
+chain_to g blocks tree [] [] last zero chain fits = (tree, refl, chain.0)
+chain_to g blocks tree [] [] last (suc k) chain fits = absurd (omega (arith, fits))
+chain_to g blocks tree (commit ∷ commits) (entry ∷ entries) last zero chain fits = (tree, refl, chain.0)
+chain_to g blocks tree (commit ∷ commits) (entry ∷ entries) last (suc k) chain fits =
+    let rest = chain_to g (with_objects blocks commit.written) chain.1 commits entries last k chain.3
+    (omega (arith, fits)) in (rest.0, (chain.1, chain.2, rest.1), rest.2)
+chain_to g blocks tree [] (entry ∷ entries) last k chain fits = absurd chain
+chain_to g blocks tree (commit ∷ commits) [] last k chain fits = absurd chain
+
+pub chain_long : (g : Geometry) (blocks : Image) (tree : Tree) (commits : List Footprint) (entries : List Entry)
+    (last : Tree) → IsChain g blocks tree commits entries last → length commits ≡ length entries
+chain_long g blocks tree [] [] last chain = refl
+chain_long g blocks tree (commit ∷ commits) (entry ∷ entries) last chain =
+    ap suc (chain_long g (with_objects blocks commit.written) chain.1 commits entries last chain.3)
+chain_long g blocks tree [] (entry ∷ entries) last chain = absurd chain
+chain_long g blocks tree (commit ∷ commits) [] last chain = absurd chain
+
+-- ---- a block after commits comes of that block alone
+
+with_same : (objects : List ObjectBytes) (one other : Image) (block : ℕ) → one block ≡ other block
+    → with_objects one objects block ≡ with_objects other objects block
+with_same [] one other block same = same
+with_same (object ∷ objects) one other block same =
+    with_same objects (with_object one object) (with_object other object) block
+    (ap (λ (content : Content). if nat_eq block object.addr.block.0
+    then spliced content object.addr.offset object.bytes else content) same)
+
+pub after_same : (commits : List Footprint) (one other : Image) (block : ℕ) → one block ≡ other block
+    → after_commits one commits block ≡ after_commits other commits block
+after_same [] one other block same = same
+after_same (commit ∷ commits) one other block same =
+    after_same commits (with_objects one commit.written) (with_objects other commit.written) block
+    (with_same commit.written one other block same)
+
+-- ---- and is as it was, where no commit writes it
+
+first_of_all : {A : Type 0} (P : A → Type 0) (x : A) (xs : List A) → All P (x ∷ xs) → P x
+first_of_all P x xs all = all zero x (omega arith)
+
+rest_of_all : {A : Type 0} (P : A → Type 0) (x : A) (xs : List A) → All P (x ∷ xs) → All P xs
+rest_of_all P x xs all = λ k d less. all (suc k) d (omega (arith, less))
+
+module _ (changes : List LogChange) (block : ℕ) (none : newest_of changes block ≡ None) where
+  other_block : (object : ObjectBytes) → IsInLog changes object → nat_eq block object.addr.block.0 ≡ false
+  other_block object is = by_test (nat_eq block object.addr.block.0) refl
+    where
+      by_test : (same : Bool) → nat_eq block object.addr.block.0 ≡ same → same ≡ false
+      by_test false e = refl
+      by_test true e =
+          let here : object.addr.block.0 ≡ block = grind (arith, nat_tests) in
+          let found = ap (newest_of changes) here in
+          let content = is.1 in cc
+
+  objects_aside : (objects : List ObjectBytes) (blocks : Image) → All (IsInLog changes) objects
+      → with_objects blocks objects block ≡ blocks block
+  objects_aside [] blocks all = refl
+  objects_aside (object ∷ objects) blocks all =
+      objects_aside objects (with_object blocks object) (rest_of_all (IsInLog changes) object objects all)
+      ∙ ap (λ b. if b then spliced (blocks block) object.addr.offset object.bytes else blocks block)
+      (other_block object (first_of_all (IsInLog changes) object objects all))
+
+  pub commits_aside : (commits : List Footprint) (k : ℕ) (blocks : Image) → All (AreInLog changes) commits
+      → after_commits blocks (take k commits) block ≡ blocks block
+  commits_aside commits zero blocks all = refl
+  commits_aside [] (suc k) blocks all = refl
+  commits_aside (commit ∷ commits) (suc k) blocks all =
+      commits_aside commits k (with_objects blocks commit.written)
+      (rest_of_all (AreInLog changes) commit commits all)
+      ∙ objects_aside commit.written blocks (first_of_all (AreInLog changes) commit commits all)
+
+-- ---- the log has homes alone
+
+differs : (a b : ℕ) → (a ≡ b → ⊥) → nat_eq a b ≡ false
+differs a b e = grind (arith, nat_tests)
+
+pub no_change : (size block : ℕ) → (FIRST_HOME_BLOCK ≤ block → block < size → ⊥) → (changes : List LogChange)
+    (n : ℕ) → All (λ (change : LogChange). IsHomeOn size change.block) changes
+    → newest_of (take n changes) block ≡ None
+no_change size block outside changes zero all = refl
+no_change size block outside [] (suc n) all = refl
+no_change size block outside (change ∷ later) (suc n) all =
+    let home = first_of_all (λ (one : LogChange). IsHomeOn size one.block) change later all in
+    let other : nat_eq change.block.0 block ≡ false =
+    differs change.block.0 block (λ same. outside (omega (arith, home.0, same)) (omega (arith, home.1, same))) in
+    let rest = no_change size block outside later n
+    (rest_of_all (λ (one : LogChange). IsHomeOn size one.block) change later all) in
+    λ i. or_else (rest i) (if other i then Some change.content else None)

@@ -1,0 +1,55 @@
+-- What holds of an open store at each moment: its device, its core, and the files that these are.
+use Rattle.std.specs.Prelude.{◌≡◌, ℕ, ◌≤◌, List, [], ◌∷◌, Some, take}
+use Rattle.limits.specs.declared.TheConstants.{SUPER_BLOCK}
+use Rattle.disk.specs.Crash.{Image}
+use Rattle.disk.specs.Device.{Device}
+use Rattle.model.specs.After.{Entry, after}
+use Rattle.model.specs.Node.{Node}
+use Rattle.model.specs.Step.{step}
+use Rattle.model.specs.Tree.{Tree, node_at}
+use Rattle.layout.specs.declared.geometry.Geometry.{Geometry}
+use Rattle.layout.specs.declared.super_block.Super.{Super}
+use Rattle.layout.specs.Homes.{homes_of}
+use Rattle.layout.specs.Stands.{Stands}
+use Rattle.layout.specs.SuperForm.{IsSuper}
+use Rattle.wal_law.specs.Calls.{AgreesBeside, Pending}
+use Rattle.wal_law.specs.Log.{IsLawful}
+use Rattle.txn_law.specs.Core.{CoreState}
+use Rattle.txn_law.specs.CoreWindow.{IsCoreWindow}
+use Rattle.txn_law.specs.HomeRead.{IsReadable}
+use Rattle.txn_law.specs.Tidy.{AreTidy}
+use Rattle.txn_law.specs.Window.{Footprint, opening, with_objects}
+
+-- From blocks that stand for a tree each commit in turn leads to blocks that stand for the tree after its entry,
+-- one step of the sequential server further. The last tree is that after all of them.
+abbrev pub IsChain : Geometry → Image → Tree → List Footprint → List Entry → Tree → Type 0
+IsChain g blocks tree [] [] last = Stands g blocks tree × (last ≡ tree)
+IsChain g blocks tree (commit ∷ commits) (entry ∷ entries) last =
+    Stands g blocks tree × (next : Tree) × step tree entry.ctx entry.call entry.reply next
+    × IsChain g (with_objects blocks commit.written) next commits entries last
+IsChain g blocks tree [] (entry ∷ entries) last = ⊥
+IsChain g blocks tree (commit ∷ commits) [] last = ⊥
+
+-- no file was made in a later boot
+abbrev pub IsOfBoot : ℕ → Tree → Type 0
+IsOfBoot boot tree = (number : ℕ) (node : Node) → node_at tree number ≡ Some node → node.stamp.boot ≤ boot
+
+-- A store is open: the device agrees with the log beside the calls that are out, over what is at home; the
+-- commits that aren't installed lead on from there, and each has its entry; and the super block at home is that
+-- of this boot. The entries are those since the tree.
+pub record IsOpenStore (d : Device) (core : CoreState) (logging installing : Pending) (boot : ℕ) (tree : Tree)
+    (entries : List Entry) (last : Tree) : Type 0 where
+  pub base : Image
+  pub lawful : IsLawful core.log
+  pub agrees : AgreesBeside d base core.log logging installing
+  pub readable : IsReadable d core.log installing
+  pub window : IsCoreWindow base core
+  pub tidy : AreTidy core
+  pub super : Super
+  pub is_super : IsSuper (base SUPER_BLOCK) super
+  pub boot_is : super.boot ≡ boot
+  pub blocks_are : super.geometry.blocks ≡ core.log.blocks
+  pub inodes_are : super.geometry.inodes ≡ core.inodes
+  pub chain : IsChain super.geometry (homes_of core.log.blocks (opening base core.log)) tree core.records entries
+      last
+  pub stamps : (count : ℕ) (left : Tree) → after tree (take count entries) left → IsOfBoot boot left
