@@ -8,3 +8,4 @@ pub mod History
 pub mod Verdicts
 pub mod Headline
 pub mod Room
+pub mod ToldOf

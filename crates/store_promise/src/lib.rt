@@ -6,6 +6,7 @@ mod answers;
 mod events;
 mod fault;
 mod fresh;
+mod log_steps;
 mod promises;
 mod transcript;
 
@@ -13,6 +14,7 @@ pub use answers::{CallAnswer, Entry, Verdict};
 pub use events::{Cause, Committing, Ending, Event, Step, Wish};
 pub use fault::OpenFault;
 pub use fresh::{a_fresh_image_is_good, a_made_image_may_run};
+pub use log_steps::{a_commit_is_told, the_installer_is_told, the_logger_is_told};
 pub use promises::{
     a_failure_that_is_told_was_counted, a_full_log_is_full, a_run_of_no_events_keeps_the_promise,
     a_stop_leaves_an_image, a_worker_goes_by_its_plan, an_entry_was_called,
