@@ -16,7 +16,7 @@ picked index contents some =
     (i, h, get_or_default contents i (pick index contents) [] h)
 
 -- the next block takes some content, and the others the digits that are left
-chosen_cons : (digits : List ℕ) (contents : List Content) (rest : Blocks)
+pub chosen_cons : (digits : List ℕ) (contents : List Content) (rest : Blocks)
     → (index : ℕ) × (left : List ℕ)
     × (chosen digits (contents ∷ rest) ≡ pick index contents ∷ chosen left rest)
 chosen_cons digits contents rest =

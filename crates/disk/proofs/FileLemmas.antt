@@ -1,20 +1,32 @@
 -- What one more call makes of a device over a file.
-use Rattle.std.proofs.Common.{◌≡◌, ℕ, Bool, false, ◌||◌, List, [], ◌∷◌, ◌++◌, length, take, refl, sym, subst}
-use Rattle.std.proofs.Common.{◌∙◌, ap, arith, inr, Result, Ok, Err, if◌then◌else◌}
-use Rattle.std.proofs.lemmas.List.{length-append, take_all, take-append-le}
+use Rattle.std.proofs.Common.{◌≡◌, ℕ, ◌*◌, Bool, false, ◌||◌, ◌&&◌, List, [], ◌∷◌, ◌++◌}
+use Rattle.std.proofs.Common.{length, take, refl, sym, subst, ◌∙◌, ap, arith, inl, inr, Result, Ok, Err, is_err}
+use Rattle.std.proofs.Common.{if◌then◌else◌, cond}
+use Rattle.std.proofs.lemmas.List.{length-append, take_all, take-append-le, append_assoc}
 use Rattle.std.proofs.lemmas.List.Folds.{list_any-append}
-use Rattle.std.proofs.lemmas.Bool.{eq-eqb, ne_eqb}
+use Rattle.std.proofs.lemmas.List.Sums.{sum_by-append}
+use Rattle.std.proofs.lemmas.Bool.{cases_Bool, eq-eqb, ne_eqb, eqb-true, eqb-false}
 use Rattle.std.proofs.Math.Bool.{or-false}
 use Rattle.std.specs.Prelude.{nat_eq, OnOk}
 use Rattle.std.specs.declared.snapshot.Snapshot.{Snapshot}
+use Rattle.limits.specs.declared.TheConstants.{BLOCK_BYTES}
 use Rattle.disk.specs.declared.device.Failed.{Failed}
-use Rattle.disk.specs.declared.block.BlockNo.{BlockNo}
 use Rattle.disk.specs.declared.block.Side.{Side}
-use Rattle.disk.specs.declared.file_disk.FileCall.{FileCall}
-use Rattle.disk.specs.declared.file_disk.FileCall.TheVariants.{Read, Write, Barrier}
+use Rattle.disk.specs.declared.file.FileCall.{FileCall}
+use Rattle.disk.specs.declared.file.FileCall.TheVariants.{Read, Write, Sync}
 use Rattle.disk.specs.Device.{Content, Device, current, newest, OneLater, HasRead, HasWritten, HasSettled}
-use Rattle.disk.specs.Device.{Appends, Settles}
-use Rattle.disk.specs.File.{Calls, effect, contents_after, spoils_block, is_spoiled, file_device, IsExplained}
+use Rattle.disk.specs.Device.{Appends, Settles, CountsFailure}
+use Rattle.disk.specs.File.{Calls, is_at, effect, contents_after, spoils_block, is_spoiled, file_device}
+use Rattle.disk.specs.File.{KeepsModel}
+
+-- a block is at another's offset just where it is that one
+same_block : (one other : ℕ) → is_at one (other * BLOCK_BYTES) ≡ nat_eq one other
+same_block one other = elim (cases_Bool (nat_eq one other)) [
+  | inl t ↦ eq-eqb (one * BLOCK_BYTES) (other * BLOCK_BYTES) (ap (λ n. n * BLOCK_BYTES) (eqb-true one other t))
+      ∙ sym t
+  | inr f ↦ ne_eqb (one * BLOCK_BYTES) (other * BLOCK_BYTES)
+      (λ e. eqb-false one other f (omega (arith, e))) ∙ sym f
+]
 
 after_more : (block : ℕ) (contents : List Content) (calls : Calls) (call : FileCall) (r : Result Unit Failed)
     → contents_after block contents (calls ++ (call, r) ∷ [])
@@ -27,94 +39,111 @@ whole : (block : ℕ) (contents : List Content) (calls : Calls)
 whole block contents calls =
     ap (λ (es : Calls). contents_after block contents es) (take_all (length calls) calls (omega arith))
 
-pub current_more : (first : ℕ → Content) (size : ℕ) (calls : Calls) (call : FileCall) (r : Result Unit Failed)
-    (block : ℕ)
-    → current (file_device first size (calls ++ (call, r) ∷ [])) block
-    ≡ effect block call r (current (file_device first size calls) block)
-current_more first size calls call r block =
-    whole block (first block ∷ []) (calls ++ (call, r) ∷ [])
-    ∙ after_more block (first block ∷ []) calls call r
-    ∙ ap (λ (contents : List Content). effect block call r contents)
-    (sym (whole block (first block ∷ []) calls))
+module _ (first : ℕ → Content) (size : ℕ) (calls : Calls) where
+  abbrev now : Device
+  now = file_device first size calls
 
-later : (first : ℕ → Content) (size : ℕ) (calls : Calls) (call : FileCall) (r : Result Unit Failed)
-    → OneLater (file_device first size calls) (file_device first size (calls ++ (call, r) ∷ []))
-later first size calls call r = record {
-  size = refl;
-  clock = length-append calls ((call, r) ∷ []);
-  past = λ clock block h. ap (λ (es : Calls). contents_after block (first block ∷ []) es)
-      (take-append-le clock calls ((call, r) ∷ []) h);
-}
+  abbrev next : FileCall → Result Unit Failed → Device
+  next call r = file_device first size (calls ++ (call, r) ∷ [])
 
-spoiled_more : (block : ℕ) (calls : Calls) (call : FileCall) (r : Result Unit Failed)
-    → is_spoiled block (calls ++ (call, r) ∷ []) ≡ (is_spoiled block calls || spoils_block block call r)
-spoiled_more block calls call r =
-    list_any-append (λ e. spoils_block block e.0 e.1) calls ((call, r) ∷ [])
-    ∙ ap (λ (b : Bool). is_spoiled block calls || b) (or-false (spoils_block block call r))
+  current_more : (call : FileCall) (r : Result Unit Failed) (block : ℕ)
+      → current (next call r) block ≡ effect block call r (current now block)
+  current_more call r block =
+      whole block (first block ∷ []) (calls ++ (call, r) ∷ [])
+      ∙ after_more block (first block ∷ []) calls call r
+      ∙ ap (λ (contents : List Content). effect block call r contents)
+      (sym (whole block (first block ∷ []) calls))
 
-pub has_read : (first : ℕ → Content) (size : ℕ) (calls : Calls) (b : BlockNo) (bytes : Snapshot Content)
-    (r : Result Unit Failed)
-    → HasRead (file_device first size calls) (file_device first size (calls ++ (Read b bytes, r) ∷ []))
-has_read first size calls b bytes r = record {
-  later = later first size calls (Read b bytes) r;
-  contents = λ block. current_more first size calls (Read b bytes) r block;
-  spoiled = λ block. spoiled_more block calls (Read b bytes) r ∙ or-false (is_spoiled block calls);
-}
+  later : (call : FileCall) (r : Result Unit Failed) → OneLater now (next call r)
+  later call r = record {
+    size = refl;
+    clock = length-append calls ((call, r) ∷ []);
+    past = λ clock block h. ap (λ (es : Calls). contents_after block (first block ∷ []) es)
+        (take-append-le clock calls ((call, r) ∷ []) h);
+  }
 
-appends : (b : ℕ) (contents new : List Content) (content : Content) (r : Result Unit Failed)
-    → new ≡ (if nat_eq b b then contents ++ content ∷ [] else contents) → Appends contents content r new
-appends b contents new content (Ok u) e = e
-    ∙ ap (λ (t : Bool). if t then contents ++ content ∷ [] else contents) (eq-eqb b b refl)
-appends b contents new content (Err u) e =
-    inr (e ∙ ap (λ (t : Bool). if t then contents ++ content ∷ [] else contents) (eq-eqb b b refl))
+  spoiled_more : (block : ℕ) (call : FileCall) (r : Result Unit Failed)
+      → is_spoiled block (calls ++ (call, r) ∷ []) ≡ (is_spoiled block calls || spoils_block block call r)
+  spoiled_more block call r =
+      list_any-append (λ e. spoils_block block e.0 e.1) calls ((call, r) ∷ [])
+      ∙ ap (λ (b : Bool). is_spoiled block calls || b) (or-false (spoils_block block call r))
 
-pub has_written : (first : ℕ → Content) (size : ℕ) (calls : Calls) (b : BlockNo) (bytes : Snapshot Content)
-    (r : Result Unit Failed)
-    → HasWritten (file_device first size calls) b.0 bytes.value r
-    (file_device first size (calls ++ (Write b bytes, r) ∷ []))
-has_written first size calls b bytes r =
-    let old : ℕ → List Content = λ block. current (file_device first size calls) block in
-    record {
-      later = later first size calls (Write b bytes) r;
-      written = appends b.0 (old b.0)
-          (current (file_device first size (calls ++ (Write b bytes, r) ∷ [])) b.0) bytes.value r
-          (current_more first size calls (Write b bytes) r b.0);
-      others = λ other ne. current_more first size calls (Write b bytes) r other
-          ∙ ap (λ (t : Bool). if t then old other ++ bytes.value ∷ [] else old other) (ne_eqb other b.0 ne);
-      spoiled = λ block. spoiled_more block calls (Write b bytes) r;
-    }
+  -- an answer is counted just where it is a failure
+  pub counts : (call : FileCall) (r : Result Unit Failed) → CountsFailure now (next call r) r
+  counts call (Ok u) = sum_by-append (λ e. cond (is_err e.1) 1 0) calls ((call, Ok u) ∷ [])
+      ∙ omega arith
+  counts call (Err u) = sum_by-append (λ e. cond (is_err e.1) 1 0) calls ((call, Err u) ∷ [])
 
-settles : (side : Side) (block : ℕ) (old new : List Content) (r : Result Unit Failed)
-    → new ≡ effect block (Barrier side) r old → Settles side block old r new
-settles side block old new (Ok u) e = e
-settles side block old new (Err u) e = e
+  -- what kept the model with one more call kept it before
+  pub kept : (e : FileCall × Result Unit Failed) → KeepsModel first size (calls ++ e ∷ [])
+      → KeepsModel first size calls
+  kept e keeps = record {
+    blocks = keeps.blocks;
+    explained = λ earlier later call h. keeps.explained earlier (later ++ e ∷ []) call
+        (ap (λ (es : Calls). es ++ e ∷ []) h ∙ append_assoc earlier ((call, Ok tt) ∷ later) (e ∷ []));
+  }
 
-pub has_settled : (first : ℕ → Content) (size : ℕ) (calls : Calls) (side : Side) (r : Result Unit Failed)
-    → HasSettled (file_device first size calls) side r
-    (file_device first size (calls ++ (Barrier side, r) ∷ []))
-has_settled first size calls side r = record {
-  later = later first size calls (Barrier side) r;
-  contents = λ block. settles side block (current (file_device first size calls) block)
-      (current (file_device first size (calls ++ (Barrier side, r) ∷ [])) block) r
-      (current_more first size calls (Barrier side) r block);
-  spoiled = λ block. spoiled_more block calls (Barrier side) r ∙ or-false (is_spoiled block calls);
-}
+  pub has_read : (at : ℕ) (bytes : Snapshot Content) (r : Result Unit Failed)
+      → HasRead now (next (Read at bytes) r)
+  has_read at bytes r = record {
+    later = later (Read at bytes) r;
+    contents = λ block. current_more (Read at bytes) r block;
+    spoiled = λ block. spoiled_more block (Read at bytes) r ∙ or-false (is_spoiled block calls);
+  }
 
--- a read that is explained brought the newest content
-pub explained : (first : ℕ → Content) (calls : Calls) (b : BlockNo) (bytes : Snapshot Content)
-    (r : Result Unit Failed)
-    → IsExplained first (calls ++ (Read b bytes, r) ∷ []) → is_spoiled b.0 calls ≡ false
-    → OnOk r (bytes.value ≡ newest (contents_after b.0 (first b.0 ∷ []) (take (length calls) calls)))
-explained first calls b bytes (Ok u) h clean = h calls [] (Read b bytes) refl clean
-    ∙ ap newest (sym (whole b.0 (first b.0 ∷ []) calls))
-explained first calls b bytes (Err u) h clean = tt
+  appends : (b : ℕ) (contents new : List Content) (content : Content) (r : Result Unit Failed)
+      → new ≡ (if is_at b (b * BLOCK_BYTES) then contents ++ content ∷ [] else contents)
+      → Appends contents content r new
+  appends b contents new content (Ok u) e = e
+      ∙ ap (λ (t : Bool). if t then contents ++ content ∷ [] else contents)
+      (eq-eqb (b * BLOCK_BYTES) (b * BLOCK_BYTES) refl)
+  appends b contents new content (Err u) e =
+      inr (e ∙ ap (λ (t : Bool). if t then contents ++ content ∷ [] else contents)
+      (eq-eqb (b * BLOCK_BYTES) (b * BLOCK_BYTES) refl))
 
--- a fact of the device, where the file and the size are the same and the calls are these
-pub moved : {F : Type 0} (P : Device → Type 0) (held : F → ℕ
-    → Content) (file file' : F) (size size' : ℕ) (calls calls' : Calls)
-    → file' ≡ file → size' ≡ size → calls' ≡ calls → P (file_device (held file) size calls)
-    → P (file_device (held file') size' calls')
-moved P held file file' size size' calls calls' e f g h =
-    subst (λ x. P (file_device (held x) size' calls')) (sym e)
-    (subst (λ (n : ℕ). P (file_device (held file) n calls')) (sym f)
-    (subst (λ (es : Calls). P (file_device (held file) size es)) (sym g) h))
+  pub has_written : (b : ℕ) (bytes : Snapshot Content) (r : Result Unit Failed)
+      → HasWritten now b bytes.value r (next (Write (b * BLOCK_BYTES) bytes) r)
+  has_written b bytes r =
+      let call : FileCall = Write (b * BLOCK_BYTES) bytes in
+      record {
+        later = later call r;
+        written = appends b (current now b) (current (next call r) b) bytes.value r (current_more call r b);
+        others = λ other ne. current_more call r other
+            ∙ ap (λ (t : Bool). if t then current now other ++ bytes.value ∷ [] else current now other)
+            (same_block other b ∙ ne_eqb other b ne);
+        spoiled = λ block. spoiled_more block call r
+            ∙ ap (λ (t : Bool). is_spoiled block calls || (is_err r && t)) (same_block block b);
+      }
+
+  -- the same of what is equal to it
+  pub written : (after : Calls) (b at : ℕ) (content : Content) (bytes : Snapshot Content) (r : Result Unit Failed)
+      → bytes.value ≡ content → at ≡ b * BLOCK_BYTES → after ≡ calls ++ (Write at bytes, r) ∷ []
+      → HasWritten now b content r (file_device first size after)
+  written after b at content bytes r same is noted =
+      subst (λ (es : Calls). HasWritten now b content r (file_device first size es)) (sym noted)
+      (subst (λ (n : ℕ). HasWritten now b content r (next (Write n bytes) r)) (sym is)
+      (subst (λ (c : Content). HasWritten now b c r (next (Write (b * BLOCK_BYTES) bytes) r)) same
+      (has_written b bytes r)))
+
+  settles : (side : Side) (block : ℕ) (old new : List Content) (r : Result Unit Failed)
+      → new ≡ effect block (Sync side) r old → Settles side block old r new
+  settles side block old new (Ok u) e = e
+  settles side block old new (Err u) e = e
+
+  pub has_settled : (side : Side) (r : Result Unit Failed) → HasSettled now side r (next (Sync side) r)
+  has_settled side r = record {
+    later = later (Sync side) r;
+    contents = λ block. settles side block (current now block) (current (next (Sync side) r) block) r
+        (current_more (Sync side) r block);
+    spoiled = λ block. spoiled_more block (Sync side) r ∙ or-false (is_spoiled block calls);
+  }
+
+  -- a read that is explained brought the newest content
+  pub explained : (b : ℕ) (bytes : Snapshot Content) (r : Result Unit Failed)
+      → KeepsModel first size (calls ++ (Read (b * BLOCK_BYTES) bytes, r) ∷ []) → is_spoiled b calls ≡ false
+      → OnOk r (bytes.value ≡ newest (current now b))
+  explained b bytes (Ok u) keeps clean =
+      keeps.explained calls [] (Read (b * BLOCK_BYTES) bytes) refl b
+      (eq-eqb (b * BLOCK_BYTES) (b * BLOCK_BYTES) refl) clean
+      ∙ ap newest (sym (whole b (first b ∷ []) calls))
+  explained b bytes (Err u) keeps clean = tt

@@ -1,4 +1,6 @@
+pub mod BlockLemmas
 pub mod MemoryLemmas
 pub mod CrashLemmas
 pub mod FileLemmas
 pub mod OverlapLemmas
+pub mod StoredLemmas

@@ -166,7 +166,7 @@ failures_of : (old new : Device) (r : Result Unit Failed) → CountsFailure old 
 failures_of old new (Ok u) h = omega (arith, h)
 failures_of old new (Err u) h = h
 
-newest_settled : (contents : List Content) → newest (newest_alone contents) ≡ newest contents
+pub newest_settled : (contents : List Content) → newest (newest_alone contents) ≡ newest contents
 newest_settled contents =
     let n : ℕ = length contents - 1 in
     let len : length (drop n contents) ≡ length contents - n = length-drop n contents in

@@ -1,23 +1,56 @@
 -- A device over a file, read off what its blocks held when it was opened and the calls since.
-use Rattle.std.specs.Prelude.{◌≡◌, ℕ, Bool, false, List, [], ◌∷◌, ◌++◌, length, take, count_by, nat_eq, ◌&&◌}
+use Rattle.std.specs.Prelude.{◌≡◌, ℕ, zero, suc, ◌*◌, Bool, true, false, List, [], ◌∷◌, ◌++◌, length, take, count_by, nat_eq, ◌&&◌, ◌<◌, replicate, All}
 use Rattle.std.specs.Prelude.{if◌then◌else◌, Result, Ok, Err, is_err}
 use Rattle.std.specs.List.{list_any}
 use Rattle.disk.specs.declared.device.Failed.{Failed}
-use Rattle.disk.specs.declared.file_disk.FileCall.{FileCall}
-use Rattle.disk.specs.declared.file_disk.FileCall.TheVariants.{Read, Write, Barrier}
+use Rattle.disk.specs.declared.block.BlockNo.{BlockNo}
+use Rattle.disk.specs.declared.file.FileCall.{FileCall}
+use Rattle.disk.specs.declared.file.FileCall.TheVariants.{Read, Write, Sync}
+use Rattle.limits.specs.declared.TheConstants.{BLOCK_BYTES}
+use Rattle.disk.specs.Blocks.{IsBlock}
 use Rattle.disk.specs.Device.{Content, Device, newest, newest_alone, is_on}
 
 -- the calls so far, each with its result
 abbrev pub Calls : Type 0
 Calls = List (FileCall × Result Unit Failed)
 
+-- the bytes that a call brought or wrote; a sync has none, and counts as zeros
+abbrev pub bytes_of : FileCall → Content
+bytes_of (Read at bytes) = bytes.value
+bytes_of (Write at bytes) = bytes.value
+bytes_of (Sync side) = replicate BLOCK_BYTES 0
+
+-- each call brought or wrote a block
+abbrev pub AreOfBlocks : Calls → Type 0
+AreOfBlocks calls = All (λ call. IsBlock (bytes_of call.0)) calls
+
+-- what a block held when the file was opened: zeros, where nothing is said of it
+abbrev pub held_in : List (BlockNo × Content) → ℕ → Content
+held_in [] block = replicate BLOCK_BYTES 0
+held_in (pair ∷ pairs) block = if nat_eq block pair.0.0 then pair.1 else held_in pairs block
+
+-- so many blocks of an image, with their numbers
+abbrev pub pairs_of : (ℕ → Content) → ℕ → List (BlockNo × Content)
+pairs_of image zero = []
+pairs_of image (suc size) = (record { 0 = size }, image size) ∷ pairs_of image size
+
+-- whether the bytes from this offset on are those of the block
+abbrev pub is_at : ℕ → ℕ → Bool
+is_at block offset = nat_eq (block * BLOCK_BYTES) offset
+
 -- what a call does to the contents of a block: a write that failed counts as made
 abbrev pub effect : ℕ → FileCall → Result Unit Failed → List Content → List Content
 effect block (Read at bytes) result contents = contents
-effect block (Write at bytes) result contents = if nat_eq block at.0 then contents ++ bytes.value ∷ []
+effect block (Write at bytes) result contents = if is_at block at then contents ++ bytes.value ∷ []
     else contents
-effect block (Barrier side) (Ok _) contents = if is_on side block then newest_alone contents else contents
-effect block (Barrier side) (Err _) contents = contents
+effect block (Sync side) (Ok _) contents = if is_on side block then newest_alone contents else contents
+effect block (Sync side) (Err _) contents = contents
+
+-- what a block of a file holds after a call, where it held this before it
+abbrev pub put : ℕ → FileCall → Content → Content
+put block (Read at bytes) content = content
+put block (Write at bytes) content = if is_at block at then bytes.value else content
+put block (Sync side) content = content
 
 -- the contents of a block after these calls
 abbrev pub contents_after : ℕ → List Content → Calls → List Content
@@ -28,8 +61,8 @@ contents_after block contents (call ∷ calls) =
 -- it was a write of the block, which failed
 abbrev pub spoils_block : ℕ → FileCall → Result Unit Failed → Bool
 spoils_block block (Read at bytes) result = false
-spoils_block block (Write at bytes) result = is_err result && nat_eq block at.0
-spoils_block block (Barrier side) result = false
+spoils_block block (Write at bytes) result = is_err result && is_at block at
+spoils_block block (Sync side) result = false
 
 -- a write of the block is among the calls, and failed
 abbrev pub is_spoiled : ℕ → Calls → Bool
@@ -45,14 +78,31 @@ file_device first size calls = record {
   spoiled = λ block. is_spoiled block calls;
 }
 
--- a read that brings the newest content, unless a write of its block had failed
+-- a read that brings the newest content of its block, unless a write of the block had failed
 abbrev pub IsExplainedCall : (ℕ → Content) → Calls → FileCall → Type 0
-IsExplainedCall first earlier (Read at bytes) = is_spoiled at.0 earlier ≡ false
-    → bytes.value ≡ newest (contents_after at.0 (first at.0 ∷ []) earlier)
+IsExplainedCall first earlier (Read at bytes) = (block : ℕ) → is_at block at ≡ true
+    → is_spoiled block earlier ≡ false → bytes.value ≡ newest (contents_after block (first block ∷ []) earlier)
 IsExplainedCall first earlier (Write at bytes) = Unit
-IsExplainedCall first earlier (Barrier side) = Unit
+IsExplainedCall first earlier (Sync side) = Unit
 
--- what the blocks held when the file was opened explains what each read brought
-abbrev pub IsExplained : (ℕ → Content) → Calls → Type 0
-IsExplained first calls = (earlier later : Calls) (call : FileCall) → calls ≡ earlier ++ (call, Ok tt) ∷ later
-    → IsExplainedCall first earlier call
+-- each call that was made fits what was called before
+abbrev pub EachFits : (Calls → FileCall → Type 0) → Calls → Type 0
+EachFits Fits calls = (earlier later : Calls) (call : FileCall) → calls ≡ earlier ++ (call, Ok tt) ∷ later
+    → Fits earlier call
+
+-- What the blocks held when the file was opened were blocks, and explains what each read brought.
+pub record KeepsModel (first : ℕ → Content) (size : ℕ) (calls : Calls) : Type 0 where
+  pub blocks : (block : ℕ) → block < size → IsBlock (first block)
+  pub explained : EachFits (IsExplainedCall first) calls
+
+-- what a block of a file holds after calls, where it held this before them: what was written last
+abbrev pub stored : ℕ → Content → Calls → Content
+stored block content [] = content
+stored block content (call ∷ calls) = stored block (put block call.0 content) calls
+
+-- a file's answer to a read: what its block holds, but where a write of it failed: then any
+abbrev pub IsHonest : (ℕ → Content) → Calls → FileCall → Type 0
+IsHonest first earlier (Read at bytes) = (block : ℕ) → is_at block at ≡ true
+    → is_spoiled block earlier ≡ false → bytes.value ≡ stored block (first block) earlier
+IsHonest first earlier (Write at bytes) = Unit
+IsHonest first earlier (Sync side) = Unit

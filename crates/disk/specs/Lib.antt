@@ -1,7 +1,10 @@
 pub mod Device
+pub mod Blocks
 pub mod Crash
 pub mod Choice
 pub mod CallRecord
 pub mod Memory
+pub mod MemoryBlocks
 pub mod File
+pub mod FileBlocks
 pub mod Overlap

@@ -1,12 +1,14 @@
 //! Blocks, their numbers, and the two sides of a device.
-ghost use Rattle.std.specs.Prelude.{◌≡◌, ◌+◌, ◌≤◌, ◌++◌, length, take, drop, replicate, IfOk};
+ghost use Rattle.std.specs.Prelude.{◌≡◌, ℕ, ◌+◌, ◌<◌, ◌≤◌, ◌++◌, length, get_or, take, drop, replicate, IfOk};
 ghost use Rattle.disk.specs.Device.{side_of};
+ghost use Rattle.disk.specs.Blocks.{IsBlock};
 
 use crate::BlockFile;
 use limits::{BLOCK_BYTES, LOG_HEADER_BLOCK, START_BLOCK};
 use std::alloc::{AllocError, Global};
 use std::io;
 use std::marker::Model;
+use std::os::unix::fs::FileExt;
 
 /// The number of a block of an image, from 0.
 #[derive(Clone, Copy, Debug, Default, PartialEq, Eq, PartialOrd, Ord)]
@@ -18,6 +20,11 @@ pub enum Side {
     Log,
     Home,
 }
+
+// Each byte of a slice is below 256.
+fn are_bytes(bytes: &[u8])
+    ensures { (index : ℕ) → get_or bytes.now index 0 < 256 }
+{}
 
 impl BlockNo {
     /// The side that the block lies on.
@@ -63,8 +70,18 @@ impl Block {
     pub fn as_slice(&self) -> &[u8]
         ensures bytes { result.now ≡ self.now }
         ensures len { length result.now ≡ BLOCK_BYTES }
+        ensures block { IsBlock self.now }
     {
-        &self.bytes[..]
+        let bytes = &self.bytes[..];
+        are_bytes(bytes);
+        bytes
+    }
+
+    /// It is a block: for proofs alone.
+    pub(crate) fn whole(&self)
+        ensures { IsBlock self.now }
+    {
+        self.as_slice();
     }
 
     /// Makes the bytes those of another block.
@@ -86,6 +103,6 @@ impl Block {
 
     /// Reads the bytes of a file from an offset on. Where that fails, some of them may have come.
     pub(crate) fn fill<F: BlockFile>(&mut self, file: &F, offset: u64) -> io::Result<()> {
-        file.read_block(offset, &mut self.bytes[..])
+        file.read_exact_at(&mut self.bytes[..], offset)
     }
 }

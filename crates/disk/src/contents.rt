@@ -2,6 +2,7 @@
 ghost use Rattle.std.specs.Prelude.{◌≡◌, ◌<◌, ◌-◌, [], ◌∷◌, ◌++◌, min, is_ok, length, IfOk, if◌then◌else◌};
 ghost use Rattle.disk.specs.Device.{newest, newest_alone};
 ghost use Rattle.disk.specs.Choice.{pick};
+ghost use Rattle.disk.specs.Blocks.{AreContents};
 
 use crate::Block;
 use std::alloc::{AllocError, Global};
@@ -14,23 +15,33 @@ pub struct Contents {
 }
 
 impl Model for Contents {
-    ghost use Rattle.std.specs.Prelude.{List, ℕ, ◌<◌, length};
+    ghost use Rattle.std.specs.Prelude.{List, ℕ};
+    ghost use Rattle.disk.specs.Blocks.{AreContents};
 
     ghost Value = { List (List ℕ) };
 
     ghost view = { λ c. c.blocks.items };
 
-    ghost invariant = { λ c. 0 < length c.blocks.items };
+    ghost invariant = { λ c. AreContents c.blocks.items };
 }
 
 impl Contents {
     /// One content.
     pub fn one(alloc: Global, content: Block) -> Result<Contents, AllocError>
-        ensures { IfOk result (λ contents. contents ≡ content ∷ []) }
+        ensures only { IfOk result (λ contents. contents ≡ content ∷ []) }
+        ensures whole { IfOk result AreContents }
     {
+        content.whole();
         let mut blocks = Vec::with_capacity(alloc, 1)?;
         blocks.push(content)?;
         Ok(Contents { blocks })
+    }
+
+    /// There is one, and they are blocks: for proofs alone.
+    pub fn whole(&self)
+        ensures { AreContents self.now }
+    {
+        let _ = &self.blocks;
     }
 
     /// How many there are.
@@ -49,17 +60,21 @@ impl Contents {
 
     /// Adds a newer one. Where memory was refused nothing changes.
     pub fn append(&mut self, alloc: Global, content: &Block) -> Result<(), AllocError>
-        ensures { self.new ≡ (if is_ok result then self.old ++ content.now ∷ [] else self.old) }
+        ensures appended { self.new ≡ (if is_ok result then self.old ++ content.now ∷ [] else self.old) }
+        ensures whole { AreContents self.new }
     {
+        self.whole();
         let mut copy = Block::zeros(alloc)?;
         copy.copy_from(content);
+        copy.whole();
         self.blocks.push(copy)?;
         Ok(())
     }
 
     /// Keeps the newest alone.
     pub fn keep_newest(&mut self)
-        ensures { self.new ≡ newest_alone self.old }
+        ensures kept { self.new ≡ newest_alone self.old }
+        ensures whole { AreContents self.new }
     {
         let last = self.blocks.len() - 1;
         self.keep_one(last);
@@ -69,6 +84,7 @@ impl Contents {
     pub fn keep_one(&mut self, index: usize)
         ensures kept { self.new ≡ pick index self.old ∷ [] }
         ensures some { 0 < length self.old }
+        ensures whole { AreContents self.new }
     {
         let last = self.blocks.len() - 1;
         self.blocks.swap(0, index.min(last));
@@ -77,8 +93,10 @@ impl Contents {
 
     /// Makes this the only content.
     pub fn set(&mut self, content: &Block)
-        ensures { self.new ≡ content.now ∷ [] }
+        ensures set { self.new ≡ content.now ∷ [] }
+        ensures whole { AreContents self.new }
     {
+        content.whole();
         self.blocks.truncate(1);
         self.blocks[0].copy_from(content);
     }

@@ -1,5 +1,6 @@
 //! What a device promises.
 ghost use Rattle.std.specs.Prelude.{◌≡◌, ◌<◌, false, OnOk};
+ghost use Rattle.disk.specs.Blocks.{AreBlocks};
 ghost use Rattle.disk.specs.Device.{Device, current, newest, CountsFailure, HasRead, HasWritten, HasSettled};
 
 use crate::{Block, BlockNo, Side};
@@ -43,4 +44,7 @@ pub trait CrashDisk {
         ensures call { HasSettled (device self.old) side result (device self.new) }
         ensures failure { CountsFailure (device self.old) (device self.new) result }
         ensures model { keeps_model self.new → keeps_model self.old };
+
+    /// What it tells of are blocks.
+    ghost whole: { (d : Self) → keeps_model d → AreBlocks (device d) };
 }

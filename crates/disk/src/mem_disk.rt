@@ -1,8 +1,9 @@
 //! A device in memory, for tests and for what is proved of every run. It can be made to fail and to crash.
 ghost use Rattle.std.specs.Prelude.{◌≡◌, ℕ, ◌<◌, ◌^◌, ◌-◌, ◌↔◌, min, length, [], ◌∷◌, map, replicate};
-ghost use Rattle.std.specs.Prelude.{Contains, IsTrue, slice_index, slice_index_or, IfOk, if◌then◌else◌};
+ghost use Rattle.std.specs.Prelude.{All, Contains, IsTrue, slice_index, slice_index_or, IfOk, if◌then◌else◌};
 ghost use Rattle.limits.specs.declared.TheConstants.{BLOCK_BYTES};
 ghost use Rattle.disk.specs.Device.{is_on, newest_alone};
+ghost use Rattle.disk.specs.Blocks.{AreContents, AreWhole};
 ghost use Rattle.disk.specs.Choice.{chosen};
 
 use crate::call_record::{Call, CallRecord};
@@ -20,6 +21,8 @@ pub struct MemDisk {
     fails: Vec<u64>,
     history: History,
     ghost numbered: { length blocks.items < 2 ^ 32 },
+    ghost whole: { All AreContents blocks.items },
+    ghost past: { All (λ e. AreWhole (length blocks.items) e.0.value.items) history.past.items },
 }
 
 impl MemDisk {
@@ -129,6 +132,7 @@ impl MemDisk {
 
     // Notes a call, before which the blocks held this.
     fn note(&mut self, before: &Snapshot<Vec<Contents>>, call: Call, outcome: Result<(), Failed>)
+        requires { AreWhole (length (blocks_of self.old)) before.now.value.items }
         ensures past { past_of self.new ≡ past_of self.old
             ++ (before.now.value.items, record { call = call; result = outcome }) ∷ [] }
         ensures blocks { blocks_of self.new ≡ blocks_of self.old }
@@ -146,10 +150,13 @@ impl CrashDisk for MemDisk {
     ghost use Rattle.std.specs.Prelude.{◌≢◌, ◌∷◌, ◌++◌, is_err, IsErr, IsOk, OnOk, false};
     ghost use Rattle.disk.specs.Device.{newest, current, CountsFailure, HasRead, HasWritten, HasSettled};
     ghost use Rattle.disk.specs.Memory.{memory_device, blocks_of, to_fail, IsDue};
+    ghost use Rattle.disk.specs.MemoryBlocks.{memory_blocks};
 
     ghost device = { memory_device };
 
     ghost keeps_model = { λ _. Unit {0} };
+
+    ghost whole = { λ d _. memory_blocks d };
 
     fn blocks(&self) -> u32 {
         self.blocks.len() as u32
@@ -215,7 +222,8 @@ fn is_named(numbers: &[u64], number: u64) -> bool
 
 // Blocks of zeros.
 fn zeros(alloc: Global, count: u32) -> Result<Vec<Contents>, AllocError>
-    ensures { IfOk result (λ blocks. blocks.items ≡ replicate count (replicate BLOCK_BYTES 0 ∷ [])) }
+    ensures zeros { IfOk result (λ blocks. blocks.items ≡ replicate count (replicate BLOCK_BYTES 0 ∷ [])) }
+    ensures whole { IfOk result (λ blocks. All AreContents blocks.items) }
 {
     let mut blocks = Vec::new(alloc);
     for _made in 0..count {
@@ -259,6 +267,7 @@ fn settle(blocks: &mut [Contents], side: Side)
     ensures contents { (block : ℕ) → slice_index_or blocks.new block []
         ≡ (if is_on side block then newest_alone (slice_index_or blocks.old block []) else slice_index_or blocks.old block []) }
     ensures len { length blocks.new ≡ length blocks.old }
+    ensures whole { All AreContents blocks.old → All AreContents blocks.new }
 {
     for index in 0..blocks.len() {
         if BlockNo(index as u32).side() == side {

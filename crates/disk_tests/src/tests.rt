@@ -1,10 +1,13 @@
-//! What no contract says: that calls succeed, and that a file of the system answers as a device does.
+//! What no contract says: that calls succeed, what is asked of a file, and that a file of the system answers as a
+//! device does.
+mod asked;
+mod fake;
 mod files;
 mod order;
+mod room;
 
-use disk::{Block, BlockFile, BlockNo, CrashDisk, Failed, FileDisk, MemDisk, Side};
+use disk::{Block, BlockNo, CrashDisk, Failed, MemDisk, Side};
 use std::alloc::Global;
-use std::io;
 use std::test::Fail;
 
 const HOME: BlockNo = BlockNo(600);
@@ -119,55 +122,5 @@ fn named_calls_fail(rt: HostRuntime) -> Result<(), Fail> {
         assert!(rt; make(&mut disk, call, &mut out) == wanted);
     }
     assert!(rt; disk.calls() == 6);
-    Ok(())
-}
-
-// A file that fails each call, or none.
-#[derive(Drop)]
-struct Fake {
-    fails: bool,
-}
-
-impl Fake {
-    fn answer(&self) -> io::Result<()> {
-        if self.fails {
-            return Err(io::ErrorKind::StorageFull.into());
-        }
-        Ok(())
-    }
-}
-
-impl BlockFile for Fake {
-    ghost use Rattle.std.specs.Prelude.{[]};
-
-    ghost held = { λ _ _. [] };
-
-    fn lock(&self) -> io::Result<()> {
-        self.answer()
-    }
-
-    fn read_block(&self, _offset: u64, bytes: &mut [u8]) -> io::Result<()> {
-        bytes.fill(7);
-        self.answer()
-    }
-
-    fn write_block(&self, _offset: u64, _bytes: &[u8]) -> io::Result<()> {
-        self.answer()
-    }
-
-    fn settle(&self) -> io::Result<()> {
-        self.answer()
-    }
-}
-
-#[test]
-fn errors_of_a_file_are_failures(rt: HostRuntime) -> Result<(), Fail> {
-    let mut out = Block::zeros(rt.alloc())?;
-    for (fails, wanted) in [(false, Ok(7)), (true, Err(Failed))] {
-        let mut disk = FileDisk::over(Fake { fails }, BLOCKS);
-        for call in [Call::Read(HOME), Call::Write(HOME), Call::Barrier] {
-            assert!(rt; make(&mut disk, call, &mut out) == wanted);
-        }
-    }
     Ok(())
 }

@@ -10,7 +10,8 @@ use Rattle.limits.specs.declared.TheConstants.{BLOCK_BYTES, INODES_PER_BLOCK, IN
 use Rattle.disk.specs.Crash.{Image}
 use Rattle.nfs_types.specs.declared.ctx.Moment.{Moment}
 use Rattle.model.specs.Node.{Node}
-use Rattle.model.specs.Sound.{AreBytes, Sound, SoundNode, SoundTime}
+use Rattle.nfs_types.specs.Fits.{AreBytes}
+use Rattle.model.specs.Sound.{Sound, SoundNode, SoundTime}
 use Rattle.model.specs.Tree.{Tree, node_at, with_node}
 use Rattle.model.specs.Tree as model
 use Rattle.model.proofs.Replaced.{sound}
@@ -25,7 +26,7 @@ use Rattle.layout.specs.Owners.{IsMarked, owned, owned_by, is_used, is_free}
 use Rattle.layout.specs.Parts.{Parts, parts_of, put, table_of, content_in, with_bytes, with_inode}
 use Rattle.layout.specs.Geometry.{inode_block, inode_offset, data_at}
 use Rattle.layout.specs.Stands.{Stands, PartsStand, HasFiles}
-use Rattle.layout.proofs.Fits.{IsRead, read_fits}
+use Rattle.layout.proofs.Fits.{IsRead, read_fits, part-length}
 use Rattle.layout.proofs.Frame.{ChangesOne, changed_files, same_owners, same_used, same_marks}
 use Rattle.layout.proofs.FreshFiles.{not_equal}
 use Rattle.layout.proofs.Retouched.{same_blocks, rules, body_is, used, file, shape, sound_file, sound_node}
@@ -57,7 +58,6 @@ node_of g blocks tree n inode node stands was read =
       atime = inode.atime;
       mtime = inode.mtime;
       ctime = inode.ctime;
-      verifier = None;
     }) g.inodes inode.kind node
     (ap (file_of g.inodes (content_in g blocks)) (sym table_is) ∙ sym (stands.parts.has.files n) ∙ was)
 
@@ -120,11 +120,15 @@ module _ (g : Geometry) (blocks : Image) (tree : Tree) (n : ℕ) (inode : Inode)
       part_bytes : (len from : ℕ) (bytes : List ℕ) → AreBytes bytes → AreBytes (take len (drop from bytes))
       part_bytes len from bytes are = (taken len (dropped from (record { are = are }))).are
 
+  long : length (blocks (inode_block g.blocks g.inodes n)) ≡ BLOCK_BYTES
+  long = (stands.bytes (inode_block g.blocks g.inodes n) on_disk).0
+
   is_read : IsRead g.blocks g.inodes inode
   unfolding inode_at
   is_read = read_fits g.blocks g.inodes
-      (take INODE_BYTES (drop (inode_offset n) (blocks (inode_block g.blocks g.inodes n)))) bytes_there inode
-      read
+      (take INODE_BYTES (drop (inode_offset n) (blocks (inode_block g.blocks g.inodes n)))) bytes_there
+      (part-length INODE_BYTES (inode_offset n) (blocks (inode_block g.blocks g.inodes n))
+      (omega (arith, long))) inode read
 
   fits : FitsInode new_inode
   fits = touched_fits inode t good is_read.fits
@@ -177,7 +181,8 @@ module _ (g : Geometry) (blocks : Image) (tree : Tree) (n : ℕ) (inode : Inode)
   unfolding is_sound_inode
   next_sound = sound tree n (node_with inode node.body) new_node old_file
       (shape g old.content inode t node.body) stands.parts.sound
-      (sound_node new_inode node fits new_file_good (stands.parts.sound.files n node was).itself)
+      (sound_node new_inode node fits new_file_good
+      (ap (λ (one : Node). one.verifier) node_is) (stands.parts.sound.files n node was).itself)
     where
       new_file_good : is_sound_file new_inode ≡ true
       new_file_good =
@@ -191,9 +196,6 @@ module _ (g : Geometry) (blocks : Image) (tree : Tree) (n : ℕ) (inode : Inode)
 
   abbrev written : Image
   written = with_bytes blocks (inode_block g.blocks g.inodes n) (inode_offset n) (inode_bytes new_inode)
-
-  long : length (blocks (inode_block g.blocks g.inodes n)) ≡ BLOCK_BYTES
-  long = (stands.bytes (inode_block g.blocks g.inodes n) on_disk).0
 
   size : length (inode_bytes new_inode) ≡ INODE_BYTES
   size = written-length new_inode fits
@@ -213,7 +215,7 @@ module _ (g : Geometry) (blocks : Image) (tree : Tree) (n : ℕ) (inode : Inode)
           spliced-length (blocks (inode_block g.blocks g.inodes n)) (inode_bytes new_inode) (inode_offset n)
               (omega (arith, long, size)) ∙ long,
           spliced-bytes (blocks (inode_block g.blocks g.inodes n)) (inode_bytes new_inode) (inode_offset n)
-              (stands.bytes (inode_block g.blocks g.inodes n) on_disk).1 (inode_are new_inode),
+              (stands.bytes (inode_block g.blocks g.inodes n) on_disk).1 (inode_are new_inode fits),
         ))
     | inr not ↦ subst IsBlock
         (sym (elsewhere blocks (inode_block g.blocks g.inodes n) (inode_offset n) (inode_bytes new_inode)
@@ -239,7 +241,6 @@ module _ (g : Geometry) (blocks : Image) (tree : Tree) (n mode : ℕ) (inode : I
     atime = inode.atime;
     mtime = inode.mtime;
     ctime = moment;
-    verifier = inode.verifier;
   }
 
   good : SoundNode node
@@ -259,7 +260,6 @@ module _ (g : Geometry) (blocks : Image) (tree : Tree) (n mode : ℕ) (inode : I
     atime = inode_good.atime;
     mtime = inode_good.mtime;
     ctime = now;
-    verifier = inode_good.verifier;
   }
 
   same_node : node_with (touched inode t) node.body ≡ record node { mode = mode; ctime = moment }

@@ -1,18 +1,21 @@
 -- An inode that was read fits its bytes, and is sound by itself.
 use Rattle.std.proofs.Common.{◌≡◌, ℕ, zero, suc, ◌+◌, ◌*◌, ◌<◌, ◌^◌, sym, ap, ◌∙◌, refl, subst, Bool, true}
 use Rattle.std.proofs.Common.{false, cond, ◌&&◌, nat_eq, List, drop, get_or, Option, Some, None, Ok, Err}
-use Rattle.std.proofs.Common.{IfSome, arith}
+use Rattle.std.proofs.Common.{IfSome, arith, ◌≤◌, length, take}
 use Rattle.std.specs.List.{AllByRecursion}
-use Rattle.std.proofs.lemmas.List.{get_or-drop}
-use Rattle.limits.specs.declared.TheConstants.{DIRECT_INDEXES}
-use Rattle.model.specs.Sound.{AreBytes}
+use Rattle.std.proofs.lemmas.List.{get_or-drop, length-take, length-drop}
+use Rattle.limits.specs.declared.TheConstants.{DIRECT_INDEXES, INODE_BYTES}
+use Rattle.nfs_types.specs.declared.verifier.TheConstants.{VERIFIER_BYTES}
+use Rattle.nfs_types.specs.declared.verifier.Verifier.{Verifier}
+use Rattle.nfs_types.specs.Fits.{AreBytes, VerifierFits}
 use Rattle.layout.specs.declared.fault.LayoutFault.TheVariants.{Range}
 use Rattle.layout.specs.declared.inode.Inode.{Inode}
 use Rattle.layout.specs.declared.inode.InodeKind.{InodeKind}
 use Rattle.layout.specs.Fields.{four_at, eight_at, numbers_at}
 use Rattle.layout.specs.InodeForm.{FitsInode, read_inode, inode_of_kind, fields_of, is_sound_inode}
-use Rattle.layout.specs.InodeForm.{rest_is_zero, kind_of_number}
+use Rattle.layout.specs.InodeForm.{rest_is_zero, kind_of_number, verifier_at}
 use Rattle.layout.proofs.NumbersAt.{numbers-length}
+use Rattle.layout.proofs.WrittenBytes.{taken, dropped}
 
 small_four : (a b c d : ℕ) → a < 256 → b < 256 → c < 256 → d < 256
     → a + b * 256 + c * 65536 + d * 16777216 < 2 ^ 32
@@ -43,13 +46,20 @@ module _ (bytes : List ℕ) (are : AreBytes bytes) where
   numbers zero index = tt
   numbers (suc count) index = (four index, numbers count (index + 4))
 
-  verifier : (given : Bool) (v : ℕ) → v < 2 ^ 64 → IfSome (cond given (Some v) None) (λ w. w < 2 ^ 64)
-  verifier true v small = small
-  verifier false v small = tt
+  verifier : (given : Bool) (v : Verifier) → VerifierFits v → IfSome (cond given (Some v) None) VerifierFits
+  verifier true v fits = fits
+  verifier false v fits = tt
 
-  pub fields_fit : (kind : InodeKind) → FitsInode (fields_of kind bytes)
+  -- eight bytes of those that there are
+  copied : 88 ≤ length bytes → VerifierFits (verifier_at 80 bytes)
+  copied long = record {
+    count = omega (arith, long, length-take VERIFIER_BYTES (drop 80 bytes), length-drop 80 bytes);
+    each = (taken VERIFIER_BYTES (dropped 80 (record { are = are }))).are;
+  }
+
+  pub fields_fit : (kind : InodeKind) → 88 ≤ length bytes → FitsInode (fields_of kind bytes)
   unfolding fields_of
-  fields_fit kind = record {
+  fields_fit kind long = record {
     mode = four 4;
     uid = four 8;
     gid = four 12;
@@ -61,7 +71,7 @@ module _ (bytes : List ℕ) (are : AreBytes bytes) where
     boot = eight 56;
     transaction = eight 64;
     parent = four 72;
-    verifier = verifier (nat_eq (four_at 76 bytes) 1) (eight_at 80 bytes) (eight 80);
+    verifier = verifier (nat_eq (four_at 76 bytes) 1) (verifier_at 80 bytes) (copied long);
     count = numbers-length DIRECT_INDEXES 88 bytes;
     direct = numbers DIRECT_INDEXES 88;
     indirect = four 120;
@@ -79,7 +89,14 @@ pub record IsRead (blocks inodes : ℕ) (inode : Inode) : Type 0 where
   pub fits : FitsInode inode
   pub good : is_sound_inode blocks inodes inode ≡ true
 
-module _ (blocks inodes : ℕ) (bytes : List ℕ) (are : AreBytes bytes) (inode : Inode) where
+-- so many bytes from an offset on, where there are as many
+pub part-length : (count offset : ℕ) (bytes : List ℕ) → offset + count ≤ length bytes
+    → length (take count (drop offset bytes)) ≡ count
+part-length count offset bytes inside =
+    omega (arith, inside, length-take count (drop offset bytes), length-drop offset bytes)
+
+module _ (blocks inodes : ℕ) (bytes : List ℕ) (are : AreBytes bytes) (long : length bytes ≡ INODE_BYTES)
+    (inode : Inode) where
   of_kind : (kind : Option InodeKind) → inode_of_kind blocks inodes kind bytes ≡ Ok inode
       → IsRead blocks inodes inode
   of_kind None e = cc
@@ -87,7 +104,7 @@ module _ (blocks inodes : ℕ) (bytes : List ℕ) (are : AreBytes bytes) (inode 
       let is = chosen (rest_is_zero kind bytes && is_sound_inode blocks inodes (fields_of kind bytes))
       (fields_of kind bytes) inode e in
       record {
-        fits = subst FitsInode is.1 (fields_fit bytes are kind);
+        fits = subst FitsInode is.1 (fields_fit bytes are kind (omega (arith, long)));
         good = ap (is_sound_inode blocks inodes) (sym is.1)
             ∙ and_right (rest_is_zero kind bytes) (is_sound_inode blocks inodes (fields_of kind bytes)) is.0;
       }

@@ -10,7 +10,7 @@ use Rattle.std.proofs.lemmas.List.FromFn.{get_or-map-range_with_len, length-map-
 use Rattle.limits.specs.declared.TheConstants.{BITS_PER_BLOCK, BLOCK_BYTES, FIRST_HOME_BLOCK, INODE_BYTES}
 use Rattle.limits.specs.declared.TheConstants.{ROOT, SUPER_BLOCK}
 use Rattle.nfs_types.specs.declared.ctx.Moment.{Moment}
-use Rattle.model.specs.Sound.{AreBytes}
+use Rattle.nfs_types.specs.Fits.{AreBytes}
 use Rattle.layout.specs.declared.geometry.Geometry.{Geometry}
 use Rattle.layout.specs.declared.super_block.Super.{Super}
 use Rattle.layout.specs.Fields.{four_bytes, eight_bytes, number_bytes}

@@ -1,14 +1,14 @@
 -- An inode whose attributes are changed, and none of its blocks: its file is the old one with these
 -- attributes.
 use Rattle.std.proofs.Common.{◌≡◌, ℕ, ◌<◌, ◌≤◌, sym, ap, ◌∙◌, refl, Bool, true, false, ◌&&◌, Some, Ok, nat_le}
-use Rattle.std.proofs.Common.{arith}
+use Rattle.std.proofs.Common.{arith, subst}
 use Rattle.std.proofs.lemmas.Bool.{lt-ltb, le-leb}
 use Rattle.std.proofs.lemmas.Bool.Decides.{nat_tests}
 use Rattle.limits.specs.declared.TheConstants.{MODE_BITS, MOST_LINKS, NANOSECONDS}
 use Rattle.disk.specs.Crash.{Image}
 use Rattle.nfs_types.specs.declared.ctx.Moment.{Moment}
 use Rattle.model.specs.Node.{Node, Body}
-use Rattle.model.specs.Sound.{SoundNode}
+use Rattle.model.specs.Sound.{SoundNode, SoundVerifier}
 use Rattle.model.proofs.Replaced.{SameShape}
 use Rattle.layout.specs.declared.geometry.Geometry.{Geometry}
 use Rattle.layout.specs.declared.inode.Inode.{Inode}
@@ -114,9 +114,9 @@ sound_file blocks inodes Link i used e =
     (left (is_sound_file i && is_sound_map blocks inodes i) (is_sound_link i) e)
 
 -- a sound inode with a sound body makes a sound file
-pub sound_node : (i : Inode) (node : Node) → FitsInode i → is_sound_file i ≡ true → SoundNode node
-    → SoundNode (node_with i node.body)
-sound_node i node fits good old =
+pub sound_node : (i : Inode) (node : Node) → FitsInode i → is_sound_file i ≡ true
+    → i.verifier ≡ node.verifier → SoundNode node → SoundNode (node_with i node.body)
+sound_node i node fits good made old =
     let a = nat_le i.mode MODE_BITS in
     let b = nat_le 1 i.nlink in
     let c = nat_le i.nlink MOST_LINKS in
@@ -145,7 +145,7 @@ sound_node i node fits good old =
         nanoseconds = time_below i.ctime (right (a && b && c && d && e) f good);
       };
       stamp = record { boot = fits.boot; transaction = fits.transaction };
-      verifier = fits.verifier;
+      verifier = subst (SoundVerifier node.body) (sym made) old.verifier;
       body = old.body;
     }
 
@@ -163,7 +163,7 @@ touched_fits i t good fits = record {
   boot = fits.boot;
   transaction = fits.transaction;
   parent = fits.parent;
-  verifier = good.verifier;
+  verifier = fits.verifier;
   count = fits.count;
   direct = fits.direct;
   indirect = fits.indirect;

@@ -5,6 +5,9 @@ use Rattle.std.specs.List.{AllByRecursion}
 use Rattle.std.proofs.lemmas.Nat.{from_le_bytes-to_le_bytes_4, from_le_bytes-to_le_bytes_8}
 use Rattle.limits.specs.declared.TheConstants.{DIRECT_INDEXES, INODE_BYTES}
 use Rattle.nfs_types.specs.declared.ctx.Moment.{Moment}
+use Rattle.nfs_types.specs.declared.verifier.TheConstants.{VERIFIER_BYTES}
+use Rattle.nfs_types.specs.declared.verifier.Verifier.{Verifier}
+use Rattle.nfs_types.specs.Fits.{VerifierFits}
 use Rattle.layout.specs.declared.inode.Inode.{Inode}
 use Rattle.layout.specs.declared.inode.InodeKind.{InodeKind}
 use Rattle.layout.specs.declared.inode.InodeKind.TheVariants.{Free, Regular, Directory, Link}
@@ -19,7 +22,7 @@ abbrev Fits : ℕ → Type 0
 Fits number = number < 2 ^ 32
 
 -- an inode with this verifier and these numbers of blocks
-abbrev with : Inode → Option ℕ → List ℕ → Inode
+abbrev with : Inode → Option Verifier → List ℕ → Inode
 with inode verifier direct = record inode { verifier = verifier; direct = direct }
 
 module _ (inode : Inode) (fits : FitsInode inode) where
@@ -40,65 +43,13 @@ module _ (inode : Inode) (fits : FitsInode inode) where
   time m small =
       λ i. record { seconds = four m.seconds small.0 i; nanoseconds = four m.nanoseconds small.1 i }
 
-  abbrev IsRead : Option ℕ → List ℕ → Type 0
+  abbrev IsRead : Option Verifier → List ℕ → Type 0
   IsRead verifier direct = fields_of inode.kind (inode_bytes (with inode verifier direct))
       ≡ with inode verifier direct
 
-  fields : (verifier : Option ℕ) → IfSome verifier (λ v. v < 2 ^ 64) → (direct : List ℕ)
-      → length direct ≡ DIRECT_INDEXES → AllByRecursion Fits direct → IsRead verifier direct
-  unfolding fields_of four_at eight_at numbers_at head_bytes middle_bytes tail_bytes four_bytes eight_bytes
-  fields None v (d0 ∷ d1 ∷ d2 ∷ d3 ∷ d4 ∷ d5 ∷ d6 ∷ d7 ∷ []) long all = λ i. record inode {
-    mode = four inode.mode fits.mode i;
-    uid = four inode.uid fits.uid i;
-    gid = four inode.gid fits.gid i;
-    nlink = four inode.nlink fits.nlink i;
-    size = eight inode.size fits.size i;
-    atime = time inode.atime fits.atime i;
-    mtime =
-        time inode.mtime fits.mtime i;
-    ctime = time inode.ctime fits.ctime i;
-    stamp = record {
-      boot = eight inode.stamp.boot fits.boot i;
-      transaction = eight inode.stamp.transaction fits.transaction i;
-    };
-    parent = four inode.parent fits.parent i;
-    verifier = None;
-    direct = four d0 all.0 i ∷ four d1 all.1.0 i ∷ four d2 all.1.1.0 i ∷ four d3 all.1.1.1.0 i
-        ∷ four d4 all.1.1.1.1.0 i ∷ four d5 all.1.1.1.1.1.0 i ∷ four d6 all.1.1.1.1.1.1.0 i
-        ∷ four d7 all.1.1.1.1.1.1.1.0 i ∷ [];
-    indirect = four inode.indirect fits.indirect i;
-  }
-  fields (Some w) v (d0 ∷ d1 ∷ d2 ∷ d3 ∷ d4 ∷ d5 ∷ d6 ∷ d7 ∷ []) long all = λ i. record inode {
-    mode = four inode.mode fits.mode i;
-    uid = four inode.uid fits.uid i;
-    gid = four inode.gid fits.gid i;
-    nlink = four inode.nlink fits.nlink i;
-    size = eight inode.size fits.size i;
-    atime = time inode.atime fits.atime i;
-    mtime =
-        time inode.mtime fits.mtime i;
-    ctime = time inode.ctime fits.ctime i;
-    stamp = record {
-      boot = eight inode.stamp.boot fits.boot i;
-      transaction = eight inode.stamp.transaction fits.transaction i;
-    };
-    parent = four inode.parent fits.parent i;
-    verifier = Some (eight w v i);
-    direct = four d0 all.0 i ∷ four d1 all.1.0 i ∷ four d2 all.1.1.0 i ∷ four d3 all.1.1.1.0 i
-        ∷ four d4 all.1.1.1.1.0 i ∷ four d5 all.1.1.1.1.1.0 i ∷ four d6 all.1.1.1.1.1.1.0 i
-        ∷ four d7 all.1.1.1.1.1.1.1.0 i ∷ [];
-    indirect = four inode.indirect fits.indirect i;
-  }
-  fields verifier v [] long all = absurd (omega (arith, long))
-  fields verifier v (d0 ∷ []) long all = absurd (omega (arith, long))
-  fields verifier v (d0 ∷ d1 ∷ []) long all = absurd (omega (arith, long))
-  fields verifier v (d0 ∷ d1 ∷ d2 ∷ []) long all = absurd (omega (arith, long))
-  fields verifier v (d0 ∷ d1 ∷ d2 ∷ d3 ∷ []) long all = absurd (omega (arith, long))
-  fields verifier v (d0 ∷ d1 ∷ d2 ∷ d3 ∷ d4 ∷ []) long all = absurd (omega (arith, long))
-  fields verifier v (d0 ∷ d1 ∷ d2 ∷ d3 ∷ d4 ∷ d5 ∷ []) long all = absurd (omega (arith, long))
-  fields verifier v (d0 ∷ d1 ∷ d2 ∷ d3 ∷ d4 ∷ d5 ∷ d6 ∷ []) long all = absurd (omega (arith, long))
-  fields verifier v (d0 ∷ d1 ∷ d2 ∷ d3 ∷ d4 ∷ d5 ∷ d6 ∷ d7 ∷ d8 ∷ rest) long all =
-      absurd (omega (arith, long))
+  -- a create verifier of these bytes
+  abbrev made : List ℕ → Option Verifier
+  made bytes = Some (record { bytes = bytes })
 
   -- lists of eight numbers
   eight_of : (P : List ℕ → Type 0)
@@ -115,26 +66,90 @@ module _ (inode : Inode) (fits : FitsInode inode) where
   eight_of P of (d0 ∷ d1 ∷ d2 ∷ d3 ∷ d4 ∷ d5 ∷ d6 ∷ []) long = absurd (omega (arith, long))
   eight_of P of (d0 ∷ d1 ∷ d2 ∷ d3 ∷ d4 ∷ d5 ∷ d6 ∷ d7 ∷ d8 ∷ rest) long = absurd (omega (arith, long))
 
+  -- the numbers of blocks, whatever eight they are
+  none_read : (direct : List ℕ) → length direct ≡ DIRECT_INDEXES → AllByRecursion Fits direct
+      → IsRead None direct
+  unfolding fields_of four_at eight_at numbers_at head_bytes middle_bytes tail_bytes four_bytes eight_bytes
+  none_read direct long =
+      eight_of (λ ds. AllByRecursion Fits ds → IsRead None ds) (λ d0 d1 d2 d3 d4 d5 d6 d7 all. λ i. record inode {
+        mode = four inode.mode fits.mode i;
+        uid = four inode.uid fits.uid i;
+        gid = four inode.gid fits.gid i;
+        nlink = four inode.nlink fits.nlink i;
+        size = eight inode.size fits.size i;
+        atime = time inode.atime fits.atime i;
+        mtime = time inode.mtime fits.mtime i;
+        ctime = time inode.ctime fits.ctime i;
+        stamp = record {
+          boot = eight inode.stamp.boot fits.boot i;
+          transaction = eight inode.stamp.transaction fits.transaction i;
+        };
+        parent = four inode.parent fits.parent i;
+        verifier = None;
+        direct = four d0 all.0 i ∷ four d1 all.1.0 i ∷ four d2 all.1.1.0 i ∷ four d3 all.1.1.1.0 i
+            ∷ four d4 all.1.1.1.1.0 i ∷ four d5 all.1.1.1.1.1.0 i ∷ four d6 all.1.1.1.1.1.1.0 i
+            ∷ four d7 all.1.1.1.1.1.1.1.0 i ∷ [];
+        indirect = four inode.indirect fits.indirect i;
+      }) direct long
+
+  given_read : (bytes : List ℕ) → length bytes ≡ VERIFIER_BYTES → (direct : List ℕ)
+      → length direct ≡ DIRECT_INDEXES → AllByRecursion Fits direct → IsRead (made bytes) direct
+  unfolding fields_of four_at eight_at numbers_at head_bytes middle_bytes tail_bytes four_bytes eight_bytes
+  given_read bytes count direct long =
+      eight_of (λ bs. AllByRecursion Fits direct → IsRead (made bs) direct)
+      (λ b0 b1 b2 b3 b4 b5 b6 b7. eight_of (λ ds. AllByRecursion Fits ds
+      → IsRead (made (b0 ∷ b1 ∷ b2 ∷ b3 ∷ b4 ∷ b5 ∷ b6 ∷ b7 ∷ [])) ds) (λ d0 d1 d2 d3 d4 d5 d6 d7 all. λ i. record inode {
+        mode = four inode.mode fits.mode i;
+        uid = four inode.uid fits.uid i;
+        gid = four inode.gid fits.gid i;
+        nlink = four inode.nlink fits.nlink i;
+        size = eight inode.size fits.size i;
+        atime = time inode.atime fits.atime i;
+        mtime = time inode.mtime fits.mtime i;
+        ctime = time inode.ctime fits.ctime i;
+        stamp = record {
+          boot = eight inode.stamp.boot fits.boot i;
+          transaction = eight inode.stamp.transaction fits.transaction i;
+        };
+        parent = four inode.parent fits.parent i;
+        verifier = made (b0 ∷ b1 ∷ b2 ∷ b3 ∷ b4 ∷ b5 ∷ b6 ∷ b7 ∷ []);
+        direct = four d0 all.0 i ∷ four d1 all.1.0 i ∷ four d2 all.1.1.0 i ∷ four d3 all.1.1.1.0 i
+            ∷ four d4 all.1.1.1.1.0 i ∷ four d5 all.1.1.1.1.1.0 i ∷ four d6 all.1.1.1.1.1.1.0 i
+            ∷ four d7 all.1.1.1.1.1.1.1.0 i ∷ [];
+        indirect = four inode.indirect fits.indirect i;
+      }) direct long) bytes count
+
+  fields : (verifier : Option Verifier) → IfSome verifier VerifierFits → (direct : List ℕ)
+      → length direct ≡ DIRECT_INDEXES → AllByRecursion Fits direct → IsRead verifier direct
+  fields None v direct long all = none_read direct long all
+  fields (Some w) v direct long all = given_read w.bytes v.count direct long all
+
   -- the fields that are no field's, and the flags
-  zero_rest : (verifier : Option ℕ) (direct : List ℕ) → length direct ≡ DIRECT_INDEXES
+  zero_rest : (verifier : Option Verifier) → IfSome verifier VerifierFits → (direct : List ℕ)
+      → length direct ≡ DIRECT_INDEXES
       → rest_is_zero Regular (inode_bytes (with inode verifier direct)) ≡ true
   unfolding four_at eight_at head_bytes middle_bytes tail_bytes four_bytes eight_bytes
-  zero_rest None direct long =
+  zero_rest None v direct long =
       eight_of (λ ds. rest_is_zero Regular (inode_bytes (with inode None ds)) ≡ true)
       (λ d0 d1 d2 d3 d4 d5 d6 d7. refl) direct long
-  zero_rest (Some v) direct long =
-      eight_of (λ ds. rest_is_zero Regular (inode_bytes (with inode (Some v) ds)) ≡ true)
-      (λ d0 d1 d2 d3 d4 d5 d6 d7. refl) direct long
+  zero_rest (Some w) v direct long =
+      eight_of (λ bs. rest_is_zero Regular (inode_bytes (with inode (made bs) direct)) ≡ true)
+      (λ b0 b1 b2 b3 b4 b5 b6 b7.
+      eight_of (λ ds. rest_is_zero Regular
+      (inode_bytes (with inode (made (b0 ∷ b1 ∷ b2 ∷ b3 ∷ b4 ∷ b5 ∷ b6 ∷ b7 ∷ [])) ds)) ≡ true)
+      (λ d0 d1 d2 d3 d4 d5 d6 d7. refl) direct long) w.bytes v.count
 
-  pub bytes-length : (verifier : Option ℕ) (direct : List ℕ) → length direct ≡ DIRECT_INDEXES
-      → length (inode_bytes (with inode verifier direct)) ≡ INODE_BYTES
+  pub bytes-length : (verifier : Option Verifier) → IfSome verifier VerifierFits → (direct : List ℕ)
+      → length direct ≡ DIRECT_INDEXES → length (inode_bytes (with inode verifier direct)) ≡ INODE_BYTES
   unfolding head_bytes middle_bytes tail_bytes four_bytes eight_bytes
-  bytes-length None direct long =
+  bytes-length None v direct long =
       eight_of (λ ds. length (inode_bytes (with inode None ds)) ≡ INODE_BYTES)
       (λ d0 d1 d2 d3 d4 d5 d6 d7. refl) direct long
-  bytes-length (Some v) direct long =
-      eight_of (λ ds. length (inode_bytes (with inode (Some v) ds)) ≡ INODE_BYTES)
-      (λ d0 d1 d2 d3 d4 d5 d6 d7. refl) direct long
+  bytes-length (Some w) v direct long =
+      eight_of (λ bs. length (inode_bytes (with inode (made bs) direct)) ≡ INODE_BYTES)
+      (λ b0 b1 b2 b3 b4 b5 b6 b7.
+      eight_of (λ ds. length (inode_bytes (with inode (made (b0 ∷ b1 ∷ b2 ∷ b3 ∷ b4 ∷ b5 ∷ b6 ∷ b7 ∷ [])) ds))
+      ≡ INODE_BYTES) (λ d0 d1 d2 d3 d4 d5 d6 d7. refl) direct long) w.bytes v.count
 
   kind_back : (kind : InodeKind) → kind_of_number (four_at 0 (four_bytes (number_of_kind kind))) ≡ Some kind
   unfolding four_at four_bytes
@@ -148,22 +163,22 @@ module _ (inode : Inode) (fits : FitsInode inode) where
   kind_is = kind_back inode.kind
 
   -- what no field has
-  rest : (kind : InodeKind) → is_free kind ≡ false → (verifier : Option ℕ) (direct : List ℕ)
-      → length direct ≡ DIRECT_INDEXES → rest_is_zero kind (inode_bytes (with inode verifier direct)) ≡ true
-  rest Free used verifier direct long = absurd (true_false used)
+  rest : (kind : InodeKind) → is_free kind ≡ false → (verifier : Option Verifier)
+      → IfSome verifier VerifierFits → (direct : List ℕ) → length direct ≡ DIRECT_INDEXES → rest_is_zero kind (inode_bytes (with inode verifier direct)) ≡ true
+  rest Free used verifier v direct long = absurd (true_false used)
     where
       true_false : true ≡ false → ⊥
       true_false e = cc
-  rest Regular used verifier direct long = zero_rest verifier direct long
-  rest Directory used verifier direct long = zero_rest verifier direct long
-  rest Link used verifier direct long = zero_rest verifier direct long
+  rest Regular used verifier v direct long = zero_rest verifier v direct long
+  rest Directory used verifier v direct long = zero_rest verifier v direct long
+  rest Link used verifier v direct long = zero_rest verifier v direct long
 
   pub written-length : length (inode_bytes inode) ≡ INODE_BYTES
-  written-length = bytes-length inode.verifier inode.direct fits.count
+  written-length = bytes-length inode.verifier fits.verifier inode.direct fits.count
 
   pub read_back : (blocks inodes : ℕ) → is_free inode.kind ≡ false → is_sound_inode blocks inodes inode ≡ true
       → read_inode blocks inodes (inode_bytes inode) ≡ Ok inode
   read_back blocks inodes used good =
       sym (sound blocks inodes (inode_bytes inode) inode.kind inode kind_is
       (sym (fields inode.verifier fits.verifier inode.direct fits.count fits.direct))
-      (rest inode.kind used inode.verifier inode.direct fits.count) good)
+      (rest inode.kind used inode.verifier fits.verifier inode.direct fits.count) good)

@@ -7,7 +7,7 @@ use Rattle.limits.specs.declared.TheConstants.{INODE_BYTES, INODES_PER_BLOCK, LO
 use Rattle.limits.specs.declared.TheConstants.{ROOT_MODE, START_BLOCK, SUPER_BLOCK}
 use Rattle.disk.specs.Crash.{Image}
 use Rattle.nfs_types.specs.declared.ctx.Moment.{Moment}
-use Rattle.model.specs.Sound.{AreBytes}
+use Rattle.nfs_types.specs.Fits.{AreBytes}
 use Rattle.layout.specs.declared.geometry.Geometry.{Geometry}
 use Rattle.layout.specs.declared.inode.Inode.{Inode}
 use Rattle.layout.specs.declared.inode.InodeKind.TheVariants.{Directory}

@@ -2,11 +2,15 @@
 use Rattle.std.specs.Prelude.{◌≡◌, ℕ, ◌+◌, ◌<◌, ◌≤◌, ◌^◌, ◌/◌, ◌%◌, length, IfSome, Bool, true, cond, not}
 use Rattle.std.specs.Prelude.{◌&&◌}
 use Rattle.std.specs.Prelude.{◌||◌, List, ◌++◌, nat_eq, nat_le, nat_lt, take, drop, min, Option, Some, None}
+use Rattle.std.specs.Prelude.{is_none}
 use Rattle.std.specs.Prelude.{Result, Ok, Err}
 use Rattle.std.specs.List.{list_all, AllByRecursion}
 use Rattle.limits.specs.declared.TheConstants.{BLOCK_BYTES, DIRECT_INDEXES, LARGEST_FILE, MODE_BITS}
 use Rattle.limits.specs.declared.TheConstants.{MOST_LINKS, NANOSECONDS, TARGET_BYTES}
 use Rattle.nfs_types.specs.declared.ctx.Moment.{Moment}
+use Rattle.nfs_types.specs.declared.verifier.TheConstants.{VERIFIER_BYTES}
+use Rattle.nfs_types.specs.declared.verifier.Verifier.{Verifier}
+use Rattle.nfs_types.specs.Fits.{VerifierFits}
 use Rattle.model.specs.Sound.{SoundTime}
 use Rattle.layout.specs.declared.fault.LayoutFault.{LayoutFault}
 use Rattle.layout.specs.declared.fault.LayoutFault.TheVariants.{Range}
@@ -21,7 +25,7 @@ use Rattle.layout.specs.Fields.{four_at, eight_at, numbers_at, four_bytes, eight
 use Rattle.layout.specs.Fields.{is_zeros}
 use Rattle.layout.specs.Geometry.{is_data}
 
--- the kind of a number: those of RFC 1813, section 2.5, and 0 for an inode that no file has
+-- the kind of a number: those of RFC 1813, section 2.6, and 0 for an inode that no file has
 abbrev pub kind_of_number : ℕ → Option InodeKind
 kind_of_number number =
     cond (nat_eq number 0) (Some Free)
@@ -39,8 +43,12 @@ number_of_kind Link = 5
 abbrev pub time_at : ℕ → ℕ → List ℕ → Moment
 time_at offset behind bytes = record { seconds = four_at offset bytes; nanoseconds = four_at behind bytes }
 
+-- a verifier is the bytes from its offset on, as they are
+abbrev pub verifier_at : ℕ → List ℕ → Verifier
+verifier_at offset bytes = record { bytes = take VERIFIER_BYTES (drop offset bytes) }
+
 -- whether a file has a create verifier stands apart from the verifier
-abbrev pub verifier_of : ℕ → ℕ → Option ℕ
+abbrev pub verifier_of : ℕ → Verifier → Option Verifier
 verifier_of flags verifier = cond (nat_eq flags 1) (Some verifier) None
 
 -- the fields of an inode, each at its offset in the bytes
@@ -57,7 +65,7 @@ fields_of kind bytes = record {
   ctime = time_at CTIME_AT (CTIME_AT + 4) bytes;
   stamp = record { boot = eight_at BOOT_AT bytes; transaction = eight_at TRANSACTION_AT bytes };
   parent = four_at PARENT_AT bytes;
-  verifier = verifier_of (four_at FLAGS_AT bytes) (eight_at VERIFIER_AT bytes);
+  verifier = verifier_of (four_at FLAGS_AT bytes) (verifier_at VERIFIER_AT bytes);
   direct = numbers_at DIRECT_INDEXES DIRECT_AT bytes;
   indirect = four_at INDIRECT_AT bytes;
 }
@@ -99,7 +107,7 @@ is_sound_map blocks inodes inode =
 abbrev pub is_sound_regular : Inode → Bool
 is_sound_regular inode = nat_le inode.size LARGEST_FILE && nat_eq inode.parent 0
 
--- a directory has two links at least, and has each block that it spans and no other
+-- a directory has two links at least, each block that it spans and no other, and no create verifier
 abbrev pub is_sound_directory : ℕ → Inode → Bool
 is_sound_directory inodes inode =
     nat_le 2 inode.nlink && nat_le inode.size LARGEST_FILE && nat_eq (inode.size % BLOCK_BYTES) 0
@@ -107,12 +115,13 @@ is_sound_directory inodes inode =
     && names_first (min (inode.size / BLOCK_BYTES) DIRECT_INDEXES) inode.direct
     && (cond (nat_lt DIRECT_INDEXES (inode.size / BLOCK_BYTES)) (not (nat_eq inode.indirect 0))
     (nat_eq inode.indirect 0))
+    && is_none inode.verifier
 
--- a link has one block, with its target
+-- a link has one block, with its target, and no create verifier
 abbrev pub is_sound_link : Inode → Bool
 is_sound_link inode =
     nat_le 1 inode.size && nat_le inode.size TARGET_BYTES && nat_eq inode.parent 0
-    && names_first 1 inode.direct && nat_eq inode.indirect 0
+    && names_first 1 inode.direct && nat_eq inode.indirect 0 && is_none inode.verifier
 
 -- an inode of a kind that shows nothing wrong by itself
 abbrev pub is_sound_kind : ℕ → ℕ → InodeKind → Inode → Bool
@@ -141,9 +150,9 @@ abbrev pub time_bytes : Moment → List ℕ
 time_bytes time = four_bytes time.seconds ++ four_bytes time.nanoseconds
 
 -- the flags and the verifier behind them
-abbrev pub verifier_bytes : Option ℕ → List ℕ
+abbrev pub verifier_bytes : Option Verifier → List ℕ
 verifier_bytes None = four_bytes 0 ++ eight_bytes 0
-verifier_bytes (Some verifier) = four_bytes 1 ++ eight_bytes verifier
+verifier_bytes (Some verifier) = four_bytes 1 ++ verifier.bytes
 
 -- the parts of an inode's bytes, in their order
 unfoldable pub head_bytes : Inode → List ℕ
@@ -181,12 +190,12 @@ pub record FitsInode (inode : Inode) : Type 0 where
   pub boot : inode.stamp.boot < 2 ^ 64
   pub transaction : inode.stamp.transaction < 2 ^ 64
   pub parent : inode.parent < 2 ^ 32
-  pub verifier : IfSome inode.verifier (λ v. v < 2 ^ 64)
+  pub verifier : IfSome inode.verifier VerifierFits
   pub count : length inode.direct ≡ DIRECT_INDEXES
   pub direct : AllByRecursion (λ number. number < 2 ^ 32) inode.direct
   pub indirect : inode.indirect < 2 ^ 32
 
--- what of an inode is no matter of its blocks, its kind or its links
+-- what of an inode is no matter of its blocks, its kind or its links, nor of how its file was made
 pub record Touch : Type 0 where
   pub mode : ℕ
   pub uid : ℕ
@@ -194,7 +203,6 @@ pub record Touch : Type 0 where
   pub atime : Moment
   pub mtime : Moment
   pub ctime : Moment
-  pub verifier : Option ℕ
 
 abbrev pub touched : Inode → Touch → Inode
 touched inode t = record inode {
@@ -204,7 +212,6 @@ touched inode t = record inode {
   atime = t.atime;
   mtime = t.mtime;
   ctime = t.ctime;
-  verifier = t.verifier;
 }
 
 pub record SoundTouch (t : Touch) : Type 0 where
@@ -214,4 +221,3 @@ pub record SoundTouch (t : Touch) : Type 0 where
   pub atime : SoundTime t.atime
   pub mtime : SoundTime t.mtime
   pub ctime : SoundTime t.ctime
-  pub verifier : IfSome t.verifier (λ v. v < 2 ^ 64)

@@ -2,7 +2,8 @@
 use Rattle.std.specs.Prelude.{◌≡◌, ℕ, ◌-◌, ◌<◌, length, Option}
 use Rattle.limits.specs.declared.TheConstants.{BLOCK_BYTES}
 use Rattle.disk.specs.Crash.{Image}
-use Rattle.model.specs.Sound.{Sound, AreBytes}
+use Rattle.nfs_types.specs.Fits.{AreBytes}
+use Rattle.model.specs.Sound.{Sound}
 use Rattle.model.specs.Node.{Node}
 use Rattle.model.specs.Tree.{Tree, node_at}
 use Rattle.model.specs.Tree as model

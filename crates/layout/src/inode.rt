@@ -7,10 +7,10 @@ use crate::inode_fields::{KIND_AT, fields_of, kind_of_number, rest_is_zero};
 use crate::numbers::count_mapped;
 use crate::{Geometry, LayoutFault};
 use limits::{DIRECT_INDEXES, INODE_BYTES};
-use nfs_types::{Moment, Stamp};
+use nfs_types::{Moment, Stamp, Verifier};
 use std::alloc::{AllocError, Global};
 
-/// What an inode is of (RFC 1813, section 2.5); or that no file has it.
+/// What an inode is of (RFC 1813, section 2.6); or that no file has it.
 #[derive(Clone, Copy, Debug, PartialEq, Eq)]
 pub enum InodeKind {
     Free,
@@ -33,7 +33,7 @@ pub struct Inode {
     pub ctime: Moment,
     pub stamp: Stamp,
     pub parent: u32,
-    pub verifier: Option<u64>,
+    pub verifier: Option<Verifier>,
     pub direct: [u32; DIRECT_INDEXES],
     pub indirect: u32,
 }

@@ -6,7 +6,7 @@ ghost use Rattle.layout.specs.InodeForm.{middle_bytes, tail_bytes};
 
 use crate::fields::{put_eight, put_four};
 use crate::{Inode, InodeKind};
-use nfs_types::Moment;
+use nfs_types::{Moment, Verifier};
 use std::alloc::AllocError;
 
 fn number_of_kind(kind: InodeKind) -> u32
@@ -29,7 +29,7 @@ fn put_time(bytes: &mut Vec<u8>, time: &Moment) -> Result<(), AllocError>
 }
 
 // Adds the flags and the verifier.
-fn put_verifier(bytes: &mut Vec<u8>, verifier: Option<u64>) -> Result<(), AllocError>
+fn put_verifier(bytes: &mut Vec<u8>, verifier: Option<Verifier>) -> Result<(), AllocError>
     ensures bytes { OnOk result (bytes.new.items ≡ bytes.old.items ++ verifier_bytes verifier) }
     ensures len { OnOk result (length bytes.new.items ≡ length bytes.old.items + 12) }
 {
@@ -40,7 +40,7 @@ fn put_verifier(bytes: &mut Vec<u8>, verifier: Option<u64>) -> Result<(), AllocE
         }
         Some(verifier) => {
             put_four(bytes, 1)?;
-            put_eight(bytes, verifier)
+            bytes.extend_from_slice(&verifier.bytes)
         }
     }
 }

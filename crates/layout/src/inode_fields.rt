@@ -1,14 +1,15 @@
 //! The fields of an inode in its bytes.
 ghost use Rattle.std.specs.Prelude.{◌≡◌, ◌+◌, ◌≤◌, length};
 ghost use Rattle.limits.specs.declared.TheConstants.{INODE_BYTES};
-ghost use Rattle.layout.specs.InodeForm.{kind_of_number, fields_of, rest_is_zero, time_at, verifier_of};
+ghost use Rattle.layout.specs.InodeForm.{kind_of_number, fields_of, rest_is_zero, time_at, verifier_at};
+ghost use Rattle.layout.specs.InodeForm.{verifier_of};
 ghost use Rattle.layout.specs.Fields.{numbers_at};
 ghost use Rattle.layout.specs.declared.inode_fields.TheConstants.{DIRECT_AT};
 
 use crate::fields::{eight_at, four_at, is_zeros};
 use crate::{Inode, InodeKind};
 use limits::DIRECT_INDEXES;
-use nfs_types::{Moment, Stamp};
+use nfs_types::{Moment, Stamp, Verifier};
 
 // Where the fields of an inode begin in its bytes.
 
@@ -72,8 +73,27 @@ fn time_at(bytes: &[u8], offset: usize) -> Moment
     }
 }
 
+// The eight bytes at an offset.
+fn verifier_at(bytes: &[u8], offset: usize) -> Verifier
+    requires { offset + 8 ≤ length bytes.now }
+    ensures { result ≡ verifier_at offset bytes.now }
+{
+    Verifier {
+        bytes: [
+            bytes[offset],
+            bytes[offset + 1],
+            bytes[offset + 2],
+            bytes[offset + 3],
+            bytes[offset + 4],
+            bytes[offset + 5],
+            bytes[offset + 6],
+            bytes[offset + 7],
+        ],
+    }
+}
+
 // The verifier, if the flags say that there is one.
-fn verifier_of(flags: u32, verifier: u64) -> Option<u64>
+fn verifier_of(flags: u32, verifier: Verifier) -> Option<Verifier>
     ensures { result ≡ verifier_of flags verifier }
 {
     if flags == 1 { Some(verifier) } else { None }
@@ -116,7 +136,7 @@ pub(crate) fn fields_of(kind: InodeKind, bytes: &[u8]) -> Inode
             transaction: eight_at(bytes, TRANSACTION_AT),
         },
         parent: four_at(bytes, PARENT_AT),
-        verifier: verifier_of(four_at(bytes, FLAGS_AT), eight_at(bytes, VERIFIER_AT)),
+        verifier: verifier_of(four_at(bytes, FLAGS_AT), verifier_at(bytes, VERIFIER_AT)),
         direct: direct_of(bytes),
         indirect: four_at(bytes, INDIRECT_AT),
     }

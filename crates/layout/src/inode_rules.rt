@@ -98,6 +98,7 @@ impl Inode {
             } else {
                 self.indirect == 0
             })
+            && self.verifier.is_none()
     }
 
     fn is_sound_link(&self) -> bool
@@ -108,6 +109,7 @@ impl Inode {
             && self.parent == 0
             && names_first(1, &self.direct)
             && self.indirect == 0
+            && self.verifier.is_none()
     }
 
     /// Whether it shows nothing wrong by itself.

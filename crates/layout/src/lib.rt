@@ -23,7 +23,9 @@ pub use fresh::{
 pub use fresh_image::FreshImage;
 pub use geometry::{Geometry, GeometryFault};
 pub use inode::{Inode, InodeKind};
-pub use laws::{a_changed_mode_stands, a_touched_inode_stands, blocks_stand_for_one_tree};
+pub use laws::{
+    a_changed_mode_stands, a_touched_inode_stands, an_inode_is_its_bytes, blocks_stand_for_one_tree,
+};
 pub use numbers::Numbers;
 pub use slot::{SLOT_BYTES, Slot};
 pub use super_block::Super;

@@ -14,6 +14,7 @@ use Rattle.limits.specs.declared.TheConstants.{HANDLE_BYTES}
 use Rattle.nfs_types.specs.declared.handle.Stamp.{Stamp}
 use Rattle.nfs_types.specs.declared.status.Status.{Status}
 use Rattle.nfs_types.specs.declared.status.Status.TheVariants as status
+use Rattle.nfs_types.specs.Fits.{NewAttributesFit}
 use Rattle.model.specs.Node.{Node}
 use Rattle.model.specs.Tree.{Tree, node_at, with_node}
 use Rattle.model.specs.Attributes.{change_of, untold}
@@ -21,7 +22,7 @@ use Rattle.model.specs.Calls.{has_rules}
 use Rattle.model.specs.Find.{find_file, stamped, same_stamp, is_number, number_in, stamp_in}
 use Rattle.model.specs.GetAttr.{attributes_found}
 use Rattle.model.specs.SetAttr.{SetOrLeft, SetFound, with_attributes, refusal}
-use Rattle.model.specs.Sound.{Sound, SoundTime, FitsAttributes}
+use Rattle.model.specs.Sound.{Sound, SoundTime}
 use Rattle.model.specs.Step.{step}
 use Rattle.model.proofs.Attributed.{shape, sound_node}
 use Rattle.model.proofs.Replaced as replaced
@@ -62,7 +63,7 @@ found-stands tree handle found is =
 
 module _ (tree next : Tree) (ctx : Ctx) (handle : List ℕ) (wanted : NewAttributes) (guard : Option Moment)
     (outcome : Result (Unit {0}) Status) (told : WeakCacheData) (good : Sound tree)
-    (now : SoundTime ctx.moment) (fits : FitsAttributes wanted) where
+    (now : SoundTime ctx.moment) (fits : NewAttributesFit wanted) where
   set_or_left : (number : ℕ) (node : Node) (test : Option Status) → node_at tree number ≡ Some node
       → refusal ctx wanted guard node ≡ test
       → SetOrLeft tree number node (with_attributes ctx.moment wanted node) test outcome told next
@@ -72,7 +73,8 @@ module _ (tree next : Tree) (ctx : Ctx) (handle : List ℕ) (wanted : NewAttribu
       subst Sound (sym set.changed)
       (replaced.sound tree number node (with_attributes ctx.moment wanted node) was
       (shape ctx.moment wanted node) good
-      (sound_node ctx wanted guard node tested now fits (good.files number node was).itself))
+      (sound_node ctx wanted guard node tested now fits.uid fits.gid fits.atime fits.mtime
+      (good.files number node was).itself))
 
   set_found : (found : Result (ℕ × Node) Status) → find_file tree handle ≡ found
       → SetFound tree ctx wanted guard found outcome told next → Sound next
@@ -83,7 +85,7 @@ module _ (tree next : Tree) (ctx : Ctx) (handle : List ℕ) (wanted : NewAttribu
 
 pub stays_sound : (tree next : Tree) (ctx : Ctx) (object : Handle) (wanted : NewAttributes)
     (guard : Option Moment) (answer : Reply)
-    → Sound tree → SoundTime ctx.moment → FitsAttributes wanted
+    → Sound tree → SoundTime ctx.moment → NewAttributesFit wanted
     → step tree ctx (call.SetAttr object wanted guard) answer next → Sound next
 stays_sound tree next ctx object wanted guard (reply.SetAttr outcome told) good now fits taken_step =
     set_found tree next ctx object.bytes wanted guard outcome told good now fits (find_file tree object.bytes)

@@ -19,13 +19,15 @@ use Rattle.nfs_types.specs.declared.ctx.Ctx.{Ctx}
 use Rattle.nfs_types.specs.declared.ctx.Moment.{Moment}
 use Rattle.nfs_types.specs.declared.status.Status.{Status}
 use Rattle.nfs_types.specs.declared.status.Status.TheVariants as status
+use Rattle.nfs_types.specs.declared.verifier.Verifier.{Verifier}
+use Rattle.nfs_types.specs.Fits.{AreBytes, SetTimeFits}
 use Rattle.model.specs.Node.{Node, Body, Regular, Directory, Link}
 use Rattle.model.specs.Cost.{cost, file_cost}
 use Rattle.model.specs.Names.{entries_of, is_directory, parent_of}
 use Rattle.model.specs.SetAttr.{given, is_no_time, is_regular, fails_guard, is_invalid, is_not_permitted}
 use Rattle.model.specs.SetAttr.{is_no_access, first_of_tests, refusal, set_time, with_size, resized}
 use Rattle.model.specs.SetAttr.{mapped_of_size, with_length, mode_of, with_attributes}
-use Rattle.model.specs.Sound.{AreBytes, SoundNode, SoundBody, SoundBytes, SoundTime, FitsAttributes, FitsTime}
+use Rattle.model.specs.Sound.{SoundNode, SoundBody, SoundBytes, SoundTime, SoundVerifier}
 use Rattle.model.proofs.Replaced.{SameShape}
 use Rattle.model.proofs.Sets.{has, any_more, contains_retain, len-retain}
 
@@ -243,15 +245,15 @@ fitting (Some size) e = not-above LARGEST_FILE size e
 -- Times, users and groups stay in range.
 
 sound-time : (moment : Moment) (time : SetTime) (old : Moment) → SoundTime moment → SoundTime old
-    → FitsTime time → is_no_time time ≡ false → SoundTime (set_time moment time old)
+    → SetTimeFits time → is_no_time time ≡ false → SoundTime (set_time moment time old)
 sound-time moment Unchanged old now before fits real = before
 sound-time moment Server old now before fits real = now
 sound-time moment (Client time) old now before fits real = record {
-  seconds = fits;
+  seconds = fits.seconds;
   nanoseconds = not-reached NANOSECONDS time.nanoseconds real;
 }
 
-fits-with_size : (size : Option ℕ) (time : SetTime) → FitsTime time → FitsTime (with_size size time)
+fits-with_size : (size : Option ℕ) (time : SetTime) → SetTimeFits time → SetTimeFits (with_size size time)
 fits-with_size None time fits = fits
 fits-with_size (Some size) Unchanged fits = tt
 fits-with_size (Some size) Server fits = tt
@@ -273,23 +275,32 @@ sound-owner : (owner : Option ℕ) (old : ℕ) → IfSome owner (λ n. n < 2 ^ 3
 sound-owner None old fits h = h
 sound-owner (Some owner) old fits h = fits
 
+sound-verifier : (size : Option ℕ) (body : Body) (verifier : Option Verifier) → SoundVerifier body verifier
+    → SoundVerifier (with_length size body) verifier
+sound-verifier None body verifier good = good
+sound-verifier (Some size) (Regular bytes mapped) verifier good = good
+sound-verifier (Some size) (Directory entries span parent) verifier good = good
+sound-verifier (Some size) (Link target) verifier good = good
+
 -- A sound file stays sound where no test refuses the attributes.
 pub sound_node : (ctx : Ctx) (wanted : NewAttributes) (guard : Option Moment) (node : Node)
-    → refusal ctx wanted guard node ≡ None → SoundTime ctx.moment → FitsAttributes wanted → SoundNode node
+    → refusal ctx wanted guard node ≡ None → SoundTime ctx.moment
+    → IfSome wanted.uid (λ n. n < 2 ^ 32) → IfSome wanted.gid (λ n. n < 2 ^ 32)
+    → SetTimeFits wanted.atime → SetTimeFits wanted.mtime → SoundNode node
     → SoundNode (with_attributes ctx.moment wanted node)
-sound_node ctx wanted guard node tested now fits good =
+sound_node ctx wanted guard node tested now uid gid atime mtime good =
     let ok = allowed ctx wanted guard node tested in
     record {
       mode = sound-mode wanted.mode node.mode good.mode;
-      uid = sound-owner wanted.uid node.uid fits.uid good.uid;
-      gid = sound-owner wanted.gid node.gid fits.gid good.gid;
+      uid = sound-owner wanted.uid node.uid uid good.uid;
+      gid = sound-owner wanted.gid node.gid gid good.gid;
       nlink = good.nlink;
-      atime = sound-time ctx.moment wanted.atime node.atime now good.atime fits.atime ok.atime_is;
+      atime = sound-time ctx.moment wanted.atime node.atime now good.atime atime ok.atime_is;
       mtime = sound-time ctx.moment (with_size wanted.size wanted.mtime) node.mtime now good.mtime
-          (fits-with_size wanted.size wanted.mtime fits.mtime)
+          (fits-with_size wanted.size wanted.mtime mtime)
           (real-with_size wanted.size wanted.mtime ok.mtime_is);
       ctime = now;
       stamp = good.stamp;
-      verifier = good.verifier;
+      verifier = sound-verifier wanted.size node.body node.verifier good.verifier;
       body = sound-body wanted.size node.body (fitting wanted.size ok.size_is) good.body;
     }

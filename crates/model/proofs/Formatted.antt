@@ -62,7 +62,7 @@ module _ (geometry : Geometry) (moment : Moment) where
     mtime = time;
     ctime = time;
     stamp = record { boot = lit< tt; transaction = lit< tt };
-    verifier = tt;
+    verifier = refl;
     body = empty_directory;
   }
 

@@ -7,8 +7,13 @@ use Rattle.nfs_types.specs.declared.call.Call.{Call}
 use Rattle.nfs_types.specs.declared.call.Call.TheVariants as call
 use Rattle.nfs_types.specs.declared.call.Stability.{Stability}
 use Rattle.nfs_types.specs.declared.call.Stability.TheVariants.{Unstable, DataSync, FileSync}
+use Rattle.nfs_types.specs.declared.program.ProgramCall.{ProgramCall}
+use Rattle.nfs_types.specs.declared.program.ProgramCall.TheVariants as programs
+use Rattle.nfs_types.specs.declared.program.ProgramReply.{ProgramReply}
+use Rattle.nfs_types.specs.declared.program.ProgramReply.TheVariants as replies
 use Rattle.nfs_types.specs.declared.reply.Reply.{Reply}
 use Rattle.nfs_types.specs.declared.status.Status.TheVariants as status
+use Rattle.model.specs.Mount.{mount_unsupported}
 use Rattle.model.specs.Refused.{refused}
 
 abbrev pub is_unchanged : SetTime → Bool
@@ -76,6 +81,11 @@ has_rules (call.Commit _ _ _) = false
 -- The reply to a call that isn't served: NOTSUPP, with nothing told of any file. NULL is never refused.
 abbrev pub unsupported : Call → Reply
 unsupported c = refused status.NotSupp c
+
+-- The reply to a call that begins no transaction: a function of the call alone.
+abbrev pub plain_reply : ProgramCall → ProgramReply
+plain_reply (programs.Nfs asked) = replies.Nfs (unsupported asked)
+plain_reply (programs.Mount asked) = replies.Mount (mount_unsupported asked)
 
 abbrev pub is_unstable : Stability → Bool
 is_unstable Unstable = true

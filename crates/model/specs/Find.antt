@@ -1,4 +1,4 @@
--- Which file a handle names. A handle is a number in 4 bytes and a stamp in twice 8 (RFC 1813, section 2.5,
+-- Which file a handle names. A handle is a number in 4 bytes and a stamp in twice 8 (RFC 1813, section 2.6,
 -- leaves its form to the server).
 use Rattle.std.specs.Prelude.{ℕ, Bool, cond, ◌&&◌, List, length, take, drop, nat_eq, nat_lt, Option, Some}
 use Rattle.std.specs.Prelude.{None, Result, Ok, Err}

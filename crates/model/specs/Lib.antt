@@ -5,6 +5,7 @@ pub mod Cost
 pub mod Find
 pub mod Format
 pub mod GetAttr
+pub mod Mount
 pub mod Names
 pub mod Node
 pub mod Permissions

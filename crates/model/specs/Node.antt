@@ -6,6 +6,7 @@ use Rattle.std.specs.FinMap.{FinMap}
 use Rattle.std.specs.FinSet.{FinSet}
 use Rattle.nfs_types.specs.declared.ctx.Moment.{Moment}
 use Rattle.nfs_types.specs.declared.handle.Stamp.{Stamp}
+use Rattle.nfs_types.specs.declared.verifier.Verifier.{Verifier}
 
 -- what a name in a directory leads to: a file's number, and the slot of the directory in which the name lies
 pub record DirectoryEntry : Type 0 where
@@ -34,5 +35,5 @@ pub record Node : Type 0 where
   pub mtime : Moment
   pub ctime : Moment
   pub stamp : Stamp
-  pub verifier : Option ℕ
+  pub verifier : Option Verifier
   pub body : Body

@@ -1,6 +1,6 @@
 -- Which trees the server may have.
 use Rattle.std.specs.Prelude.{◌≡◌, ◌≢◌, ℕ, ◌+◌, ◌*◌, ◌/◌, ◌%◌, ◌^◌, ◌<◌, ◌≤◌, true, false, List, [], ◌∷◌}
-use Rattle.std.specs.Prelude.{length, get_or, All, Contains, Some, IfSome, IsSome}
+use Rattle.std.specs.Prelude.{length, get_or, All, Contains, Option, Some, None, IfSome, IsSome}
 use Rattle.std.specs.Ordering.{nat_cmp}
 use Rattle.std.specs.FinMap as map
 use Rattle.std.specs.FinSet as set
@@ -8,19 +8,14 @@ use Rattle.limits.specs.declared.TheConstants.{ROOT, BLOCK_BYTES, FILE_INDEXES, 
 use Rattle.limits.specs.declared.TheConstants.{LARGEST_FILE, LEAST_DATA_BLOCKS, LEAST_INODES, MODE_BITS}
 use Rattle.limits.specs.declared.TheConstants.{MOST_BLOCKS, MOST_INODES, MOST_LINKS, NAME_BYTES, NANOSECONDS}
 use Rattle.limits.specs.declared.TheConstants.{SLOTS_PER_BLOCK, TARGET_BYTES}
-use Rattle.nfs_types.specs.declared.attributes.NewAttributes.{NewAttributes}
-use Rattle.nfs_types.specs.declared.attributes.SetTime.{SetTime}
-use Rattle.nfs_types.specs.declared.attributes.SetTime.TheVariants.{Unchanged, Server, Client}
 use Rattle.nfs_types.specs.declared.ctx.Moment.{Moment}
 use Rattle.nfs_types.specs.declared.handle.Stamp.{Stamp}
+use Rattle.nfs_types.specs.declared.verifier.Verifier.{Verifier}
+use Rattle.nfs_types.specs.Fits.{AreBytes, VerifierFits}
 use Rattle.model.specs.Node.{Node, Body, DirectoryEntry, Entries, Regular, Directory, Link}
 use Rattle.model.specs.Tree.{Geometry, Tree, node_at, used}
 use Rattle.model.specs.Names.{names_of, child_directories, is_directory, ancestor, entries_of, names_in}
 use Rattle.model.specs.Names.{parent_of}
-
--- each item is a byte
-abbrev pub AreBytes : List ℕ → Type 0
-AreBytes bytes = (index : ℕ) → get_or bytes index 0 < 256
 
 -- the characters that no name has: the one that parts names, and the one that ends them
 abbrev pub SLASH : ℕ
@@ -77,6 +72,13 @@ SoundBody (Regular bytes mapped) = SoundBytes bytes mapped
 SoundBody (Directory entries span parent) = SoundEntries entries span
 SoundBody (Link target) = SoundTarget target
 
+-- Only a regular file has a create verifier, since an exclusive CREATE makes nothing else (RFC 1813, section
+-- 3.3.8).
+abbrev pub SoundVerifier : Body → Option Verifier → Type 0
+SoundVerifier (Regular bytes mapped) verifier = IfSome verifier VerifierFits
+SoundVerifier (Directory entries span parent) verifier = verifier ≡ None
+SoundVerifier (Link target) verifier = verifier ≡ None
+
 -- a file by itself
 pub record SoundNode (node : Node) : Type 0 where
   pub mode : node.mode ≤ MODE_BITS
@@ -87,7 +89,7 @@ pub record SoundNode (node : Node) : Type 0 where
   pub mtime : SoundTime node.mtime
   pub ctime : SoundTime node.ctime
   pub stamp : SoundStamp node.stamp
-  pub verifier : IfSome node.verifier (λ v. v < 2 ^ 64)
+  pub verifier : SoundVerifier node.body node.verifier
   pub body : SoundBody node.body
 
 -- how many blocks and files there may be
@@ -142,16 +144,3 @@ pub record Sound (tree : Tree) : Type 0 where
   pub root_stamp : root.stamp ≡ record { boot = 0; transaction = 0 }
   pub files : (number : ℕ) (node : Node) → node_at tree number ≡ Some node → SoundAt tree number node
   pub room : used tree ≤ tree.geometry.data_blocks
-
--- a time of the client's as a call can spell it, whose nanoseconds the server still has to test
-abbrev pub FitsTime : SetTime → Type 0
-FitsTime (Client time) = time.seconds < 2 ^ 32
-FitsTime Server = Unit {0}
-FitsTime Unchanged = Unit {0}
-
--- the attributes of a call as it can spell them: users, groups and seconds have 32 bits
-pub record FitsAttributes (wanted : NewAttributes) : Type 0 where
-  pub uid : IfSome wanted.uid (λ uid. uid < 2 ^ 32)
-  pub gid : IfSome wanted.gid (λ gid. gid < 2 ^ 32)
-  pub atime : FitsTime wanted.atime
-  pub mtime : FitsTime wanted.mtime

@@ -7,8 +7,9 @@ ghost use Rattle.nfs_types.specs.declared.handle.Handle.{Handle};
 ghost use Rattle.nfs_types.specs.declared.call.Call.{Call};
 ghost use Rattle.nfs_types.specs.declared.call.Call.TheVariants as call;
 ghost use Rattle.nfs_types.specs.declared.reply.Reply.{Reply};
+ghost use Rattle.nfs_types.specs.Fits.{NewAttributesFit};
 ghost use Rattle.model.specs.Calls.{has_rules};
-ghost use Rattle.model.specs.Sound.{FitsAttributes, Sound, SoundTime};
+ghost use Rattle.model.specs.Sound.{Sound, SoundTime};
 ghost use Rattle.model.specs.Tree.{Tree};
 ghost use Rattle.model.specs.Step.{step};
 
@@ -39,7 +40,7 @@ pub fn setattr_is_determined()
 pub fn setattr_keeps_trees_sound()
     ensures { (tree next : Tree) (ctx : Ctx) (object : Handle) (wanted : NewAttributes)
         (guard : Option Moment) (reply : Reply)
-        → Sound tree → SoundTime ctx.moment → FitsAttributes wanted
+        → Sound tree → SoundTime ctx.moment → NewAttributesFit wanted
         → step tree ctx (call.SetAttr object wanted guard) reply next → Sound next }
 {}
 

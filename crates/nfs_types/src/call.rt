@@ -1,6 +1,6 @@
 //! The calls of NFS version 3 with their arguments (RFC 1813, section 3.3).
 
-use crate::{DeviceNumber, Handle, Moment, NewAttributes, Octets};
+use crate::{DeviceNumber, Handle, Moment, NewAttributes, Octets, Verifier};
 
 /// A name in a directory (`diropargs3`).
 #[derive(Drop)]
@@ -17,12 +17,12 @@ pub enum Stability {
     FileSync,
 }
 
-/// How a file is to be made (`createhow3`). EXCLUSIVE bears a verifier of 8 bytes, here as a number.
+/// How a file is to be made (`createhow3`). EXCLUSIVE bears a create verifier.
 #[derive(Clone, Copy, Debug, PartialEq, Eq)]
 pub enum CreateHow {
     Unchecked(NewAttributes),
     Guarded(NewAttributes),
-    Exclusive(u64),
+    Exclusive(Verifier),
 }
 
 /// What MKNOD is to make (`mknoddata3`). The other three kinds carry nothing, and no file is made of them.
@@ -37,7 +37,7 @@ pub enum SpecialFile {
     Link,
 }
 
-/// A call of program 100003, version 3. Offsets and counts are in bytes, verifiers of 8 bytes are numbers.
+/// A call of program 100003, version 3. Offsets and counts are in bytes.
 #[derive(Drop)]
 pub enum Call {
     Null,
@@ -105,13 +105,13 @@ pub enum Call {
     ReadDir {
         directory: Handle,
         cookie: u64,
-        verifier: u64,
+        verifier: Verifier,
         count: u32,
     },
     ReadDirPlus {
         directory: Handle,
         cookie: u64,
-        verifier: u64,
+        verifier: Verifier,
         directory_count: u32,
         greatest_count: u32,
     },

@@ -1,7 +1,7 @@
 //! Who calls, and when: what a procedure knows besides its arguments.
 use crate::NumberList;
 
-/// A time: seconds since 1970 and nanoseconds below 1,000,000,000 (RFC 1813, section 2.5, `nfstime3`).
+/// A time: seconds since 1970 and nanoseconds below 1,000,000,000 (RFC 1813, section 2.6, `nfstime3`).
 /// A client may send more nanoseconds, so the type takes any.
 #[derive(Clone, Copy, Debug, PartialEq, Eq)]
 pub struct Moment {

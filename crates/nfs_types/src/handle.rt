@@ -1,4 +1,4 @@
-//! File handles (RFC 1813, section 2.5, `nfs_fh3`).
+//! File handles (RFC 1813, section 2.6, `nfs_fh3`).
 ghost use Rattle.std.specs.Prelude.{◌≡◌, ◌≢◌, length, IfOk, IfSome, IfNone};
 ghost use Rattle.std.specs.Int.{w32, w64, to_be_bytes};
 ghost use Rattle.nfs_types.specs.Handle.{handle_bytes};

@@ -9,8 +9,10 @@ mod entries;
 mod handle;
 mod mount;
 mod octets;
+mod program;
 mod reply;
 mod status;
+mod verifier;
 
 pub use attributes::{
     Attributes, DeviceNumber, FileKind, NewAttributes, SetTime, WeakCacheAttributes, WeakCacheData,
@@ -19,10 +21,14 @@ pub use call::{Call, CreateHow, DirectoryName, SpecialFile, Stability};
 pub use ctx::{Credential, Ctx, Moment};
 pub use entries::{ListedEntries, ListedEntriesPlus, ListedEntry, ListedEntryPlus};
 pub use handle::{Handle, Stamp};
-pub use mount::{MountCall, MountReply};
+pub use mount::{MountCall, MountReply, Mounted, PATH_BYTES};
 pub use octets::{NumberList, Octets};
+pub use program::{
+    MountProcedure, Procedure, Program, ProgramCall, ProgramProcedure, ProgramReply,
+};
 pub use reply::{
     Created, FileSystemInfo, FileSystemSpace, Listed, ListedPlus, Looked, PathLimits, ReadBytes,
     Reply, Written,
 };
 pub use status::Status;
+pub use verifier::{VERIFIER_BYTES, Verifier};

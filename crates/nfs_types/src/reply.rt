@@ -5,7 +5,7 @@ ghost use Rattle.std.specs.Prelude.{◌≡◌};
 
 use crate::{
     Attributes, Handle, ListedEntries, ListedEntriesPlus, Moment, Octets, Stability, Status,
-    WeakCacheData,
+    Verifier, WeakCacheData,
 };
 use std::alloc::AllocError;
 
@@ -29,7 +29,7 @@ pub struct ReadBytes {
 pub struct Written {
     pub count: u32,
     pub committed: Stability,
-    pub verifier: u64,
+    pub verifier: Verifier,
 }
 
 /// What CREATE, MKDIR, SYMLINK or MKNOD made.
@@ -42,7 +42,7 @@ pub struct Created {
 /// What READDIR lists.
 #[derive(Clone, Drop)]
 pub struct Listed {
-    pub verifier: u64,
+    pub verifier: Verifier,
     pub entries: ListedEntries,
     pub eof: bool,
 }
@@ -50,7 +50,7 @@ pub struct Listed {
 /// What READDIRPLUS lists.
 #[derive(Clone, Drop)]
 pub struct ListedPlus {
-    pub verifier: u64,
+    pub verifier: Verifier,
     pub entries: ListedEntriesPlus,
     pub eof: bool,
 }
@@ -180,7 +180,7 @@ pub enum Reply {
         object: Option<Attributes>,
     },
     Commit {
-        outcome: Result<u64, Status>,
+        outcome: Result<Verifier, Status>,
         file: WeakCacheData,
     },
 }

@@ -1,4 +1,4 @@
-//! Why a procedure refused (RFC 1813, section 2.6, `nfsstat3`).
+//! Why a procedure refused (RFC 1813, sections 2.5 and 2.6, `nfsstat3`).
 
 /// The statuses of this server but OK, which a reply tells by the variant of its outcome.
 #[derive(Clone, Copy, Debug, PartialEq, Eq)]

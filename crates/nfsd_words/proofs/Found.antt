@@ -1,13 +1,17 @@
 -- What the getters of a parse give, as the rows that it found say.
-use Rattle.std.proofs.Common.{◌≡◌, ◌∙◌, ℕ, List, Option, Some, None, Result, ap, sym, subst, refl}
-use Rattle.std.specs.Prelude.{option_map}
+use Rattle.std.proofs.Common.{◌≡◌, ◌∙◌, ℕ, ◌^◌, ◌<◌, List, [], Option, Some, None, Result, ap, sym, subst, refl}
+use Rattle.std.specs.Prelude.{IfNone, codes, option_map}
 use Rattle.std.specs.Borrow.{Bor}
 use Rattle.std.specs.Str.Parse.{ExplainsUnsignedError, HasUnsignedDigitsIfOk, ParsesUnsigned}
 use Rattle.std.specs.declared.num.ParseIntError.{ParseIntError}
-use Rattle.clap.specs.Words.{ReadsOne, Text, first_of, first_value, found_of, one_of, one_text, rows_of}
+use Rattle.clap.specs.Words.{IsAmong, Kinds, ReadsOne, Row, Text, first_of, first_value, found_of, one_of}
+use Rattle.clap.specs.Words.{one_text, rows_of}
 use Rattle.clap.proofs.WalkLemmas.{first_value-rows, one_text-rows}
 use Rattle.clap.specs.declared.ArgMatches.{ArgMatches}
-use Rattle.nfsd_words.specs.Words.{IsNumber}
+use Rattle.clap.specs.declared.error.kind.ErrorKind.{ErrorKind}
+use Rattle.nfsd_words.specs.declared.Args.{Args}
+use Rattle.nfsd_words.specs.declared.Args.TheVariants.{Format, Once}
+use Rattle.nfsd_words.specs.Words.{Asks, IsNumber}
 
 -- a text that `get_str` gave stands first in its row
 pub text_found : (m : ArgMatches) (id : Text) (r : Option (Bor Text)) (x : Bor Text)
@@ -33,10 +37,66 @@ number_found m id r n none value is = go (one_text (found_of m) id) refl
     spelled t e read =
         let parsed = read.0 in
         let row : one_of id (rows_of (found_of m)) ≡ Some t = sym (one_text-rows (found_of m) id) ∙ e in
-        rw row (parsed.0.0, parsed.1)
+        rw row (parsed.0.0, parsed.1, subst (λ k. k < 2 ^ 32) (sym parsed.1) parsed.0.1)
 
     go : (o : Option Text) → one_text (found_of m) id ≡ o → IsNumber (rows_of (found_of m)) id n
     go None e =
         let bad : None ≡ Some n = sym (none e) ∙ is in
         cc
     go (Some t) e = spelled t e (subst (ReadsOne u32_gives t) is (value t e))
+
+-- where `get_str` gave none, its row has no first text
+pub no_text_found : (m : ArgMatches) (id : Text) (r : Option (Bor Text)) (x : Text)
+    → option_map (λ s. s.now) r ≡ first_value (found_of m) id
+    → r ≡ None → first_of id (rows_of (found_of m)) ≡ Some x → ⊥
+no_text_found m id r x gives none some =
+    let bad : None ≡ Some x = sym (ap (option_map (λ (s : Bor Text). s.now)) none) ∙ gives
+    ∙ first_value-rows (found_of m) id ∙ some in
+    cc
+
+-- where `get_one` gave none, its row spells no number of 32 bits
+pub no_number_found : (m : ArgMatches) (id : Text) (r : Option ℕ) (n : ℕ)
+    → ((t : List ℕ) → one_text (found_of m) id ≡ Some t → ReadsOne u32_gives t r)
+    → r ≡ None → IsNumber (rows_of (found_of m)) id n → ⊥
+no_number_found m id r n value is number = go (one_of id (rows_of (found_of m))) refl
+  where
+    go : (o : Option Text) → one_of id (rows_of (found_of m)) ≡ o → ⊥
+    go None e = rw e at number
+    go (Some t) e =
+        let read : ReadsOne u32_gives t None =
+        subst (ReadsOne u32_gives t) is (value t (one_text-rows (found_of m) id ∙ e)) in
+        let spelled = rw e at number in
+        read.1.0 (spelled.0, subst (λ k. k < 2 ^ 32) spelled.1 spelled.2)
+
+-- without a text of its image a command asks for nothing
+pub no_image : (name : Text) (found : List Row) → ((x : Text) → first_of (codes "IMAGE") found ≡ Some x → ⊥)
+    → (args : Args) → ¬ Asks name found args
+no_image name found none (Format image blocks inodes time) asks = none image.now asks.1
+no_image name found none (Once image time) asks = none image.now asks.1
+
+-- without a number of its time a command asks for nothing
+pub no_time : (name : Text) (found : List Row) → ((n : ℕ) → IsNumber found (codes "time") n → ⊥)
+    → (args : Args) → ¬ Asks name found args
+no_time name found none (Format image blocks inodes time) asks = none time asks.4
+no_time name found none (Once image time) asks = none time asks.2
+
+-- `format` asks for nothing without a number of its blocks
+pub no_blocks : (found : List Row) → ((n : ℕ) → IsNumber found (codes "blocks") n → ⊥)
+    → (args : Args) → ¬ Asks (codes "format") found args
+no_blocks found none (Format image blocks inodes time) asks = none blocks asks.2
+no_blocks found none (Once image time) asks = let other : codes "format" ≡ codes "once" = asks.0 in cc
+
+-- `format` asks for nothing without a number of its inodes
+pub no_inodes : (found : List Row) → ((n : ℕ) → IsNumber found (codes "inodes") n → ⊥)
+    → (args : Args) → ¬ Asks (codes "format") found args
+no_inodes found none (Format image blocks inodes time) asks = none inodes asks.3
+no_inodes found none (Once image time) asks = let other : codes "format" ≡ codes "once" = asks.0 in cc
+
+-- a fact stands where there is no value
+pub if_none : {A : Type 0} {P : Type 0} (r : Option A) → P → IfNone r P
+if_none None fact = fact
+if_none (Some x) fact = tt
+
+-- a kind is among those of a fault
+pub has_fault : (kind : ErrorKind) (kinds : Kinds) → IsAmong kind kinds → kinds ≡ [] → ⊥
+has_fault kind kinds among none = subst (IsAmong kind) none among

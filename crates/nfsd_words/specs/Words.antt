@@ -1,9 +1,9 @@
 -- What the arguments of a command line ask of the program.
-use Rattle.std.specs.Prelude.{◌≡◌, ℕ, List, [], ◌∷◌, Option, Some, true, codes, pos}
+use Rattle.std.specs.Prelude.{◌≡◌, ℕ, ◌^◌, ◌<◌, List, [], ◌∷◌, Option, Some, true, codes, pos}
 use Rattle.std.specs.Option.{IsSomeAnd}
 use Rattle.std.specs.Str.Parse.{IsNumeral, digits_value, without_leading_plus}
-use Rattle.clap.specs.Words.{App, Row, Rule, Text, first_of, new_app, new_rule, one_of, subcommand_of}
-use Rattle.clap.specs.Words.{with_rule, with_subcommand}
+use Rattle.clap.specs.Words.{App, Row, Rule, Text, fault_of, first_of, new_app, new_rule, one_of}
+use Rattle.clap.specs.Words.{subcommand_of, with_rule, with_subcommand}
 use Rattle.clap.specs.declared.builder.ValueParser.TheVariants as value_parser
 use Rattle.nfsd_words.specs.declared.Args.{Args}
 use Rattle.nfsd_words.specs.declared.Args.TheVariants.{Format, Once}
@@ -51,11 +51,11 @@ bare_program = record (new_app (codes "nfsd")) {
 abbrev pub whole_program : App
 whole_program = with_subcommand (with_subcommand bare_program format_command.top) once_command.top
 
--- the option of this name has this number, given or by default
+-- the option of this name has this number of 32 bits, given or by default
 abbrev pub IsNumber : List Row → Text → ℕ → Type 0
 IsNumber found name number = IsSomeAnd (one_of name found) (λ text.
     IsNumeral 10 (without_leading_plus text)
-    × (number ≡ digits_value 10 (without_leading_plus text)))
+    × (number ≡ digits_value 10 (without_leading_plus text)) × (number < 2 ^ 32))
 
 -- a command of this name, with what was found of its arguments, asks for this
 abbrev pub Asks : Text → List Row → Args → Type 0
@@ -70,10 +70,10 @@ Asks name found (Once image time) = (name ≡ codes "once")
 abbrev pub IsAsked : Option (Text × List Row) → Args → Type 0
 IsAsked met args = IsSomeAnd met (λ command. Asks command.0 command.1 args)
 
--- the arguments, the program's name first, ask for this
+-- the arguments, the program's name first, have no fault of the parser's rules, and ask for this
 abbrev pub WordsAsk : List Text → Args → Type 0
-WordsAsk words args = IsAsked (subcommand_of whole_program words) args
+WordsAsk words args = (fault_of whole_program words ≡ []) × IsAsked (subcommand_of whole_program words) args
 
--- the arguments ask for something
+-- the arguments have a meaning: they ask for something
 abbrev pub HasMeaning : List Text → Type 0
 HasMeaning words = (args : Args) × WordsAsk words args

@@ -1,11 +1,12 @@
 //! The arguments of the program's command line: which commands there are, and what they take.
 #![tactic(auto)]
 
-ghost use Rattle.std.specs.Prelude.{◌≡◌, ◌⊎◌, IfOk, IfErr, IfSome, [], codes, map, false};
+ghost use Rattle.std.specs.Prelude.{◌≡◌, ◌⊎◌, IfOk, IfErr, IfNone, IfSome, codes, map, false};
 ghost use Rattle.clap.specs.Words.{HasKind, app_of, fault_of, found_of, kind_of, rows_of};
 ghost use Rattle.clap.specs.Words.{rule_of, subcommand_rows_of};
 ghost use Rattle.clap.specs.declared.Command.TheViews.{out-Command};
-ghost use Rattle.nfsd_words.specs.Words.{Asks, IsAsked, WordsAsk, default_rule, format_command};
+ghost use Rattle.nfsd_words.specs.declared.Args.{Args as Asked};
+ghost use Rattle.nfsd_words.specs.Words.{Asks, HasMeaning, IsAsked, WordsAsk, default_rule, format_command};
 ghost use Rattle.nfsd_words.specs.Words.{image_rule, number_rule, once_command, required_rule, whole_program};
 
 use clap::error::ErrorKind;
@@ -47,7 +48,8 @@ pub enum Args<'a> {
 /// been there and isn't is reported as missing; that this never comes is tested and not proved.
 pub fn words<'a>(alloc: Global, line: &'a [&'a str]) -> Result<Args<'a>, Error>
     ensures asked { IfOk result (WordsAsk (map (λ word. word.now) line.now)) }
-    ensures lawful { IfOk result (λ _. fault_of whole_program (map (λ word. word.now) line.now) ≡ []) }
+    ensures senseless { IfErr result (λ e. (kind_of e ≡ ErrorKind.OutOfMemory)
+        ⊎ (¬ HasMeaning (map (λ word. word.now) line.now))) }
     ensures refused { IfErr result (λ e. HasKind (fault_of whole_program (map (λ word. word.now) line.now)) e
         ⊎ (kind_of e ≡ ErrorKind.MissingRequiredArgument)) }
 {
@@ -60,7 +62,8 @@ pub fn words<'a>(alloc: Global, line: &'a [&'a str]) -> Result<Args<'a>, Error>
 }
 
 fn asked<'a>(matches: &ArgMatches<'a>) -> Option<Args<'a>>
-    ensures { IfSome result (IsAsked (subcommand_rows_of matches.now)) }
+    ensures asked { IfSome result (IsAsked (subcommand_rows_of matches.now)) }
+    ensures senseless { IfNone result ((args : Asked) → ¬ IsAsked (subcommand_rows_of matches.now) args) }
 {
     match matches.subcommand_matches("format") {
         Some(given) => asked_format(given),
@@ -69,7 +72,8 @@ fn asked<'a>(matches: &ArgMatches<'a>) -> Option<Args<'a>>
 }
 
 fn asked_format<'a>(given: &ArgMatches<'a>) -> Option<Args<'a>>
-    ensures { IfSome result (Asks (codes "format") (rows_of (found_of given.now))) }
+    ensures asked { IfSome result (Asks (codes "format") (rows_of (found_of given.now))) }
+    ensures senseless { IfNone result ((args : Asked) → ¬ Asks (codes "format") (rows_of (found_of given.now)) args) }
 {
     Some(Args::Format {
         image: given.get_str("IMAGE")?,
@@ -80,7 +84,8 @@ fn asked_format<'a>(given: &ArgMatches<'a>) -> Option<Args<'a>>
 }
 
 fn asked_once<'a>(given: &ArgMatches<'a>) -> Option<Args<'a>>
-    ensures { IfSome result (Asks (codes "once") (rows_of (found_of given.now))) }
+    ensures asked { IfSome result (Asks (codes "once") (rows_of (found_of given.now))) }
+    ensures senseless { IfNone result ((args : Asked) → ¬ Asks (codes "once") (rows_of (found_of given.now)) args) }
 {
     Some(Args::Once {
         image: given.get_str("IMAGE")?,

@@ -6,7 +6,9 @@ ghost use Rattle.plain_server.specs.Plain.{body_of, node_of};
 
 use crate::MappedIndexes;
 use limits::{BLOCK_BYTES, DIRECT_INDEXES, FILE_SYSTEM};
-use nfs_types::{Attributes, DeviceNumber, FileKind, Moment, Octets, Stamp, WeakCacheAttributes};
+use nfs_types::{
+    Attributes, DeviceNumber, FileKind, Moment, Octets, Stamp, Verifier, WeakCacheAttributes,
+};
 
 /// A name in a directory, with the file that it leads to and the slot in which it lies.
 #[derive(Drop)]
@@ -44,7 +46,7 @@ pub struct PlainNode {
     pub mtime: Moment,
     pub ctime: Moment,
     pub stamp: Stamp,
-    pub verifier: Option<u64>,
+    pub verifier: Option<Verifier>,
     pub body: PlainBody,
 }
 

@@ -1,16 +1,16 @@
 -- What is read spells the message, and a message that is spelled is read.
 use Rattle.std.proofs.Common.{◌≡◌, ℕ, ◌⊎◌, inl, inr, List, ◌++◌, length, Option, Some, None, Result, Ok, Err}
-use Rattle.std.proofs.Common.{refl, sym, ap, subst, ◌∙◌}
+use Rattle.std.proofs.Common.{refl, sym, ap, subst, ◌∙◌, true}
 use Rattle.std.specs.Prelude.{◌==◌, IfSome, IfNone}
 use Rattle.std.specs.Result.{result_ok}
 use Rattle.std.proofs.lemmas.Bool.{eqb-true}
 use Rattle.std.proofs.lemmas.List.{nil_from_length}
-use Rattle.session_wire.specs.declared.rpc.constants.TheConstants.{CALL, RPC_VERSION, NFS_PROGRAM}
-use Rattle.session_wire.specs.declared.rpc.constants.TheConstants.{NFS_VERSION, AUTH_NONE, AUTH_SYS}
+use Rattle.nfs_types.specs.declared.program.ProgramProcedure.{ProgramProcedure}
+use Rattle.session_wire.specs.declared.rpc.constants.TheConstants.{CALL, RPC_VERSION, NFS_VERSION}
+use Rattle.session_wire.specs.declared.rpc.constants.TheConstants.{AUTH_NONE, AUTH_SYS}
 use Rattle.session_wire.specs.declared.message.MessageCredential.{MessageCredential}
 use Rattle.session_wire.specs.declared.message.MessageCredential.TheVariants.{Nobody, Caller}
 use Rattle.session_wire.specs.declared.message.CallMessage.{CallMessage}
-use Rattle.session_wire.specs.declared.nfs_codec.procedure.Procedure.{Procedure}
 use Rattle.session_wire.specs.declared.xdr.fault.XdrFault.{XdrFault}
 use Rattle.session_wire.specs.declared.xdr.fault.XdrFault.TheVariants.{Value, NoMemory}
 use Rattle.session_wire.specs.declared.message.ReplyMessage.{ReplyMessage}
@@ -19,18 +19,20 @@ use Rattle.session_wire.specs.ReadingReplies.{reply_of}
 use Rattle.session_wire.specs.Reading.{◌>>=◌, Reads}
 use Rattle.session_wire.specs.Headers.{opening_at, header_at}
 use Rattle.session_wire.specs.Credentials.{System, caller_at}
-use Rattle.session_wire.specs.Calls.{procedure_of, procedure_number, called, arguments, CredentialFits}
-use Rattle.session_wire.specs.Calls.{call_bytes, SpellsCall}
+use Rattle.session_wire.specs.Procedures.{program_number, program_of, procedure_number, program_with}
+use Rattle.session_wire.specs.Procedures.{procedure_of, is_decoded, called}
+use Rattle.session_wire.specs.Calls.{arguments, CredentialFits, call_bytes, SpellsCall}
 use Rattle.session_wire.specs.ReadingCalls.{call_of}
 use Rattle.session_wire.proofs.Coded.{IsBytes, bind_ok, holds_ok}
-use Rattle.session_wire.proofs.CodedCalls.{call_takes, call_again, procedure_again, procedure_takes}
+use Rattle.session_wire.proofs.CodedCalls.{call_takes, call_again}
+use Rattle.session_wire.proofs.Numbered.{program_again, program_takes, procedure_again, procedure_takes}
 use Rattle.session_wire.proofs.CodedHeaders.{openings, headings, opening_bytes, heading_bytes, caller_takes}
 use Rattle.session_wire.proofs.CodedHeaders.{caller_again, flavor_of, body_of}
 use Rattle.session_wire.proofs.CallLaws.{opening_of, heading_of, parted, opens, heads, body_bytes}
 use Rattle.session_wire.proofs.CallLaws.{same_opening, same_heading, joined_parts}
 use Rattle.session_wire.proofs.CodedReplies.{chosen}
 use Rattle.session_wire.proofs.ReplyLaws.{read_reply, reply_takes, reply_again}
-use Rattle.plain_wire.specs.Messages.{wanted, numbered, credential_of, message_of}
+use Rattle.plain_wire.specs.Messages.{wanted, numbered, known, credential_of, message_of}
 
 pub record IsCredential (flavor : ℕ) (body : List ℕ) (m : MessageCredential) : Type 0 where
   pub flavor_is : flavor ≡ flavor_of m
@@ -76,9 +78,20 @@ credential_again (Caller stamp machine caller) fits =
 wanted_is : (n m : ℕ) (x : Unit {0}) → wanted n m ≡ Ok x → n ≡ m
 wanted_is n m x e = let h = holds_ok (n == m) Value (Ok tt) x e in eqb-true n m h.0
 
-numbered_is : (o : Option Procedure) (p : Procedure) → numbered o ≡ Ok p → o ≡ Some p
-numbered_is (Some q) p e = cc
+abbrev just : {A : Type 0} → A → Result A XdrFault
+just x = Ok x
+
+just_is : {A : Type 0} (x y : A) → just x ≡ just y → x ≡ y
+just_is x y e = cc
+
+numbered_is : {A : Type 0} (o : Option A) (p : A) → numbered o ≡ Ok p → o ≡ Some p
+numbered_is (Some q) p e = ap (λ x. Some x) (just_is q p e)
 numbered_is None p e = absurd cc
+
+known_is : (p q : ProgramProcedure) → known p ≡ Ok q → (is_decoded p ≡ true) × (p ≡ q)
+known_is p q e =
+    let h = holds_ok (is_decoded p) Value (Ok p) q e in
+    (h.0, just_is p q h.1)
 
 abbrev read_message : CallMessage → Result CallMessage XdrFault
 read_message m = Ok m
@@ -91,17 +104,18 @@ pub message_takes : (bytes : List ℕ) (m : CallMessage) → IsBytes bytes → m
 unfolding message_of
 message_takes bytes m fits e =
     let o = bind_ok (opening_at bytes) _ m e in
-    let k = bind_ok (wanted o.0.0.kind CALL) _ m o.2 in
-    let r = bind_ok (wanted o.0.0.rpc_version RPC_VERSION) _ m k.2 in
+    let kind = bind_ok (wanted o.0.0.kind CALL) _ m o.2 in
+    let r = bind_ok (wanted o.0.0.rpc_version RPC_VERSION) _ m kind.2 in
     let h = bind_ok (header_at o.0.1) _ m r.2 in
-    let g = bind_ok (wanted h.0.0.program NFS_PROGRAM) _ m h.2 in
+    let g = bind_ok (numbered (program_of h.0.0.program)) _ m h.2 in
     let n = bind_ok (wanted h.0.0.version NFS_VERSION) _ m g.2 in
-    let p = bind_ok (numbered (procedure_of h.0.0.procedure)) _ m n.2 in
-    let c = bind_ok (credential_of h.0.0.flavor h.0.0.body) _ m p.2 in
-    let a = bind_ok (call_of p.0 h.0.1) _ m c.2 in
+    let p = bind_ok (numbered (procedure_of g.0 h.0.0.procedure)) _ m n.2 in
+    let d = bind_ok (known p.0) _ m p.2 in
+    let c = bind_ok (credential_of h.0.0.flavor h.0.0.body) _ m d.2 in
+    let a = bind_ok (call_of d.0 h.0.1) _ m c.2 in
     let t = openings.takes bytes o.0.0 o.0.1 fits o.1 in
     let u = headings.takes o.0.1 h.0.0 h.0.1 t.0.rest_fits h.1 in
-    let v = call_takes p.0 h.0.1 a.0 u.0.rest_fits a.1 in
+    let v = call_takes d.0 h.0.1 a.0 u.0.rest_fits a.1 in
     let body_fits : IsBytes h.0.0.body = body_bytes h.0.0 h.0.1 (subst IsBytes u.0.parts t.0.rest_fits) in
     let w = credential_takes h.0.0.flavor h.0.0.body c.0 body_fits c.1 in
     let made : CallMessage =
@@ -111,15 +125,21 @@ message_takes bytes m fits e =
       verifier = record { flavor = h.0.0.verifier_flavor; body = h.0.0.verifier };
       call = a.0;
     } in
+    let k = known_is p.0 d.0 d.1 in
+    let procedure_is : p.0 ≡ called a.0 = k.1 ∙ sym v.procedure in
+    let numbers = procedure_takes g.0 h.0.0.procedure p.0
+    (numbered_is (procedure_of g.0 h.0.0.procedure) p.0 p.1) in
+    let program : h.0.0.program ≡ program_number (program_with (called a.0)) =
+    program_takes h.0.0.program g.0 (numbered_is (program_of h.0.0.program) g.0 g.1)
+    ∙ ap program_number (numbers.program_is ∙ ap program_with procedure_is) in
     let number : h.0.0.procedure ≡ procedure_number (called a.0) =
-    procedure_takes h.0.0.procedure p.0 (numbered_is (procedure_of h.0.0.procedure) p.0 p.1)
-    ∙ ap procedure_number (sym v.procedure) in
+    numbers.number_is ∙ ap procedure_number procedure_is in
     let opening_same : opening_bytes o.0.0 ≡ opening_bytes (opening_of made) =
-    same_opening o.0.0 CALL RPC_VERSION (wanted_is o.0.0.kind CALL k.0 k.1)
+    same_opening o.0.0 CALL RPC_VERSION (wanted_is o.0.0.kind CALL kind.0 kind.1)
     (wanted_is o.0.0.rpc_version RPC_VERSION r.0 r.1) in
     let heading_same : heading_bytes h.0.0 ≡ heading_bytes (heading_of made) =
-    same_heading h.0.0 NFS_PROGRAM NFS_VERSION (procedure_number (called a.0)) (flavor_of c.0)
-    (body_of c.0) (wanted_is h.0.0.program NFS_PROGRAM g.0 g.1)
+    same_heading h.0.0 (program_number (program_with (called a.0))) NFS_VERSION
+    (procedure_number (called a.0)) (flavor_of c.0) (body_of c.0) program
     (wanted_is h.0.0.version NFS_VERSION n.0 n.1) number w.flavor_is w.body_is in
     let spelled : bytes ≡ call_bytes made = t.0.parts
     ∙ ap (λ (x : List ℕ). opening_bytes o.0.0 ++ x) (u.0.parts
@@ -132,6 +152,7 @@ message_takes bytes m fits e =
       credential_fits = w.fits;
       verifier_flavor = u.1.verifier_flavor;
       verifier_body = u.1.verifier;
+      decoded = ap is_decoded (sym procedure_is) ∙ k.0;
       call_fits = v.fits;
       spelled = spelled;
     })
@@ -142,9 +163,11 @@ message_again bytes m s =
     rw (
       opens bytes m s,
       heads bytes m s,
+      program_again (program_with (called m.call)),
       procedure_again (called m.call),
+      s.decoded,
       credential_again m.credential s.credential_fits,
-      call_again m.call s.call_fits,
+      call_again m.call s.decoded s.call_fits,
     ) refl
 
 apart : (m : CallMessage) (e : XdrFault) → read_message m ≡ Err e → ⊥
@@ -158,12 +181,12 @@ pub none_spelled : (bytes : List ℕ) (e : XdrFault) → (message_of bytes ≡ E
 none_spelled bytes e (inl refused) not_memory m s = apart m e (sym (message_again bytes m s) ∙ refused)
 none_spelled bytes e (inr memory) not_memory m s = not_memory memory
 
-pub reply_found : (p : Procedure) (bytes : List ℕ) (r : Result ReplyMessage XdrFault) → IsBytes bytes
+pub reply_found : (p : ProgramProcedure) (bytes : List ℕ) (r : Result ReplyMessage XdrFault) → IsBytes bytes
     → Reads (λ m. m) r (reply_of p bytes) → IfSome (result_ok r) (λ m. SpellsReply p bytes m)
 reply_found p bytes (Ok m) fits e = reply_takes p bytes m fits e
 reply_found p bytes (Err d) fits e = tt
 
-pub reply_none : (p : Procedure) (bytes : List ℕ) (r : Result ReplyMessage XdrFault)
+pub reply_none : (p : ProgramProcedure) (bytes : List ℕ) (r : Result ReplyMessage XdrFault)
     → Reads (λ m. m) r (reply_of p bytes)
     → IfNone (result_ok r) ((m : ReplyMessage) → SpellsReply p bytes m → ⊥)
 reply_none p bytes (Ok m) e = tt

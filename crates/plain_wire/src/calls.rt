@@ -1,18 +1,18 @@
 //! Reading call messages (RFC 5531, section 9).
-ghost use Rattle.std.specs.Prelude.{◌≡◌, IfOk, IfSome, IfNone};
+ghost use Rattle.std.specs.Prelude.{◌≡◌, true, IfOk, IfSome, IfNone};
 ghost use Rattle.session_wire.specs.declared.message.CallMessage.{CallMessage};
 ghost use Rattle.session_wire.specs.Reading.{Reads, Gives};
-ghost use Rattle.session_wire.specs.Calls.{SpellsCall, procedure_of};
-ghost use Rattle.plain_wire.specs.Messages.{wanted as is_wanted, numbered, credential_of, message_of};
+ghost use Rattle.session_wire.specs.Calls.{SpellsCall};
+ghost use Rattle.session_wire.specs.Procedures as numbers;
+ghost use Rattle.plain_wire.specs.Messages.{wanted as is_wanted, numbered, known, credential_of, message_of};
 
-use nfs_types::Octets;
-use session_wire::nfs_codec::{Procedure, decode_call};
+use nfs_types::{Octets, Program, ProgramProcedure};
+use session_wire::nfs_codec::{decode_call, is_decoded, procedure_of, program_of};
 use session_wire::rpc::{
-    AUTH_NONE, AUTH_SYS, CALL, NFS_PROGRAM, NFS_VERSION, RPC_VERSION, read_caller, read_header,
-    read_opening,
+    AUTH_NONE, AUTH_SYS, CALL, NFS_VERSION, RPC_VERSION, read_caller, read_header, read_opening,
 };
 use session_wire::xdr::{Reader, XdrFault};
-use session_wire::{CallMessage, MessageCredential, Verifier};
+use session_wire::{CallMessage, MessageCredential, MessageVerifier};
 use std::alloc::{AllocError, Global};
 
 /// The call that the bytes spell, or None where they spell none.
@@ -38,15 +38,15 @@ fn read_message(alloc: Global, bytes: &[u8]) -> Result<CallMessage, XdrFault>
     expect(opening.kind, CALL)?;
     expect(opening.rpc_version, RPC_VERSION)?;
     let header = read_header(&mut reader)?;
-    expect(header.program, NFS_PROGRAM)?;
+    let program = program(header.program)?;
     expect(header.version, NFS_VERSION)?;
-    let procedure = procedure(header.procedure)?;
+    let procedure = known(procedure(program, header.procedure)?)?;
     let credential = read_credential(alloc, header.flavor, header.body)?;
     let call = decode_call(alloc, procedure, reader.rest())?;
     Ok(CallMessage {
         xid: opening.xid,
         credential,
-        verifier: Verifier {
+        verifier: MessageVerifier {
             flavor: header.verifier_flavor,
             body: Octets::copied(alloc, header.verifier)?,
         },
@@ -65,12 +65,33 @@ fn expect(number: u32, wanted: u32) -> Result<(), XdrFault>
     }
 }
 
-fn procedure(number: u32) -> Result<Procedure, XdrFault>
-    ensures { Reads (λ p. p) result (numbered (procedure_of number)) }
+fn program(number: u32) -> Result<Program, XdrFault>
+    ensures { Reads (λ p. p) result (numbered (numbers.program_of number)) }
 {
-    match Procedure::numbered(number) {
+    match program_of(number) {
+        Some(program) => Ok(program),
+        None => Err(XdrFault::Value),
+    }
+}
+
+fn procedure(program: Program, number: u32) -> Result<ProgramProcedure, XdrFault>
+    ensures { Reads (λ p. p) result (numbered (numbers.procedure_of program number)) }
+{
+    match procedure_of(program, number) {
         Some(procedure) => Ok(procedure),
         None => Err(XdrFault::Value),
+    }
+}
+
+// The procedure, where it is decoded.
+fn known(procedure: ProgramProcedure) -> Result<ProgramProcedure, XdrFault>
+    ensures read { Reads (λ p. p) result (known procedure) }
+    ensures decoded { IfOk result (λ p. numbers.is_decoded p ≡ true) }
+{
+    if is_decoded(procedure) {
+        Ok(procedure)
+    } else {
+        Err(XdrFault::Value)
     }
 }
 

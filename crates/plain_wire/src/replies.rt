@@ -1,19 +1,19 @@
 //! Reading reply messages (RFC 5531, section 9; RFC 1813, section 3.3).
-ghost use Rattle.std.specs.Prelude.{◌≡◌, IfSome, IfNone};
+ghost use Rattle.std.specs.Prelude.{◌≡◌, ℕ, List, IfSome, IfNone};
+ghost use Rattle.nfs_types.specs.declared.program.ProgramProcedure.TheVariants as procedures;
 ghost use Rattle.session_wire.specs.declared.message.ReplyMessage.{ReplyMessage};
 ghost use Rattle.session_wire.specs.Reading.{Reads};
 ghost use Rattle.session_wire.specs.Replies.{SpellsReply};
 ghost use Rattle.session_wire.specs.ReadingReplies.{accepted_at, denied_at, state_of, result_at, reply_of};
 
 use crate::items::{expect, read_get_attr, read_outcome, read_versions, read_weak_cache};
-use nfs_types::Reply;
-use session_wire::nfs_codec::Procedure;
+use nfs_types::{MountProcedure, Procedure, ProgramProcedure, ProgramReply, Reply};
 use session_wire::rpc::{NFS_VERSION, REPLY, RPC_VERSION, Refusal};
 use session_wire::xdr::{Reader, XdrFault};
 use session_wire::{ReplyBody, ReplyMessage};
 
 /// The reply to a call of a procedure that the bytes spell, or None where they spell none.
-pub fn read_reply(procedure: Procedure, bytes: &[u8]) -> Option<ReplyMessage>
+pub fn read_reply(procedure: ProgramProcedure, bytes: &[u8]) -> Option<ReplyMessage>
     ensures found { IfSome result (λ m. SpellsReply procedure bytes.now m) }
     ensures none { IfNone result ((m : ReplyMessage) → SpellsReply procedure bytes.now m → ⊥) }
 {
@@ -21,7 +21,7 @@ pub fn read_reply(procedure: Procedure, bytes: &[u8]) -> Option<ReplyMessage>
 }
 
 #[tactic(auto, unfolding(session_wire::specs::ReadingReplies::reply_of))]
-fn read_message(procedure: Procedure, bytes: &[u8]) -> Result<ReplyMessage, XdrFault>
+fn read_message(procedure: ProgramProcedure, bytes: &[u8]) -> Result<ReplyMessage, XdrFault>
     ensures { Reads (λ m. m) result (reply_of procedure bytes.now) }
 {
     let mut reader = Reader::new(bytes);
@@ -34,7 +34,11 @@ fn read_message(procedure: Procedure, bytes: &[u8]) -> Result<ReplyMessage, XdrF
 }
 
 // What comes behind the state of a reply: 0 is accepted, 1 denied.
-fn read_body(procedure: Procedure, state: u32, reader: &mut Reader) -> Result<ReplyBody, XdrFault>
+fn read_body(
+    procedure: ProgramProcedure,
+    state: u32,
+    reader: &mut Reader,
+) -> Result<ReplyBody, XdrFault>
     ensures { Reads (λ b. (b, reader.new)) result (state_of procedure state reader.old) }
 {
     match state {
@@ -45,7 +49,7 @@ fn read_body(procedure: Procedure, state: u32, reader: &mut Reader) -> Result<Re
 }
 
 #[tactic(auto, unfolding(session_wire::specs::ReadingReplies::accepted_at))]
-fn read_accepted(procedure: Procedure, reader: &mut Reader) -> Result<ReplyBody, XdrFault>
+fn read_accepted(procedure: ProgramProcedure, reader: &mut Reader) -> Result<ReplyBody, XdrFault>
     ensures { Reads (λ b. (b, reader.new)) result (accepted_at procedure reader.old) }
 {
     expect(reader, 0)?;
@@ -82,20 +86,58 @@ fn read_denied(reader: &mut Reader) -> Result<ReplyBody, XdrFault>
     }
 }
 
-// The result of a procedure.
-fn read_result(procedure: Procedure, reader: &mut Reader) -> Result<Reply, XdrFault>
+// The result of a procedure. That of one which isn't decoded can't be read so far.
+fn read_result(procedure: ProgramProcedure, reader: &mut Reader) -> Result<ProgramReply, XdrFault>
     ensures { Reads (λ r. (r, reader.new)) result (result_at procedure reader.old) }
 {
     match procedure {
-        Procedure::Null => Ok(Reply::Null),
+        ProgramProcedure::Nfs(procedure) => read_nfs_result(procedure, reader),
+        ProgramProcedure::Mount(procedure) => read_mount_result(procedure),
+    }
+}
+
+fn read_nfs_result(procedure: Procedure, reader: &mut Reader) -> Result<ProgramReply, XdrFault>
+    ensures { Reads (λ r. (r, reader.new)) result (result_at (procedures.Nfs procedure) reader.old) }
+{
+    match procedure {
+        Procedure::Null => Ok(ProgramReply::Nfs(Reply::Null)),
         Procedure::GetAttr => {
             let outcome = read_get_attr(reader)?;
-            Ok(Reply::GetAttr { outcome })
+            Ok(ProgramReply::Nfs(Reply::GetAttr { outcome }))
         }
         Procedure::SetAttr => {
             let outcome = read_outcome(reader)?;
             let object = read_weak_cache(reader)?;
-            Ok(Reply::SetAttr { outcome, object })
+            Ok(ProgramReply::Nfs(Reply::SetAttr { outcome, object }))
+        }
+        Procedure::Lookup
+        | Procedure::Access
+        | Procedure::ReadLink
+        | Procedure::Read
+        | Procedure::Write
+        | Procedure::Create
+        | Procedure::MkDir
+        | Procedure::SymLink
+        | Procedure::MkNod
+        | Procedure::Remove
+        | Procedure::RmDir
+        | Procedure::Rename
+        | Procedure::Link
+        | Procedure::ReadDir
+        | Procedure::ReadDirPlus
+        | Procedure::FsStat
+        | Procedure::FsInfo
+        | Procedure::PathConf
+        | Procedure::Commit => Err(XdrFault::Value),
+    }
+}
+
+fn read_mount_result(procedure: MountProcedure) -> Result<ProgramReply, XdrFault>
+    ensures { (bytes : List ℕ) → Reads (λ r. (r, bytes)) result (result_at (procedures.Mount procedure) bytes) }
+{
+    match procedure {
+        MountProcedure::Null | MountProcedure::Mount | MountProcedure::Unmount => {
+            Err(XdrFault::Value)
         }
     }
 }

@@ -1,6 +1,6 @@
 -- What was found of a file is its body's kind and size, and the number of blocks that it uses.
 use Rattle.std.proofs.Common.{◌≡◌, ℕ, sym, ap, ◌∙◌, ◌%◌, ◌/◌, length, nat_eq, nat_le, nat_lt}
-use Rattle.std.proofs.Common.{cond, not, min, true}
+use Rattle.std.proofs.Common.{cond, not, min, true, is_none}
 use Rattle.limits.specs.declared.TheConstants.{BLOCK_BYTES, DIRECT_INDEXES, LARGEST_FILE, TARGET_BYTES}
 use Rattle.disk.specs.Crash.{Image}
 use Rattle.model.specs.Node.{Body}
@@ -56,7 +56,7 @@ module _ (g : Geometry) (content : Image) (found : FoundFile)
       (nat_lt 0 i.parent) (nat_lt i.parent g.inodes)
       (names_first (min (i.size / BLOCK_BYTES) DIRECT_INDEXES) i.direct)
       (cond (nat_lt DIRECT_INDEXES (i.size / BLOCK_BYTES)) (not (nat_eq i.indirect 0)) (nat_eq i.indirect 0))
-      three.2 in
+      (all_two _ (is_none i.verifier) three.2).0 in
       record {
         kind = ap file_kind (sym is);
         size = directory_size i.size (same_number (i.size % BLOCK_BYTES) 0 rules.2);
@@ -66,7 +66,7 @@ module _ (g : Geometry) (content : Image) (found : FoundFile)
   has_body Link is good file =
       let three = all_three (is_sound_file i) (is_sound_map g.blocks g.inodes i) (is_sound_link i) good in
       let rules = all_five (nat_le 1 i.size) (nat_le i.size TARGET_BYTES) (nat_eq i.parent 0)
-      (names_first 1 i.direct) (nat_eq i.indirect 0) three.2 in
+      (names_first 1 i.direct) (nat_eq i.indirect 0) (all_two _ (is_none i.verifier) three.2).0 in
       record {
         kind = ap file_kind (sym is);
         size = link_size content i direct long (no_more i.size TARGET_BYTES rules.1);

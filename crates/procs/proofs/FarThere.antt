@@ -1,6 +1,6 @@
 -- An indirect block that names what is no data block is in no blocks that stand for a tree.
 use Rattle.std.proofs.Common.{◌≡◌, ℕ, ◌<◌, sym, ap, ◌∙◌, refl, Bool, true, false, cond, List, [], ◌∷◌}
-use Rattle.std.proofs.Common.{◌++◌, nat_eq, nat_le, replicate, Ok}
+use Rattle.std.proofs.Common.{◌++◌, nat_eq, nat_le, replicate, Ok, is_none}
 use Rattle.std.specs.List.{list_all}
 use Rattle.limits.specs.declared.TheConstants.{INDIRECT_INDEXES, TARGET_BYTES}
 use Rattle.disk.specs.Crash.{Image}
@@ -48,7 +48,8 @@ module _ (g : Geometry) (content : Image) (inode : Inode) (some : nat_eq inode.i
       let three = all_three (is_sound_file inode) (is_sound_map g.blocks g.inodes inode) (is_sound_link inode)
       good in
       let rules = all_five (nat_le 1 inode.size) (nat_le inode.size TARGET_BYTES) (nat_eq inode.parent 0)
-      (names_first 1 inode.direct) (nat_eq inode.indirect 0) three.2 in
+      (names_first 1 inode.direct) (nat_eq inode.indirect 0)
+      (all_two _ (is_none inode.verifier) three.2).0 in
       let clash : true ≡ false = sym rules.4 ∙ some in cc
 
 pub none_name_others : (snap : Snap) (number : ℕ) (inode : Inode) (why : Stop)

@@ -6,7 +6,7 @@ use Rattle.std.specs.List.{list_all}
 use Rattle.std.proofs.lemmas.Bool.{lt-ltb}
 use Rattle.limits.specs.declared.TheConstants.{BLOCK_BYTES, INDIRECT_INDEXES, INODES_PER_BLOCK, INODE_BYTES}
 use Rattle.disk.specs.Crash.{Image}
-use Rattle.model.specs.Sound.{AreBytes}
+use Rattle.nfs_types.specs.Fits.{AreBytes}
 use Rattle.model.specs.Tree.{Tree}
 use Rattle.model.specs.Tree as model
 use Rattle.layout.specs.declared.fault.LayoutFault.TheVariants.{Range}
@@ -20,7 +20,7 @@ use Rattle.layout.specs.InodeForm.{is_sound_regular, is_sound_directory, is_soun
 use Rattle.layout.specs.Geometry.{inode_block, inode_offset, is_data, data_at}
 use Rattle.layout.specs.Parts.{content_in}
 use Rattle.layout.specs.Stands.{Stands}
-use Rattle.layout.proofs.Fits.{IsRead, read_fits}
+use Rattle.layout.proofs.Fits.{IsRead, read_fits, part-length}
 use Rattle.layout.proofs.WrittenBytes.{taken, dropped}
 use Rattle.procs.proofs.AllTests.{all_two, all_three, is_less, same_number}
 use Rattle.procs.proofs.UsedBlocks.{counted}
@@ -72,7 +72,9 @@ module _ (g : Geometry) (blocks : Image) (tree : Tree) (n : ℕ) (inode : Inode)
   pub is_read : IsRead g.blocks g.inodes inode
   unfolding inode_at
   is_read = read_fits g.blocks g.inodes
-      (take INODE_BYTES (drop (inode_offset n) (blocks (inode_block g.blocks g.inodes n)))) bytes_there inode
+      (take INODE_BYTES (drop (inode_offset n) (blocks (inode_block g.blocks g.inodes n)))) bytes_there
+      (part-length INODE_BYTES (inode_offset n) (blocks (inode_block g.blocks g.inodes n))
+      (let whole = (stands.bytes (inode_block g.blocks g.inodes n) on_disk).0 in omega (arith, whole))) inode
       read
 
   pub is_sound : is_sound_kind g.blocks g.inodes inode.kind inode ≡ true

@@ -10,12 +10,13 @@ use Rattle.nfs_types.specs.declared.ctx.Ctx.{Ctx}
 use Rattle.nfs_types.specs.declared.ctx.Moment.{Moment}
 use Rattle.nfs_types.specs.declared.handle.Handle.{Handle}
 use Rattle.nfs_types.specs.declared.reply.Reply.TheVariants as reply
+use Rattle.nfs_types.specs.Fits.{SetTimeFits}
 use Rattle.model.specs.Attributes.{change_of}
 use Rattle.model.specs.Calls.{sets_only_mode, is_unchanged}
 use Rattle.model.specs.Find.{find_file}
 use Rattle.model.specs.Node.{Node}
 use Rattle.model.specs.SetAttr.{refusal, with_attributes, SetFound, SetOrLeft}
-use Rattle.model.specs.Sound.{SoundTime, SoundNode, FitsAttributes, FitsTime}
+use Rattle.model.specs.Sound.{SoundTime, SoundNode}
 use Rattle.model.specs.Step.{step}
 use Rattle.model.specs.Tree.{Tree, node_at, with_node}
 use Rattle.model.proofs.Answered.{found-stands}
@@ -38,7 +39,7 @@ fits_none : (P : ℕ → Type 0) (o : Option ℕ) → is_none o ≡ true → IfS
 fits_none P None e = tt
 fits_none P (Some x) e = cc
 
-fits_kept : (time : SetTime) → is_unchanged time ≡ true → FitsTime time
+fits_kept : (time : SetTime) → is_unchanged time ≡ true → SetTimeFits time
 fits_kept Unchanged e = tt
 fits_kept Server e = tt
 fits_kept (Client time) e = cc
@@ -48,7 +49,13 @@ all_five : (a b c d e : Bool) → (a && b && c && d && e) ≡ true → (a ≡ tr
 all_five true true true true true h = (refl, refl, refl, refl)
 all_five _ _ _ _ _ h = cc
 
-fits : (wanted : NewAttributes) → sets_only_mode wanted ≡ true → FitsAttributes wanted
+record FitsUnset (wanted : NewAttributes) : Type 0 where
+  uid : IfSome wanted.uid (λ n. n < 2 ^ 32)
+  gid : IfSome wanted.gid (λ n. n < 2 ^ 32)
+  atime : SetTimeFits wanted.atime
+  mtime : SetTimeFits wanted.mtime
+
+fits : (wanted : NewAttributes) → sets_only_mode wanted ≡ true → FitsUnset wanted
 fits wanted only =
     let five = all_five (is_none wanted.uid) (is_none wanted.gid) (is_none wanted.size)
     (is_unchanged wanted.atime) (is_unchanged wanted.mtime) only in
@@ -90,7 +97,8 @@ module _ (g : Geometry) (blocks : Image) (tree : Tree) (ctx : Ctx) (object : Han
 
   good : SoundNode (node_with new node.body)
   good = subst SoundNode (sym new_is)
-      (sound_node ctx wanted guard node passed now (fits wanted only)
+      (let unset = fits wanted only in
+      sound_node ctx wanted guard node passed now unset.uid unset.gid unset.atime unset.mtime
       (stands.parts.sound.files number node was).itself)
 
   abbrev t : Touch
@@ -101,7 +109,6 @@ module _ (g : Geometry) (blocks : Image) (tree : Tree) (ctx : Ctx) (object : Han
     atime = new.atime;
     mtime = new.mtime;
     ctime = new.ctime;
-    verifier = new.verifier;
   }
 
   sound_t : SoundTouch t
@@ -112,7 +119,6 @@ module _ (g : Geometry) (blocks : Image) (tree : Tree) (ctx : Ctx) (object : Han
     atime = good.atime;
     mtime = good.mtime;
     ctime = good.ctime;
-    verifier = good.verifier;
   }
 
   touched_is : touched old t ≡ new
@@ -125,6 +131,7 @@ module _ (g : Geometry) (blocks : Image) (tree : Tree) (ctx : Ctx) (object : Han
     nlink = sym (ap (λ (one : Node). one.nlink) (set.node node.body)) i;
     stamp =
         sym (ap (λ (one : Node). one.stamp) (set.node node.body)) i;
+    verifier = sym (ap (λ (one : Node). one.verifier) (set.node node.body)) i;
   }
 
   stands_now : Stands g (with_objects blocks (written ∷ [])) (with_node tree number (node_with new node.body))

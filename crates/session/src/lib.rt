@@ -6,6 +6,6 @@ mod serving;
 
 pub use serving::{SessionFault, reply_to, serve};
 pub use session_wire::{
-    CallMessage, Judged, MessageCredential, ReplyBody, ReplyMessage, RpcReply, Verifier, judge,
-    nfs_codec, reply_bytes, rpc, xdr,
+    CallMessage, Judged, MessageCredential, MessageVerifier, ReplyBody, ReplyMessage, RpcReply,
+    judge, nfs_codec, reply_bytes, rpc, xdr,
 };

@@ -1,12 +1,16 @@
 //! Serving a stream: the calls of its records, one after the other, and their replies.
-ghost use Rattle.std.specs.Prelude.{◌≡◌, ◌<◌, ◌≤◌, ◌↔◌, IsTrue, IsSome, IfOk, IfSome, None, length};
+ghost use Rattle.std.specs.Prelude.{◌≡◌, ◌<◌, ◌≤◌, ◌↔◌, IsTrue, IsSome, IfOk, IfSome, OnOk, None, length};
+ghost use Rattle.std.specs.Io.KnownBytes.{IsAtEnd};
+ghost use Rattle.nfs_types.specs.declared.program.ProgramReply.TheVariants as replies;
+ghost use Rattle.store.specs.Opening.{store_of};
+ghost use Rattle.session.specs.Serving.{HasServed, client_of};
 ghost use Rattle.session_wire.specs.Replies.{IsSpellable, body_of};
 ghost use Rattle.session_wire.specs.Results.{HasSpelling};
 
 use bytes::Bytes;
 use disk::CrashDisk;
 use limits::{MOST_READS, PIECE_BYTES};
-use nfs_types::{Moment, Reply};
+use nfs_types::{Credential, Moment, ProgramCall, Reply};
 use session_wire::rpc::{Records, Refusal, RpcFault};
 use session_wire::{Judged, RpcReply, judge, reply_bytes};
 use std::alloc::Global;
@@ -40,6 +44,7 @@ pub enum SessionFault {
 /// Answers the records of a stream in their order, each call at the moment, and gives the count of the
 /// replies. At the end of the input everything is settled. The records before a fault are answered, and then,
 /// but after Output, what can be settled is settled too.
+#[tactic(auto, using(crate::specs::Serving::has_served))]
 pub fn serve<D: CrashDisk, R: Read, W: Write>(
     alloc: Global,
     store: &mut Store<D>,
@@ -48,7 +53,12 @@ pub fn serve<D: CrashDisk, R: Read, W: Write>(
     moment: Moment,
 ) -> Result<u64, SessionFault>
     requires { store.old.core.out ≡ None }
-    ensures { store.new.core.out ≡ None }
+    ensures idle { store.new.core.out ≡ None }
+    ensures served { HasServed
+        (store_of (D.device store.old.disk) store.old.core store.old.boot)
+        (client_of (R.remaining reader.old) (W.contents writer.old)) moment result
+        (store_of (D.device store.new.disk) store.new.core store.new.boot)
+        (client_of (R.remaining reader.new) (W.contents writer.new)) }
 {
     let served = serve_all(alloc, store, reader, writer, moment);
     match served {
@@ -74,7 +84,8 @@ fn serve_all<D: CrashDisk, R: Read, W: Write>(
     moment: Moment,
 ) -> Result<u64, SessionFault>
     requires { store.old.core.out ≡ None }
-    ensures { store.new.core.out ≡ None }
+    ensures idle { store.new.core.out ≡ None }
+    ensures end { OnOk result (IsAtEnd (R.remaining reader.new)) }
 {
     let mut records = Records::new(alloc);
     let mut piece = [0; PIECE_BYTES];
@@ -100,7 +111,9 @@ fn serve_all<D: CrashDisk, R: Read, W: Write>(
 // Reads bytes of the input, and tells how many. None is told where the read was interrupted: the next one
 // goes on.
 fn read_piece<R: Read>(reader: &mut R, piece: &mut [u8]) -> Result<Option<usize>, SessionFault>
-    ensures { IfOk result (λ o. IfSome o (λ count. count ≤ length piece.new)) }
+    requires { 0 < length piece.old }
+    ensures count { IfOk result (λ o. IfSome o (λ count. count ≤ length piece.new)) }
+    ensures end { IfOk result (λ o. IfSome o (λ count. count ≡ 0 → IsAtEnd (R.remaining reader.new))) }
 {
     match reader.read(piece) {
         Ok(count) => Ok(Some(count)),
@@ -161,10 +174,34 @@ fn serve_record<D: CrashDisk, W: Write>(
                 credential,
                 call,
             },
-        ) => {
+        ) => serve_call(alloc, store, xid, credential, call, writer, moment),
+    }
+}
+
+// Answers one call. MOUNT isn't served yet, and no record is taken for a call of it.
+fn serve_call<D: CrashDisk, W: Write>(
+    alloc: Global,
+    store: &mut Store<D>,
+    xid: u32,
+    credential: Credential,
+    call: ProgramCall,
+    writer: &mut W,
+    moment: Moment,
+) -> Result<(), SessionFault>
+    requires { store.old.core.out ≡ None }
+    ensures { store.new.core.out ≡ None }
+{
+    match call {
+        ProgramCall::Nfs(call) => {
             let verdict = procedure(alloc, store, credential, moment, call);
             put(alloc, writer, xid, reply_to(&verdict))
         }
+        ProgramCall::Mount(_) => put(
+            alloc,
+            writer,
+            xid,
+            RpcReply::Refused(Refusal::ProgramUnavailable),
+        ),
     }
 }
 
@@ -174,7 +211,7 @@ pub fn reply_to(verdict: &Verdict) -> RpcReply<'_>
     ensures no_memory { verdict.now ≡ Verdict.NoMemory → result ≡ RpcReply.Refused Refusal.SystemError }
 {
     match verdict {
-        Verdict::Reply(reply) if has_spelling(reply) => RpcReply::Done(reply),
+        Verdict::Reply(reply) if has_spelling(reply) => RpcReply::Nfs(reply),
         Verdict::Reply(_) | Verdict::NoMemory => RpcReply::Refused(Refusal::SystemError),
     }
 }
@@ -194,9 +231,9 @@ fn put<W: Write>(
     writer.flush().map_err(|_| SessionFault::Output)
 }
 
-// Whether the reply is one that can be spelled so far.
+// Whether the reply is one of NFS that can be spelled so far.
 fn has_spelling(reply: &Reply) -> bool
-    ensures { IsTrue result ↔ HasSpelling reply.now }
+    ensures { IsTrue result ↔ HasSpelling (replies.Nfs reply.now) }
 {
     match reply {
         Reply::Null | Reply::GetAttr { .. } | Reply::SetAttr { .. } => true,

@@ -6,33 +6,37 @@ use Rattle.std.specs.Prelude.{◌==◌}
 use Rattle.std.proofs.lemmas.Bool.{eqb-true, cases_lt}
 use Rattle.std.proofs.lemmas.List.{get_or_past, get_or_append_left, get_or-append-add}
 use Rattle.nfs_types.specs.declared.ctx.Credential.{Credential}
-use Rattle.nfs_types.specs.declared.call.Call as types
-use Rattle.session_wire.specs.declared.nfs_codec.procedure.Procedure.{Procedure}
-use Rattle.session_wire.specs.declared.nfs_codec.procedure.Procedure.TheVariants.{Null, GetAttr, SetAttr}
+use Rattle.nfs_types.specs.declared.program.Program.{Program}
+use Rattle.nfs_types.specs.declared.program.ProgramCall.{ProgramCall}
+use Rattle.nfs_types.specs.declared.program.ProgramProcedure.{ProgramProcedure}
+use Rattle.nfs_types.specs.Fits.{ProgramCallFits}
 use Rattle.session_wire.specs.declared.rpc.constants.TheConstants.{CALL, RPC_VERSION, NFS_PROGRAM}
 use Rattle.session_wire.specs.declared.rpc.constants.TheConstants.{NFS_VERSION}
 use Rattle.session_wire.specs.declared.rpc.header.Opening.{Opening}
 use Rattle.session_wire.specs.declared.rpc.refusal.Refusal.{Refusal}
 use Rattle.session_wire.specs.declared.rpc.refusal.Refusal.TheVariants.{RpcMismatch, ProgramUnavailable}
-use Rattle.session_wire.specs.declared.rpc.refusal.Refusal.TheVariants.{ProgramMismatch}
+use Rattle.session_wire.specs.declared.rpc.refusal.Refusal.TheVariants.{ProgramMismatch, ProcedureUnavailable}
 use Rattle.session_wire.specs.declared.message.Judged.{Judged}
 use Rattle.session_wire.specs.declared.message.Judged.TheVariants.{Closed, Refused, Call}
 use Rattle.session_wire.specs.declared.message.MessageCredential.{MessageCredential}
 use Rattle.session_wire.specs.declared.message.MessageCredential.TheVariants.{Nobody, Caller}
-use Rattle.session_wire.specs.declared.message.Verifier.{Verifier}
+use Rattle.session_wire.specs.declared.message.MessageVerifier.{MessageVerifier}
 use Rattle.session_wire.specs.declared.message.CallMessage.{CallMessage}
 use Rattle.session_wire.specs.declared.xdr.fault.XdrFault.{XdrFault}
 use Rattle.session_wire.specs.Items.{word, opaque, padding}
 use Rattle.session_wire.specs.Headers.{opening_at, Heading, header_at}
 use Rattle.session_wire.specs.Credentials.{System, caller_at, credential_of}
-use Rattle.session_wire.specs.Calls.{procedure_of, procedure_number, called, arguments, CallFits}
-use Rattle.session_wire.specs.Calls.{CredentialFits, caller_of, call_bytes, SpellsCall}
+use Rattle.session_wire.specs.Procedures.{program_number, program_of, is_available, procedure_number}
+use Rattle.session_wire.specs.Procedures.{program_with, procedure_of, is_decoded, called}
+use Rattle.session_wire.specs.Calls.{arguments, CredentialFits, caller_of, call_bytes, SpellsCall}
 use Rattle.session_wire.specs.ReadingCalls.{call_of}
-use Rattle.session_wire.specs.Judging.{on_arguments, on_procedure, requested, on_credential, on_header}
+use Rattle.session_wire.specs.Judging.{on_arguments, on_procedure, on_program, requested, on_credential}
+use Rattle.session_wire.specs.Judging.{on_header}
 use Rattle.session_wire.specs.Judging.{on_opening, judged}
 use Rattle.session_wire.proofs.Coded.{IsBytes}
-use Rattle.session_wire.proofs.CodedCalls.{answer_is, call_takes, call_again, procedure_again}
-use Rattle.session_wire.proofs.CodedCalls.{procedure_takes}
+use Rattle.session_wire.proofs.CodedCalls.{answer_is, call_takes, call_again, front_bytes, back_bytes}
+use Rattle.session_wire.proofs.Numbered.{program_again, program_takes, program_fits, procedure_again}
+use Rattle.session_wire.proofs.Numbered.{procedure_takes, number_fits, decoded_available}
 use Rattle.session_wire.proofs.CodedHeaders.{opening_bytes, OpeningFits, openings, heading_bytes, HeadingFits}
 use Rattle.session_wire.proofs.CodedHeaders.{headings, system_is, caller_again, flavor_of, body_of}
 use Rattle.session_wire.proofs.CodedHeaders.{credential_is, credential_again, body-length, credential_takes}
@@ -44,7 +48,7 @@ opening_of m = record { xid = m.xid; kind = CALL; rpc_version = RPC_VERSION }
 
 abbrev pub heading_of : CallMessage → Heading
 heading_of m = record {
-  program = NFS_PROGRAM;
+  program = program_number (program_with (called m.call));
   version = NFS_VERSION;
   procedure = procedure_number (called m.call);
   flavor = flavor_of m.credential;
@@ -52,11 +56,6 @@ heading_of m = record {
   verifier_flavor = m.verifier.flavor;
   verifier = m.verifier.body;
 }
-
-number_fits : (p : Procedure) → procedure_number p < 2 ^ 32
-number_fits Null = omega arith
-number_fits GetAttr = omega arith
-number_fits SetAttr = omega arith
 
 flavor_fits : (c : MessageCredential) → flavor_of c < 2 ^ 32
 flavor_fits Nobody = omega arith
@@ -67,7 +66,7 @@ opening_fits bytes m s = record { xid = s.xid; kind = omega arith; rpc_version =
 
 heading_fits : (bytes : List ℕ) (m : CallMessage) → SpellsCall bytes m → HeadingFits (heading_of m)
 heading_fits bytes m s = record {
-  program = omega arith;
+  program = program_fits (program_with (called m.call));
   version = omega arith;
   procedure = number_fits (called m.call);
   flavor = flavor_fits m.credential;
@@ -99,21 +98,14 @@ judged_again bytes m s =
       opens bytes m s,
       heads bytes m s,
       credential_again m.credential s.credential_fits,
+      program_again (program_with (called m.call)),
+      decoded_available (called m.call) s.decoded,
       procedure_again (called m.call),
-      call_again m.call s.call_fits,
+      s.decoded,
+      call_again m.call s.decoded s.call_fits,
     ) refl
 
 -- ---- what is judged to be a call is spelled so
-
-front_bytes : (a b : List ℕ) → IsBytes (a ++ b) → IsBytes a
-front_bytes a b h i =
-    elim (cases_lt i (length a)) [
-      | inl lt ↦ subst (λ (n : ℕ). n < 256) (get_or_append_left a b 0 i lt) (h i)
-      | inr le ↦ rw (get_or_past a i 0 le) (omega arith)
-    ]
-
-back_bytes : (a b : List ℕ) → IsBytes (a ++ b) → IsBytes b
-back_bytes a b h i = subst (λ (n : ℕ). n < 256) (get_or-append-add a b i 0) (h (length a + i))
 
 -- the bytes of the body of a credential
 pub body_bytes : (h : Heading) (rest : List ℕ) → IsBytes (heading_bytes h ++ rest) → IsBytes h.body
@@ -134,58 +126,66 @@ first_chosen : (b : Bool) (x y z : Judged) → (y ≡ z → ⊥) → cond b x y 
 first_chosen true x y z never e = (refl, e)
 first_chosen false x y z never e = absurd (never e)
 
-of_arguments : (xid : ℕ) (c : Credential) (r : Result types.Call XdrFault) (xid' : ℕ) (c' : Credential)
-    (call : types.Call) → on_arguments xid c r ≡ Call xid' c' call → (r ≡ Ok call) × (xid ≡ xid') × (c ≡ c')
+of_arguments : (xid : ℕ) (c : Credential) (r : Result ProgramCall XdrFault) (xid' : ℕ) (c' : Credential)
+    (call : ProgramCall) → on_arguments xid c r ≡ Call xid' c' call → (r ≡ Ok call) × (xid ≡ xid') × (c ≡ c')
 of_arguments xid c (Ok x) xid' c' call e = (cc, cc, cc)
 of_arguments xid c (Err d) xid' c' call e = absurd cc
 
-of_procedure : (xid : ℕ) (c : Credential) (args : List ℕ) (o : Option Procedure) (xid' : ℕ) (c' : Credential)
-    (call : types.Call) → on_procedure xid c args o ≡ Call xid' c' call → (p : Procedure) × (o ≡ Some p)
+of_procedure : (xid : ℕ) (c : Credential) (args : List ℕ) (o : Option ProgramProcedure) (xid' : ℕ)
+    (c' : Credential) (call : ProgramCall) → on_procedure xid c args o ≡ Call xid' c' call
+    → (p : ProgramProcedure) × (o ≡ Some p) × (is_decoded p ≡ true)
     × (call_of p args ≡ Ok call) × (xid ≡ xid') × (c ≡ c')
 of_procedure xid c args (Some p) xid' c' call e =
-    let a = of_arguments xid c (call_of p args) xid' c' call e in
-    (p, refl, a.0, a.1, a.2)
+    let d = first_chosen (is_decoded p) _ (Refused xid ProcedureUnavailable) (Call xid' c' call) (λ f. cc) e in
+    let a = of_arguments xid c (call_of p args) xid' c' call d.1 in
+    (p, refl, d.0, a.0, a.1, a.2)
 of_procedure xid c args None xid' c' call e = absurd cc
 
 record IsRequest (h : Heading) (args : List ℕ) (xid : ℕ) (c : Credential) (xid' : ℕ) (c' : Credential)
-    (call : types.Call) : Type 0 where
-  program : h.program ≡ NFS_PROGRAM
+    (call : ProgramCall) : Type 0 where
+  p : ProgramProcedure
+  program : h.program ≡ program_number (program_with p)
   version : h.version ≡ NFS_VERSION
-  p : Procedure
-  procedure : procedure_of h.procedure ≡ Some p
+  procedure : h.procedure ≡ procedure_number p
+  known : is_decoded p ≡ true
   decoded : call_of p args ≡ Ok call
   same : xid ≡ xid'
   caller : c ≡ c'
 
-of_request : (xid : ℕ) (c : Credential) (h : Heading) (args : List ℕ) (xid' : ℕ) (c' : Credential)
-    (call : types.Call) → requested xid c h args ≡ Call xid' c' call → IsRequest h args xid c xid' c' call
-of_request xid c h args xid' c' call e =
-    let a = first_chosen (h.program == NFS_PROGRAM) _ (Refused xid ProgramUnavailable) (Call xid' c' call)
+of_program : (xid : ℕ) (c : Credential) (h : Heading) (args : List ℕ) (o : Option Program) (xid' : ℕ)
+    (c' : Credential) (call : ProgramCall) → program_of h.program ≡ o
+    → on_program xid c h args o ≡ Call xid' c' call → IsRequest h args xid c xid' c' call
+of_program xid c h args (Some program) xid' c' call is e =
+    let a = first_chosen (is_available program) _ (Refused xid ProgramUnavailable) (Call xid' c' call)
     (λ f. cc) e in
     let b = first_chosen (h.version == NFS_VERSION) _ (Refused xid ProgramMismatch) (Call xid' c' call)
     (λ f. cc) a.1 in
-    let d = of_procedure xid c args (procedure_of h.procedure) xid' c' call b.1 in
+    let d = of_procedure xid c args (procedure_of program h.procedure) xid' c' call b.1 in
+    let n = procedure_takes program h.procedure d.0 d.1 in
     record {
-      program = eqb-true _ _ a.0;
-      version = eqb-true _ _ b.0;
       p = d.0;
-      procedure = d.1;
-      decoded = d.2;
-      same = d.3;
-      caller = d.4;
+      program = program_takes h.program program is ∙ ap program_number n.program_is;
+      version = eqb-true _ _ b.0;
+      procedure = n.number_is;
+      known = d.2;
+      decoded = d.3;
+      same = d.4;
+      caller = d.5;
     }
+of_program xid c h args None xid' c' call is e = absurd cc
 
 of_credential : (xid : ℕ) (h : Heading) (args : List ℕ) (r : Result Credential Refusal) (xid' : ℕ)
-    (c' : Credential) (call : types.Call) → on_credential xid h args r ≡ Call xid' c' call
+    (c' : Credential) (call : ProgramCall) → on_credential xid h args r ≡ Call xid' c' call
     → (r ≡ Ok c') × IsRequest h args xid c' xid' c' call
 of_credential xid h args (Ok c) xid' c' call e =
-    let q = of_request xid c h args xid' c' call e in (
+    let q = of_program xid c h args (program_of h.program) xid' c' call refl e in (
       ap (λ (x : Credential). Ok x) q.caller,
       record {
+        p = q.p;
         program = q.program;
         version = q.version;
-        p = q.p;
         procedure = q.procedure;
+        known = q.known;
         decoded = q.decoded;
         same = q.same;
         caller = refl;
@@ -194,14 +194,14 @@ of_credential xid h args (Ok c) xid' c' call e =
 of_credential xid h args (Err d) xid' c' call e = absurd cc
 
 of_header : (xid : ℕ) (r : Result (Heading × List ℕ) XdrFault) (xid' : ℕ) (c' : Credential)
-    (call : types.Call) → on_header xid r ≡ Call xid' c' call → (h : Heading × List ℕ) × (r ≡ Ok h)
+    (call : ProgramCall) → on_header xid r ≡ Call xid' c' call → (h : Heading × List ℕ) × (r ≡ Ok h)
     × (credential_of h.0.flavor h.0.body ≡ Ok c') × IsRequest h.0 h.1 xid c' xid' c' call
 of_header xid (Ok h) xid' c' call e =
     let q = of_credential xid h.0 h.1 (credential_of h.0.flavor h.0.body) xid' c' call e in
     (h, refl, q.0, q.1)
 of_header xid (Err d) xid' c' call e = absurd cc
 
-of_opening : (r : Result (Opening × List ℕ) XdrFault) (xid' : ℕ) (c' : Credential) (call : types.Call)
+of_opening : (r : Result (Opening × List ℕ) XdrFault) (xid' : ℕ) (c' : Credential) (call : ProgramCall)
     → on_opening r ≡ Call xid' c' call → (o : Opening × List ℕ) × (r ≡ Ok o) × (o.0.kind ≡ CALL)
     × (o.0.rpc_version ≡ RPC_VERSION) × (on_header o.0.xid (header_at o.1) ≡ Call xid' c' call)
 of_opening (Ok o) xid' c' call e =
@@ -233,14 +233,14 @@ pub joined_parts : (a b c d e : List ℕ) → a ≡ b → c ≡ d → a ++ (c ++
 joined_parts a b c d e p q = cc
 
 -- the message that was judged
-pub record IsJudgedCall (bytes : List ℕ) (xid : ℕ) (c : Credential) (call : types.Call)
+pub record IsJudgedCall (bytes : List ℕ) (xid : ℕ) (c : Credential) (call : ProgramCall)
     (m : CallMessage) : Type 0 where
   pub spelled : SpellsCall bytes m
   pub xid_is : m.xid ≡ xid
   pub caller_is : caller_of m.credential ≡ c
   pub call_is : m.call ≡ call
 
-pub judged_takes : (bytes : List ℕ) (xid : ℕ) (c : Credential) (call : types.Call) → IsBytes bytes
+pub judged_takes : (bytes : List ℕ) (xid : ℕ) (c : Credential) (call : ProgramCall) → IsBytes bytes
     → judged bytes ≡ Call xid c call → (m : CallMessage) × IsJudgedCall bytes xid c call m
 judged_takes bytes xid c call fits e =
     let o = of_opening (opening_at bytes) xid c call e in
@@ -258,13 +258,15 @@ judged_takes bytes xid c call fits e =
       verifier = record { flavor = h.0.0.verifier_flavor; body = h.0.0.verifier };
       call = call;
     } in
+    let program : h.0.0.program ≡ program_number (program_with (called call)) =
+    q.program ∙ ap (λ p. program_number (program_with p)) (sym v.procedure) in
     let number : h.0.0.procedure ≡ procedure_number (called call) =
-    procedure_takes h.0.0.procedure q.p q.procedure ∙ ap procedure_number (sym v.procedure) in
+    q.procedure ∙ ap procedure_number (sym v.procedure) in
     let opening_same : opening_bytes o.0.0 ≡ opening_bytes (opening_of m) =
     same_opening o.0.0 CALL RPC_VERSION o.2 o.3 in
     let heading_same : heading_bytes h.0.0 ≡ heading_bytes (heading_of m) =
-    same_heading h.0.0 NFS_PROGRAM NFS_VERSION (procedure_number (called call)) (flavor_of w.0)
-    (body_of w.0) q.program q.version number w.1.flavor_is w.1.body_is in
+    same_heading h.0.0 (program_number (program_with (called call))) NFS_VERSION
+    (procedure_number (called call)) (flavor_of w.0) (body_of w.0) program q.version number w.1.flavor_is w.1.body_is in
     let spelled : bytes ≡ call_bytes m = t.0.parts
     ∙ ap (λ (x : List ℕ). opening_bytes o.0.0 ++ x) (u.0.parts
     ∙ ap (λ (x : List ℕ). heading_bytes h.0.0 ++ x) v.spelled)
@@ -277,6 +279,7 @@ judged_takes bytes xid c call fits e =
           credential_fits = w.1.fits;
           verifier_flavor = u.1.verifier_flavor;
           verifier_body = u.1.verifier;
+          decoded = ap is_decoded v.procedure ∙ q.known;
           call_fits = v.fits;
           spelled = spelled;
         };
@@ -291,7 +294,7 @@ judged_takes bytes xid c call fits e =
 made_same : (m n : CallMessage) → m.xid ≡ n.xid → m.credential ≡ n.credential → m.verifier ≡ n.verifier
     → m.call ≡ n.call → m ≡ n
 made_same m n a b c d =
-    let made : ℕ → MessageCredential → Verifier → types.Call
+    let made : ℕ → MessageCredential → MessageVerifier → ProgramCall
     → CallMessage = λ xid credential verifier call. record {
       xid = xid;
       credential = credential;
@@ -302,7 +305,7 @@ made_same m n a b c d =
     cc (a, b, c, d) in
     whole
 
-abbrev some : Procedure → Option Procedure
+abbrev some : ProgramProcedure → Option ProgramProcedure
 some p = Some p
 
 abbrev read_opening : Opening × List ℕ → Result (Opening × List ℕ) XdrFault
@@ -311,7 +314,7 @@ read_opening x = Ok x
 abbrev read_heading : Heading × List ℕ → Result (Heading × List ℕ) XdrFault
 read_heading x = Ok x
 
-some_is : (p q : Procedure) → some p ≡ some q → p ≡ q
+some_is : (p q : ProgramProcedure) → some p ≡ some q → p ≡ q
 some_is p q e = cc
 
 opened_is : (x y : Opening × List ℕ) → read_opening x ≡ read_opening y → x ≡ y
@@ -332,15 +335,29 @@ same_credential (Caller s m c) (Caller s' m' c') p q f g =
     system_is one two (sym (caller_again one p) ∙ ap caller_at g ∙ caller_again two q) in
     ap (λ (x : System). Caller x.stamp x.machine x.caller) same
 
-same_call : (a b : types.Call) → CallFits a → CallFits b
+abbrev found : Program → Option Program
+found p = Some p
+
+found_is : (p q : Program) → found p ≡ found q → p ≡ q
+found_is p q e = cc
+
+same_call : (a b : ProgramCall) → is_decoded (called a) ≡ true → is_decoded (called b) ≡ true
+    → ProgramCallFits a → ProgramCallFits b
+    → program_number (program_with (called a)) ≡ program_number (program_with (called b))
     → procedure_number (called a) ≡ procedure_number (called b) → arguments a ≡ arguments b → a ≡ b
-same_call a b p q f g =
+same_call a b k l p q same_program f g =
+    let programs : program_with (called a) ≡ program_with (called b) =
+    found_is (program_with (called a)) (program_with (called b))
+    (sym (program_again (program_with (called a))) ∙ ap program_of same_program
+    ∙ program_again (program_with (called b))) in
+    let numbered : procedure_of (program_with (called a)) (procedure_number (called a))
+    ≡ procedure_of (program_with (called b)) (procedure_number (called b)) = cc (programs, f) in
     let procedures : called a ≡ called b =
-    some_is (called a) (called b) (sym (procedure_again (called a)) ∙ ap procedure_of f
+    some_is (called a) (called b) (sym (procedure_again (called a)) ∙ numbered
     ∙ procedure_again (called b)) in
-    answer_is a b (sym (call_again a p)
+    answer_is a b (sym (call_again a k p)
     ∙ (let both : call_of (called a) (arguments a)
-    ≡ call_of (called b) (arguments b) = cc (procedures, g) in both) ∙ call_again b q)
+    ≡ call_of (called b) (arguments b) = cc (procedures, g) in both) ∙ call_again b l q)
 
 pub same_message : (bytes : List ℕ) (m n : CallMessage) → SpellsCall bytes m → SpellsCall bytes n → m ≡ n
 same_message bytes m n s t =
@@ -359,10 +376,13 @@ same_message bytes m n s t =
     ap (λ (x : Heading × List ℕ). x.0.body) headed in
     let verifiers : m.verifier ≡ n.verifier =
     ap (λ (x : Heading × List ℕ). record { flavor = x.0.verifier_flavor; body = x.0.verifier }) headed in
+    let programs : program_number (program_with (called m.call))
+    ≡ program_number (program_with (called n.call)) =
+    ap (λ (x : Heading × List ℕ). x.0.program) headed in
     let numbers : procedure_number (called m.call) ≡ procedure_number (called n.call) =
     ap (λ (x : Heading × List ℕ). x.0.procedure) headed in
     let args : arguments m.call ≡ arguments n.call = ap (λ (x : Heading × List ℕ). x.1) headed in
     let credentials =
     same_credential m.credential n.credential s.credential_fits t.credential_fits flavors bodies in
-    let calls = same_call m.call n.call s.call_fits t.call_fits numbers args in
+    let calls = same_call m.call n.call s.decoded t.decoded s.call_fits t.call_fits programs numbers args in
     made_same m n xids credentials verifiers calls

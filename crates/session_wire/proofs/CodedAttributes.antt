@@ -14,7 +14,8 @@ use Rattle.nfs_types.specs.declared.status.Status.TheVariants as statuses
 use Rattle.session_wire.specs.Items.{word, double}
 use Rattle.session_wire.specs.Reading.{◌>>=◌, number_at}
 use Rattle.session_wire.specs.ReadingCalls.{moment_at}
-use Rattle.session_wire.specs.Calls.{moment, MomentFits}
+use Rattle.nfs_types.specs.Fits.{MomentFits}
+use Rattle.session_wire.specs.Calls.{moment}
 use Rattle.session_wire.specs.Results.{status_number, kind_number, attributes, AttributesFit}
 use Rattle.session_wire.specs.Results.{optional_attributes, weak_cache_attributes, WeakCacheAttributesFit}
 use Rattle.session_wire.specs.Results.{before_attributes, weak_cache, WeakCacheFits}

@@ -1,24 +1,30 @@
 -- The arguments of calls that are read are those that were spelled, and the other way round.
-use Rattle.std.proofs.Common.{◌≡◌, ℕ, zero, suc, ◌^◌, ◌<◌, ◌≤◌, List, [], ◌∷◌, ◌++◌, length, Some, Result, Ok}
-use Rattle.std.proofs.Common.{refl, sym, ap, subst, ◌∙◌, append_assoc, arith}
+use Rattle.std.proofs.Common.{◌≡◌, ℕ, zero, suc, ◌^◌, ◌<◌, ◌≤◌, List, [], ◌∷◌, ◌++◌, length, Result, Ok}
+use Rattle.std.proofs.Common.{refl, sym, ap, subst, ◌∙◌, append_assoc, arith, inl, inr, replicate, ◌+◌, true}
 use Rattle.std.specs.Prelude.{IfSome}
 use Rattle.std.specs.Int.{w32, w64}
-use Rattle.std.proofs.lemmas.List.{append-nil}
+use Rattle.std.proofs.lemmas.Bool.{cases_lt}
+use Rattle.std.proofs.lemmas.List.{append-nil, get_or_past, get_or_append_left, get_or-append-add}
 use Rattle.limits.specs.declared.TheConstants.{MOST_HANDLE_BYTES}
 use Rattle.nfs_types.specs.declared.ctx.Moment.{Moment}
 use Rattle.nfs_types.specs.declared.attributes.NewAttributes.{NewAttributes}
 use Rattle.nfs_types.specs.declared.attributes.SetTime.{SetTime}
 use Rattle.nfs_types.specs.declared.attributes.SetTime.TheVariants.{Unchanged, Server, Client}
-use Rattle.nfs_types.specs.declared.call.Call.{Call}
 use Rattle.nfs_types.specs.declared.call.Call.TheVariants as calls
-use Rattle.session_wire.specs.declared.nfs_codec.procedure.Procedure.{Procedure}
-use Rattle.session_wire.specs.declared.nfs_codec.procedure.Procedure.TheVariants.{Null, GetAttr, SetAttr}
+use Rattle.nfs_types.specs.declared.mount.MountCall.TheVariants as mount_calls
+use Rattle.nfs_types.specs.declared.program.MountProcedure.TheVariants as mount
+use Rattle.nfs_types.specs.declared.program.Procedure.TheVariants as nfs
+use Rattle.nfs_types.specs.declared.program.ProgramProcedure.{ProgramProcedure}
+use Rattle.nfs_types.specs.declared.program.ProgramProcedure.TheVariants as procedures
+use Rattle.nfs_types.specs.declared.program.ProgramCall.{ProgramCall}
+use Rattle.nfs_types.specs.declared.program.ProgramCall.TheVariants as program_calls
+use Rattle.nfs_types.specs.Fits.{HandleFits, StringFits, MomentFits, SetTimeFits, NewAttributesFit, CallFits}
+use Rattle.nfs_types.specs.Fits.{ProgramCallFits}
 use Rattle.session_wire.specs.declared.xdr.fault.XdrFault.{XdrFault}
-use Rattle.session_wire.specs.Items.{word, double, opaque, optional}
+use Rattle.session_wire.specs.Items.{word, double, opaque, optional, padding}
 use Rattle.session_wire.specs.Reading.{number_at, opaque_at, end_at}
-use Rattle.session_wire.specs.Calls.{moment, MomentFits, set_time, SetTimeFits, new_attributes}
-use Rattle.session_wire.specs.Calls.{NewAttributesFit, procedure_of, procedure_number, called, arguments}
-use Rattle.session_wire.specs.Calls.{CallFits}
+use Rattle.session_wire.specs.Calls.{moment, set_time, new_attributes, arguments}
+use Rattle.session_wire.specs.Procedures.{called, is_decoded}
 use Rattle.session_wire.specs.ReadingCalls.{moment_at, optional_word_at, optional_double_at, guard_at}
 use Rattle.session_wire.specs.ReadingCalls.{set_time_of, set_time_at, new_attributes_at, null_of}
 use Rattle.session_wire.specs.ReadingCalls.{get_attributes_of, set_attributes_of, call_of}
@@ -173,8 +179,39 @@ new_attribute_again x rest fits =
 pub new_attributes_coded : Coded new_attributes NewAttributesFit new_attributes_at
 new_attributes_coded = record { takes = new_attribute_takes; again = new_attribute_again }
 
-handles : Coded opaque (λ text. length text ≤ MOST_HANDLE_BYTES) (opaque_at MOST_HANDLE_BYTES)
-handles = strings MOST_HANDLE_BYTES (omega arith)
+pub front_bytes : (a b : List ℕ) → IsBytes (a ++ b) → IsBytes a
+front_bytes a b h i =
+    elim (cases_lt i (length a)) [
+      | inl lt ↦ subst (λ (n : ℕ). n < 256) (get_or_append_left a b 0 i lt) (h i)
+      | inr le ↦ rw (get_or_past a i 0 le) (omega arith)
+    ]
+
+pub back_bytes : (a b : List ℕ) → IsBytes (a ++ b) → IsBytes b
+back_bytes a b h i = subst (λ (n : ℕ). n < 256) (get_or-append-add a b i 0) (h (length a + i))
+
+-- a string that was read is of bytes
+pub string_bytes : (bytes text rest : List ℕ) → IsBytes bytes → Takes bytes (opaque text) rest → IsBytes text
+unfolding opaque
+string_bytes bytes text rest fits t =
+    let all : IsBytes (opaque text ++ rest) = subst IsBytes t.parts fits in
+    back_bytes (word (length text)) text
+    (front_bytes (word (length text) ++ text) (replicate (padding (length text)) 0)
+    (front_bytes (opaque text) rest all))
+
+string_takes : (bound : ℕ) → bound < 2 ^ 32 → (bytes text rest : List ℕ) → IsBytes bytes
+    → opaque_at bound bytes ≡ Ok (text, rest) → Takes bytes (opaque text) rest × StringFits bound text
+string_takes bound small bytes text rest fits e =
+    let t = (strings bound small).takes bytes text rest fits e in
+    (t.0, record { short = t.1; each = string_bytes bytes text rest fits t.0 })
+
+pub texts : (bound : ℕ) → bound < 2 ^ 32 → Coded opaque (StringFits bound) (opaque_at bound)
+texts bound small = record {
+  takes = string_takes bound small;
+  again = λ text rest fits. (strings bound small).again text rest fits.short;
+}
+
+handles : Coded opaque (StringFits MOST_HANDLE_BYTES) (opaque_at MOST_HANDLE_BYTES)
+handles = texts MOST_HANDLE_BYTES (omega arith)
 
 pub end_is : (bytes : List ℕ) (x : Unit {0}) → end_at bytes ≡ Ok x → bytes ≡ []
 end_is [] x e = refl
@@ -184,36 +221,45 @@ end_is (b ∷ bytes) x e = absurd cc
 pub whole : (bytes text rest : List ℕ) → Takes bytes text rest → rest ≡ [] → bytes ≡ text
 whole bytes text rest t e = t.parts ∙ ap (λ (r : List ℕ). text ++ r) e ∙ append-nil text
 
-pub record IsCalled (p : Procedure) (bytes : List ℕ) (call : Call) : Type 0 where
+pub record IsCalled (p : ProgramProcedure) (bytes : List ℕ) (call : ProgramCall) : Type 0 where
   pub spelled : bytes ≡ arguments call
-  pub fits : CallFits call
+  pub fits : ProgramCallFits call
   pub procedure : called call ≡ p
 
-abbrev pub answered : Call → Result Call XdrFault
+abbrev pub answered : ProgramCall → Result ProgramCall XdrFault
 answered call = Ok call
 
-pub answer_is : (x y : Call) → answered x ≡ answered y → x ≡ y
+pub answer_is : (x y : ProgramCall) → answered x ≡ answered y → x ≡ y
 answer_is x y e = cc
 
-pub call_takes : (p : Procedure) (bytes : List ℕ) (call : Call) → IsBytes bytes → call_of p bytes ≡ Ok call
-    → IsCalled p bytes call
-unfolding null_of get_attributes_of set_attributes_of
-call_takes Null bytes call fits e =
+null_takes : (bytes : List ℕ) (call : ProgramCall) → null_of bytes ≡ Ok call
+    → IsCalled (procedures.Nfs nfs.Null) bytes call
+unfolding null_of
+null_takes bytes call e =
     let a = bind_ok (end_at bytes) _ call e in
-    subst (λ (c : Call). IsCalled Null bytes c) (answer_is calls.Null call a.2)
+    subst (λ (c : ProgramCall). IsCalled (procedures.Nfs nfs.Null) bytes c)
+    (answer_is (program_calls.Nfs calls.Null) call a.2)
     (record { spelled = end_is bytes a.0 a.1; fits = tt; procedure = refl })
-call_takes GetAttr bytes call fits e =
+
+get_attributes_takes : (bytes : List ℕ) (call : ProgramCall) → IsBytes bytes
+    → get_attributes_of bytes ≡ Ok call → IsCalled (procedures.Nfs nfs.GetAttr) bytes call
+unfolding get_attributes_of
+get_attributes_takes bytes call fits e =
     let a = bind_ok (opaque_at MOST_HANDLE_BYTES bytes) _ call e in
     let b = bind_ok (end_at a.0.1) _ call a.2 in
     let t = handles.takes bytes a.0.0 a.0.1 fits a.1 in
     let all : bytes ≡ opaque a.0.0 = whole bytes (opaque a.0.0) a.0.1 t.0 (end_is a.0.1 b.0 b.1) in
-    subst (λ (c : Call). IsCalled GetAttr bytes c)
-    (answer_is (calls.GetAttr (record { bytes = a.0.0 })) call b.2) (record {
+    subst (λ (c : ProgramCall). IsCalled (procedures.Nfs nfs.GetAttr) bytes c)
+    (answer_is (program_calls.Nfs (calls.GetAttr (record { bytes = a.0.0 }))) call b.2) (record {
       spelled = all;
       fits = t.1;
       procedure = refl;
     })
-call_takes SetAttr bytes call fits e =
+
+set_attributes_takes : (bytes : List ℕ) (call : ProgramCall) → IsBytes bytes
+    → set_attributes_of bytes ≡ Ok call → IsCalled (procedures.Nfs nfs.SetAttr) bytes call
+unfolding set_attributes_of
+set_attributes_takes bytes call fits e =
     let a = bind_ok (opaque_at MOST_HANDLE_BYTES bytes) _ call e in
     let b = bind_ok (new_attributes_at a.0.1) _ call a.2 in
     let d = bind_ok (guard_at b.0.1) _ call b.2 in
@@ -227,17 +273,28 @@ call_takes SetAttr bytes call fits e =
     let all : bytes ≡ opaque a.0.0 ++ new_attributes b.0.0 ++ optional moment d.0.0 =
     whole bytes (opaque a.0.0 ++ new_attributes b.0.0 ++ optional moment d.0.0) d.0.1 three
     (end_is d.0.1 z.0 z.1) in
-    subst (λ (c : Call). IsCalled SetAttr bytes c)
-    (answer_is (calls.SetAttr (record { bytes = a.0.0 }) b.0.0 d.0.0) call z.2)
+    subst (λ (c : ProgramCall). IsCalled (procedures.Nfs nfs.SetAttr) bytes c)
+    (answer_is (program_calls.Nfs (calls.SetAttr (record { bytes = a.0.0 }) b.0.0 d.0.0)) call z.2)
     (record { spelled = all; fits = (t.1, u.1, v.1); procedure = refl })
 
-pub call_again : (call : Call) → CallFits call → call_of (called call) (arguments call) ≡ Ok call
+pub call_takes : (p : ProgramProcedure) (bytes : List ℕ) (call : ProgramCall) → IsBytes bytes
+    → call_of p bytes ≡ Ok call → IsCalled p bytes call
+call_takes (procedures.Nfs nfs.Null) bytes call fits e = null_takes bytes call e
+call_takes (procedures.Nfs nfs.GetAttr) bytes call fits e = get_attributes_takes bytes call fits e
+call_takes (procedures.Nfs nfs.SetAttr) bytes call fits e = set_attributes_takes bytes call fits e
+call_takes (procedures.Nfs _) bytes call fits e = absurd cc
+call_takes (procedures.Mount mount.Null) bytes call fits e = absurd cc
+call_takes (procedures.Mount mount.Mount) bytes call fits e = absurd cc
+call_takes (procedures.Mount mount.Unmount) bytes call fits e = absurd cc
+
+pub call_again : (call : ProgramCall) → is_decoded (called call) ≡ true → ProgramCallFits call
+    → call_of (called call) (arguments call) ≡ Ok call
 unfolding null_of get_attributes_of set_attributes_of
-call_again calls.Null fits = refl
-call_again (calls.GetAttr object) fits =
+call_again (program_calls.Nfs calls.Null) decoded fits = refl
+call_again (program_calls.Nfs (calls.GetAttr object)) decoded fits =
     ap get_attributes_of (sym (append-nil (opaque object.bytes)))
     ∙ rw (handles.again object.bytes [] fits) refl
-call_again (calls.SetAttr object attributes guard) fits =
+call_again (program_calls.Nfs (calls.SetAttr object attributes guard)) decoded fits =
     let regrouped : opaque object.bytes ++ new_attributes attributes ++ optional moment guard
     ≡ opaque object.bytes ++ (new_attributes attributes ++ (optional moment guard ++ [])) =
     simp (append_assoc, append-nil) refl in
@@ -247,21 +304,7 @@ call_again (calls.SetAttr object attributes guard) fits =
       new_attributes_coded.again attributes (optional moment guard ++ []) fits.1,
       guards.again guard [] fits.2,
     ) refl
-call_again call fits = absurd fits
-
-pub procedure_again : (p : Procedure) → procedure_of (procedure_number p) ≡ Some p
-procedure_again Null = refl
-procedure_again GetAttr = refl
-procedure_again SetAttr = refl
-
-pub procedure_takes : (n : ℕ) (p : Procedure) → procedure_of n ≡ Some p → n ≡ procedure_number p
-procedure_takes zero Null e = refl
-procedure_takes (suc zero) GetAttr e = refl
-procedure_takes (suc (suc zero)) SetAttr e = refl
-procedure_takes zero GetAttr e = absurd cc
-procedure_takes zero SetAttr e = absurd cc
-procedure_takes (suc zero) Null e = absurd cc
-procedure_takes (suc zero) SetAttr e = absurd cc
-procedure_takes (suc (suc zero)) Null e = absurd cc
-procedure_takes (suc (suc zero)) GetAttr e = absurd cc
-procedure_takes (suc (suc (suc n))) p e = absurd cc
+call_again (program_calls.Nfs _) decoded fits = absurd cc
+call_again (program_calls.Mount mount_calls.Null) decoded fits = absurd cc
+call_again (program_calls.Mount (mount_calls.Mount _)) decoded fits = absurd cc
+call_again (program_calls.Mount (mount_calls.Unmount _)) decoded fits = absurd cc

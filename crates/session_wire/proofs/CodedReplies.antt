@@ -6,15 +6,20 @@ use Rattle.std.specs.Int.{w32}
 use Rattle.std.proofs.lemmas.Bool.{eqb-true}
 use Rattle.nfs_types.specs.declared.attributes.Attributes.{Attributes}
 use Rattle.nfs_types.specs.declared.status.Status.{Status}
-use Rattle.nfs_types.specs.declared.reply.Reply.{Reply}
+use Rattle.nfs_types.specs.declared.mount.MountReply.TheVariants as mount_replies
 use Rattle.nfs_types.specs.declared.reply.Reply.TheVariants as replies
-use Rattle.session_wire.specs.declared.nfs_codec.procedure.Procedure.{Procedure}
-use Rattle.session_wire.specs.declared.nfs_codec.procedure.Procedure.TheVariants.{Null, GetAttr, SetAttr}
+use Rattle.nfs_types.specs.declared.program.MountProcedure.TheVariants as mount
+use Rattle.nfs_types.specs.declared.program.Procedure.TheVariants as nfs
+use Rattle.nfs_types.specs.declared.program.ProgramProcedure.{ProgramProcedure}
+use Rattle.nfs_types.specs.declared.program.ProgramProcedure.TheVariants as procedures
+use Rattle.nfs_types.specs.declared.program.ProgramReply.{ProgramReply}
+use Rattle.nfs_types.specs.declared.program.ProgramReply.TheVariants as program_replies
 use Rattle.session_wire.specs.declared.xdr.fault.XdrFault.{XdrFault}
 use Rattle.session_wire.specs.Items.{word}
 use Rattle.session_wire.specs.Reading.{◌>>=◌, number_at}
 use Rattle.session_wire.specs.Results.{status_number, attributes, AttributesFit, weak_cache, outcome_status}
-use Rattle.session_wire.specs.Results.{get_attr_result, result_bytes, ReplyFits, replied_to}
+use Rattle.session_wire.specs.Results.{get_attr_result, result_bytes, ReplyFits}
+use Rattle.session_wire.specs.Procedures.{replied_to}
 use Rattle.session_wire.specs.ReadingReplies.{status_of, listed, attributes_at, weak_cache_at, outcome_of}
 use Rattle.session_wire.specs.ReadingReplies.{outcome_at, get_attr_of, get_attr_at, result_at}
 use Rattle.session_wire.proofs.Coded.{IsBytes, bind_ok, ok_is, Takes, Takes-then, Coded, words}
@@ -104,40 +109,47 @@ got_again (Err s) rest fits = rw (outcomes.again (Err s) rest tt) refl
 gots : Coded get_attr_result (λ o. IfOk o AttributesFit) get_attr_at
 gots = record { takes = got_takes; again = got_again }
 
-pub record IsResult (p : Procedure) (bytes : List ℕ) (y : Reply × List ℕ) : Type 0 where
+pub record IsResult (p : ProgramProcedure) (bytes : List ℕ) (y : ProgramReply × List ℕ) : Type 0 where
   pub took : Takes bytes (result_bytes y.0) y.1
   pub fits : ReplyFits y.0
   pub answers : replied_to y.0 ≡ p
 
-pub result_takes : (p : Procedure) (bytes : List ℕ) (y : Reply × List ℕ) → IsBytes bytes
+pub result_takes : (p : ProgramProcedure) (bytes : List ℕ) (y : ProgramReply × List ℕ) → IsBytes bytes
     → result_at p bytes ≡ Ok y → IsResult p bytes y
-result_takes Null bytes y fits e =
-    let made : Reply × List ℕ = (replies.Null, bytes) in
-    subst (λ (z : Reply × List ℕ). IsResult Null bytes z) (ok_is made y e)
+result_takes (procedures.Nfs nfs.Null) bytes y fits e =
+    let made : ProgramReply × List ℕ = (program_replies.Nfs replies.Null, bytes) in
+    subst (λ (z : ProgramReply × List ℕ). IsResult (procedures.Nfs nfs.Null) bytes z) (ok_is made y e)
     (record { took = record { parts = refl; rest_fits = fits }; fits = tt; answers = refl })
-result_takes GetAttr bytes y fits e =
-    let a = bind_ok (get_attr_at bytes) (λ g. Ok (replies.GetAttr g.0, g.1)) y e in
+result_takes (procedures.Nfs nfs.GetAttr) bytes y fits e =
+    let a = bind_ok (get_attr_at bytes) (λ g. Ok (program_replies.Nfs (replies.GetAttr g.0), g.1)) y e in
     let t = gots.takes bytes a.0.0 a.0.1 fits a.1 in
-    let made : Reply × List ℕ = (replies.GetAttr a.0.0, a.0.1) in
-    subst (λ (z : Reply × List ℕ). IsResult GetAttr bytes z) (ok_is made y a.2)
+    let made : ProgramReply × List ℕ = (program_replies.Nfs (replies.GetAttr a.0.0), a.0.1) in
+    subst (λ (z : ProgramReply × List ℕ). IsResult (procedures.Nfs nfs.GetAttr) bytes z) (ok_is made y a.2)
     (record { took = t.0; fits = t.1; answers = refl })
-result_takes SetAttr bytes y fits e =
-    let a = bind_ok (outcome_at bytes) (λ o. weak_cache_at o.1 >>= λ w. Ok (replies.SetAttr o.0 w.0, w.1)) y
+result_takes (procedures.Nfs nfs.SetAttr) bytes y fits e =
+    let a = bind_ok (outcome_at bytes) (λ o. weak_cache_at o.1 >>= λ w. Ok (program_replies.Nfs (replies.SetAttr o.0 w.0), w.1)) y
     e in
-    let b = bind_ok (weak_cache_at a.0.1) (λ w. Ok (replies.SetAttr a.0.0 w.0, w.1)) y a.2 in
+    let b = bind_ok (weak_cache_at a.0.1) (λ w. Ok (program_replies.Nfs (replies.SetAttr a.0.0 w.0), w.1)) y a.2 in
     let t = outcomes.takes bytes a.0.0 a.0.1 fits a.1 in
     let u = weak_cache_coded.takes a.0.1 b.0.0 b.0.1 t.0.rest_fits b.1 in
     let both = Takes-then bytes (outcome_status a.0.0) a.0.1 (weak_cache b.0.0) b.0.1 t.0 u.0 in
-    let made : Reply × List ℕ = (replies.SetAttr a.0.0 b.0.0, b.0.1) in
-    subst (λ (z : Reply × List ℕ). IsResult SetAttr bytes z) (ok_is made y b.2)
+    let made : ProgramReply × List ℕ = (program_replies.Nfs (replies.SetAttr a.0.0 b.0.0), b.0.1) in
+    subst (λ (z : ProgramReply × List ℕ). IsResult (procedures.Nfs nfs.SetAttr) bytes z) (ok_is made y b.2)
     (record { took = both; fits = u.1; answers = refl })
+result_takes (procedures.Nfs _) bytes y fits e = absurd cc
+result_takes (procedures.Mount mount.Null) bytes y fits e = absurd cc
+result_takes (procedures.Mount mount.Mount) bytes y fits e = absurd cc
+result_takes (procedures.Mount mount.Unmount) bytes y fits e = absurd cc
 
-pub result_again : (r : Reply) (rest : List ℕ) → ReplyFits r
+pub result_again : (r : ProgramReply) (rest : List ℕ) → ReplyFits r
     → result_at (replied_to r) (result_bytes r ++ rest) ≡ Ok (r, rest)
-result_again replies.Null rest fits = refl
-result_again (replies.GetAttr outcome) rest fits = rw (gots.again outcome rest fits) refl
-result_again (replies.SetAttr outcome object) rest fits =
-    ap (result_at SetAttr) (append_assoc (outcome_status outcome) (weak_cache object) rest)
+result_again (program_replies.Nfs replies.Null) rest fits = refl
+result_again (program_replies.Nfs (replies.GetAttr outcome)) rest fits = rw (gots.again outcome rest fits) refl
+result_again (program_replies.Nfs (replies.SetAttr outcome object)) rest fits =
+    ap (result_at (procedures.Nfs nfs.SetAttr)) (append_assoc (outcome_status outcome) (weak_cache object) rest)
     ∙ rw (outcomes.again outcome (weak_cache object ++ rest) tt, weak_cache_coded.again object rest fits)
     refl
-result_again reply rest fits = absurd fits
+result_again (program_replies.Nfs _) rest fits = absurd fits
+result_again (program_replies.Mount mount_replies.Null) rest fits = absurd fits
+result_again (program_replies.Mount (mount_replies.Mount _)) rest fits = absurd fits
+result_again (program_replies.Mount mount_replies.Unmount) rest fits = absurd fits

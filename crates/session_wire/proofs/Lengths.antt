@@ -6,7 +6,9 @@ use Rattle.nfs_types.specs.declared.attributes.Attributes.{Attributes}
 use Rattle.nfs_types.specs.declared.attributes.WeakCacheAttributes.{WeakCacheAttributes}
 use Rattle.nfs_types.specs.declared.attributes.WeakCacheData.{WeakCacheData}
 use Rattle.nfs_types.specs.declared.status.Status.{Status}
-use Rattle.nfs_types.specs.declared.reply.Reply.{Reply}
+use Rattle.nfs_types.specs.declared.mount.MountReply.TheVariants as mount_replies
+use Rattle.nfs_types.specs.declared.program.ProgramReply.{ProgramReply}
+use Rattle.nfs_types.specs.declared.program.ProgramReply.TheVariants as program_replies
 use Rattle.nfs_types.specs.declared.reply.Reply.TheVariants as replies
 use Rattle.session_wire.specs.declared.rpc.refusal.Refusal.{Refusal}
 use Rattle.session_wire.specs.declared.rpc.refusal.Refusal.TheVariants.{RpcMismatch, BadCredential}
@@ -69,16 +71,19 @@ get_attr_result-length (Ok a) =
     omega (arith, length-append (word 0) (attributes a), word-length 0, attributes-length a)
 get_attr_result-length (Err s) = omega (arith, word-length)
 
-result-length : (r : Reply) → length (result_bytes r) ≤ 120
-result-length (replies.GetAttr outcome) = omega (arith, get_attr_result-length outcome)
-result-length (replies.SetAttr outcome object) =
+result-length : (r : ProgramReply) → length (result_bytes r) ≤ 120
+result-length (program_replies.Nfs (replies.GetAttr outcome)) = omega (arith, get_attr_result-length outcome)
+result-length (program_replies.Nfs (replies.SetAttr outcome object)) =
     omega (
       arith,
       length-append (outcome_status outcome) (weak_cache object),
       status-length outcome,
       weak_cache-length object,
     )
-result-length reply = omega arith
+result-length (program_replies.Nfs _) = omega arith
+result-length (program_replies.Mount mount_replies.Null) = omega arith
+result-length (program_replies.Mount (mount_replies.Mount _)) = omega arith
+result-length (program_replies.Mount mount_replies.Unmount) = omega arith
 
 accepted-length : (xid status : ℕ) → length (accepted xid status) ≡ 24
 accepted-length xid status = simp (length-append, word-length) refl

@@ -4,6 +4,7 @@ pub mod Loops
 pub mod Lengths
 pub mod Endian
 pub mod Coded
+pub mod Numbered
 pub mod CodedCalls
 pub mod CodedHeaders
 pub mod CallLaws

@@ -2,8 +2,10 @@
 use Rattle.std.proofs.Common.{◌≡◌, ℕ, zero, suc, Bool, true, false, cond, List, [], ◌∷◌, Result, Ok, Err}
 use Rattle.std.specs.Int.{Width, w32, w64}
 use Rattle.limits.specs.declared.TheConstants.{MOST_HANDLE_BYTES}
-use Rattle.session_wire.specs.declared.nfs_codec.procedure.Procedure.{Procedure}
-use Rattle.session_wire.specs.declared.nfs_codec.procedure.Procedure.TheVariants.{Null, GetAttr, SetAttr}
+use Rattle.nfs_types.specs.declared.program.MountProcedure.TheVariants as mount
+use Rattle.nfs_types.specs.declared.program.Procedure.TheVariants as nfs
+use Rattle.nfs_types.specs.declared.program.ProgramProcedure.{ProgramProcedure}
+use Rattle.nfs_types.specs.declared.program.ProgramProcedure.TheVariants as procedures
 use Rattle.session_wire.specs.declared.xdr.fault.XdrFault.{XdrFault}
 use Rattle.session_wire.specs.declared.xdr.fault.XdrFault.TheVariants.{Short, Padding, Value, Length, Left}
 use Rattle.session_wire.specs.declared.xdr.fault.XdrFault.TheVariants.{NoMemory}
@@ -108,14 +110,18 @@ new_attributes bytes =
     bind (set_time_at size.1) _ (set_time size.1) (λ atime.
     bind (set_time_at atime.1) _ (set_time atime.1) (λ mtime. ok_never _))))))
 
-pub call_never : (p : Procedure) (bytes : List ℕ) → call_of p bytes ≡ Err NoMemory → ⊥
+pub call_never : (p : ProgramProcedure) (bytes : List ℕ) → call_of p bytes ≡ Err NoMemory → ⊥
 unfolding null_of get_attributes_of set_attributes_of
-call_never Null bytes = bind (end_at bytes) _ (end bytes) (λ x. ok_never _)
-call_never GetAttr bytes =
+call_never (procedures.Nfs nfs.Null) bytes = bind (end_at bytes) _ (end bytes) (λ x. ok_never _)
+call_never (procedures.Nfs nfs.GetAttr) bytes =
     bind (opaque_at MOST_HANDLE_BYTES bytes) _ (opaque MOST_HANDLE_BYTES bytes) (λ object.
     bind (end_at object.1) _ (end object.1) (λ x. ok_never _))
-call_never SetAttr bytes =
+call_never (procedures.Nfs nfs.SetAttr) bytes =
     bind (opaque_at MOST_HANDLE_BYTES bytes) _ (opaque MOST_HANDLE_BYTES bytes) (λ object.
     bind (new_attributes_at object.1) _ (new_attributes object.1) (λ attributes.
     bind (guard_at attributes.1) _ (guard attributes.1) (λ g.
     bind (end_at g.1) _ (end g.1) (λ x. ok_never _))))
+call_never (procedures.Nfs _) bytes = value
+call_never (procedures.Mount mount.Null) bytes = value
+call_never (procedures.Mount mount.Mount) bytes = value
+call_never (procedures.Mount mount.Unmount) bytes = value

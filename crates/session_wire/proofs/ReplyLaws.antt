@@ -5,7 +5,7 @@ use Rattle.std.specs.Prelude.{◌==◌}
 use Rattle.std.specs.Int.{w32}
 use Rattle.std.proofs.lemmas.Bool.{eqb-true}
 use Rattle.std.proofs.lemmas.List.{append-nil}
-use Rattle.session_wire.specs.declared.nfs_codec.procedure.Procedure.{Procedure}
+use Rattle.nfs_types.specs.declared.program.ProgramProcedure.{ProgramProcedure}
 use Rattle.session_wire.specs.declared.rpc.constants.TheConstants.{REPLY, RPC_VERSION, NFS_VERSION}
 use Rattle.session_wire.specs.declared.rpc.refusal.Refusal.{Refusal}
 use Rattle.session_wire.specs.declared.rpc.refusal.Refusal.TheVariants.{RpcMismatch, BadCredential}
@@ -20,7 +20,8 @@ use Rattle.session_wire.specs.declared.xdr.fault.XdrFault.{XdrFault}
 use Rattle.session_wire.specs.declared.xdr.fault.XdrFault.TheVariants.{Value}
 use Rattle.session_wire.specs.Items.{word}
 use Rattle.session_wire.specs.Reading.{◌>>=◌, number_at, end_at}
-use Rattle.session_wire.specs.Results.{result_bytes, replied_to}
+use Rattle.session_wire.specs.Procedures.{replied_to}
+use Rattle.session_wire.specs.Results.{result_bytes}
 use Rattle.session_wire.specs.Replies.{reply_bytes, BodyFits, RepliesTo, SpellsReply}
 use Rattle.session_wire.specs.ReadingReplies.{result_at, this_at, versions_at, refusing, accepted_of}
 use Rattle.session_wire.specs.ReadingReplies.{bad_credential_of, denied_of, accepted_at, denied_at, state_of}
@@ -107,7 +108,7 @@ parted xid (bodies.Refused ProcedureUnavailable) = simp append_assoc refl
 parted xid (bodies.Refused GarbageArguments) = simp append_assoc refl
 parted xid (bodies.Refused SystemError) = simp append_assoc refl
 
-record IsBody (p : Procedure) (s : ℕ) (bytes : List ℕ) (y : ReplyBody × List ℕ) : Type 0 where
+record IsBody (p : ProgramProcedure) (s : ℕ) (bytes : List ℕ) (y : ReplyBody × List ℕ) : Type 0 where
   of_state : state y.0 ≡ s
   took : Takes bytes (text y.0) y.1
   fits : BodyFits y.0
@@ -115,7 +116,7 @@ record IsBody (p : Procedure) (s : ℕ) (bytes : List ℕ) (y : ReplyBody × Lis
 
 -- ---- what is read is spelled so
 
-plain : (p : Procedure) (s : ℕ) (bytes rest : List ℕ) (r : Refusal) (y : ReplyBody × List ℕ)
+plain : (p : ProgramProcedure) (s : ℕ) (bytes rest : List ℕ) (r : Refusal) (y : ReplyBody × List ℕ)
     → IsBody p s bytes (bodies.Refused r, rest) → refusing r rest ≡ Ok y → IsBody p s bytes y
 plain p s bytes rest r y made e =
     let first : ReplyBody × List ℕ = (bodies.Refused r, rest) in
@@ -125,7 +126,7 @@ moved : (bytes rest : List ℕ) (f : ℕ → List ℕ) (n m : ℕ) → n ≡ m �
     → Takes bytes (f m) rest
 moved bytes rest f n m e t = subst (λ (k : ℕ). Takes bytes (f k) rest) e t
 
-accepted_is : (p : Procedure) (bytes : List ℕ) (s : ℕ) (r : List ℕ) (y : ReplyBody × List ℕ)
+accepted_is : (p : ProgramProcedure) (bytes : List ℕ) (s : ℕ) (r : List ℕ) (y : ReplyBody × List ℕ)
     → Takes bytes (verified s) r → accepted_of p s r ≡ Ok y → IsBody p 0 bytes y
 accepted_is p bytes s r y t e =
     elim (chosen (s == 0) _ _ (Ok y) e) [
@@ -188,7 +189,7 @@ accepted_is p bytes s r y t e =
       ]
     ]
 
-accepted_takes : (p : Procedure) (bytes : List ℕ) (y : ReplyBody × List ℕ) → IsBytes bytes
+accepted_takes : (p : ProgramProcedure) (bytes : List ℕ) (y : ReplyBody × List ℕ) → IsBytes bytes
     → accepted_at p bytes ≡ Ok y → IsBody p 0 bytes y
 unfolding accepted_at
 accepted_takes p bytes y fits e =
@@ -202,7 +203,7 @@ accepted_takes p bytes y fits e =
     let three = Takes-then bytes (word 0 ++ word 0) b.0.1 (word c.0.0) c.0.1 two v.0 in
     accepted_is p bytes c.0.0 c.0.1 y three c.2
 
-bad_is : (p : Procedure) (bytes : List ℕ) (s : ℕ) (r : List ℕ) (y : ReplyBody × List ℕ)
+bad_is : (p : ProgramProcedure) (bytes : List ℕ) (s : ℕ) (r : List ℕ) (y : ReplyBody × List ℕ)
     → Takes bytes (word 1 ++ word s) r → bad_credential_of s r ≡ Ok y → IsBody p 1 bytes y
 bad_is p bytes s r y t e =
     elim (chosen (s == 1) _ _ (Ok y) e) [
@@ -225,7 +226,7 @@ bad_is p bytes s r y t e =
           }) h.1
     ]
 
-denied_is : (p : Procedure) (bytes : List ℕ) (s : ℕ) (r : List ℕ) (y : ReplyBody × List ℕ)
+denied_is : (p : ProgramProcedure) (bytes : List ℕ) (s : ℕ) (r : List ℕ) (y : ReplyBody × List ℕ)
     → Takes bytes (word s) r → denied_of s r ≡ Ok y → IsBody p 1 bytes y
 denied_is p bytes s r y t e =
     elim (chosen (s == 0) _ _ (Ok y) e) [
@@ -249,7 +250,7 @@ denied_is p bytes s r y t e =
           bad_is p bytes a.0.0 a.0.1 y both a.2
     ]
 
-denied_takes : (p : Procedure) (bytes : List ℕ) (y : ReplyBody × List ℕ) → IsBytes bytes
+denied_takes : (p : ProgramProcedure) (bytes : List ℕ) (y : ReplyBody × List ℕ) → IsBytes bytes
     → denied_at bytes ≡ Ok y → IsBody p 1 bytes y
 unfolding denied_at
 denied_takes p bytes y fits e =
@@ -257,7 +258,7 @@ denied_takes p bytes y fits e =
     let t = words.takes bytes a.0.0 a.0.1 fits a.1 in
     denied_is p bytes a.0.0 a.0.1 y t.0 a.2
 
-state_takes : (p : Procedure) (s : ℕ) (bytes : List ℕ) (y : ReplyBody × List ℕ) → IsBytes bytes
+state_takes : (p : ProgramProcedure) (s : ℕ) (bytes : List ℕ) (y : ReplyBody × List ℕ) → IsBytes bytes
     → state_of p s bytes ≡ Ok y → IsBody p s bytes y
 state_takes p s bytes y fits e =
     elim (chosen (s == 0) _ _ (Ok y) e) [
@@ -278,7 +279,7 @@ stated_is : (bytes : List ℕ) (n : ℕ) (r : List ℕ) (m : ℕ) (t : List ℕ)
     → bytes ≡ word m ++ t
 stated_is bytes n r m t e p q = cc
 
-pub reply_takes : (p : Procedure) (bytes : List ℕ) (m : ReplyMessage) → IsBytes bytes
+pub reply_takes : (p : ProgramProcedure) (bytes : List ℕ) (m : ReplyMessage) → IsBytes bytes
     → reply_of p bytes ≡ Ok m → SpellsReply p bytes m
 unfolding reply_of
 reply_takes p bytes m fits e =
@@ -308,7 +309,7 @@ reply_takes p bytes m fits e =
 
 -- ---- what is spelled is read so
 
-status_again : (p : Procedure) (status : ℕ) → status < 2 ^ 32 → (tail : List ℕ)
+status_again : (p : ProgramProcedure) (status : ℕ) → status < 2 ^ 32 → (tail : List ℕ)
     → accepted_at p (verified status ++ tail) ≡ accepted_of p status tail
 unfolding accepted_at
 status_again p status fits tail =
@@ -326,11 +327,11 @@ denied_again : (reason : ℕ) → reason < 2 ^ 32 → (tail : List ℕ)
 unfolding denied_at
 denied_again reason fits tail = rw (words.again reason tail fits) refl
 
-state_again : (p : Procedure) (b : ReplyBody) → BodyFits b → RepliesTo p b
+state_again : (p : ProgramProcedure) (b : ReplyBody) → BodyFits b → RepliesTo p b
     → state_of p (state b) (text b) ≡ Ok (b, [])
 state_again p (bodies.Done reply) fits answers =
     let decoded : result_at p (result_bytes reply) ≡ Ok (reply, []) =
-    subst (λ (q : Procedure). result_at q (result_bytes reply) ≡ Ok (reply, [])) answers
+    subst (λ (q : ProgramProcedure). result_at q (result_bytes reply) ≡ Ok (reply, [])) answers
     (ap (result_at (replied_to reply)) (sym (append-nil (result_bytes reply)))
     ∙ result_again reply [] fits) in
     status_again p 0 (omega arith) (result_bytes reply) ∙ rw decoded refl
@@ -364,7 +365,7 @@ state_fits (bodies.Refused ProcedureUnavailable) = omega arith
 state_fits (bodies.Refused GarbageArguments) = omega arith
 state_fits (bodies.Refused SystemError) = omega arith
 
-pub reply_again : (p : Procedure) (bytes : List ℕ) (m : ReplyMessage) → SpellsReply p bytes m
+pub reply_again : (p : ProgramProcedure) (bytes : List ℕ) (m : ReplyMessage) → SpellsReply p bytes m
     → reply_of p bytes ≡ Ok m
 unfolding reply_of
 reply_again p bytes m s =
@@ -377,6 +378,6 @@ reply_again p bytes m s =
       state_again p b s.body_fits s.answers,
     ) refl
 
-pub same_reply : (p : Procedure) (bytes : List ℕ) (m n : ReplyMessage) → SpellsReply p bytes m
+pub same_reply : (p : ProgramProcedure) (bytes : List ℕ) (m n : ReplyMessage) → SpellsReply p bytes m
     → SpellsReply p bytes n → m ≡ n
 same_reply p bytes m n s t = reply_is m n (sym (reply_again p bytes m s) ∙ reply_again p bytes n t)

@@ -3,15 +3,17 @@ use Rattle.std.proofs.Common.{◌≡◌, ℕ, ◌+◌, ◌<◌, ◌⊎◌, inl, 
 use Rattle.std.proofs.Common.{refl, sym, ap, subst, ◌∙◌, arith}
 use Rattle.nfs_types.specs.declared.call.Call as types
 use Rattle.nfs_types.specs.declared.ctx.Credential.{Credential}
-use Rattle.model.specs.Calls.{has_rules, unsupported}
+use Rattle.nfs_types.specs.declared.program.ProgramCall.{ProgramCall}
+use Rattle.nfs_types.specs.declared.program.ProgramCall.TheVariants as program_calls
+use Rattle.model.specs.Calls.{has_rules, plain_reply}
 use Rattle.model.proofs.Answered.{answered}
 use Rattle.session_wire.specs.declared.message.Judged.{Judged}
 use Rattle.session_wire.specs.declared.message.Judged.TheVariants.{Closed, Refused, Call}
 use Rattle.session_wire.specs.declared.rpc.refusal.Refusal.{Refusal}
 use Rattle.session_wire.specs.Judging.{judged}
 use Rattle.session_wire.specs.Replies.{refused}
-use Rattle.session_wire.specs.Served.{Serving, Standing, IsLater, IsReplyWithRules, IsCallReply, IsReplyTo}
-use Rattle.session_wire.specs.Served.{served, done}
+use Rattle.session_wire.specs.Served.{Serving, Standing, IsLater, IsReplyWithRules, IsNfsReply, IsCallReply}
+use Rattle.session_wire.specs.Served.{IsReplyTo, served, done, nfs_done}
 
 pub none : (s : Serving) (old new : Standing) (replies : List (List ℕ)) → served s old [] replies new
     → (replies ≡ []) × (new ≡ old)
@@ -87,15 +89,20 @@ module _ (s : Serving) (old new : Standing) (bytes : List ℕ) where
   served-on xid credential call (IsReplyWithRules.Failed stays failed told) = stays.later
   served-on xid credential call (IsReplyWithRules.Unsettled reply taken failed waits told) = taken.later
 
-  call-on : (rules : Bool) (xid : ℕ) (credential : Credential) (call : types.Call)
-      → IsCallReply s old rules xid credential call bytes new → IsLater old new
-  call-on true xid credential call told = served-on xid credential call told
-  call-on false xid credential call told = same old new told.stays
+  nfs-on : (rules : Bool) (xid : ℕ) (credential : Credential) (call : types.Call)
+      → IsNfsReply s old rules xid credential call bytes new → IsLater old new
+  nfs-on true xid credential call told = served-on xid credential call told
+  nfs-on false xid credential call told = same old new told.stays
+
+  call-on : (xid : ℕ) (credential : Credential) (call : ProgramCall)
+      → IsCallReply s old xid credential call bytes new → IsLater old new
+  call-on xid credential (program_calls.Nfs call) told = nfs-on (has_rules call) xid credential call told
+  call-on xid credential (program_calls.Mount call) told = same old new told.stays
 
   reply-on : (j : Judged) → IsReplyTo s old j bytes new → IsLater old new
   reply-on Closed told = absurd told
   reply-on (Refused xid why) told = same old new told.1
-  reply-on (Call xid credential call) told = call-on (has_rules call) xid credential call told
+  reply-on (Call xid credential call) told = call-on xid credential call told
 
 pub later : (s : Serving) (old new : Standing) (messages replies : List (List ℕ))
     → served s old messages replies new → IsLater old new
@@ -109,7 +116,7 @@ later s old new (message ∷ messages) (reply ∷ replies) all =
 
 stepped : (s : Serving) (old : Standing) (xid : ℕ) (credential : Credential) (call : types.Call)
     (rules : Bool) → has_rules call ≡ rules
-    → (bytes : List ℕ) × (new : Standing) × IsCallReply s old rules xid credential call bytes new
+    → (bytes : List ℕ) × (new : Standing) × IsNfsReply s old rules xid credential call bytes new
 stepped s old xid credential call true is =
     let a = answered old.tree (record {
       credential = credential;
@@ -125,7 +132,7 @@ stepped s old xid credential call true is =
       stays_broken = λ is. is;
       stays_spent = λ is. is;
     } in (
-      done xid a.0,
+      nfs_done xid a.0,
       new,
       IsReplyWithRules.Done a.0 (record {
         later = on;
@@ -136,13 +143,19 @@ stepped s old xid credential call true is =
       }) refl,
     )
 stepped s old xid credential call false is =
-    (done xid (unsupported call), old, record { stays = refl; told = inl refl })
+    (done xid (plain_reply (program_calls.Nfs call)), old, record { stays = refl; told = inl refl })
+
+called : (s : Serving) (old : Standing) (xid : ℕ) (credential : Credential) (call : ProgramCall)
+    → (bytes : List ℕ) × (new : Standing) × IsCallReply s old xid credential call bytes new
+called s old xid credential (program_calls.Nfs call) = stepped s old xid credential call (has_rules call) refl
+called s old xid credential (program_calls.Mount call) =
+    (done xid (plain_reply (program_calls.Mount call)), old, record { stays = refl; told = inl refl })
 
 replied : (s : Serving) (old : Standing) (j : Judged)
     → (j ≡ Closed) ⊎ ((bytes : List ℕ) × (new : Standing) × IsReplyTo s old j bytes new)
 replied s old Closed = inl refl
 replied s old (Refused xid why) = inr (refused xid why, old, (refl, refl))
-replied s old (Call xid credential call) = inr (stepped s old xid credential call (has_rules call) refl)
+replied s old (Call xid credential call) = inr (called s old xid credential call)
 
 pub can_be_served : (s : Serving) (old : Standing) (messages : List (List ℕ))
     → (replies : List (List ℕ)) × (new : Standing) × served s old messages replies new

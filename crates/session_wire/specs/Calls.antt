@@ -1,8 +1,7 @@
 -- How calls are spelled (RFC 1813, sections 2.5, 2.6 and 3.3; RFC 5531, sections 8.2 and 9, appendix A).
-use Rattle.std.specs.Prelude.{◌≡◌, ◌<◌, ◌≤◌, ◌^◌, ℕ, zero, suc, List, [], ◌++◌, length, flat_map, Option}
-use Rattle.std.specs.Prelude.{Some, None, IfSome}
+use Rattle.std.specs.Prelude.{◌≡◌, ◌<◌, ◌≤◌, ◌^◌, ℕ, true, List, [], ◌++◌, length, flat_map}
 use Rattle.std.specs.List.{AllByRecursion}
-use Rattle.limits.specs.declared.TheConstants.{MOST_HANDLE_BYTES, MOST_AUTH_BYTES, MACHINE_NAME_BYTES}
+use Rattle.limits.specs.declared.TheConstants.{MOST_AUTH_BYTES, MACHINE_NAME_BYTES}
 use Rattle.limits.specs.declared.TheConstants.{MOST_GIDS}
 use Rattle.nfs_types.specs.declared.ctx.Moment.{Moment}
 use Rattle.nfs_types.specs.declared.ctx.Credential.{Credential}
@@ -11,15 +10,19 @@ use Rattle.nfs_types.specs.declared.attributes.SetTime.{SetTime}
 use Rattle.nfs_types.specs.declared.attributes.SetTime.TheVariants.{Unchanged, Server, Client}
 use Rattle.nfs_types.specs.declared.call.Call.{Call}
 use Rattle.nfs_types.specs.declared.call.Call.TheVariants as calls
-use Rattle.session_wire.specs.declared.nfs_codec.procedure.Procedure.{Procedure}
-use Rattle.session_wire.specs.declared.nfs_codec.procedure.Procedure.TheVariants.{Null, GetAttr, SetAttr}
-use Rattle.session_wire.specs.declared.rpc.constants.TheConstants.{CALL, RPC_VERSION, NFS_PROGRAM}
-use Rattle.session_wire.specs.declared.rpc.constants.TheConstants.{NFS_VERSION, AUTH_NONE, AUTH_SYS}
+use Rattle.nfs_types.specs.declared.mount.MountCall.{MountCall}
+use Rattle.nfs_types.specs.declared.mount.MountCall.TheVariants as mount_calls
+use Rattle.nfs_types.specs.declared.program.ProgramCall.{ProgramCall}
+use Rattle.nfs_types.specs.declared.program.ProgramCall.TheVariants as program_calls
+use Rattle.nfs_types.specs.Fits.{ProgramCallFits}
+use Rattle.session_wire.specs.declared.rpc.constants.TheConstants.{CALL, RPC_VERSION, NFS_VERSION}
+use Rattle.session_wire.specs.declared.rpc.constants.TheConstants.{AUTH_NONE, AUTH_SYS}
 use Rattle.session_wire.specs.declared.message.MessageCredential.{MessageCredential}
 use Rattle.session_wire.specs.declared.message.MessageCredential.TheVariants.{Nobody, Caller}
 use Rattle.session_wire.specs.declared.message.CallMessage.{CallMessage}
 use Rattle.session_wire.specs.Items.{word, double, opaque, optional}
 use Rattle.session_wire.specs.Credentials.{no_caller}
+use Rattle.session_wire.specs.Procedures.{called, is_decoded, procedure_number, program_number, program_with}
 
 -- ---- items of arguments
 
@@ -27,68 +30,54 @@ use Rattle.session_wire.specs.Credentials.{no_caller}
 abbrev pub moment : Moment → List ℕ
 moment t = word t.seconds ++ word t.nanoseconds
 
-pub record MomentFits (t : Moment) : Type 0 where
-  pub seconds : t.seconds < 2 ^ 32
-  pub nanoseconds : t.nanoseconds < 2 ^ 32
-
 -- 0 leaves a time, 1 takes the server's, 2 the one that follows (`set_atime`, `set_mtime`)
 abbrev pub set_time : SetTime → List ℕ
 set_time Unchanged = word 0
 set_time Server = word 1
 set_time (Client t) = word 2 ++ moment t
 
-abbrev pub SetTimeFits : SetTime → Type 0
-SetTimeFits Unchanged = Unit {0}
-SetTimeFits Server = Unit {0}
-SetTimeFits (Client t) = MomentFits t
-
 -- the attributes that a call sets (`sattr3`)
 abbrev pub new_attributes : NewAttributes → List ℕ
 new_attributes a = optional word a.mode ++ optional word a.uid ++ optional word a.gid
     ++ optional double a.size ++ set_time a.atime ++ set_time a.mtime
 
-pub record NewAttributesFit (a : NewAttributes) : Type 0 where
-  pub mode : IfSome a.mode (λ n. n < 2 ^ 32)
-  pub uid : IfSome a.uid (λ n. n < 2 ^ 32)
-  pub gid : IfSome a.gid (λ n. n < 2 ^ 32)
-  pub size : IfSome a.size (λ n. n < 2 ^ 64)
-  pub atime : SetTimeFits a.atime
-  pub mtime : SetTimeFits a.mtime
-
 -- ---- arguments
 
--- NULL is 0, GETATTR 1, SETATTR 2
-abbrev pub procedure_of : ℕ → Option Procedure
-procedure_of zero = Some Null
-procedure_of (suc zero) = Some GetAttr
-procedure_of (suc (suc zero)) = Some SetAttr
-procedure_of (suc (suc (suc n))) = None
-
-abbrev pub procedure_number : Procedure → ℕ
-procedure_number Null = 0
-procedure_number GetAttr = 1
-procedure_number SetAttr = 2
-
--- the procedure of a call; those of the others come when they are decoded
-abbrev pub called : Call → Procedure
-called (calls.GetAttr object) = GetAttr
-called (calls.SetAttr object attributes guard) = SetAttr
-called call = Null
-
--- a handle is a string of at most 64 bytes (`nfs_fh3`)
-abbrev pub arguments : Call → List ℕ
-arguments (calls.GetAttr object) = opaque object.bytes
-arguments (calls.SetAttr object attributes guard) = opaque object.bytes ++ new_attributes attributes
+-- Those of NFS; a handle is a string of at most 64 bytes (`nfs_fh3`). What isn't decoded has no spelling so far.
+abbrev pub nfs_arguments : Call → List ℕ
+nfs_arguments calls.Null = []
+nfs_arguments (calls.GetAttr object) = opaque object.bytes
+nfs_arguments (calls.SetAttr object attributes guard) = opaque object.bytes ++ new_attributes attributes
     ++ optional moment guard
-arguments call = []
+nfs_arguments (calls.Lookup _) = []
+nfs_arguments (calls.Access _ _) = []
+nfs_arguments (calls.ReadLink _) = []
+nfs_arguments (calls.Read _ _ _) = []
+nfs_arguments (calls.Write _ _ _ _ _) = []
+nfs_arguments (calls.Create _ _) = []
+nfs_arguments (calls.MkDir _ _) = []
+nfs_arguments (calls.SymLink _ _ _) = []
+nfs_arguments (calls.MkNod _ _) = []
+nfs_arguments (calls.Remove _) = []
+nfs_arguments (calls.RmDir _) = []
+nfs_arguments (calls.Rename _ _) = []
+nfs_arguments (calls.Link _ _) = []
+nfs_arguments (calls.ReadDir _ _ _ _) = []
+nfs_arguments (calls.ReadDirPlus _ _ _ _ _) = []
+nfs_arguments (calls.FsStat _) = []
+nfs_arguments (calls.FsInfo _) = []
+nfs_arguments (calls.PathConf _) = []
+nfs_arguments (calls.Commit _ _ _) = []
 
--- the calls that have a spelling so far
-abbrev pub CallFits : Call → Type 0
-CallFits calls.Null = Unit {0}
-CallFits (calls.GetAttr object) = length object.bytes ≤ MOST_HANDLE_BYTES
-CallFits (calls.SetAttr object attributes guard) = (length object.bytes ≤ MOST_HANDLE_BYTES)
-    × NewAttributesFit attributes × IfSome guard MomentFits
-CallFits call = ⊥
+-- those of MOUNT
+abbrev pub mount_arguments : MountCall → List ℕ
+mount_arguments mount_calls.Null = []
+mount_arguments (mount_calls.Mount _) = []
+mount_arguments (mount_calls.Unmount _) = []
+
+abbrev pub arguments : ProgramCall → List ℕ
+arguments (program_calls.Nfs call) = nfs_arguments call
+arguments (program_calls.Mount call) = mount_arguments call
 
 -- ---- messages
 
@@ -123,8 +112,8 @@ caller_of (Caller stamp machine caller) = caller
 -- arguments
 abbrev pub call_bytes : CallMessage → List ℕ
 call_bytes m =
-    word m.xid ++ word CALL ++ word RPC_VERSION ++ word NFS_PROGRAM ++ word NFS_VERSION
-    ++ word (procedure_number (called m.call))
+    word m.xid ++ word CALL ++ word RPC_VERSION ++ word (program_number (program_with (called m.call)))
+    ++ word NFS_VERSION ++ word (procedure_number (called m.call))
     ++ credential m.credential ++ (word m.verifier.flavor ++ opaque m.verifier.body) ++ arguments m.call
 
 -- the bytes spell the call
@@ -133,5 +122,6 @@ pub record SpellsCall (bytes : List ℕ) (m : CallMessage) : Type 0 where
   pub credential_fits : CredentialFits m.credential
   pub verifier_flavor : m.verifier.flavor < 2 ^ 32
   pub verifier_body : length m.verifier.body ≤ MOST_AUTH_BYTES
-  pub call_fits : CallFits m.call
+  pub decoded : is_decoded (called m.call) ≡ true
+  pub call_fits : ProgramCallFits m.call
   pub spelled : bytes ≡ call_bytes m

@@ -1,10 +1,10 @@
 -- What a record of bytes is taken for, test by test (RFC 5531, section 9).
 use Rattle.std.specs.Prelude.{◌≡◌, ℕ, List, Option, Some, None, Result, Ok, Err, ◌==◌, if◌then◌else◌, ◌⊎◌}
 use Rattle.nfs_types.specs.declared.ctx.Credential.{Credential}
-use Rattle.nfs_types.specs.declared.call.Call as types
-use Rattle.session_wire.specs.declared.nfs_codec.procedure.Procedure.{Procedure}
-use Rattle.session_wire.specs.declared.rpc.constants.TheConstants.{CALL, RPC_VERSION, NFS_PROGRAM}
-use Rattle.session_wire.specs.declared.rpc.constants.TheConstants.{NFS_VERSION}
+use Rattle.nfs_types.specs.declared.program.Program.{Program}
+use Rattle.nfs_types.specs.declared.program.ProgramCall.{ProgramCall}
+use Rattle.nfs_types.specs.declared.program.ProgramProcedure.{ProgramProcedure}
+use Rattle.session_wire.specs.declared.rpc.constants.TheConstants.{CALL, RPC_VERSION, NFS_VERSION}
 use Rattle.session_wire.specs.declared.rpc.header.Opening.{Opening}
 use Rattle.session_wire.specs.declared.rpc.refusal.Refusal.{Refusal}
 use Rattle.session_wire.specs.declared.rpc.refusal.Refusal.TheVariants.{RpcMismatch, ProgramUnavailable}
@@ -15,25 +15,31 @@ use Rattle.session_wire.specs.declared.message.Judged.TheVariants.{Closed, Refus
 use Rattle.session_wire.specs.declared.xdr.fault.XdrFault.{XdrFault}
 use Rattle.session_wire.specs.Headers.{opening_at, Heading, header_at}
 use Rattle.session_wire.specs.Credentials.{credential_of}
-use Rattle.session_wire.specs.Calls.{procedure_of}
+use Rattle.session_wire.specs.Procedures.{program_of, is_available, procedure_of, is_decoded}
 use Rattle.session_wire.specs.ReadingCalls.{call_of}
 
-abbrev pub on_arguments : ℕ → Credential → Result types.Call XdrFault → Judged
+abbrev pub on_arguments : ℕ → Credential → Result ProgramCall XdrFault → Judged
 on_arguments xid credential (Ok call) = Call xid credential call
 on_arguments xid credential (Err e) = Refused xid GarbageArguments
 
-abbrev pub on_procedure : ℕ → Credential → List ℕ → Option Procedure → Judged
+abbrev pub on_procedure : ℕ → Credential → List ℕ → Option ProgramProcedure → Judged
 on_procedure xid credential arguments None = Refused xid ProcedureUnavailable
 on_procedure xid credential arguments (Some procedure) =
-    on_arguments xid credential (call_of procedure arguments)
+    if is_decoded procedure then on_arguments xid credential (call_of procedure arguments)
+    else Refused xid ProcedureUnavailable
+
+-- both programs have the same version
+abbrev pub on_program : ℕ → Credential → Heading → List ℕ → Option Program → Judged
+on_program xid credential h arguments None = Refused xid ProgramUnavailable
+on_program xid credential h arguments (Some program) =
+    if is_available program then
+    (if h.version == NFS_VERSION then on_procedure xid credential arguments (procedure_of program h.procedure)
+    else Refused xid ProgramMismatch)
+    else Refused xid ProgramUnavailable
 
 -- the program first, then its version, the procedure, and at last the arguments
 abbrev pub requested : ℕ → Credential → Heading → List ℕ → Judged
-requested xid credential h arguments =
-    if h.program == NFS_PROGRAM then
-    (if h.version == NFS_VERSION then on_procedure xid credential arguments (procedure_of h.procedure)
-    else Refused xid ProgramMismatch)
-    else Refused xid ProgramUnavailable
+requested xid credential h arguments = on_program xid credential h arguments (program_of h.program)
 
 abbrev pub on_credential : ℕ → Heading → List ℕ → Result Credential Refusal → Judged
 on_credential xid h arguments (Ok credential) = requested xid credential h arguments

@@ -2,6 +2,7 @@ pub mod Items
 pub mod Reading
 pub mod Headers
 pub mod Credentials
+pub mod Procedures
 pub mod Calls
 pub mod ReadingCalls
 pub mod Results

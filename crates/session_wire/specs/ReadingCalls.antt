@@ -6,10 +6,13 @@ use Rattle.nfs_types.specs.declared.ctx.Moment.{Moment}
 use Rattle.nfs_types.specs.declared.attributes.NewAttributes.{NewAttributes}
 use Rattle.nfs_types.specs.declared.attributes.SetTime.{SetTime}
 use Rattle.nfs_types.specs.declared.attributes.SetTime.TheVariants.{Unchanged, Server, Client}
-use Rattle.nfs_types.specs.declared.call.Call.{Call}
 use Rattle.nfs_types.specs.declared.call.Call.TheVariants as calls
-use Rattle.session_wire.specs.declared.nfs_codec.procedure.Procedure.{Procedure}
-use Rattle.session_wire.specs.declared.nfs_codec.procedure.Procedure.TheVariants.{Null, GetAttr, SetAttr}
+use Rattle.nfs_types.specs.declared.program.MountProcedure.TheVariants as mount
+use Rattle.nfs_types.specs.declared.program.Procedure.TheVariants as nfs
+use Rattle.nfs_types.specs.declared.program.ProgramCall.{ProgramCall}
+use Rattle.nfs_types.specs.declared.program.ProgramCall.TheVariants as program_calls
+use Rattle.nfs_types.specs.declared.program.ProgramProcedure.{ProgramProcedure}
+use Rattle.nfs_types.specs.declared.program.ProgramProcedure.TheVariants as procedures
 use Rattle.session_wire.specs.declared.xdr.fault.XdrFault.{XdrFault}
 use Rattle.session_wire.specs.declared.xdr.fault.XdrFault.TheVariants.{Value}
 use Rattle.session_wire.specs.Reading.{◌>>=◌, number_at, flag_at, opaque_at, end_at}
@@ -59,27 +62,49 @@ new_attributes_at bytes = do
     mtime.1,
   )
 
-unfoldable pub null_of : List ℕ → Result Call XdrFault
+unfoldable pub null_of : List ℕ → Result ProgramCall XdrFault
 null_of bytes = do
   end ← end_at bytes
-  Ok calls.Null
+  Ok (program_calls.Nfs calls.Null)
 
-unfoldable pub get_attributes_of : List ℕ → Result Call XdrFault
+unfoldable pub get_attributes_of : List ℕ → Result ProgramCall XdrFault
 get_attributes_of bytes = do
   object ← opaque_at MOST_HANDLE_BYTES bytes
   end ← end_at object.1
-  Ok (calls.GetAttr (record { bytes = object.0 }))
+  Ok (program_calls.Nfs (calls.GetAttr (record { bytes = object.0 })))
 
-unfoldable pub set_attributes_of : List ℕ → Result Call XdrFault
+unfoldable pub set_attributes_of : List ℕ → Result ProgramCall XdrFault
 set_attributes_of bytes = do
   object ← opaque_at MOST_HANDLE_BYTES bytes
   attributes ← new_attributes_at object.1
   guard ← guard_at attributes.1
   end ← end_at guard.1
-  Ok (calls.SetAttr (record { bytes = object.0 }) attributes.0 guard.0)
+  Ok (program_calls.Nfs (calls.SetAttr (record { bytes = object.0 }) attributes.0 guard.0))
 
--- the call that all of these bytes are the arguments of
-abbrev pub call_of : Procedure → List ℕ → Result Call XdrFault
-call_of Null bytes = null_of bytes
-call_of GetAttr bytes = get_attributes_of bytes
-call_of SetAttr bytes = set_attributes_of bytes
+-- The call that all of these bytes are the arguments of. What isn't decoded can't be read so far.
+abbrev pub call_of : ProgramProcedure → List ℕ → Result ProgramCall XdrFault
+call_of (procedures.Nfs nfs.Null) bytes = null_of bytes
+call_of (procedures.Nfs nfs.GetAttr) bytes = get_attributes_of bytes
+call_of (procedures.Nfs nfs.SetAttr) bytes = set_attributes_of bytes
+call_of (procedures.Nfs nfs.Lookup) bytes = Err Value
+call_of (procedures.Nfs nfs.Access) bytes = Err Value
+call_of (procedures.Nfs nfs.ReadLink) bytes = Err Value
+call_of (procedures.Nfs nfs.Read) bytes = Err Value
+call_of (procedures.Nfs nfs.Write) bytes = Err Value
+call_of (procedures.Nfs nfs.Create) bytes = Err Value
+call_of (procedures.Nfs nfs.MkDir) bytes = Err Value
+call_of (procedures.Nfs nfs.SymLink) bytes = Err Value
+call_of (procedures.Nfs nfs.MkNod) bytes = Err Value
+call_of (procedures.Nfs nfs.Remove) bytes = Err Value
+call_of (procedures.Nfs nfs.RmDir) bytes = Err Value
+call_of (procedures.Nfs nfs.Rename) bytes = Err Value
+call_of (procedures.Nfs nfs.Link) bytes = Err Value
+call_of (procedures.Nfs nfs.ReadDir) bytes = Err Value
+call_of (procedures.Nfs nfs.ReadDirPlus) bytes = Err Value
+call_of (procedures.Nfs nfs.FsStat) bytes = Err Value
+call_of (procedures.Nfs nfs.FsInfo) bytes = Err Value
+call_of (procedures.Nfs nfs.PathConf) bytes = Err Value
+call_of (procedures.Nfs nfs.Commit) bytes = Err Value
+call_of (procedures.Mount mount.Null) bytes = Err Value
+call_of (procedures.Mount mount.Mount) bytes = Err Value
+call_of (procedures.Mount mount.Unmount) bytes = Err Value

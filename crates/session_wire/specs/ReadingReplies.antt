@@ -9,10 +9,13 @@ use Rattle.nfs_types.specs.declared.attributes.FileKind.{FileKind}
 use Rattle.nfs_types.specs.declared.attributes.FileKind.TheVariants as kinds
 use Rattle.nfs_types.specs.declared.status.Status.{Status}
 use Rattle.nfs_types.specs.declared.status.Status.TheVariants as statuses
-use Rattle.nfs_types.specs.declared.reply.Reply.{Reply}
 use Rattle.nfs_types.specs.declared.reply.Reply.TheVariants as replies
-use Rattle.session_wire.specs.declared.nfs_codec.procedure.Procedure.{Procedure}
-use Rattle.session_wire.specs.declared.nfs_codec.procedure.Procedure.TheVariants.{Null, GetAttr, SetAttr}
+use Rattle.nfs_types.specs.declared.program.MountProcedure.TheVariants as mount
+use Rattle.nfs_types.specs.declared.program.Procedure.TheVariants as nfs
+use Rattle.nfs_types.specs.declared.program.ProgramProcedure.{ProgramProcedure}
+use Rattle.nfs_types.specs.declared.program.ProgramProcedure.TheVariants as procedures
+use Rattle.nfs_types.specs.declared.program.ProgramReply.{ProgramReply}
+use Rattle.nfs_types.specs.declared.program.ProgramReply.TheVariants as program_replies
 use Rattle.session_wire.specs.declared.rpc.constants.TheConstants.{REPLY, RPC_VERSION, NFS_VERSION}
 use Rattle.session_wire.specs.declared.rpc.refusal.Refusal.{Refusal}
 use Rattle.session_wire.specs.declared.rpc.refusal.Refusal.TheVariants.{RpcMismatch, BadCredential}
@@ -187,12 +190,35 @@ get_attr_at bytes = do
   outcome ← outcome_at bytes
   get_attr_of outcome.0 outcome.1
 
--- the result of a procedure
-abbrev pub result_at : Procedure → List ℕ → Result (Reply × List ℕ) XdrFault
-result_at Null bytes = Ok (replies.Null, bytes)
-result_at GetAttr bytes = get_attr_at bytes >>= λ g. Ok (replies.GetAttr g.0, g.1)
-result_at SetAttr bytes =
-    outcome_at bytes >>= λ o. weak_cache_at o.1 >>= λ w. Ok (replies.SetAttr o.0 w.0, w.1)
+-- The result of a procedure. What isn't decoded can't be read so far.
+abbrev pub result_at : ProgramProcedure → List ℕ → Result (ProgramReply × List ℕ) XdrFault
+result_at (procedures.Nfs nfs.Null) bytes = Ok (program_replies.Nfs replies.Null, bytes)
+result_at (procedures.Nfs nfs.GetAttr) bytes =
+    get_attr_at bytes >>= λ g. Ok (program_replies.Nfs (replies.GetAttr g.0), g.1)
+result_at (procedures.Nfs nfs.SetAttr) bytes =
+    outcome_at bytes >>= λ o. weak_cache_at o.1 >>= λ w. Ok (program_replies.Nfs (replies.SetAttr o.0 w.0), w.1)
+result_at (procedures.Nfs nfs.Lookup) bytes = Err Value
+result_at (procedures.Nfs nfs.Access) bytes = Err Value
+result_at (procedures.Nfs nfs.ReadLink) bytes = Err Value
+result_at (procedures.Nfs nfs.Read) bytes = Err Value
+result_at (procedures.Nfs nfs.Write) bytes = Err Value
+result_at (procedures.Nfs nfs.Create) bytes = Err Value
+result_at (procedures.Nfs nfs.MkDir) bytes = Err Value
+result_at (procedures.Nfs nfs.SymLink) bytes = Err Value
+result_at (procedures.Nfs nfs.MkNod) bytes = Err Value
+result_at (procedures.Nfs nfs.Remove) bytes = Err Value
+result_at (procedures.Nfs nfs.RmDir) bytes = Err Value
+result_at (procedures.Nfs nfs.Rename) bytes = Err Value
+result_at (procedures.Nfs nfs.Link) bytes = Err Value
+result_at (procedures.Nfs nfs.ReadDir) bytes = Err Value
+result_at (procedures.Nfs nfs.ReadDirPlus) bytes = Err Value
+result_at (procedures.Nfs nfs.FsStat) bytes = Err Value
+result_at (procedures.Nfs nfs.FsInfo) bytes = Err Value
+result_at (procedures.Nfs nfs.PathConf) bytes = Err Value
+result_at (procedures.Nfs nfs.Commit) bytes = Err Value
+result_at (procedures.Mount mount.Null) bytes = Err Value
+result_at (procedures.Mount mount.Mount) bytes = Err Value
+result_at (procedures.Mount mount.Unmount) bytes = Err Value
 
 -- ---- messages
 
@@ -207,7 +233,7 @@ versions_at version bytes = this_at version bytes >>= λ low. this_at version lo
 abbrev pub refusing : Refusal → List ℕ → Result (ReplyBody × List ℕ) XdrFault
 refusing refusal rest = Ok (bodies.Refused refusal, rest)
 
-abbrev pub accepted_of : Procedure → ℕ → List ℕ → Result (ReplyBody × List ℕ) XdrFault
+abbrev pub accepted_of : ProgramProcedure → ℕ → List ℕ → Result (ReplyBody × List ℕ) XdrFault
 accepted_of p status rest =
     if status == 0 then (result_at p rest >>= λ r. Ok (bodies.Done r.0, r.1)) else
     if status == 1 then refusing ProgramUnavailable rest else
@@ -227,7 +253,7 @@ denied_of reason rest =
     if reason == 1 then (number_at w32 rest >>= λ n. bad_credential_of n.0 n.1) else Err Value
 
 -- behind a verifier of flavor 0 that is empty, the status and what belongs to it
-unfoldable pub accepted_at : Procedure → List ℕ → Result (ReplyBody × List ℕ) XdrFault
+unfoldable pub accepted_at : ProgramProcedure → List ℕ → Result (ReplyBody × List ℕ) XdrFault
 accepted_at p bytes = do
   flavor ← this_at 0 bytes
   length ← this_at 0 flavor.1
@@ -239,12 +265,12 @@ denied_at bytes = do
   reason ← number_at w32 bytes
   denied_of reason.0 reason.1
 
-abbrev pub state_of : Procedure → ℕ → List ℕ → Result (ReplyBody × List ℕ) XdrFault
+abbrev pub state_of : ProgramProcedure → ℕ → List ℕ → Result (ReplyBody × List ℕ) XdrFault
 state_of p state rest = if state == 0 then accepted_at p rest else if state == 1 then denied_at rest
     else Err Value
 
 -- the reply to a procedure that all of these bytes spell
-unfoldable pub reply_of : Procedure → List ℕ → Result ReplyMessage XdrFault
+unfoldable pub reply_of : ProgramProcedure → List ℕ → Result ReplyMessage XdrFault
 reply_of p bytes = do
   xid ← number_at w32 bytes
   kind ← this_at REPLY xid.1

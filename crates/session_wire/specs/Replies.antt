@@ -8,13 +8,15 @@ use Rattle.session_wire.specs.declared.rpc.refusal.Refusal.TheVariants.{ProgramU
 use Rattle.session_wire.specs.declared.rpc.refusal.Refusal.TheVariants.{ProcedureUnavailable}
 use Rattle.session_wire.specs.declared.rpc.refusal.Refusal.TheVariants.{GarbageArguments, SystemError}
 use Rattle.session_wire.specs.declared.message.RpcReply.{RpcReply}
-use Rattle.session_wire.specs.declared.message.RpcReply.TheVariants.{Done, Refused}
+use Rattle.session_wire.specs.declared.message.RpcReply.TheVariants.{Nfs, Mount, Refused}
 use Rattle.session_wire.specs.declared.message.ReplyBody.{ReplyBody}
 use Rattle.session_wire.specs.declared.message.ReplyBody.TheVariants as bodies
 use Rattle.session_wire.specs.Items.{word}
 use Rattle.session_wire.specs.declared.message.ReplyMessage.{ReplyMessage}
-use Rattle.session_wire.specs.declared.nfs_codec.procedure.Procedure.{Procedure}
-use Rattle.session_wire.specs.Results.{HasSpelling, result_bytes, ReplyFits, replied_to}
+use Rattle.nfs_types.specs.declared.program.ProgramProcedure.{ProgramProcedure}
+use Rattle.nfs_types.specs.declared.program.ProgramReply.TheVariants as program_replies
+use Rattle.session_wire.specs.Procedures.{replied_to}
+use Rattle.session_wire.specs.Results.{HasSpelling, result_bytes, ReplyFits}
 
 -- an accepted reply up to its status: its verifier is of flavor 0 and empty
 abbrev pub accepted : ℕ → ℕ → List ℕ
@@ -42,7 +44,8 @@ reply_bytes xid (bodies.Refused refusal) = refused xid refusal
 
 -- an answer as the body of a reply
 abbrev pub body_of : RpcReply → ReplyBody
-body_of (Done reply) = bodies.Done reply.now
+body_of (Nfs reply) = bodies.Done (program_replies.Nfs reply.now)
+body_of (Mount reply) = bodies.Done (program_replies.Mount reply.now)
 body_of (Refused refusal) = bodies.Refused refusal
 
 -- what has a spelling so far
@@ -55,12 +58,12 @@ BodyFits (bodies.Done reply) = ReplyFits reply
 BodyFits (bodies.Refused refusal) = Unit {0}
 
 -- a refusal may answer any procedure
-abbrev pub RepliesTo : Procedure → ReplyBody → Type 0
+abbrev pub RepliesTo : ProgramProcedure → ReplyBody → Type 0
 RepliesTo p (bodies.Done reply) = replied_to reply ≡ p
 RepliesTo p (bodies.Refused refusal) = Unit {0}
 
 -- the bytes spell the reply to a call of this procedure
-pub record SpellsReply (p : Procedure) (bytes : List ℕ) (m : ReplyMessage) : Type 0 where
+pub record SpellsReply (p : ProgramProcedure) (bytes : List ℕ) (m : ReplyMessage) : Type 0 where
   pub xid : m.xid < 2 ^ 32
   pub body_fits : BodyFits m.body
   pub answers : RepliesTo p m.body

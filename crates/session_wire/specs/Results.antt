@@ -1,5 +1,5 @@
 -- How results are spelled (RFC 1813, sections 2.6 and 3.3).
-use Rattle.std.specs.Prelude.{◌<◌, ◌^◌, IfSome, IfOk, ℕ, List, [], ◌++◌, Option, Result, Ok, Err}
+use Rattle.std.specs.Prelude.{◌≡◌, ◌<◌, ◌^◌, IfSome, IfOk, ℕ, true, List, [], ◌++◌, Option, Result, Ok, Err}
 use Rattle.nfs_types.specs.declared.attributes.Attributes.{Attributes}
 use Rattle.nfs_types.specs.declared.attributes.WeakCacheAttributes.{WeakCacheAttributes}
 use Rattle.nfs_types.specs.declared.attributes.WeakCacheData.{WeakCacheData}
@@ -7,12 +7,16 @@ use Rattle.nfs_types.specs.declared.attributes.FileKind.{FileKind}
 use Rattle.nfs_types.specs.declared.attributes.FileKind.TheVariants as kinds
 use Rattle.nfs_types.specs.declared.status.Status.{Status}
 use Rattle.nfs_types.specs.declared.status.Status.TheVariants as statuses
+use Rattle.nfs_types.specs.declared.mount.MountReply.{MountReply}
+use Rattle.nfs_types.specs.declared.mount.MountReply.TheVariants as mount_replies
+use Rattle.nfs_types.specs.declared.program.ProgramReply.{ProgramReply}
+use Rattle.nfs_types.specs.declared.program.ProgramReply.TheVariants as program_replies
+use Rattle.nfs_types.specs.Fits.{MomentFits}
 use Rattle.nfs_types.specs.declared.reply.Reply.{Reply}
 use Rattle.nfs_types.specs.declared.reply.Reply.TheVariants as replies
 use Rattle.session_wire.specs.Items.{word, double, optional}
-use Rattle.session_wire.specs.declared.nfs_codec.procedure.Procedure.{Procedure}
-use Rattle.session_wire.specs.declared.nfs_codec.procedure.Procedure.TheVariants.{Null, GetAttr, SetAttr}
-use Rattle.session_wire.specs.Calls.{moment, MomentFits}
+use Rattle.session_wire.specs.Calls.{moment}
+use Rattle.session_wire.specs.Procedures.{is_decoded, replied_to}
 
 -- the number of each status but OK, which is 0 (`nfsstat3`)
 abbrev pub status_number : Status → ℕ
@@ -106,27 +110,75 @@ pub record WeakCacheFits (w : WeakCacheData) : Type 0 where
   pub before : IfSome w.before WeakCacheAttributesFit
   pub after : IfSome w.after AttributesFit
 
-abbrev pub ReplyFits : Reply → Type 0
-ReplyFits replies.Null = Unit {0}
-ReplyFits (replies.GetAttr outcome) = IfOk outcome AttributesFit
-ReplyFits (replies.SetAttr outcome object) = WeakCacheFits object
-ReplyFits reply = ⊥
+-- What isn't decoded has no spelling so far.
+abbrev pub NfsReplyFits : Reply → Type 0
+NfsReplyFits replies.Null = Unit {0}
+NfsReplyFits (replies.GetAttr outcome) = IfOk outcome AttributesFit
+NfsReplyFits (replies.SetAttr outcome object) = WeakCacheFits object
+NfsReplyFits (replies.Lookup _ _) = ⊥
+NfsReplyFits (replies.Access _ _) = ⊥
+NfsReplyFits (replies.ReadLink _ _) = ⊥
+NfsReplyFits (replies.Read _ _) = ⊥
+NfsReplyFits (replies.Write _ _) = ⊥
+NfsReplyFits (replies.Create _ _) = ⊥
+NfsReplyFits (replies.MkDir _ _) = ⊥
+NfsReplyFits (replies.SymLink _ _) = ⊥
+NfsReplyFits (replies.MkNod _ _) = ⊥
+NfsReplyFits (replies.Remove _ _) = ⊥
+NfsReplyFits (replies.RmDir _ _) = ⊥
+NfsReplyFits (replies.Rename _ _ _) = ⊥
+NfsReplyFits (replies.Link _ _ _) = ⊥
+NfsReplyFits (replies.ReadDir _ _) = ⊥
+NfsReplyFits (replies.ReadDirPlus _ _) = ⊥
+NfsReplyFits (replies.FsStat _ _) = ⊥
+NfsReplyFits (replies.FsInfo _ _) = ⊥
+NfsReplyFits (replies.PathConf _ _) = ⊥
+NfsReplyFits (replies.Commit _ _) = ⊥
 
--- the procedure that a reply answers; those of the others come when they are decoded
-abbrev pub replied_to : Reply → Procedure
-replied_to (replies.GetAttr outcome) = GetAttr
-replied_to (replies.SetAttr outcome object) = SetAttr
-replied_to reply = Null
+abbrev pub MountReplyFits : MountReply → Type 0
+MountReplyFits mount_replies.Null = ⊥
+MountReplyFits (mount_replies.Mount _) = ⊥
+MountReplyFits mount_replies.Unmount = ⊥
+
+abbrev pub ReplyFits : ProgramReply → Type 0
+ReplyFits (program_replies.Nfs reply) = NfsReplyFits reply
+ReplyFits (program_replies.Mount reply) = MountReplyFits reply
 
 -- the replies that have a spelling so far
-abbrev pub HasSpelling : Reply → Type 0
-HasSpelling replies.Null = Unit {0}
-HasSpelling (replies.GetAttr outcome) = Unit {0}
-HasSpelling (replies.SetAttr outcome object) = Unit {0}
-HasSpelling reply = ⊥
+abbrev pub HasSpelling : ProgramReply → Type 0
+HasSpelling reply = is_decoded (replied_to reply) ≡ true
 
--- the result of each procedure (section 3.3)
-abbrev pub result_bytes : Reply → List ℕ
-result_bytes (replies.GetAttr outcome) = get_attr_result outcome
-result_bytes (replies.SetAttr outcome object) = outcome_status outcome ++ weak_cache object
-result_bytes reply = []
+-- the result of each procedure of NFS (section 3.3)
+abbrev pub nfs_result_bytes : Reply → List ℕ
+nfs_result_bytes replies.Null = []
+nfs_result_bytes (replies.GetAttr outcome) = get_attr_result outcome
+nfs_result_bytes (replies.SetAttr outcome object) = outcome_status outcome ++ weak_cache object
+nfs_result_bytes (replies.Lookup _ _) = []
+nfs_result_bytes (replies.Access _ _) = []
+nfs_result_bytes (replies.ReadLink _ _) = []
+nfs_result_bytes (replies.Read _ _) = []
+nfs_result_bytes (replies.Write _ _) = []
+nfs_result_bytes (replies.Create _ _) = []
+nfs_result_bytes (replies.MkDir _ _) = []
+nfs_result_bytes (replies.SymLink _ _) = []
+nfs_result_bytes (replies.MkNod _ _) = []
+nfs_result_bytes (replies.Remove _ _) = []
+nfs_result_bytes (replies.RmDir _ _) = []
+nfs_result_bytes (replies.Rename _ _ _) = []
+nfs_result_bytes (replies.Link _ _ _) = []
+nfs_result_bytes (replies.ReadDir _ _) = []
+nfs_result_bytes (replies.ReadDirPlus _ _) = []
+nfs_result_bytes (replies.FsStat _ _) = []
+nfs_result_bytes (replies.FsInfo _ _) = []
+nfs_result_bytes (replies.PathConf _ _) = []
+nfs_result_bytes (replies.Commit _ _) = []
+
+-- the result of each procedure of MOUNT (section 5.2)
+abbrev pub mount_result_bytes : MountReply → List ℕ
+mount_result_bytes mount_replies.Null = []
+mount_result_bytes (mount_replies.Mount _) = []
+mount_result_bytes mount_replies.Unmount = []
+
+abbrev pub result_bytes : ProgramReply → List ℕ
+result_bytes (program_replies.Nfs reply) = nfs_result_bytes reply
+result_bytes (program_replies.Mount reply) = mount_result_bytes reply

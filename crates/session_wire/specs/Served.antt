@@ -2,10 +2,14 @@
 use Rattle.std.specs.Prelude.{◌≡◌, ℕ, ◌<◌, ◌≤◌, ◌⊎◌, Bool, true, false, List, [], ◌∷◌, ◌++◌}
 use Rattle.nfs_types.specs.declared.call.Call as types
 use Rattle.nfs_types.specs.declared.ctx.Credential.{Credential}
+use Rattle.nfs_types.specs.declared.program.ProgramCall.{ProgramCall}
+use Rattle.nfs_types.specs.declared.program.ProgramCall.TheVariants as program_calls
+use Rattle.nfs_types.specs.declared.program.ProgramReply.{ProgramReply}
+use Rattle.nfs_types.specs.declared.program.ProgramReply.TheVariants as program_replies
 use Rattle.nfs_types.specs.declared.ctx.Moment.{Moment}
 use Rattle.nfs_types.specs.declared.reply.Reply.{Reply}
 use Rattle.nfs_types.specs.declared.status.Status.TheVariants as status
-use Rattle.model.specs.Calls.{has_rules, is_answered_stable, unsupported}
+use Rattle.model.specs.Calls.{has_rules, is_answered_stable, plain_reply}
 use Rattle.model.specs.Refused as model
 use Rattle.model.specs.Step.{step}
 use Rattle.model.specs.Tree.{Tree}
@@ -65,42 +69,54 @@ abbrev pub HasFailed : Standing → Standing → Type 0
 HasFailed old new = (old.failures < new.failures) ⊎ (old.is_broken ≡ true)
 
 -- a procedure's reply behind the accepted header
-abbrev pub done : ℕ → Reply → List ℕ
+abbrev pub done : ℕ → ProgramReply → List ℕ
 done xid reply = accepted xid 0 ++ result_bytes reply
+
+-- the reply to a call of NFS
+abbrev pub nfs_done : ℕ → Reply → List ℕ
+nfs_done xid reply = done xid (program_replies.Nfs reply)
 
 -- What a call with rules is answered: the reply of its step. Or it made no step and is told why: memory was
 -- refused, a counter is spent, or a device call failed. A failure may also come after its step, where the
 -- answer had to wait until what it changed is stable.
 pub data IsReplyWithRules (s : Serving) (old : Standing) (xid : ℕ) (credential : Credential)
     (call : types.Call) (bytes : List ℕ) (new : Standing) : Type 0 where
-  Done : (reply : Reply) → Steps s old credential call reply new → bytes ≡ done xid reply
+  Done : (reply : Reply) → Steps s old credential call reply new → bytes ≡ nfs_done xid reply
       → IsReplyWithRules s old xid credential call bytes new
   NoMemory : Stays old new → bytes ≡ refused xid SystemError
       → IsReplyWithRules s old xid credential call bytes new
-  Spent : Stays old new → new.is_spent ≡ true → bytes ≡ done xid (model.refused status.ServerFault call)
+  Spent : Stays old new → new.is_spent ≡ true → bytes ≡ nfs_done xid (model.refused status.ServerFault call)
       → IsReplyWithRules s old xid credential call bytes new
-  Failed : Stays old new → HasFailed old new → bytes ≡ done xid (model.refused status.Io call)
+  Failed : Stays old new → HasFailed old new → bytes ≡ nfs_done xid (model.refused status.Io call)
       → IsReplyWithRules s old xid credential call bytes new
   Unsettled : (reply : Reply) → Steps s old credential call reply new → HasFailed old new
       → is_answered_stable call ≡ true
-      → bytes ≡ done xid (model.refused status.Io call) → IsReplyWithRules s old xid credential call bytes new
+      → bytes ≡ nfs_done xid (model.refused status.Io call) → IsReplyWithRules s old xid credential call bytes new
 
 -- what a call without rules is answered: a function of the message alone, or that memory was refused
-pub record IsPlainCall (old : Standing) (xid : ℕ) (call : types.Call) (bytes : List ℕ) (new : Standing) : Type
-    0 where
+pub record IsPlainCall (old : Standing) (xid : ℕ) (call : ProgramCall) (bytes : List ℕ)
+    (new : Standing) : Type 0 where
   pub stays : new ≡ old
-  pub told : (bytes ≡ done xid (unsupported call)) ⊎ (bytes ≡ refused xid SystemError)
+  pub told : (bytes ≡ done xid (plain_reply call)) ⊎ (bytes ≡ refused xid SystemError)
 
-abbrev pub IsCallReply : Serving → Standing → Bool → ℕ → Credential → types.Call → List ℕ → Standing → Type 0
-IsCallReply s old true xid credential call bytes new = IsReplyWithRules s old xid credential call bytes new
-IsCallReply s old false xid credential call bytes new = IsPlainCall old xid call bytes new
+abbrev pub IsNfsReply : Serving → Standing → Bool → ℕ → Credential → types.Call → List ℕ → Standing → Type 0
+IsNfsReply s old true xid credential call bytes new = IsReplyWithRules s old xid credential call bytes new
+IsNfsReply s old false xid credential call bytes new =
+    IsPlainCall old xid (program_calls.Nfs call) bytes new
+
+-- no call of MOUNT begins a transaction
+abbrev pub IsCallReply : Serving → Standing → ℕ → Credential → ProgramCall → List ℕ → Standing → Type 0
+IsCallReply s old xid credential (program_calls.Nfs call) bytes new =
+    IsNfsReply s old (has_rules call) xid credential call bytes new
+IsCallReply s old xid credential (program_calls.Mount call) bytes new =
+    IsPlainCall old xid (program_calls.Mount call) bytes new
 
 -- what a message is answered, by what it is taken for: one on which the connection closes gets no reply
 abbrev pub IsReplyTo : Serving → Standing → Judged → List ℕ → Standing → Type 0
 IsReplyTo s old Closed bytes new = ⊥
 IsReplyTo s old (Refused xid refusal) bytes new = (bytes ≡ refused xid refusal) × (new ≡ old)
 IsReplyTo s old (Call xid credential call) bytes new =
-    IsCallReply s old (has_rules call) xid credential call bytes new
+    IsCallReply s old xid credential call bytes new
 
 -- no message is left, or the connection closes on the next one
 abbrev pub Ends : List (List ℕ) → Type 0

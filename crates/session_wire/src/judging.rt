@@ -4,10 +4,9 @@ ghost use Rattle.session_wire.specs.Headers.{header_at, heading};
 ghost use Rattle.session_wire.specs.Judging.{Judges, judged, on_header, requested};
 
 use crate::message::Judged;
-use crate::nfs_codec::{Procedure, decode_call};
+use crate::nfs_codec::{decode_call, is_available, is_decoded, procedure_of, program_of};
 use crate::rpc::{
-    CALL, Header, NFS_PROGRAM, NFS_VERSION, RPC_VERSION, Refusal, read_credential, read_header,
-    read_opening,
+    CALL, Header, NFS_VERSION, RPC_VERSION, Refusal, read_credential, read_header, read_opening,
 };
 use crate::xdr::{Reader, XdrFault};
 use nfs_types::Credential;
@@ -62,15 +61,21 @@ fn judge_request(
 ) -> Judged
     ensures { Judges result (requested xid credential (heading header.entry) arguments.now) }
 {
-    if header.program != NFS_PROGRAM {
+    let Some(program) = program_of(header.program) else {
+        return refused(xid, Refusal::ProgramUnavailable);
+    };
+    if !is_available(program) {
         return refused(xid, Refusal::ProgramUnavailable);
     }
     if header.version != NFS_VERSION {
         return refused(xid, Refusal::ProgramMismatch);
     }
-    let Some(procedure) = Procedure::numbered(header.procedure) else {
+    let Some(procedure) = procedure_of(program, header.procedure) else {
         return refused(xid, Refusal::ProcedureUnavailable);
     };
+    if !is_decoded(procedure) {
+        return refused(xid, Refusal::ProcedureUnavailable);
+    }
     match decode_call(alloc, procedure, arguments) {
         Ok(call) => Judged::Call {
             xid,

@@ -3,11 +3,11 @@
 ghost use Rattle.std.specs.Prelude.{◌≡◌, ◌<◌, ◌≤◌, ◌↔◌, ◌++◌, ◌∷◌, [], ℕ, List, Ok, true, length};
 ghost use Rattle.std.specs.Prelude.{slice_index};
 ghost use Rattle.nfs_types.specs.declared.ctx.Credential.{Credential};
-ghost use Rattle.nfs_types.specs.declared.call.Call.{Call};
+ghost use Rattle.nfs_types.specs.declared.program.ProgramCall.{ProgramCall};
+ghost use Rattle.nfs_types.specs.declared.program.ProgramProcedure.{ProgramProcedure};
 ghost use Rattle.session_wire.specs.declared.message.CallMessage.{CallMessage};
 ghost use Rattle.session_wire.specs.Calls.{SpellsCall, caller_of};
 ghost use Rattle.session_wire.specs.declared.message.ReplyMessage.{ReplyMessage};
-ghost use Rattle.session_wire.specs.declared.nfs_codec.procedure.Procedure.{Procedure};
 ghost use Rattle.session_wire.specs.Replies.{SpellsReply};
 ghost use Rattle.session_wire.specs.ReadingReplies.{reply_of};
 ghost use Rattle.session_wire.specs.Judging.{judged};
@@ -36,7 +36,7 @@ pub fn spelled_calls_are_judged_so()
 
 /// What is taken for a call spells one, with this number, this caller and these arguments.
 pub fn judged_calls_are_spelled()
-    ensures { (bytes : List ℕ) (xid : ℕ) (caller : Credential) (call : Call)
+    ensures { (bytes : List ℕ) (xid : ℕ) (caller : Credential) (call : ProgramCall)
         → ((i : ℕ) → slice_index bytes i < 256) → judged bytes ≡ Judged.Call xid caller call
         → (m : CallMessage) × SpellsCall bytes m × (m.xid ≡ xid) × (caller_of m.credential ≡ caller)
         × (m.call ≡ call) }
@@ -44,19 +44,19 @@ pub fn judged_calls_are_spelled()
 
 /// A reply has one spelling.
 pub fn replies_have_one_spelling()
-    ensures { (p : Procedure) (a b : List ℕ) (m : ReplyMessage) → SpellsReply p a m → SpellsReply p b m
+    ensures { (p : ProgramProcedure) (a b : List ℕ) (m : ReplyMessage) → SpellsReply p a m → SpellsReply p b m
         → a ≡ b }
 {}
 
 /// No two replies to one procedure share a spelling.
 pub fn replies_share_no_spelling()
-    ensures { (p : Procedure) (bytes : List ℕ) (m n : ReplyMessage) → SpellsReply p bytes m
+    ensures { (p : ProgramProcedure) (bytes : List ℕ) (m n : ReplyMessage) → SpellsReply p bytes m
         → SpellsReply p bytes n → m ≡ n }
 {}
 
 /// Bytes spell a reply exactly where reading them from the left gives it.
 pub fn spelled_replies_are_read()
-    ensures { (p : Procedure) (bytes : List ℕ) (m : ReplyMessage) → ((i : ℕ) → slice_index bytes i < 256)
+    ensures { (p : ProgramProcedure) (bytes : List ℕ) (m : ReplyMessage) → ((i : ℕ) → slice_index bytes i < 256)
         → (SpellsReply p bytes m ↔ (reply_of p bytes ≡ Ok m)) }
 {}
 

@@ -19,7 +19,7 @@ pub use laws::{
     streams_have_one_cut,
 };
 pub use message::{
-    CallMessage, Judged, MessageCredential, ReplyBody, ReplyMessage, RpcReply, Verifier,
+    CallMessage, Judged, MessageCredential, MessageVerifier, ReplyBody, ReplyMessage, RpcReply,
 };
 pub use reply::reply_bytes;
 pub use streams::{

@@ -1,7 +1,7 @@
 //! What a record is taken for, and what is answered.
 
 use crate::rpc::Refusal;
-use nfs_types::{Call, Credential, Octets, Reply};
+use nfs_types::{Credential, MountReply, Octets, ProgramCall, ProgramReply, Reply};
 
 /// What the bytes of a record are taken for.
 #[derive(Drop)]
@@ -17,14 +17,15 @@ pub enum Judged {
     Call {
         xid: u32,
         credential: Credential,
-        call: Call,
+        call: ProgramCall,
     },
 }
 
 /// What a call is answered.
 #[derive(Clone, Copy)]
 pub enum RpcReply<'a> {
-    Done(&'a Reply),
+    Nfs(&'a Reply),
+    Mount(&'a MountReply),
     Refused(Refusal),
 }
 
@@ -41,28 +42,28 @@ pub enum MessageCredential {
 
 /// What a message proves its caller by. The server doesn't look at it.
 #[derive(Drop)]
-pub struct Verifier {
+pub struct MessageVerifier {
     pub flavor: u32,
     pub body: Octets,
 }
 
-/// A call of program 100003, version 3, as a message.
+/// A call of either program as a message.
 #[derive(Drop)]
 pub struct CallMessage {
     pub xid: u32,
     pub credential: MessageCredential,
-    pub verifier: Verifier,
-    pub call: Call,
+    pub verifier: MessageVerifier,
+    pub call: ProgramCall,
 }
 
 /// What a reply message bears.
 #[derive(Drop)]
 pub enum ReplyBody {
-    Done(Reply),
+    Done(ProgramReply),
     Refused(Refusal),
 }
 
-/// A reply of program 100003, version 3, as a message.
+/// A reply of either program as a message.
 #[derive(Drop)]
 pub struct ReplyMessage {
     pub xid: u32,

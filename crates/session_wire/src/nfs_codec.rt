@@ -8,5 +8,5 @@ mod status;
 
 pub use arguments::decode_call;
 pub use items::{read_guard, read_moment, read_new_attributes};
-pub use procedure::Procedure;
+pub use procedure::{is_available, is_decoded, procedure_of, program_of};
 pub use results::encode_reply;

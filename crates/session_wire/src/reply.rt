@@ -37,10 +37,11 @@ fn message(alloc: Global, xid: u32, reply: RpcReply) -> Result<Writer, AllocErro
 {
     let mut out = Writer::new(alloc);
     match reply {
-        RpcReply::Done(done) => {
+        RpcReply::Nfs(done) => {
             put_accepted(&mut out, xid, 0)?;
             encode_reply(&mut out, done)?;
         }
+        RpcReply::Mount(_) => unreachable!(),
         RpcReply::Refused(refusal) => put_refusal(&mut out, xid, refusal)?,
     }
     Ok(out)

@@ -1,3 +1,5 @@
-pub mod Worker
-pub mod Running
 pub mod Counts
+pub mod Formatting
+pub mod Opening
+pub mod Running
+pub mod Worker

@@ -1,8 +1,9 @@
 //! Making an image: the order of its device calls. What its blocks hold is `layout`'s.
-ghost use Rattle.std.specs.Prelude.{◌≡◌, ◌≤◌, ◌<◌, ◌-◌, IfOk};
-ghost use Rattle.disk.specs.Device.{HasWritten};
+ghost use Rattle.std.specs.Prelude.{◌≡◌, ◌≤◌, ◌<◌, OnOk};
+ghost use Rattle.disk.specs.Device.{CountsFailure, HasWritten};
 ghost use Rattle.layout.specs.Fresh.{fresh};
 ghost use Rattle.layout.specs.Geometry.{data_at};
+ghost use Rattle.store.specs.Formatting.{HasFormatted, HasWrittenUpTo};
 
 use disk::{Block, BlockNo, CrashDisk, Failed, Side};
 use layout::{FreshImage, Geometry, GeometryFault};
@@ -25,12 +26,20 @@ pub enum FormatFault {
 }
 
 impl From<AllocError> for FormatFault {
+    ghost use Rattle.store.specs.declared.formatting.FormatFault.TheVariants.{NoMemory};
+
+    ghost from_gives = { λ _ fault. fault ≡ NoMemory };
+
     fn from(_: AllocError) -> FormatFault {
         FormatFault::NoMemory
     }
 }
 
 impl From<Failed> for FormatFault {
+    ghost use Rattle.store.specs.declared.formatting.FormatFault.TheVariants as fault;
+
+    ghost from_gives = { λ _ gives. gives ≡ fault.Device };
+
     fn from(_: Failed) -> FormatFault {
         FormatFault::Device
     }
@@ -46,8 +55,7 @@ pub fn format<D: CrashDisk>(
     inodes: u32,
     moment: Moment,
 ) -> Result<u32, FormatFault>
-    ensures { IfOk result (λ count. count ≡ (D.device disk.old).size
-        - data_at (D.device disk.old).size inodes) }
+    ensures { HasFormatted (D.device disk.old) inodes moment result (D.device disk.new) }
 {
     let geometry = match Geometry::new(disk.blocks(), inodes) {
         Ok(geometry) => geometry,
@@ -77,7 +85,10 @@ fn write_up_to<D: CrashDisk>(
 ) -> Result<(), Failed>
     requires blocks { image.now.geometry.blocks ≡ (D.device disk.old).size }
     requires end { end ≤ image.now.geometry.blocks }
-    ensures { (D.device disk.new).size ≡ (D.device disk.old).size }
+    ensures written { OnOk result
+        (HasWrittenUpTo (D.device disk.old) image.now.geometry image.now.made end (D.device disk.new)) }
+    ensures failure { CountsFailure (D.device disk.old) (D.device disk.new) result }
+    ensures size { (D.device disk.new).size ≡ (D.device disk.old).size }
 {
     'numbers: for number in FIRST_HOME_BLOCK..end {
         write_one(disk, block, image, number)?;
@@ -96,6 +107,7 @@ fn write_one<D: CrashDisk>(
     requires number { number < image.now.geometry.blocks }
     ensures written { HasWritten (D.device disk.old) number (fresh image.now.geometry image.now.made number)
         result (D.device disk.new) }
+    ensures failure { CountsFailure (D.device disk.old) (D.device disk.new) result }
     ensures size { (D.device disk.new).size ≡ (D.device disk.old).size }
 {
     image.put(number, block);

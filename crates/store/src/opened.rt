@@ -1,9 +1,9 @@
 //! An open store: a disk with the core over it.
-ghost use Rattle.std.specs.Prelude.{◌≡◌, ◌≤◌, ◌<◌, ◌↔◌, false, IsTrue, IfOk, length};
+ghost use Rattle.std.specs.Prelude.{◌≡◌, ◌<◌, ◌↔◌, IsTrue, OnOk, length};
 ghost use Rattle.limits.specs.declared.TheConstants.{MOST_KEPT_COMMITS};
-ghost use Rattle.wal.specs.Log.{settled_place};
 ghost use Rattle.layout.specs.Geometry.{IsLawful};
 ghost use Rattle.store.specs.Counts.{SameCounts};
+ghost use Rattle.store.specs.Opening.{IsSettled};
 
 use disk::{CrashDisk, Failed};
 use limits::MOST_KEPT_COMMITS;
@@ -54,9 +54,7 @@ pub fn close<D: CrashDisk>(store: Store<D>) -> D
 pub fn settle<D: CrashDisk>(store: &mut Store<D>) -> Result<(), Failed>
     ensures out { store.new.core.out ≡ store.old.core.out }
     ensures counts { SameCounts store.old.core store.new.core }
-    ensures settled { IfOk result (λ _. settled_place store.new.core.log ≡ store.new.core.log.places) }
-    ensures kept { IfOk result (λ _. length store.new.core.records ≤ MOST_KEPT_COMMITS) }
-    ensures sound { IfOk result (λ _. store.new.core.log.broken ≡ false) }
+    ensures settled { OnOk result (IsSettled store.new.core) }
 {
     'calls: for _ in 0..u64::MAX {
         if store.core.broken() {

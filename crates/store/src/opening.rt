@@ -1,7 +1,8 @@
 //! Opening a store: what a crash left in the log is brought home, and the boot number rises.
-ghost use Rattle.std.specs.Prelude.{◌≡◌, ◌+◌, ◌^◌, ◌<◌, IfOk, None};
+ghost use Rattle.std.specs.Prelude.{◌≡◌, ◌+◌, ◌^◌, ◌<◌, IfOk, MatchResult, None, Ok, Err};
 ghost use Rattle.wal.specs.Io.{IsCallWithin};
 ghost use Rattle.layout.specs.Geometry.{IsLawful};
+ghost use Rattle.store.specs.Opening.{HasOpened, store_of};
 
 use crate::opened::Store;
 use disk::{Block, BlockNo, CrashDisk, Side};
@@ -19,8 +20,12 @@ use wal::{InstIo, Wal};
 /// be read (Device) or is refused as `Super::read` says, its sizes aren't the device's or no boot number is left
 /// (Range), the log isn't one (Log). Until then nothing is written. Later only Device and NoMemory come. A refusal
 /// hands the disk back.
+#[tactic(auto, using(crate::specs::Opening::has_opened))]
 pub fn open<D: CrashDisk>(alloc: Global, disk: D) -> Result<Store<D>, (D, OpenFault)>
-    ensures { IfOk result (λ store. store.core.out ≡ None) }
+    ensures idle { IfOk result (λ store. store.core.out ≡ None) }
+    ensures opened { MatchResult result
+        (λ store. HasOpened (D.device disk) (Ok (store_of (D.device store.disk) store.core store.boot)))
+        (λ refused. HasOpened (D.device disk) (Err (D.device refused.0, refused.1))) }
 {
     let mut disk = disk;
     match recover(alloc, &mut disk) {

@@ -114,10 +114,14 @@ impl Worker {
     ghost use Rattle.txn.specs.Core.{CoreState};
     ghost use Rattle.store.specs.declared.workers.Phase.TheVariants.{Idle, Called, Reading};
     ghost use Rattle.store.specs.Counts.{SameCounts};
+    ghost use Rattle.layout.specs.Geometry.{IsLawful};
     ghost use Rattle.store.specs.Worker.{Fits, ReadsWithin, has_fetch};
 
-    /// An idle worker of a store with this boot number.
+    /// An idle worker of a store with this boot number. It fits each core that has no transaction out, and from
+    /// then on that core alone: each method keeps it so, with whatever device of as many blocks.
     pub fn new(boot: u64) -> Worker
+        ensures fits { (core : CoreState) → core.out ≡ None → IsLawful core.log.blocks core.inodes
+            → Fits result core }
         ensures idle { result.phase ≡ Idle }
         ensures boot { result.boot ≡ boot }
         ensures out { (result.begun.tx ≡ None) × (result.begun.io ≡ None) }

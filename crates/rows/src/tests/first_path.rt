@@ -5,8 +5,8 @@ use crate::tests::plain::{DATA_BLOCKS, fresh, plain_reply_to, reply_in};
 use crate::tests::served::{Host, INODES, formatted, has_replies, reopened, serve};
 use disk::MemDisk;
 use limits::LEAST_BLOCKS;
+use nfs_types::Procedure;
 use plain_image::read_image;
-use session_wire::nfs_codec::Procedure;
 use std::test::Fail;
 use worked_messages::{GETATTR, GETATTR_FRESH, MADE, SETATTR, SETATTR_DONE};
 

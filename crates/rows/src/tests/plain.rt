@@ -1,10 +1,12 @@
 //! The same by the plain programs: a call's bytes are read as a value, which is served over a tree.
 
 use crate::tests::served::INODES;
-use nfs_types::{Call, Credential, Ctx, NumberList, Reply};
+use nfs_types::{
+    Call, Credential, Ctx, NumberList, Procedure, ProgramCall, ProgramProcedure, ProgramReply,
+    Reply,
+};
 use plain_server::PlainTree;
 use plain_wire::{read_call, read_reply};
-use session_wire::nfs_codec::Procedure;
 use session_wire::{MessageCredential, ReplyBody};
 use std::alloc::{AllocError, Global};
 use std::test::Fail;
@@ -33,7 +35,10 @@ fn caller(alloc: Global, credential: MessageCredential) -> Credential {
 /// Who asks for what by this message.
 pub fn asked(alloc: Global, message: &[u32]) -> Result<(Credential, Call), Fail> {
     let read = read_call(alloc, &content(alloc, message)?)?.ok_or("a call")?;
-    Ok((caller(alloc, read.credential), read.call))
+    match read.call {
+        ProgramCall::Nfs(call) => Ok((caller(alloc, read.credential), call)),
+        ProgramCall::Mount(_) => Err(Fail::from("a call of MOUNT")),
+    }
 }
 
 /// The reply to this message, with which the tree goes on.
@@ -63,10 +68,11 @@ pub fn changed_by(alloc: Global, message: &[u32]) -> Result<PlainTree, Fail> {
 /// The number and the reply that these bytes spell behind their mark.
 pub fn reply_in(procedure: Procedure, output: &[u8]) -> Result<(u32, Reply), Fail> {
     let content = output.get(4..).ok_or("a mark")?;
-    let message = read_reply(procedure, content).ok_or("a reply")?;
+    let message = read_reply(ProgramProcedure::Nfs(procedure), content).ok_or("a reply")?;
     let xid = message.xid;
     match message.body {
-        ReplyBody::Done(reply) => Ok((xid, reply)),
+        ReplyBody::Done(ProgramReply::Nfs(reply)) => Ok((xid, reply)),
+        ReplyBody::Done(ProgramReply::Mount(_)) => Err(Fail::from("a reply of MOUNT")),
         ReplyBody::Refused(_) => Err(Fail::from("refused")),
     }
 }

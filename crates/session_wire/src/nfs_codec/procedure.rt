@@ -1,25 +1,129 @@
-//! The procedures that are decoded.
+//! The programs and their procedures, by their numbers.
 ghost use Rattle.std.specs.Prelude.{◌≡◌};
-ghost use Rattle.session_wire.specs.Calls.{procedure_of};
+ghost use Rattle.session_wire.specs.Procedures as numbers;
 
-/// A procedure of program 100003 (RFC 1813, section 3).
-#[derive(Clone, Copy, Debug, PartialEq, Eq)]
-pub enum Procedure {
-    Null,
-    GetAttr,
-    SetAttr,
+use crate::rpc::{MOUNT_PROGRAM, NFS_PROGRAM};
+use nfs_types::{MountProcedure, Procedure, Program, ProgramProcedure};
+
+/// The program of a number, or None where none has it.
+pub fn program_of(number: u32) -> Option<Program>
+    ensures { result ≡ numbers.program_of number }
+{
+    match number {
+        NFS_PROGRAM => Some(Program::Nfs),
+        MOUNT_PROGRAM => Some(Program::Mount),
+        _ => None,
+    }
 }
 
-impl Procedure {
-    /// The procedure of a number, or None where none of that number is decoded.
-    pub fn numbered(number: u32) -> Option<Procedure>
-        ensures { result ≡ procedure_of number }
-    {
-        match number {
-            0 => Some(Procedure::Null),
-            1 => Some(Procedure::GetAttr),
-            2 => Some(Procedure::SetAttr),
-            _ => None,
-        }
+/// Whether the server has the program so far.
+pub fn is_available(program: Program) -> bool
+    ensures { result ≡ numbers.is_available program }
+{
+    match program {
+        Program::Nfs => true,
+        Program::Mount => false,
+    }
+}
+
+/// The procedure of a program and a number, or None where none has it.
+pub fn procedure_of(program: Program, number: u32) -> Option<ProgramProcedure>
+    ensures { result ≡ numbers.procedure_of program number }
+{
+    match program {
+        Program::Nfs => match nfs_procedure(number) {
+            Some(procedure) => Some(ProgramProcedure::Nfs(procedure)),
+            None => None,
+        },
+        Program::Mount => match mount_procedure(number) {
+            Some(procedure) => Some(ProgramProcedure::Mount(procedure)),
+            None => None,
+        },
+    }
+}
+
+fn nfs_procedure(number: u32) -> Option<Procedure>
+    ensures { result ≡ numbers.nfs_procedure number }
+{
+    match number {
+        0 => Some(Procedure::Null),
+        1 => Some(Procedure::GetAttr),
+        2 => Some(Procedure::SetAttr),
+        3 => Some(Procedure::Lookup),
+        4 => Some(Procedure::Access),
+        5 => Some(Procedure::ReadLink),
+        6 => Some(Procedure::Read),
+        7 => Some(Procedure::Write),
+        8 => Some(Procedure::Create),
+        9 => Some(Procedure::MkDir),
+        10 => Some(Procedure::SymLink),
+        11 => Some(Procedure::MkNod),
+        12 => Some(Procedure::Remove),
+        13 => Some(Procedure::RmDir),
+        14 => Some(Procedure::Rename),
+        15 => Some(Procedure::Link),
+        16 => Some(Procedure::ReadDir),
+        17 => Some(Procedure::ReadDirPlus),
+        18 => Some(Procedure::FsStat),
+        19 => Some(Procedure::FsInfo),
+        20 => Some(Procedure::PathConf),
+        21 => Some(Procedure::Commit),
+        _ => None,
+    }
+}
+
+fn mount_procedure(number: u32) -> Option<MountProcedure>
+    ensures { result ≡ numbers.mount_procedure number }
+{
+    match number {
+        0 => Some(MountProcedure::Null),
+        1 => Some(MountProcedure::Mount),
+        3 => Some(MountProcedure::Unmount),
+        _ => None,
+    }
+}
+
+/// Whether the procedure is decoded so far.
+pub fn is_decoded(procedure: ProgramProcedure) -> bool
+    ensures { result ≡ numbers.is_decoded procedure }
+{
+    match procedure {
+        ProgramProcedure::Nfs(procedure) => is_decoded_nfs(procedure),
+        ProgramProcedure::Mount(procedure) => is_decoded_mount(procedure),
+    }
+}
+
+fn is_decoded_nfs(procedure: Procedure) -> bool
+    ensures { result ≡ numbers.is_decoded_nfs procedure }
+{
+    match procedure {
+        Procedure::Null | Procedure::GetAttr | Procedure::SetAttr => true,
+        Procedure::Lookup
+        | Procedure::Access
+        | Procedure::ReadLink
+        | Procedure::Read
+        | Procedure::Write
+        | Procedure::Create
+        | Procedure::MkDir
+        | Procedure::SymLink
+        | Procedure::MkNod
+        | Procedure::Remove
+        | Procedure::RmDir
+        | Procedure::Rename
+        | Procedure::Link
+        | Procedure::ReadDir
+        | Procedure::ReadDirPlus
+        | Procedure::FsStat
+        | Procedure::FsInfo
+        | Procedure::PathConf
+        | Procedure::Commit => false,
+    }
+}
+
+fn is_decoded_mount(procedure: MountProcedure) -> bool
+    ensures { result ≡ numbers.is_decoded_mount procedure }
+{
+    match procedure {
+        MountProcedure::Null | MountProcedure::Mount | MountProcedure::Unmount => false,
     }
 }

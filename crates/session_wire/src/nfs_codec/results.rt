@@ -1,18 +1,19 @@
 //! Writing the result of a call (RFC 1813, section 3.3).
 ghost use Rattle.std.specs.Prelude.{◌≡◌, ◌++◌, OnOk};
+ghost use Rattle.nfs_types.specs.declared.program.ProgramReply.TheVariants as replies;
 ghost use Rattle.session_wire.specs.Calls.{moment};
 ghost use Rattle.session_wire.specs.Results.{attributes, optional_attributes, before_attributes, weak_cache};
-ghost use Rattle.session_wire.specs.Results.{outcome_status, get_attr_result, HasSpelling, result_bytes};
+ghost use Rattle.session_wire.specs.Results.{outcome_status, get_attr_result, HasSpelling, nfs_result_bytes};
 
 use crate::nfs_codec::status::{number_of_kind, number_of_status};
 use crate::xdr::Writer;
 use nfs_types::{Attributes, Moment, Reply, Status, WeakCacheAttributes, WeakCacheData};
 use std::alloc::AllocError;
 
-/// Writes the result of a procedure that is decoded.
+/// Writes the result of a procedure of NFS that is decoded.
 pub fn encode_reply(out: &mut Writer, reply: &Reply) -> Result<(), AllocError>
-    requires { HasSpelling reply.now }
-    ensures { OnOk result (out.new ≡ out.old ++ result_bytes reply.now) }
+    requires { HasSpelling (replies.Nfs reply.now) }
+    ensures { OnOk result (out.new ≡ out.old ++ nfs_result_bytes reply.now) }
 {
     match reply {
         Reply::Null => Ok(()),

@@ -1,7 +1,7 @@
 //! What the server takes worked calls for.
 
 use crate::tests::setattr::is_worked_setattr;
-use nfs_types::Call;
+use nfs_types::{Call, ProgramCall};
 use session_wire::rpc::Refusal;
 use session_wire::{Judged, judge};
 use std::alloc::{AllocError, Global};
@@ -13,8 +13,8 @@ fn judged(alloc: Global, message: &[u32]) -> Result<Judged, AllocError> {
     judge(alloc, bytes.as_slice())
 }
 
-fn is_null(call: &Call) -> bool {
-    matches!(call, Call::Null)
+fn is_null(call: &ProgramCall) -> bool {
+    matches!(call, ProgramCall::Nfs(Call::Null))
 }
 
 // Whether it is NULL by nobody, transaction 1.
@@ -42,7 +42,7 @@ fn is_setattr_by_root(judged: &Judged) -> bool {
         Judged::Call {
             xid,
             credential,
-            call,
+            call: ProgramCall::Nfs(call),
         } => *xid == 4 && credential.uid == 0 && is_worked_setattr(call),
         _ => false,
     }

@@ -1,9 +1,8 @@
 //! Worked messages by the plain reader, with the values that they must be read as.
 
 use crate::tests::setattr::is_worked_setattr;
-use nfs_types::Reply;
+use nfs_types::{Procedure, ProgramCall, ProgramProcedure, ProgramReply, Reply};
 use plain_wire::{read_call, read_reply};
-use session_wire::nfs_codec::Procedure;
 use session_wire::rpc::Refusal;
 use session_wire::{CallMessage, MessageCredential, ReplyBody, ReplyMessage};
 use std::alloc::{AllocError, Global};
@@ -21,7 +20,10 @@ fn is_setattr_message(message: &CallMessage) -> bool {
     message.xid == 4
         && has_stamp(&message.credential, 0)
         && message.verifier.flavor == 0
-        && is_worked_setattr(&message.call)
+        && match &message.call {
+            ProgramCall::Nfs(call) => is_worked_setattr(call),
+            ProgramCall::Mount(_) => false,
+        }
 }
 
 // Whether these bytes are the worked SETATTR.
@@ -63,14 +65,14 @@ fn is_fresh_root(reply: &Reply) -> bool {
 fn tells_of_the_root(message: &ReplyMessage) -> bool {
     message.xid == 3
         && match &message.body {
-            ReplyBody::Done(reply) => is_fresh_root(reply),
-            ReplyBody::Refused(_) => false,
+            ReplyBody::Done(ProgramReply::Nfs(reply)) => is_fresh_root(reply),
+            ReplyBody::Done(ProgramReply::Mount(_)) | ReplyBody::Refused(_) => false,
         }
 }
 
 // Whether these bytes are the attributes of a fresh root.
 fn is_read_as_attributes(bytes: &[u8]) -> bool {
-    match &read_reply(Procedure::GetAttr, bytes) {
+    match &read_reply(ProgramProcedure::Nfs(Procedure::GetAttr), bytes) {
         Some(message) => tells_of_the_root(message),
         None => false,
     }
@@ -84,7 +86,7 @@ fn attributes_of_the_root(rt: HostRuntime) -> Result<(), Fail> {
 }
 
 fn is_no_reply(procedure: Procedure, bytes: &[u8]) -> bool {
-    read_reply(procedure, bytes).is_none()
+    read_reply(ProgramProcedure::Nfs(procedure), bytes).is_none()
 }
 
 #[test]
@@ -103,7 +105,7 @@ fn is_refused_for(message: &ReplyMessage, wanted: Refusal) -> bool {
 
 // Whether these bytes are the refusal of another version.
 fn is_read_as_mismatch(bytes: &[u8]) -> bool {
-    match &read_reply(Procedure::Null, bytes) {
+    match &read_reply(ProgramProcedure::Nfs(Procedure::Null), bytes) {
         Some(message) => is_refused_for(message, Refusal::ProgramMismatch),
         None => false,
     }

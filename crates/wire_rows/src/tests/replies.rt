@@ -25,7 +25,7 @@ fn is_written(
 
 #[test]
 fn null(rt: HostRuntime) -> Result<(), Fail> {
-    assert!(rt; is_written(rt.alloc(), 1, RpcReply::Done(&Reply::Null), &NULL_REPLY)?);
+    assert!(rt; is_written(rt.alloc(), 1, RpcReply::Nfs(&Reply::Null), &NULL_REPLY)?);
     Ok(())
 }
 
@@ -34,7 +34,7 @@ fn attributes_of_the_root(rt: HostRuntime) -> Result<(), Fail> {
     let reply = Reply::GetAttr {
         outcome: Ok(FRESH_ROOT),
     };
-    assert!(rt; is_written(rt.alloc(), 3, RpcReply::Done(&reply), &GETATTR_FRESH)?);
+    assert!(rt; is_written(rt.alloc(), 3, RpcReply::Nfs(&reply), &GETATTR_FRESH)?);
     Ok(())
 }
 
@@ -44,7 +44,7 @@ fn mode_of_the_root_is_set(rt: HostRuntime) -> Result<(), Fail> {
         outcome: Ok(()),
         object: ROOT_IS_CHANGED,
     };
-    assert!(rt; is_written(rt.alloc(), 4, RpcReply::Done(&reply), &SETATTR_DONE)?);
+    assert!(rt; is_written(rt.alloc(), 4, RpcReply::Nfs(&reply), &SETATTR_DONE)?);
     Ok(())
 }
 

@@ -1,6 +1,10 @@
--- the disk has the blocks that it had
+-- the blocks so far are written
 use Rattle.std.proofs.Common.{◌≡◌}
+use Rattle.store.specs.Formatting.{HasWrittenUpTo}
 use Rattle.store.proofs.formatting.write_up_to.Given as goal
 
 abbrev pub invariant-numbers : goal.invariant-numbers
-invariant-numbers g l = (g.D.CrashDisk.device l.disk).size ≡ (g.D.CrashDisk.device l.fn.disk).size
+invariant-numbers g l = record {
+  upto : HasWrittenUpTo (g.D.CrashDisk.device l.fn.disk) l.image.geometry l.image.made l.number (g.D.CrashDisk.device l.disk);
+  failures : (g.D.CrashDisk.device l.disk).failures ≡ (g.D.CrashDisk.device l.fn.disk).failures;
+}

@@ -1,13 +1,25 @@
-use Rattle.std.proofs.Common.{◌≡◌, ℕ, ◌<◌, [], ◌∷◌, map, length, get_or, ap, ◌∙◌}
+use Rattle.std.proofs.Common.{◌≡◌, ℕ, ◌<◌, [], ◌∷◌, map, length, get_or, ap, ◌∙◌, sym, subst, All}
 use Rattle.std.proofs.lemmas.List.{with_items_is}
 use Rattle.std.specs.Vec.{with_items}
 use Rattle.disk.specs.Device.{Device, current, newest}
 use Rattle.disk.specs.Choice.{chosen}
 use Rattle.disk.specs.Crash.{IsCrashImage, IsAtRest}
 use Rattle.disk.specs.Memory.{Blocks, blocks_of, past_of, memory_device}
+use Rattle.disk.specs.Blocks.{AreContents}
 use Rattle.disk.proofs.MemoryLemmas.{moved}
+use Rattle.disk.proofs.BlockLemmas.{chosen_whole}
 use Rattle.disk.proofs.CrashLemmas.{chosen_image, alone_at_rest}
 use Rattle.disk.proofs.mem_disk.MemDisk.crash.Goals as goal
+
+pub invariant_of-result-clause-whole : goal.invariant_of-result-clause-whole
+invariant_of-result-clause-whole c =
+    let now : Blocks = blocks_of c.args.self in
+    let new : Blocks = map (λ x. x ∷ []) (chosen c.args.digits.now now) in
+    let kept : (with_items c.args.self.blocks c.choose.new.blocks).items ≡ new =
+    with_items_is c.args.self.blocks c.choose.new.blocks (c.choose.ensures.len ∙ c.deref_mut.ensures.len)
+    ∙ (rw c.deref_mut.ensures.value at c.choose.ensures.chosen) in
+    subst (λ (blocks : Blocks). All AreContents blocks) (sym kept)
+    (chosen_whole c.args.digits.now now c.args.self.whole)
 
 pub returns-clause-image : goal.returns-clause-image
 returns-clause-image c =

@@ -1,0 +1,21 @@
+-- Contents that are blocks.
+use Rattle.std.specs.Prelude.{◌≡◌, ℕ, ◌<◌, ◌≤◌, List, length, get_or, All}
+use Rattle.limits.specs.declared.TheConstants.{BLOCK_BYTES}
+use Rattle.disk.specs.Device.{Content, Device}
+
+-- 4,096 bytes
+abbrev pub IsBlock : Content → Type 0
+IsBlock content = (length content ≡ BLOCK_BYTES) × ((index : ℕ) → get_or content index 0 < 256)
+
+-- what a crash may leave of a block: there is a content, and each of them is a block
+abbrev pub AreContents : List Content → Type 0
+AreContents contents = (0 < length contents) × All IsBlock contents
+
+-- so many blocks with what a crash may leave of each
+abbrev pub AreWhole : ℕ → List (List Content) → Type 0
+AreWhole size blocks = (length blocks ≡ size) × All AreContents blocks
+
+-- at each clock so far, what a crash may leave of each block of the device is a block
+pub record AreBlocks (d : Device) : Type 0 where
+  pub some : (clock block : ℕ) → clock ≤ d.clock → block < d.size → 0 < length (d.contents clock block)
+  pub blocks : (clock block : ℕ) → clock ≤ d.clock → block < d.size → All IsBlock (d.contents clock block)

@@ -1,0 +1,111 @@
+//! The file below a device: what is asked of it, and what is noted of that.
+ghost use Rattle.std.specs.Prelude.{◌≡◌, [], ◌∷◌, ◌++◌};
+ghost use Rattle.std.specs.declared.snapshot.Snapshot.{Snapshot};
+ghost use Rattle.disk.specs.Blocks.{IsBlock};
+ghost use Rattle.disk.specs.Device.{Content};
+ghost use Rattle.disk.specs.File.{AreOfBlocks, bytes_of};
+
+use crate::{Block, BlockNo, Failed, Side};
+use http_server::Log;
+use std::fs::{File, OpenFile};
+use std::io;
+use std::os::unix::fs::FileExt;
+use std::snapshot::Snapshot;
+
+/// An open file of the kit, or what stands in for one, that a program can have for itself.
+pub trait BlockFile: FileExt + OpenFile + Drop {
+    /// Takes the file for this program alone, until it is closed. It never waits: it fails where another
+    /// program has the file, or where the file system knows no locks.
+    fn lock(&self) -> io::Result<()>;
+}
+
+impl BlockFile for File {
+    fn lock(&self) -> io::Result<()> {
+        self.try_lock()?;
+        Ok(())
+    }
+}
+
+/// A call of a file: a read or a write of a block's bytes from an offset on, or a sync that is to settle the
+/// writes of a side.
+#[derive(Drop)]
+pub enum FileCall {
+    Read(u64, Snapshot<Block>),
+    Write(u64, Snapshot<Block>),
+    Sync(Side),
+}
+
+/// A file and the calls that were made of it. Who has one can't call the file without a note of it. The notes
+/// are for proofs alone, in `http_server`'s `Log`, and take no memory.
+#[derive(Drop)]
+pub struct NotedFile<F: BlockFile> {
+    file: F,
+    calls: Log<FileCall, Result<(), Failed>>,
+    ghost whole: { AreOfBlocks calls.items },
+}
+
+impl<F: BlockFile> NotedFile<F> {
+    /// A file of which no call is noted.
+    pub fn new(file: F) -> NotedFile<F>
+        ensures { result.calls.items ≡ [] }
+    {
+        NotedFile {
+            file,
+            calls: Log::new(),
+        }
+    }
+
+    /// Reads the bytes of a block from an offset on, all of them or it fails.
+    pub fn read(&mut self, offset: u64, out: &mut Block) -> Result<(), Failed>
+        ensures { (bytes : Snapshot Content) × (bytes.value ≡ out.new)
+            × (self.new.calls.items ≡ self.old.calls.items ++ (FileCall.Read offset bytes, result) ∷ []) }
+    {
+        let result = out.fill(&self.file, offset).or(Err(Failed));
+        out.whole();
+        self.note(&FileCall::Read(offset, Snapshot::of(out)), &result);
+        result
+    }
+
+    /// Writes the bytes of a block from an offset on. Where it fails some may have been written.
+    pub fn write(&mut self, offset: u64, content: &Block) -> Result<(), Failed>
+        ensures { (bytes : Snapshot Content) × (bytes.value ≡ content.now)
+            × (self.new.calls.items ≡ self.old.calls.items ++ (FileCall.Write offset bytes, result) ∷ []) }
+    {
+        let result = self
+            .file
+            .write_all_at(content.as_slice(), offset)
+            .or(Err(Failed));
+        self.note(&FileCall::Write(offset, Snapshot::of(content)), &result);
+        result
+    }
+
+    /// Settles what was written, for a side.
+    pub fn sync(&mut self, side: Side) -> Result<(), Failed>
+        ensures { self.new.calls.items ≡ self.old.calls.items ++ (FileCall.Sync side, result) ∷ [] }
+    {
+        let result = self.file.sync_data().or(Err(Failed));
+        self.note(&FileCall::Sync(side), &result);
+        result
+    }
+
+    fn note(&mut self, call: &FileCall, outcome: &Result<(), Failed>)
+        requires { IsBlock (bytes_of call.now) }
+        ensures { self.new.calls.items ≡ self.old.calls.items ++ (call.now, outcome.now) ∷ [] }
+    {
+        self.calls = self.calls.and(call, outcome);
+    }
+}
+
+/// What the blocks of a file held when it was opened. It is for proofs alone: no code can read it, and it takes
+/// no memory. A function that is handed one is proved for each.
+#[derive(Drop)]
+pub struct Held {
+    blocks: Log<BlockNo, Block>,
+}
+
+impl Held {
+    /// What a file held, whatever that was: no clause says it.
+    pub fn whatever() -> Held {
+        Held { blocks: Log::new() }
+    }
+}

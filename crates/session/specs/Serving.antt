@@ -1,0 +1,44 @@
+-- What comes of serving a stream.
+use Rattle.std.specs.Prelude.{◌≡◌, ⊤, ℕ, List, Option, None, Result, Ok, Err}
+use Rattle.std.specs.Io.KnownBytes.{IsAtEnd}
+use Rattle.nfs_types.specs.declared.ctx.Moment.{Moment}
+use Rattle.store.specs.Opening.{IsSettled, Opened}
+use Rattle.session.specs.declared.serving.SessionFault.{SessionFault}
+
+-- a client's stream: the bytes of the input that aren't read yet, and those of the output, each where they
+-- are known
+pub record Client : Type 0 where
+  pub unread : Option (List ℕ)
+  pub written : Option (List ℕ)
+
+abbrev pub client_of : Option (List ℕ) → Option (List ℕ) → Client
+client_of unread written = record { unread = unread; written = written }
+
+-- with an answer the input has ended and every change is settled
+abbrev pub IsEnded : Result ℕ SessionFault → Opened → Client → Type 0
+IsEnded (Ok count) store client = IsSettled store.core × IsAtEnd client.unread
+IsEnded (Err fault) store client = ⊤
+
+-- what is known of a store and a client that were served with this answer
+pub record IsServing (result : Result ℕ SessionFault) (store : Opened) (client : Client) : Type 0 where
+  pub idle : store.core.out ≡ None
+  pub ended : IsEnded result store client
+
+-- A store and a client were to be served, each call at the moment, which was answered so, and left them so. As
+-- its body can't be used elsewhere, it is known of just what `serve` answers.
+pub HasServed : Opened → Client → Moment → Result ℕ SessionFault → Opened → Client → Type 0
+HasServed opened client moment result store later = IsServing result store later
+
+-- what follows from it
+pub serving_is : (opened : Opened) (client : Client) (moment : Moment) (result : Result ℕ SessionFault)
+    (store : Opened) (later : Client)
+    → HasServed opened client moment result store later → IsServing result store later
+unfolding HasServed
+serving_is opened client moment result store later served = served
+
+-- for the proof of `serve` alone
+pub has_served : (opened : Opened) (client : Client) (moment : Moment) (result : Result ℕ SessionFault)
+    (store : Opened) (later : Client)
+    → IsServing result store later → HasServed opened client moment result store later
+unfolding HasServed
+has_served opened client moment result store later serving = serving
