@@ -5,3 +5,4 @@ pub mod OneSetAttrAlong
 pub mod OneSetAttrTold
 pub mod OneSetAttrStops
 pub mod OneSetAttrOnly
+pub mod ToldOf

@@ -10,3 +10,4 @@ pub mod Headline
 pub mod Room
 pub mod OneSetAttr
 pub mod OpenStore
+pub mod ToldOf

@@ -133,6 +133,14 @@ with_inst_done log (was_made (Barrier side) ok) =
 with_inst_done log idle = log
 with_inst_done log (out call) = log
 
+-- a call of the log, or of the installer, is given back, made well or not
+abbrev pub with_log_given : LogTold → Bool → LogTold
+with_log_given log ok = if ok then with_log_done log else record log { broken = true; log_call = idle }
+
+abbrev pub with_inst_given : LogTold → Bool → LogTold
+with_inst_given log ok = if ok then with_inst_done log log.inst_call
+    else record log { broken = true; inst_call = idle }
+
 -- a call that is out was made
 abbrev pub call_made : CallTold → Bool → CallTold
 call_made idle ok = idle
@@ -144,10 +152,8 @@ abbrev pub log_moved : LogTold → Step → LogTold
 log_moved log (step.Commit blocks (committing.Committed place)) = with_commit log blocks
 log_moved log (step.LogNext call) = with_log_taken log call
 log_moved log (step.LogIo ok) = record log { log_call = call_made log.log_call ok }
-log_moved log (step.LogDone true) = with_log_done log
-log_moved log (step.LogDone false) = record log { broken = true; log_call = idle }
+log_moved log (step.LogDone ok) = with_log_given log ok
 log_moved log (step.InstNext call) = with_inst_taken log call
 log_moved log (step.InstIo ok) = record log { inst_call = call_made log.inst_call ok }
-log_moved log (step.InstDone true) = with_inst_done log log.inst_call
-log_moved log (step.InstDone false) = record log { broken = true; inst_call = idle }
+log_moved log (step.InstDone ok) = with_inst_given log ok
 log_moved log _ = log

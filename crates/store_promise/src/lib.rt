@@ -8,6 +8,7 @@ mod fault;
 mod fresh;
 mod one_setattr;
 mod open_store;
+mod log_steps;
 mod promises;
 mod transcript;
 
@@ -20,6 +21,7 @@ pub use one_setattr::{
     a_run_that_loses_its_setattr_breaks_the_promise, the_steps_of_one_setattr_tell_its_run,
 };
 pub use open_store::a_stop_leaves_a_good_image;
+pub use log_steps::{a_commit_is_told, the_installer_is_told, the_logger_is_told};
 pub use promises::{
     a_failure_that_is_told_was_counted, a_full_log_is_full, a_run_of_no_events_keeps_the_promise,
     a_stop_leaves_an_image, a_worker_goes_by_its_plan, an_entry_was_called,

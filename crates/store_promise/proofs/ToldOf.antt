@@ -1,0 +1,402 @@
+-- What is told of a log moves as the log does.
+use Rattle.std.proofs.Common.{◌≡◌, ℕ, zero, suc, ◌+◌, ◌-◌, ◌<◌, ◌≤◌, ◌⊎◌, inl, inr, ap, sym, ◌∙◌, refl, subst, arith}
+use Rattle.std.proofs.Common.{Bool, true, false, if◌then◌else◌, ◌&&◌, List, [], ◌∷◌, ◌++◌, Some, None, length, take, drop}
+use Rattle.std.proofs.Common.{nat_eq, nat_lt, map, slice_get, Option, Result, is_ok, is_some, All}
+use Rattle.std.proofs.lemmas.List.{drop-append-le, take-append-le, length-append, length-drop, length-map}
+use Rattle.std.proofs.lemmas.List.{drop_all, length-take-le, take_rest}
+use Rattle.std.proofs.lemmas.Option.{get_or_from_slice_get, slice_get_within}
+use Rattle.std.proofs.lemmas.Bool.{cases_lt}
+use Rattle.std.proofs.lemmas.Bool.Decides.{nat_tests}
+use Rattle.disk.specs.Device.{Content}
+use Rattle.disk.specs.declared.block.BlockNo.{BlockNo}
+use Rattle.disk.specs.declared.device.Failed.{Failed}
+use Rattle.wal_law.specs.declared.change.LogChange.{LogChange}
+use Rattle.wal_law.specs.Calls.{Pending}
+use Rattle.wal_law.specs.Calls as pending
+use Rattle.wal_law.specs.Io.{Io}
+use Rattle.limits.specs.declared.TheConstants.{START_BLOCK}
+use Rattle.disk.specs.declared.block.Side.TheVariants.{Home}
+use Rattle.wal_law.specs.declared.calls.IoCall.TheVariants.{Write, Barrier}
+use Rattle.wal_law.specs.Installer.{IsNextInstCall, next_home, passed_over, with_inst_out, with_inst_back}
+use Rattle.wal_law.specs.Installer.{with_installed}
+use Rattle.wal_law.specs.Log.{IsHomeOn, IsLawful, Log, changes_of, newest_of, tail_count}
+use Rattle.wal_law.specs.Logger.{with_log_back, with_log_out}
+use Rattle.wal_law.specs.Room.{with_group}
+use Rattle.store_promise.specs.LogTold.{LogTold, first_with, idle, out, was_made, with_commit, with_log_given}
+use Rattle.store_promise.specs.LogTold.{with_inst_done, with_inst_given, with_inst_taken, with_log_taken}
+use Rattle.store_promise.specs.ToldOf.{call_told, first_of, log_told}
+
+-- ---- a commit
+
+some_more : (n : ℕ) → nat_lt 0 (suc n) ≡ true
+some_more n = grind (arith, nat_tests)
+
+first_append : (xs ys : List LogChange)
+    → first_of (xs ++ ys) ≡ (if nat_lt 0 (length xs) then first_of xs else first_of ys)
+first_append [] ys = refl
+first_append (x ∷ xs) ys = λ i. if sym (some_more (length xs)) i then x.place else first_of ys
+
+first_group : (place : ℕ) (group : List (BlockNo × Content))
+    → first_of (changes_of place group) ≡ (if nat_lt 0 (length group) then place else 0)
+first_group place [] = refl
+first_group place (change ∷ later) = λ i. if sym (some_more (length later)) i then place else 0
+
+group_length : (place : ℕ) (group : List (BlockNo × Content)) → length (changes_of place group) ≡ length group
+group_length place group = length-map group _
+
+module _ (position : ℕ) (log : Log) (group : List (BlockNo × Content)) (lawful : IsLawful log)
+    (from : position ≤ log.start + length log.changes) where
+  abbrev added : List LogChange
+  added = changes_of (log.places + 1) group
+
+  long : length (log.changes ++ added) ≡ length log.changes + length group
+  long = length-append log.changes added ∙ ap (λ n. length log.changes + n)
+      (group_length (log.places + 1) group)
+
+  tail_is : length (log.changes ++ added) - (log.logged + log.taken) ≡ tail_count log + length group
+  tail_is = let within = lawful.taken_within in omega (arith, long, within)
+
+  appended_is : log.start + length (log.changes ++ added) - position
+      ≡ log.start + length log.changes - position + length group
+  appended_is = omega (arith, long, from)
+
+  first_is : first_of (drop (log.logged + log.taken) (log.changes ++ added))
+      ≡ (if nat_lt 0 (tail_count log) then first_of (drop (log.logged + log.taken) log.changes)
+      else if nat_lt 0 (length group) then log.places + 1 else 0)
+  first_is =
+      ap first_of (drop-append-le (log.logged + log.taken) log.changes added lawful.taken_within)
+      ∙ first_append (drop (log.logged + log.taken) log.changes) added
+      ∙ (λ i. if nat_lt 0 (length-drop (log.logged + log.taken) log.changes i)
+      then first_of (drop (log.logged + log.taken) log.changes) else first_group (log.places + 1) group i)
+
+  taken_is : first_of (take log.taken (drop log.logged (log.changes ++ added)))
+      ≡ first_of (take log.taken (drop log.logged log.changes))
+  taken_is =
+      let within = lawful.taken_within in
+      ap (λ (xs : List LogChange). first_of (take log.taken xs))
+      (drop-append-le log.logged log.changes added (omega (arith, within)))
+      ∙ ap first_of (take-append-le log.taken (drop log.logged log.changes) added
+      (omega (arith, within, length-drop log.logged log.changes)))
+
+  pub commit_told : (logging installing : Pending) → log_told position (with_group log group) logging installing
+      ≡ with_commit (log_told position log logging installing) (length group)
+  commit_told logging installing = λ i. record (log_told position log logging installing) {
+    places = log.places + 1;
+    appended = appended_is i;
+    tail = tail_is i;
+    tail_first = first_is i;
+    taken_first = taken_is i;
+  }
+
+-- ---- the logger
+
+module _ (position : ℕ) (log : Log) (io : Io) (installing : Pending) (lawful : IsLawful log) where
+  abbrev told : LogTold
+  told = log_told position log pending.idle installing
+
+  by_taken : (has : Bool) → nat_lt 0 log.taken ≡ has
+      → log_told position
+      (record log { taken = if has then log.taken else length log.changes - log.logged; log_out = true })
+      (pending.out io) installing
+      ≡ (if has then record told { log_call = out io.call } else record told {
+        taken = told.tail;
+        taken_first = told.tail_first;
+        tail = 0;
+        tail_first = 0;
+        log_call = out io.call;
+      })
+  by_taken true is = refl
+  by_taken false is =
+      let none : log.taken ≡ 0 = grind (arith, nat_tests) in
+      let within = lawful.taken_within in
+      let size : length log.changes - log.logged ≡ tail_count log = omega (arith, none) in
+      let all : length log.changes ≤ log.logged + (length log.changes - log.logged) = omega arith in
+      let same : log.logged ≡ log.logged + log.taken = omega (arith, none) in
+      λ i. record told {
+        taken = size i;
+        taken_first = (ap first_of (take_rest log.changes log.logged)
+            ∙ ap (λ n. first_of (drop n log.changes)) same) i;
+        tail = (nothing_left (length log.changes) log.logged (omega (arith, within))) i;
+        tail_first = ap first_of (drop_all (log.logged + (length log.changes - log.logged)) log.changes all) i;
+        log_call = out io.call;
+      }
+    where
+      nothing_left : (all some : ℕ) → some ≤ all → all - (some + (all - some)) ≡ 0
+      nothing_left all some less = omega (arith, less)
+
+  pub log_taken_told : log_told position (with_log_out log) (pending.out io) installing
+      ≡ with_log_taken told io.call
+  log_taken_told = by_taken (nat_lt 0 log.taken) refl
+
+module _ (position : ℕ) (log : Log) (io : Io) (answer : Result Unit Failed) (installing : Pending) where
+  abbrev made : LogTold
+  made = log_told position log (pending.was_made io answer) installing
+
+  by_last : (last : Bool)
+      → log_told position
+      (if last then record log { logged = log.logged + log.taken; taken = 0; log_step = 0; log_out = false }
+      else record log { log_step = log.log_step + 1; log_out = false }) pending.idle installing
+      ≡ (if last then record made {
+        logged = made.logged + made.taken;
+        taken = 0;
+        taken_first = 0;
+        log_step = 0;
+        log_call = idle;
+      } else record made { log_step = made.log_step + 1; log_call = idle })
+  by_last true =
+      let same : log.logged + log.taken + 0 ≡ log.logged + log.taken = omega arith in
+      λ i. record made {
+        tail = length log.changes - same i;
+        tail_first = first_of (drop (same i) log.changes);
+        logged = log.logged + log.taken;
+        taken = 0;
+        taken_first = 0;
+        log_step = 0;
+        log_call = idle;
+      }
+  by_last false = refl
+
+  pub log_given_told : (ok : Bool) → log_told position (with_log_back log ok) pending.idle installing
+      ≡ with_log_given made ok
+  log_given_told true = by_last (nat_eq log.log_step (log.taken + 2))
+  log_given_told false = refl
+
+-- ---- the installer
+
+passed_less : (changes : List LogChange) → passed_over changes ≤ length changes
+passed_less [] = omega arith
+passed_less (change ∷ later) = by_test (is_some (newest_of later change.block.0)) (passed_less later)
+  where
+    by_test : (b : Bool) → passed_over later ≤ length later
+        → (if b then 1 + passed_over later else 0) ≤ suc (length later)
+    by_test true less = omega (arith, less)
+    by_test false less = omega arith
+
+home_within : (changes : List LogChange) (count index : ℕ) → count ≤ length changes → index ≤ count
+    → next_home changes count index ≤ count
+home_within changes count index fits less =
+    let rest : length (drop index (take count changes)) ≡ count - index =
+    length-drop index (take count changes) ∙ ap (λ n. n - index) (length-take-le count changes fits) in
+    let few = passed_less (drop index (take count changes)) in
+    omega (arith, rest, few, less)
+
+there : (xs : List LogChange) (k : ℕ) → k < length xs → (x : LogChange) × (slice_get xs k ≡ Some x)
+there [] k less = absurd (omega (arith, less))
+there (x ∷ xs) zero less = (x, refl)
+there (x ∷ xs) (suc k) less = there xs k (omega (arith, less))
+
+differs : (a b : ℕ) → (a < b) ⊎ (b < a) → nat_eq a b ≡ false
+differs a b (inl less) = grind (arith, nat_tests)
+differs a b (inr more) = grind (arith, nat_tests)
+
+and_false : (a b : Bool) → b ≡ false → (a && b) ≡ false
+and_false true b is = is
+and_false false b is = refl
+
+all_of : (xs : List LogChange) (k : ℕ) (x : LogChange) (blocks : ℕ) → slice_get xs k ≡ Some x
+    → All (λ (change : LogChange). IsHomeOn blocks change.block) xs → IsHomeOn blocks x.block
+all_of xs k x blocks is all =
+    subst (λ (change : LogChange). IsHomeOn blocks change.block) (get_or_from_slice_get xs k x x is)
+    (all k x (slice_get_within xs k x is))
+
+installed_appended : (start installing all position rest : ℕ) → rest ≡ all - installing → installing ≤ all
+    → start + installing + rest - position ≡ start + all - position
+installed_appended start installing all position rest is less = omega (arith, is, less)
+
+installed_tail : (installing logged taken all rest : ℕ) → rest ≡ all - installing → installing ≤ logged
+    → logged + taken ≤ all
+    → rest - (logged - installing + taken) ≡ all - (logged + taken)
+installed_tail installing logged taken all rest is few within = omega (arith, is, few, within)
+
+none_left : (n : ℕ) → drop {A = LogChange} n [] ≡ []
+none_left zero = refl
+none_left (suc n) = refl
+
+drop_more : (xs : List LogChange) (n m : ℕ) → drop m (drop n xs) ≡ drop (n + m) xs
+drop_more [] n m = ap (drop m) (none_left n) ∙ none_left m ∙ sym (none_left (n + m))
+drop_more (x ∷ xs) zero m =
+    let same : m ≡ 0 + m = omega arith in
+    ap (λ n. drop n (x ∷ xs)) same
+drop_more (x ∷ xs) (suc n) m =
+    let same : suc (n + m) ≡ suc n + m = omega arith in
+    drop_more xs n m ∙ ap (λ n. drop n (x ∷ xs)) same
+
+module _ (position : ℕ) (log : Log) (io : Io) (logging : Pending) (lawful : IsLawful log) where
+  abbrev before : LogTold
+  before = log_told position log logging pending.idle
+
+  fits : log.logged ≤ length log.changes
+  fits = let within = lawful.taken_within in omega (arith, within)
+
+  not_raised : (some : Bool) → (some && nat_eq (next_home log.changes log.logged 0) (log.logged + 2)) ≡ false
+  not_raised some = and_false some (nat_eq (next_home log.changes log.logged 0) (log.logged + 2))
+      (differs (next_home log.changes log.logged 0) (log.logged + 2)
+      (inl (let few = home_within log.changes log.logged 0 fits (omega arith) in omega (arith, few))))
+
+  by_installing : (has : Bool) → nat_lt 0 log.installing ≡ has
+      → log_told position (if has then record log { inst_out = true } else record log {
+        installing = log.logged;
+        inst_step = next_home log.changes log.logged 0;
+        inst_out = true;
+      }) logging (pending.out io)
+      ≡ (if has then record before { inst_call = out io.call }
+      else record before { installing = before.logged; inst_call = out io.call })
+  by_installing true is = refl
+  by_installing false is = λ i. record before {
+    installing = log.logged;
+    raised = (not_raised (nat_lt 0 log.logged)
+        ∙ ap (λ b. b && nat_eq log.inst_step (log.installing + 2)) (sym is)) i;
+    inst_call = out io.call;
+  }
+
+  pub inst_taken_told : log_told position (with_inst_out log) logging (pending.out io)
+      ≡ with_inst_taken before io.call
+  inst_taken_told = by_installing (nat_lt 0 log.installing) refl
+
+module _ (position : ℕ) (log : Log) (io : Io) (answer : Result Unit Failed) (logging : Pending)
+    (lawful : IsLawful log) (is_out : log.inst_out ≡ true) (next : IsNextInstCall log io) where
+  abbrev given : LogTold
+  given = log_told position log logging (pending.was_made io answer)
+
+  some : 0 < log.installing
+  some = by_cases (cases_lt 0 log.installing)
+    where
+      never : log.installing ≡ 0 → ⊥
+      never none = let idle = (lawful.inst_idle none).1 in cc
+
+      by_cases : (0 < log.installing) ⊎ (log.installing ≤ 0) → 0 < log.installing
+      by_cases (inl less) = less
+      by_cases (inr none) = absurd (never (omega (arith, none)))
+
+  has_some : nat_lt 0 log.installing ≡ true
+  has_some = let less = some in grind (arith, nat_tests)
+
+  within_changes : log.installing ≤ length log.changes
+  within_changes = let a = lawful.installing in let b = lawful.taken_within in omega (arith, a, b)
+
+  raised_at : (step : ℕ) → (step < log.installing + 2)
+      → (nat_lt 0 log.installing && nat_eq step (log.installing + 2)) ≡ false
+  raised_at step less = and_false (nat_lt 0 log.installing) (nat_eq step (log.installing + 2))
+      (differs step (log.installing + 2) (inl less))
+
+  raised_last : (step : ℕ) → step ≡ log.installing + 2
+      → (nat_lt 0 log.installing && nat_eq step (log.installing + 2)) ≡ true
+  raised_last step is =
+      (λ i. has_some i && same i)
+    where
+      same : nat_eq step (log.installing + 2) ≡ true
+      same = grind (arith, nat_tests)
+
+  -- a block was brought home, which isn't the log's start
+  not_start : (change : LogChange) → slice_get log.changes log.inst_step ≡ Some change
+      → nat_eq change.block.0 START_BLOCK ≡ false
+  not_start change is =
+      let home = (all_of log.changes log.inst_step change log.blocks is lawful.homes).0 in
+      differs change.block.0 START_BLOCK (inr (omega (arith, home)))
+
+  at_home : log.inst_step < log.installing
+      → log_told position (record log {
+        inst_step = next_home log.changes log.installing (log.inst_step + 1);
+        inst_out = false;
+      }) logging pending.idle
+      ≡ with_inst_done given (was_made io.call (is_ok answer))
+  at_home less =
+      let found = there log.changes log.inst_step (let within = within_changes in omega (arith, less, within)) in
+      let call : io.call ≡ Write found.0.block = (next.home less found.0 found.1).0 in
+      let few = home_within log.changes log.installing (log.inst_step + 1) within_changes (omega (arith, less)) in
+      (λ i. record given {
+        raised = (raised_at (next_home log.changes log.installing (log.inst_step + 1)) (omega (arith, few))
+            ∙ sym (not_start found.0 found.1)) i;
+        inst_call = idle;
+      })
+      ∙ ap (λ one. with_inst_done given (was_made one (is_ok answer))) (sym call)
+
+  -- the barrier behind them
+  at_barrier : log.inst_step ≡ log.installing
+      → log_told position (record log { inst_step = log.inst_step + 1; inst_out = false }) logging pending.idle
+      ≡ with_inst_done given (was_made io.call (is_ok answer))
+  at_barrier is =
+      let call : io.call ≡ Barrier Home = next.home_barrier is in
+      (λ i. record given {
+        raised = (raised_at (log.inst_step + 1) (omega (arith, is))
+            ∙ sym (raised_at log.inst_step (omega (arith, is)))) i;
+        inst_call = idle;
+      })
+      ∙ (λ i. if sym (raised_at log.inst_step (omega (arith, is))) i
+      then record given { logged = log.logged - log.installing; installing = 0; raised = false; inst_call = idle }
+      else record given { inst_call = idle })
+      ∙ ap (λ one. with_inst_done given (was_made one (is_ok answer))) (sym call)
+
+  -- the raised start was written
+  at_start : log.inst_step ≡ log.installing + 1
+      → log_told position (record log { inst_step = log.inst_step + 1; inst_out = false }) logging pending.idle
+      ≡ with_inst_done given (was_made io.call (is_ok answer))
+  at_start is =
+      let call : io.call ≡ Write (record { 0 = START_BLOCK }) = (next.start is).0 in
+      (λ i. record given { raised = raised_last (log.inst_step + 1) (omega (arith, is)) i; inst_call = idle })
+      ∙ ap (λ one. with_inst_done given (was_made one (is_ok answer))) (sym call)
+
+  -- and settled: what was brought home leaves the log
+  at_end : log.inst_step ≡ log.installing + 2
+      → log_told position (with_installed log) logging pending.idle
+      ≡ with_inst_done given (was_made io.call (is_ok answer))
+  at_end is =
+      let call : io.call ≡ Barrier Home = next.start_barrier is in
+      let within = lawful.taken_within in
+      let few = lawful.installing in
+      let long : length (drop log.installing log.changes) ≡ length log.changes - log.installing =
+      length-drop log.installing log.changes in
+      let behind : log.installing + (log.logged - log.installing + log.taken) ≡ log.logged + log.taken =
+      omega (arith, few) in
+      let settled : log.installing + (log.logged - log.installing) ≡ log.logged = omega (arith, few) in
+      (λ i. record given {
+        appended = (installed_appended log.start log.installing (length log.changes) position
+            (length (drop log.installing log.changes)) long within_changes) i;
+        tail = (installed_tail log.installing log.logged log.taken (length log.changes)
+            (length (drop log.installing log.changes)) long few within) i;
+        tail_first = (ap first_of (drop_more log.changes log.installing (log.logged - log.installing + log.taken))
+            ∙ ap (λ n. first_of (drop n log.changes)) behind) i;
+        taken_first = (ap (λ (xs : List LogChange). first_of (take log.taken xs))
+            (drop_more log.changes log.installing (log.logged - log.installing))
+            ∙ ap (λ n. first_of (take log.taken (drop n log.changes))) settled) i;
+        logged = log.logged - log.installing;
+        installing = 0;
+        raised = false;
+        inst_call = idle;
+      })
+      ∙ (λ i. if sym (raised_last log.inst_step is) i
+      then record given { logged = log.logged - log.installing; installing = 0; raised = false; inst_call = idle }
+      else record given { inst_call = idle })
+      ∙ ap (λ one. with_inst_done given (was_made one (is_ok answer))) (sym call)
+
+  by_stage : (home : Bool) → nat_lt log.inst_step log.installing ≡ home
+      → (before_end : Bool) → nat_lt log.inst_step (log.installing + 2) ≡ before_end
+      → log_told position (if home then record log {
+        inst_step = next_home log.changes log.installing (log.inst_step + 1);
+        inst_out = false;
+      } else if before_end then record log { inst_step = log.inst_step + 1; inst_out = false }
+      else with_installed log) logging pending.idle
+      ≡ with_inst_done given (was_made io.call (is_ok answer))
+  by_stage true is any so = at_home (grind (arith, nat_tests))
+  by_stage false is true so = elim (cases_lt log.installing log.inst_step) [
+    | inl past ↦ at_start (step_is log.inst_step log.installing is so past)
+    | inr least ↦ at_barrier (step_at log.inst_step log.installing is least)
+  ]
+    where
+      step_is : (step count : ℕ) → nat_lt step count ≡ false → nat_lt step (count + 2) ≡ true → count < step
+          → step ≡ count + 1
+      step_is step count a b c = grind (arith, nat_tests)
+
+      step_at : (step count : ℕ) → nat_lt step count ≡ false → step ≤ count → step ≡ count
+      step_at step count a c = grind (arith, nat_tests)
+  by_stage false is false so =
+      at_end (last log.inst_step log.installing so lawful.inst_step)
+    where
+      last : (step count : ℕ) → nat_lt step (count + 2) ≡ false → step ≤ count + 2 → step ≡ count + 2
+      last step count a b = grind (arith, nat_tests)
+
+  pub inst_given_told : (ok : Bool) → log_told position (with_inst_back log ok) logging pending.idle
+      ≡ with_inst_given (log_told position log logging (pending.was_made io answer)) ok
+  inst_given_told true = by_stage (nat_lt log.inst_step log.installing) refl
+      (nat_lt log.inst_step (log.installing + 2)) refl
+  inst_given_told false = refl

@@ -1,0 +1,54 @@
+//! Laws on what is told of a log: each step of the memory log leads from what is told of it to what is told next.
+ghost use Rattle.std.specs.Prelude.{◌≡◌, ℕ, ◌+◌, ◌≤◌, Bool, List, Result, is_ok, length, true};
+ghost use Rattle.disk.specs.Device.{Content};
+ghost use Rattle.disk.specs.declared.block.BlockNo.{BlockNo};
+ghost use Rattle.disk.specs.declared.device.Failed.{Failed};
+ghost use Rattle.wal_law.specs.Calls.{Pending, idle, out, was_made};
+ghost use Rattle.wal_law.specs.Installer.{IsNextInstCall, with_inst_back, with_inst_out};
+ghost use Rattle.wal_law.specs.Io.{Io};
+ghost use Rattle.wal_law.specs.Log.{IsLawful, Log};
+ghost use Rattle.wal_law.specs.Logger.{with_log_back, with_log_out};
+ghost use Rattle.wal_law.specs.Room.{with_group};
+ghost use Rattle.store_promise.specs.LogTold.{call_made, with_commit, with_inst_given, with_inst_taken};
+ghost use Rattle.store_promise.specs.LogTold.{with_log_given, with_log_taken};
+ghost use Rattle.store_promise.specs.ToldOf.{log_told};
+
+/// A commit adds its blocks to what is told.
+pub fn a_commit_is_told()
+    ensures { (position : ℕ) (log : Log) (group : List (BlockNo × Content)) (logging installing : Pending)
+        → IsLawful log → position ≤ log.start + length log.changes
+        → log_told position (with_group log group) logging installing
+        ≡ with_commit (log_told position log logging installing) (length group) }
+{}
+
+/// So do the calls of the logger: taken, made and given back.
+pub fn the_logger_is_told()
+    ensures taken { (position : ℕ) (log : Log) (io : Io) (installing : Pending) → IsLawful log
+        → log_told position (with_log_out log) (out io) installing
+        ≡ with_log_taken (log_told position log idle installing) io.call }
+    ensures made { (position : ℕ) (log : Log) (io : Io) (answer : Result Unit Failed) (installing : Pending)
+        → log_told position log (was_made io answer) installing
+        ≡ record (log_told position log (out io) installing) {
+          log_call = call_made (log_told position log (out io) installing).log_call (is_ok answer);
+        } }
+    ensures given_back { (position : ℕ) (log : Log) (io : Io) (answer : Result Unit Failed)
+        (installing : Pending) (ok : Bool)
+        → log_told position (with_log_back log ok) idle installing
+        ≡ with_log_given (log_told position log (was_made io answer) installing) ok }
+{}
+
+/// And those of the installer.
+pub fn the_installer_is_told()
+    ensures taken { (position : ℕ) (log : Log) (io : Io) (logging : Pending) → IsLawful log
+        → log_told position (with_inst_out log) logging (out io)
+        ≡ with_inst_taken (log_told position log logging idle) io.call }
+    ensures made { (position : ℕ) (log : Log) (io : Io) (answer : Result Unit Failed) (logging : Pending)
+        → log_told position log logging (was_made io answer)
+        ≡ record (log_told position log logging (out io)) {
+          inst_call = call_made (log_told position log logging (out io)).inst_call (is_ok answer);
+        } }
+    ensures given_back { (position : ℕ) (log : Log) (io : Io) (answer : Result Unit Failed)
+        (logging : Pending) (ok : Bool) → IsLawful log → log.inst_out ≡ true → IsNextInstCall log io
+        → log_told position (with_inst_back log ok) logging idle
+        ≡ with_inst_given (log_told position log logging (was_made io answer)) ok }
+{}
