@@ -117,3 +117,37 @@ no_change size block outside (change ∷ later) (suc n) all =
     let rest = no_change size block outside later n
     (rest_of_all (λ (one : LogChange). IsHomeOn size one.block) change later all) in
     λ i. or_else (rest i) (if other i then Some change.content else None)
+
+-- ---- homes
+
+all_two : (a b : Bool) → (a && b) ≡ true → (a ≡ true) × (b ≡ true)
+all_two true true h = (refl, refl)
+all_two true false h = cc
+all_two false b h = cc
+
+both_true : (a b : Bool) → a ≡ true → b ≡ true → (a && b) ≡ true
+both_true true true x y = refl
+both_true true false x y = cc
+both_true false b x y = cc
+
+pub outside_of : (size number : ℕ) → is_home size number ≡ true → IsOutside size number
+outside_of size number is =
+    let tests = all_two (nat_le FIRST_HOME_BLOCK number) (nat_lt number size) is in
+    (below number size tests.1, inr (above number tests.0))
+  where
+    below : (number size : ℕ) → nat_lt number size ≡ true → number < size
+    below number size is = grind (arith, nat_tests)
+    from : (number : ℕ) → nat_le FIRST_HOME_BLOCK number ≡ true → FIRST_HOME_BLOCK ≤ number
+    from number is = grind (arith, nat_tests)
+    above : (number : ℕ) → nat_le FIRST_HOME_BLOCK number ≡ true → START_BLOCK < number
+    above number is = let first = from number is in omega (arith, first)
+
+pub not_home : (size number : ℕ) → is_home size number ≡ false → FIRST_HOME_BLOCK ≤ number → number < size → ⊥
+not_home size number is from less =
+    let home : is_home size number ≡ true =
+    both_true (nat_le FIRST_HOME_BLOCK number) (nat_lt number size) (grind (arith, nat_tests))
+    (grind (arith, nat_tests)) in cc
+
+pub take_len : (xs : List LogChange) → take (length xs) xs ≡ xs
+take_len [] = refl
+take_len (x ∷ xs) = ap (λ (ys : List LogChange). x ∷ ys) (take_len xs)
