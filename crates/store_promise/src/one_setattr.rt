@@ -1,5 +1,5 @@
 //! Laws on the run of one SETATTR: the promise can be kept, and one that loses what it answered breaks it.
-ghost use Rattle.std.specs.Prelude.{◌≡◌, ◌+◌, ◌^◌, ◌<◌, ℕ, [], true};
+ghost use Rattle.std.specs.Prelude.{◌≡◌, ◌+◌, ◌^◌, ◌<◌, ◌≤◌, ℕ, [], true};
 ghost use Rattle.disk.specs.Crash.{Image, IsCrashImage};
 ghost use Rattle.disk.specs.Device.{Device};
 ghost use Rattle.model.specs.Calls.{sets_only_mode};
@@ -41,6 +41,16 @@ pub fn a_run_that_loses_its_setattr_breaks_the_promise()
 {
     what_is_stable_is_kept();
 }
+
+/// The same run breaks the promise where some stop before its first device call, so before its commit, leaves
+/// an image that isn't good with the old tree.
+pub fn a_setattr_that_shows_too_early_breaks_the_promise()
+    ensures { (before later : Device) (tree : Tree) (first clock : ℕ) (one : OneSetAttr) (reply : Reply)
+        (image : Image)
+        → before.clock ≤ clock → clock + 5 ≤ later.clock → IsCrashImage later clock image
+        → ((boot : ℕ) → IsGoodImage later.size image tree boot → ⊥)
+        → KeepsPromise before later tree first 1 (events_of one) (told_of (first + 1) one reply) → ⊥ }
+{}
 
 /// The same run breaks the promise where it is answered with its commit, whatever the device then leaves.
 pub fn a_run_that_answers_at_its_commit_breaks_the_promise()
