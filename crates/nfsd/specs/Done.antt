@@ -1,25 +1,103 @@
--- What the program has done where it ends well.
-use Rattle.std.specs.Prelude.{⊤, ℕ, ◌-◌, List, ◌++◌, Option, codes}
+-- What the program does for its arguments: what it prints, and which fault it tells.
+use Rattle.std.specs.Prelude.{◌≡◌, ℕ, ◌-◌, List, ◌++◌, [], ◌∷◌, Option, Result, Ok, Err, OnOk, IfSome, codes}
 use Rattle.std.specs.Fmt.{decimal}
 use Rattle.std.specs.Io.KnownBytes.{Appends}
+use Rattle.std.specs.declared.io.Error.{Error}
 use Rattle.clap.specs.Words.{Text}
+use Rattle.disk.specs.Crash.{IsAtRest}
+use Rattle.disk.specs.Device.{Device}
+use Rattle.nfs_types.specs.declared.ctx.Moment.{Moment}
 use Rattle.nfsd_words.specs.declared.Args.{Args}
 use Rattle.nfsd_words.specs.declared.Args.TheVariants.{Format, Once}
-use Rattle.nfsd_words.specs.Words.{WordsAsk}
+use Rattle.nfsd_words.specs.Words.{HasMeaning, WordsAsk}
 use Rattle.layout.specs.Geometry.{data_at}
-use Rattle.nfsd.specs.Faults.{as_line}
+use Rattle.store.specs.Formatting.{HasFormatted}
+use Rattle.store.specs.Opening.{HasOpened, Opened}
+use Rattle.session.specs.Serving.{Client, HasServed}
+use Rattle.nfsd.specs.declared.fault.Fault.{Fault}
+use Rattle.nfsd.specs.declared.fault.Fault.TheVariants as fault
+use Rattle.nfsd.specs.Faults.{as_line, fault_line, status_of_outcome}
+
+-- what came of the program: it is done, or there is a fault
+abbrev pub Outcome : Type 0
+Outcome = Result (Unit {0}) Fault
 
 -- `formatted N blocks I inodes D data`, where D blocks follow the table of inodes
 abbrev pub formatted_line : ℕ → ℕ → List ℕ
 formatted_line blocks inodes = as_line (codes "formatted " ++ decimal blocks ++ codes " blocks "
     ++ decimal inodes ++ codes " inodes " ++ decimal (blocks - data_at blocks inodes) ++ codes " data")
 
--- what was asked for has been done, and this is printed of it
-abbrev pub HasPrinted : Args → Option (List ℕ) → Option (List ℕ) → Type 0
-HasPrinted (Format image blocks inodes time) before later =
-    Appends before later (formatted_line blocks inodes)
-HasPrinted (Once image time) before later = ⊤
+-- the beginning of a second
+abbrev pub moment_at : ℕ → Moment
+moment_at second = record { seconds = second; nanoseconds = 0 }
 
--- the arguments ask for something that has been done
-abbrev pub IsDone : List Text → Option (List ℕ) → Option (List ℕ) → Type 0
-IsDone words before later = (args : Args) × WordsAsk words args × HasPrinted args before later
+-- `format` of a device: it was made an image and the line of its counts was printed, or the line wasn't, or it
+-- was refused and nothing was printed
+abbrev pub FormatsDevice : Device → ℕ → ℕ → Option (List ℕ) → Outcome → Device → Option (List ℕ) → Type 0
+FormatsDevice old inodes time written (Ok done) new written' =
+    HasFormatted old inodes (moment_at time) (Ok (old.size - data_at old.size inodes)) new
+    × Appends written written' (formatted_line old.size inodes)
+FormatsDevice old inodes time written (Err fault.Print) new written' =
+    HasFormatted old inodes (moment_at time) (Ok (old.size - data_at old.size inodes)) new
+FormatsDevice old inodes time written (Err (fault.Format why)) new written' =
+    HasFormatted old inodes (moment_at time) (Err why) new × (written' ≡ written)
+FormatsDevice old inodes time written (Err other) new written' = ⊥
+
+-- `once` of a device: it was opened as a store, and what came of serving the client from that store, which
+-- leaves the device, is what came; or it was refused, and nothing was read or printed
+abbrev pub ServesDevice : Device → ℕ → Client → Outcome → Device → Client → Type 0
+ServesDevice old time client (Ok done) new later = (opened : Opened) × (store : Opened) × (count : ℕ)
+    × HasOpened old (Ok opened) × HasServed opened client (moment_at time) (Ok count) store later
+    × (store.device ≡ new)
+ServesDevice old time client (Err (fault.Session why)) new later = (opened : Opened) × (store : Opened)
+    × HasOpened old (Ok opened) × HasServed opened client (moment_at time) (Err why) store later
+    × (store.device ≡ new)
+ServesDevice old time client (Err (fault.Open why)) new later = HasOpened old (Err (new, why)) × (later ≡ client)
+ServesDevice old time client (Err other) new later = ⊥
+
+-- The command that is asked for was done to a device that was at rest, that of the image's file, and this came
+-- of it; or there is no device, and the fault is that of the file.
+abbrev pub DoesCommand : Args → Client → Outcome → Client → Type 0
+DoesCommand args client (Err fault.File) later = later ≡ client
+DoesCommand (Format image blocks inodes time) client outcome later = (old : Device) × (new : Device)
+    × IsAtRest old × (old.size ≡ blocks) × (later.unread ≡ client.unread)
+    × FormatsDevice old inodes time client.written outcome new later.written
+DoesCommand (Once image time) client outcome later = (old : Device) × (new : Device)
+    × IsAtRest old × ServesDevice old time client outcome new later
+
+-- The arguments were obeyed: the command that they ask for was done, or they have no meaning, or there was no
+-- memory to read them.
+abbrev pub Obeys : List Text → Client → Outcome → Client → Type 0
+Obeys words client (Err fault.NotText) later = ⊥
+Obeys words client (Err fault.Memory) later = later ≡ client
+Obeys words client (Err (fault.Words error)) later = (¬ HasMeaning words) × (later ≡ client)
+Obeys words client outcome later = (args : Args) × WordsAsk words args × DoesCommand args client outcome later
+
+-- the faults that were told on a stream, each with the stream's answer
+abbrev pub Told : Type 0
+Told = List (Fault × Result (Unit {0}) Error)
+
+-- a fault was told: its line was written, where the stream answered Ok, and nothing else
+abbrev pub TellsFault : Told → Option (List ℕ) → Fault → Told → Option (List ℕ) → Type 0
+TellsFault told written why told' written' = (answer : Result (Unit {0}) Error)
+    × (told' ≡ told ++ (why, answer) ∷ [])
+    × OnOk answer (IfSome (fault_line why) (Appends written written'))
+
+-- a fault was told, or there was none and nothing was
+abbrev pub TellsOutcome : Told → Option (List ℕ) → Outcome → Told → Option (List ℕ) → Type 0
+TellsOutcome told written (Ok done) told' written' = (told' ≡ told) × (written' ≡ written)
+TellsOutcome told written (Err why) told' written' = TellsFault told written why told' written'
+
+-- what the program answers its arguments: it obeyed them, told what came of it, and ended with its status
+pub record Answers (words : List Text) (client : Client) (told : Told) (written : Option (List ℕ)) (status : ℕ)
+    (later : Client) (told' : Told) (written' : Option (List ℕ)) : Type 0 where
+  pub outcome : Outcome
+  pub obeys : Obeys words client outcome later
+  pub ends : status ≡ status_of_outcome outcome
+  pub tells : TellsOutcome told written outcome told' written'
+
+-- there was no memory to read the arguments, which was told, with status 1
+pub record IsWithoutMemory (told : Told) (written : Option (List ℕ)) (status : ℕ) (told' : Told)
+    (written' : Option (List ℕ)) : Type 0 where
+  pub ends : status ≡ 1
+  pub tells : TellsFault told written fault.Memory told' written'

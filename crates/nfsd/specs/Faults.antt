@@ -1,5 +1,8 @@
 -- What the program prints of a fault, and the status that it ends with.
-use Rattle.std.specs.Prelude.{⊤, ℕ, List, [], ◌∷◌, ◌++◌, Option, None, Some, Result, Ok, Err, codes}
+use Rattle.std.specs.Prelude.{ℕ, List, [], ◌∷◌, ◌++◌, Option, None, Some, Result, Ok, Err, codes}
+use Rattle.std.specs.IoError.{error_kind}
+use Rattle.std.specs.declared.io.Error as io
+use Rattle.std.specs.declared.io.ErrorKind.TheVariants as io_kind
 use Rattle.clap.specs.Words.{kind_of}
 use Rattle.clap.specs.declared.error.Error.{Error}
 use Rattle.clap.specs.declared.error.kind.ErrorKind.TheVariants as kind
@@ -63,13 +66,10 @@ abbrev pub status_of_outcome : Result (Unit {0}) Fault → ℕ
 status_of_outcome (Ok done) = 0
 status_of_outcome (Err why) = status_of why
 
--- it is a fault of reading the arguments, which then may ask for nothing
-abbrev pub IsOfReading : Fault → Type 0
-IsOfReading fault.NotText = ⊤
-IsOfReading fault.Memory = ⊤
-IsOfReading (fault.Words error) = ⊤
-IsOfReading other = ⊥
-
 -- what an error of the arguments' parser is to the program
 abbrev pub fault_of_words : Error → Fault
 fault_of_words error = elim (kind_of error) [ kind.OutOfMemory ↦ fault.Memory | _ ↦ fault.Words error ]
+
+-- what an error of reading the arguments is to the program: without memory it says so, else one isn't text
+abbrev pub fault_of_reading : io.Error → Fault
+fault_of_reading error = elim (error_kind error) [ io_kind.OutOfMemory ↦ fault.Memory | _ ↦ fault.NotText ]

@@ -1,19 +1,16 @@
 //! Reading the arguments.
-ghost use Rattle.std.specs.Prelude.{IfErr};
-ghost use Rattle.nfsd.specs.Faults.{IsOfReading};
+ghost use Rattle.std.specs.Prelude.{◌≡◌, ◌⊎◌, IfErr};
 
 use crate::fault::Fault;
 use std::env;
 use std::env::Env;
-use std::io::ErrorKind;
 
-/// The arguments, of which the first is the program's name.
+/// The arguments, of which the first is the program's name. Those that aren't all text are NotText.
 pub fn arguments<R: Env + AllocGlobal>(rt: &R) -> Result<Vec<String>, Fault>
-    ensures { IfErr result (λ fault. IsOfReading fault) }
+    ensures { IfErr result (λ fault. (fault ≡ Fault.Memory) ⊎ (fault ≡ Fault.NotText)) }
 {
     match env::args(rt) {
         Ok(given) => given.collect(rt.alloc()).or(Err(Fault::Memory)),
-        Err(error) if error.kind() == ErrorKind::OutOfMemory => Err(Fault::Memory),
-        Err(_) => Err(Fault::NotText),
+        Err(error) => Err(Fault::of_reading(&error)),
     }
 }

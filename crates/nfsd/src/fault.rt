@@ -1,11 +1,11 @@
 //! Why the program didn't do what its arguments ask for.
 ghost use Rattle.std.specs.Prelude.{◌≡◌};
-ghost use Rattle.nfsd.specs.Faults.{fault_of_words, status_of};
+ghost use Rattle.nfsd.specs.Faults.{fault_of_reading, fault_of_words, status_of};
 
 use crate::lines::{format_line, open_line, session_line};
 use clap::error::ErrorKind;
 use session::SessionFault;
-use std::fmt;
+use std::{fmt, io};
 use store::{FormatFault, OpenFault};
 
 /// Why the program didn't do what its arguments ask for. Its `Display` is the text for the user.
@@ -31,6 +31,16 @@ pub enum Fault {
 }
 
 impl Fault {
+    /// What it is to the program that its arguments can't be read.
+    pub fn of_reading(error: &io::Error) -> Fault
+        ensures { result ≡ fault_of_reading error.now }
+    {
+        match error.kind() {
+            io::ErrorKind::OutOfMemory => Fault::Memory,
+            _ => Fault::NotText,
+        }
+    }
+
     /// What it is to the program that its arguments don't parse.
     pub fn of_words(error: clap::Error) -> Fault
         ensures { result ≡ fault_of_words error }

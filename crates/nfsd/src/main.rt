@@ -3,7 +3,9 @@
 
 mod answer;
 mod arguments;
+mod device;
 mod fault;
+mod fault_stream;
 mod lines;
 mod streams;
 #[cfg(test)]
@@ -12,6 +14,7 @@ mod tests;
 use crate::answer::{answer, conclude};
 use crate::arguments::arguments;
 use crate::fault::Fault;
+use crate::fault_stream::FaultStream;
 use std::alloc::AllocError;
 use std::process::ExitCode;
 
@@ -21,7 +24,7 @@ fn main(rt: HostRuntime) -> ExitCode {
 
 // Reads the arguments, and does what they ask for.
 fn attend(rt: &HostRuntime) -> u8 {
-    let mut faults = rt.stderr();
+    let mut faults = FaultStream::new(rt.stderr());
     let given = match arguments(rt) {
         Ok(given) => given,
         Err(fault) => return conclude(&mut faults, &Err(fault)),

@@ -2,6 +2,7 @@
 
 use crate::answer::conclude;
 use crate::arguments::arguments;
+use crate::fault_stream::FaultStream;
 use crate::tests::outcome::{Host, run};
 use limits::{
     BLOCK_BYTES, INODES_PER_BLOCK, LEAST_BLOCKS, LEAST_DATA_BLOCKS, LEAST_INODES, MOST_BLOCKS,
@@ -229,9 +230,9 @@ fn other_bytes_are_refused(rt: HostRuntime) {
             alloc: rt.alloc(),
             words: &[b"nfsd", b"once", word],
         };
-        let mut faults = Vec::new(rt.alloc());
+        let mut faults = FaultStream::new(Vec::new(rt.alloc()));
         let outcome = arguments(&given).map(|_| ());
         assert_eq!(rt; conclude(&mut faults, &outcome), 2);
-        assert!(rt; faults.as_slice() == b"nfsd: arguments\n".as_slice());
+        assert!(rt; faults.into_stream().as_slice() == b"nfsd: arguments\n".as_slice());
     }
 }

@@ -1,6 +1,7 @@
 //! Standard streams that are closed: their descriptors are taken before an image is opened.
 
 use crate::answer::answer;
+use crate::fault_stream::FaultStream;
 use crate::streams::{Stream, Streams};
 use crate::tests::outcome::{Host, fresh, remove};
 use std::alloc::{Allocator, Global};
@@ -118,11 +119,11 @@ fn assert_opens(
             has_null,
             opened: RefCell::new(Vec::new(rt.alloc())),
         };
-        let mut faults = Vec::new(rt.alloc());
+        let mut faults = FaultStream::new(Vec::new(rt.alloc()));
         let mut output = Vec::new(rt.alloc());
         let ended = answer(&shell, line, &mut &[][..], &mut output, &mut faults);
         assert_eq!(rt; ended, status);
-        assert!(rt; faults.as_slice() == fault);
+        assert!(rt; faults.into_stream().as_slice() == fault);
         assert!(rt; shell.opened.into_inner().as_slice() == opened);
     }
     Ok(())

@@ -1,6 +1,7 @@
 //! Reads and writes that are interrupted or short: the session goes on, and loses and repeats nothing.
 
 use crate::answer::answer;
+use crate::fault_stream::FaultStream;
 use crate::tests::outcome::{Host, Outcome, assert_fault, fresh, remove};
 use std::io;
 use std::io::{Error, ErrorKind, Read, Write};
@@ -56,13 +57,13 @@ fn served(rt: &impl Host, image: &str, input: &[u8]) -> Outcome {
         inner: Vec::new(rt.alloc()),
         calls: 0,
     };
-    let mut faults = Vec::new(rt.alloc());
+    let mut faults = FaultStream::new(Vec::new(rt.alloc()));
     let line = ["nfsd", "once", image, "--time", "2000"];
     let status = answer(rt, &line, &mut reader, &mut writer, &mut faults);
     Outcome {
         status,
         output: writer.inner,
-        faults,
+        faults: faults.into_stream(),
     }
 }
 

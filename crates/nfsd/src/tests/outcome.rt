@@ -1,6 +1,7 @@
 //! The program run on arguments and an input, with all that it wrote.
 
 use crate::answer::answer;
+use crate::fault_stream::FaultStream;
 use crate::streams::Streams;
 use std::fs::{File, Files, remove_file};
 use std::process::Abort;
@@ -24,12 +25,12 @@ pub struct Outcome {
 pub fn run(rt: &impl Host, line: &[&str], input: &[u8]) -> Outcome {
     let mut reader = input;
     let mut output = Vec::new(rt.alloc());
-    let mut faults = Vec::new(rt.alloc());
+    let mut faults = FaultStream::new(Vec::new(rt.alloc()));
     let status = answer(rt, line, &mut reader, &mut output, &mut faults);
     Outcome {
         status,
         output,
-        faults,
+        faults: faults.into_stream(),
     }
 }
 

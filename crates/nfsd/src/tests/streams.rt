@@ -2,6 +2,7 @@
 //! the replies before.
 
 use crate::answer::answer;
+use crate::fault_stream::FaultStream;
 use crate::tests::outcome::{Host, Outcome, assert_fault, assert_served, fresh, once, remove};
 use std::io;
 use std::io::{Error, ErrorKind, Read, Write};
@@ -50,13 +51,13 @@ fn served<I: Read>(rt: &impl Host, image: &str, reader: &mut I, room: usize) -> 
         room,
         bytes: Vec::new(rt.alloc()),
     };
-    let mut faults = Vec::new(rt.alloc());
+    let mut faults = FaultStream::new(Vec::new(rt.alloc()));
     let line = ["nfsd", "once", image, "--time", "2000"];
     let status = answer(rt, &line, reader, &mut output, &mut faults);
     Outcome {
         status,
         output: output.bytes,
-        faults,
+        faults: faults.into_stream(),
     }
 }
 
@@ -112,9 +113,9 @@ fn a_line_that_cannot_be_printed(rt: HostRuntime) -> Result<(), Fail> {
         room: 0,
         bytes: Vec::new(rt.alloc()),
     };
-    let mut faults = Vec::new(rt.alloc());
+    let mut faults = FaultStream::new(Vec::new(rt.alloc()));
     let status = answer(&rt, &line, &mut &[][..], &mut output, &mut faults);
     assert_eq!(rt; status, 1);
-    assert!(rt; faults.as_slice() == b"nfsd: output\n".as_slice());
+    assert!(rt; faults.into_stream().as_slice() == b"nfsd: output\n".as_slice());
     remove(&rt, &["line.img"])
 }

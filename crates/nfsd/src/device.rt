@@ -1,0 +1,77 @@
+//! What the program does to a device.
+ghost use Rattle.std.specs.Prelude.{◌≡◌, ◌-◌, IfErr, OnOk};
+ghost use Rattle.std.specs.Io.KnownBytes.{Appends};
+ghost use Rattle.layout.specs.Geometry.{data_at};
+ghost use Rattle.session.specs.Serving.{client_of};
+ghost use Rattle.nfsd.specs.Done.{FormatsDevice, ServesDevice, formatted_line, moment_at};
+
+use crate::fault::Fault;
+use disk::CrashDisk;
+use nfs_types::Moment;
+use std::alloc::Global;
+use std::io::{Read, Write};
+
+/// Makes a device an image, and prints its counts. The root is made at this second.
+pub fn format_device<D: CrashDisk, O: Write>(
+    alloc: Global,
+    disk: &mut D,
+    inodes: u32,
+    time: u32,
+    writer: &mut O,
+) -> Result<(), Fault>
+    ensures { FormatsDevice (D.device disk.old) inodes time (O.contents writer.old) result
+        (D.device disk.new) (O.contents writer.new) }
+{
+    let data_blocks = store::format(alloc, disk, inodes, moment(time)).map_err(Fault::Format)?;
+    print(writer, disk.blocks(), inodes, data_blocks)
+}
+
+// Prints the counts of an image that was made.
+fn print<O: Write>(writer: &mut O, blocks: u32, inodes: u32, data_blocks: u32) -> Result<(), Fault>
+    requires { data_blocks ≡ blocks - data_at blocks inodes }
+    ensures printed { OnOk result
+        (Appends (O.contents writer.old) (O.contents writer.new) (formatted_line blocks inodes)) }
+    ensures print { IfErr result (λ fault. fault ≡ Fault.Print) }
+{
+    writeln!(
+        writer,
+        "formatted {blocks} blocks {inodes} inodes {data_blocks} data"
+    )
+    .or(Err(Fault::Print))
+}
+
+/// Opens a device as a store, answers the records of the reader, each call at this second, and hands the
+/// device back.
+pub fn serve_device<D: CrashDisk, I: Read, O: Write>(
+    alloc: Global,
+    disk: D,
+    time: u32,
+    reader: &mut I,
+    writer: &mut O,
+) -> (D, Result<(), Fault>)
+    ensures { ServesDevice (D.device disk) time
+        (client_of (I.remaining reader.old) (O.contents writer.old)) result.1
+        (D.device result.0)
+        (client_of (I.remaining reader.new) (O.contents writer.new)) }
+{
+    let mut store = match store::open(alloc, disk) {
+        Ok(store) => store,
+        Err((disk, fault)) => return (disk, Err(Fault::Open(fault))),
+    };
+    let served = session::serve(alloc, &mut store, reader, writer, moment(time));
+    let outcome = match served {
+        Ok(_) => Ok(()),
+        Err(fault) => Err(Fault::Session(fault)),
+    };
+    (store::close(store), outcome)
+}
+
+// The beginning of a second.
+fn moment(time: u32) -> Moment
+    ensures { result ≡ moment_at time }
+{
+    Moment {
+        seconds: time,
+        nanoseconds: 0,
+    }
+}

@@ -1,0 +1,45 @@
+//! The stream that faults are told on.
+use crate::fault::Fault;
+use http_server::Log;
+use std::io::{self, Write};
+
+/// A stream that faults are told on, such as standard error. What was told is kept for proofs alone, in
+/// `http_server`'s `Log`, and takes no memory: each fault, with the stream's answer.
+#[derive(Drop)]
+pub struct FaultStream<E> {
+    stream: E,
+    told: Log<Fault, io::Result<()>>,
+}
+
+impl<E: Write> FaultStream<E> {
+    ghost use Rattle.std.specs.Prelude.{◌≡◌, []};
+    ghost use Rattle.nfsd.specs.Done.{TellsFault};
+
+    /// A stream that nothing was told on.
+    pub fn new(stream: E) -> FaultStream<E>
+        ensures stream { result.stream ≡ stream }
+        ensures told { result.told.items ≡ [] }
+    {
+        FaultStream {
+            stream,
+            told: Log::new(),
+        }
+    }
+
+    /// Tells a fault by its text. Where the stream doesn't take it, that alone is lost.
+    pub fn tell(&mut self, fault: &Fault)
+        ensures { TellsFault self.old.told.items (E.contents self.old.stream) fault.now
+            self.new.told.items (E.contents self.new.stream) }
+    {
+        let answer = write!(self.stream, "{fault}");
+        self.told = self.told.and(fault, &answer);
+    }
+
+    /// The stream itself.
+    pub fn into_stream(self) -> E
+        ensures { result ≡ self.stream }
+    {
+        let FaultStream { stream, told: _ } = self;
+        stream
+    }
+}
