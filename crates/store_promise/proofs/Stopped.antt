@@ -137,8 +137,10 @@ outside_of size number is =
   where
     below : (number size : ℕ) → nat_lt number size ≡ true → number < size
     below number size is = grind (arith, nat_tests)
+
     from : (number : ℕ) → nat_le FIRST_HOME_BLOCK number ≡ true → FIRST_HOME_BLOCK ≤ number
     from number is = grind (arith, nat_tests)
+
     above : (number : ℕ) → nat_le FIRST_HOME_BLOCK number ≡ true → START_BLOCK < number
     above number is = let first = from number is in omega (arith, first)
 

@@ -6,9 +6,9 @@ mod answers;
 mod events;
 mod fault;
 mod fresh;
+mod log_steps;
 mod one_setattr;
 mod open_store;
-mod log_steps;
 mod promises;
 mod transcript;
 
@@ -16,13 +16,13 @@ pub use answers::{CallAnswer, Entry, Verdict};
 pub use events::{Cause, Committing, Ending, Event, Step, Wish};
 pub use fault::OpenFault;
 pub use fresh::{a_fresh_image_is_good, a_made_image_may_run};
+pub use log_steps::{a_commit_is_told, the_installer_is_told, the_logger_is_told};
 pub use one_setattr::{
     a_run_of_one_setattr_keeps_the_promise, a_run_that_answers_at_its_commit_breaks_the_promise,
     a_run_that_loses_its_setattr_breaks_the_promise,
     a_setattr_that_shows_too_early_breaks_the_promise, the_steps_of_one_setattr_tell_its_run,
 };
 pub use open_store::a_stop_leaves_a_good_image;
-pub use log_steps::{a_commit_is_told, the_installer_is_told, the_logger_is_told};
 pub use promises::{
     a_failure_that_is_told_was_counted, a_full_log_is_full, a_run_of_no_events_keeps_the_promise,
     a_stop_leaves_an_image, a_worker_goes_by_its_plan, an_entry_was_called,

@@ -26,36 +26,36 @@ use Rattle.store_promise.proofs.Stopped.{not_home, outside_of, take_len}
 use Rattle.store_promise.proofs.open_store.a_stop_leaves_a_good_image.Goals as goal
 
 module _ (d : Device) (core : CoreState) (logging installing : Pending) (boot : ℕ) (tree last : Tree)
-    (entries : List Entry) (image : Image) (open : IsOpenStore d core logging installing boot tree entries last)
+    (entries : List Entry) (image : Image) (opened : IsOpenStore d core logging installing boot tree entries last)
     (crash : IsCrashImage d d.clock image) where
   abbrev size : ℕ
   size = core.log.blocks
 
   same_size : d.size ≡ size
-  same_size = open.agrees.agrees.size
+  same_size = opened.agrees.agrees.size
 
   -- ---- the super block is the one at home
 
   no_super : (n : ℕ) → newest_of (take n core.log.changes) SUPER_BLOCK ≡ None
-  no_super n = no_change size SUPER_BLOCK (λ from _. omega (arith, from)) core.log.changes n open.lawful.homes
+  no_super n = no_change size SUPER_BLOCK (λ from _. omega (arith, from)) core.log.changes n opened.lawful.homes
 
   super_outside : IsOutside size SUPER_BLOCK
-  super_outside = let some = open.lawful.disk in (omega (arith, some), inl (omega arith))
+  super_outside = let some = opened.lawful.disk in (omega (arith, some), inl (omega arith))
 
   super_there : Contains (current d SUPER_BLOCK) (image SUPER_BLOCK)
-  super_there = let some = open.lawful.disk in let same = same_size in
+  super_there = let some = opened.lawful.disk in let same = same_size in
       crash SUPER_BLOCK (omega (arith, some, same))
 
   not_brought : brought_home core.log SUPER_BLOCK ≡ Some (image SUPER_BLOCK) → ⊥
   not_brought brought =
       let none : brought_home core.log SUPER_BLOCK ≡ None = no_super core.log.installing in cc
 
-  super_is : image SUPER_BLOCK ≡ open.base SUPER_BLOCK
+  super_is : image SUPER_BLOCK ≡ opened.base SUPER_BLOCK
   super_is = elim (cases_lt core.log.installing core.log.inst_step) [
     | inl past ↦
-        open.agrees.agrees.homes.brought past SUPER_BLOCK super_outside (image SUPER_BLOCK) super_there
-        ∙ ap (λ found. content_or found (open.base SUPER_BLOCK)) (no_super core.log.installing)
-    | inr yet ↦ elim (open.agrees.agrees.homes.home yet SUPER_BLOCK super_outside (image SUPER_BLOCK)
+        opened.agrees.agrees.homes.brought past SUPER_BLOCK super_outside (image SUPER_BLOCK) super_there
+        ∙ ap (λ found. content_or found (opened.base SUPER_BLOCK)) (no_super core.log.installing)
+    | inr yet ↦ elim (opened.agrees.agrees.homes.home yet SUPER_BLOCK super_outside (image SUPER_BLOCK)
         super_there) [
           | inl base ↦ base
           | inr brought ↦ absurd (not_brought brought)
@@ -68,12 +68,12 @@ module _ (d : Device) (core : CoreState) (logging installing : Pending) (boot : 
   writes =
       let none : installed_place core.log - installed_place core.log ≡ 0 = omega arith in
       subst (λ n. All (AreInLog core.log.changes) (drop n core.records)) none
-      (open.window.written 0 (at_first refl))
+      (opened.window.written 0 (at_first refl))
 
   module _ (k : ℕ) (there : (block : ℕ) → IsOutside size block
-      → over image block ≡ after_commits (opening open.base core.log) (take k core.records) block) where
+      → over image block ≡ after_commits (opening opened.base core.log) (take k core.records) block) where
     abbrev first : Image
-    first = opening open.base core.log
+    first = opening opened.base core.log
 
     at_home : (number : ℕ) (home : Bool) → is_home size number ≡ home
         → cond home (over image number) (replicate BLOCK_BYTES 0)
@@ -91,50 +91,55 @@ module _ (d : Device) (core : CoreState) (logging installing : Pending) (boot : 
         no_newest number is =
             subst (λ (changes : List LogChange). newest_of changes number ≡ None) (take_len core.log.changes)
             (no_change size number (not_home size number is) core.log.changes (length core.log.changes)
-            open.lawful.homes)
+            opened.lawful.homes)
 
     homes_are : homes_of size (over image) ≡ after_commits (homes_of size first) (take k core.records)
     homes_are = λ i number. at_home number (is_home size number) refl i
 
   -- ---- so it is good
 
-  module _ (boundary : IsBoundary open.base core.log image) (k : ℕ) (settled : settled_place core.log
+  module _ (boundary : IsBoundary opened.base core.log image) (k : ℕ) (settled : settled_place core.log
       - installed_place core.log ≤ k) (few : k ≤ length core.records)
       (there : (block : ℕ) → IsOutside size block
-      → over image block ≡ after_commits (opening open.base core.log) (take k core.records) block) where
+      → over image block ≡ after_commits (opening opened.base core.log) (take k core.records) block) where
     found : (left : Tree) × after tree (take k entries) left
-        × Stands open.super.geometry (after_commits (homes_of size (opening open.base core.log))
+        × Stands opened.super.geometry (after_commits (homes_of size (opening opened.base core.log))
         (take k core.records)) left
-    found = chain_to open.super.geometry (homes_of size (opening open.base core.log)) tree core.records entries
-        last k open.chain few
+    found = chain_to opened.super.geometry (homes_of size (opening opened.base core.log)) tree core.records entries
+        last k opened.chain few
 
     good : IsGoodImage size image found.0 boot
     good = record {
-      super = open.super;
-      is_super = subst (λ bytes. IsSuper bytes open.super) (sym super_is) open.is_super;
-      size_is = open.blocks_are;
-      boot_is = open.boot_is;
+      super = opened.super;
+      is_super = subst (λ bytes. IsSuper bytes opened.super) (sym super_is) opened.is_super;
+      size_is = opened.blocks_are;
+      boot_is = opened.boot_is;
       range = boundary.range;
       homes = boundary.homes;
-      stands = subst (λ (blocks : Image). Stands open.super.geometry blocks found.0) (sym (homes_are k there))
+      stands = subst (λ (blocks : Image). Stands opened.super.geometry blocks found.0) (sym (homes_are k there))
           found.2;
-      stamps = open.stamps k found.0 found.1;
+      stamps = opened.stamps k found.0 found.1;
     }
 
     pub left : (count : ℕ) × (tree_left : Tree) × (settled_place core.log - installed_place core.log ≤ count)
         × (count ≤ length entries) × after tree (take count entries) tree_left
         × IsGoodImage d.size image tree_left boot
     left =
-        let long = chain_long open.super.geometry (homes_of size (opening open.base core.log)) tree core.records
-        entries last open.chain in
-        (k, found.0, settled, omega (arith, few, long), found.1,
-        subst (λ n. IsGoodImage n image found.0 boot) (sym same_size) good)
+        let long = chain_long opened.super.geometry (homes_of size (opening opened.base core.log)) tree core.records
+        entries last opened.chain in (
+          k,
+          found.0,
+          settled,
+          omega (arith, few, long),
+          found.1,
+          subst (λ n. IsGoodImage n image found.0 boot) (sym same_size) good,
+        )
 
 pub returns : goal.returns
-returns c = λ d core logging installing boot tree last entries image open crash.
-    let boundary = c.a_crash_leaves_whole_groups.ensures d open.base core.log image open.lawful
-    open.agrees.agrees crash in
-    let prefix = c.a_crash_leaves_a_prefix.ensures open.base core.log core.records (held_of core.present) image
-    open.lawful open.window boundary in
-    left d core logging installing boot tree last entries image open crash boundary prefix.0 prefix.1 prefix.2
+returns c = λ d core logging installing boot tree last entries image opened crash.
+    let boundary = c.a_crash_leaves_whole_groups.ensures d opened.base core.log image opened.lawful
+    opened.agrees.agrees crash in
+    let prefix = c.a_crash_leaves_a_prefix.ensures opened.base core.log core.records (held_of core.present) image
+    opened.lawful opened.window boundary in
+    left d core logging installing boot tree last entries image opened crash boundary prefix.0 prefix.1 prefix.2
     prefix.3
