@@ -14,7 +14,7 @@ use Rattle.limits.specs.declared.TheConstants.{HANDLE_BYTES}
 use Rattle.nfs_types.specs.declared.handle.Stamp.{Stamp}
 use Rattle.nfs_types.specs.declared.status.Status.{Status}
 use Rattle.nfs_types.specs.declared.status.Status.TheVariants as status
-use Rattle.nfs_types.specs.Fits.{NewAttributesFit}
+use Rattle.nfs_types.specs.Fits.{CallFits, NewAttributesFit}
 use Rattle.model.specs.Node.{Node}
 use Rattle.model.specs.Tree.{Tree, node_at, with_node}
 use Rattle.model.specs.Attributes.{change_of, untold}
@@ -22,7 +22,7 @@ use Rattle.model.specs.Calls.{has_rules}
 use Rattle.model.specs.Find.{find_file, stamped, same_stamp, is_number, number_in, stamp_in}
 use Rattle.model.specs.GetAttr.{attributes_found}
 use Rattle.model.specs.SetAttr.{SetOrLeft, SetFound, with_attributes, refusal}
-use Rattle.model.specs.Sound.{Sound, SoundTime}
+use Rattle.model.specs.Sound.{Sound, SoundCtx, SoundTime}
 use Rattle.model.specs.Step.{step}
 use Rattle.model.proofs.Attributed.{shape, sound_node}
 use Rattle.model.proofs.Replaced as replaced
@@ -83,7 +83,7 @@ module _ (tree next : Tree) (ctx : Ctx) (handle : List ℕ) (wanted : NewAttribu
       set_or_left found.0 found.1 (refusal ctx wanted guard found.1) (found-stands tree handle found is) refl
       set
 
-pub stays_sound : (tree next : Tree) (ctx : Ctx) (object : Handle) (wanted : NewAttributes)
+stays_sound : (tree next : Tree) (ctx : Ctx) (object : Handle) (wanted : NewAttributes)
     (guard : Option Moment) (answer : Reply)
     → Sound tree → SoundTime ctx.moment → NewAttributesFit wanted
     → step tree ctx (call.SetAttr object wanted guard) answer next → Sound next
@@ -91,6 +91,15 @@ stays_sound tree next ctx object wanted guard (reply.SetAttr outcome told) good 
     set_found tree next ctx object.bytes wanted guard outcome told good now fits (find_file tree object.bytes)
     refl taken_step
 stays_sound tree next ctx object wanted guard _ good now fits none = absurd none
+
+pub steps_sound : (tree next : Tree) (ctx : Ctx) (asked : Call) (answer : Reply) → Sound tree → SoundCtx ctx
+    → CallFits asked → step tree ctx asked answer next → Sound next
+steps_sound tree next ctx (call.GetAttr object) (reply.GetAttr outcome) good now fits taken_step =
+    subst Sound (sym taken_step.unchanged) good
+steps_sound tree next ctx (call.SetAttr object wanted guard) (reply.SetAttr outcome told) good now fits
+    taken_step =
+    stays_sound tree next ctx object wanted guard (reply.SetAttr outcome told) good now.moment fits.1 taken_step
+steps_sound tree next ctx _ _ good now fits none = absurd none
 
 -- some answer to a SETATTR
 record Answer (tree : Tree) (ctx : Ctx) (wanted : NewAttributes) (guard : Option Moment)
@@ -145,12 +154,12 @@ set_answered tree ctx object wanted guard =
     let a = answer tree ctx wanted guard (find_file tree object.bytes) in
     (reply.SetAttr a.outcome a.told, a.next, a.is)
 
-pub answered : (tree : Tree) (ctx : Ctx) (served : Call) → has_rules served ≡ true
+pub answered : (tree : Tree) (ctx : Ctx) (served : Call) → Sound tree → has_rules served ≡ true
     → (answer : Reply) × (next : Tree) × step tree ctx served answer next
-answered tree ctx (call.GetAttr object) rules = (
+answered tree ctx (call.GetAttr object) good rules = (
   reply.GetAttr (attributes_found (find_file tree object.bytes)),
   tree,
   record { told = refl; unchanged = refl },
 )
-answered tree ctx (call.SetAttr object wanted guard) rules = set_answered tree ctx object wanted guard
-answered tree ctx _ rules = cc
+answered tree ctx (call.SetAttr object wanted guard) good rules = set_answered tree ctx object wanted guard
+answered tree ctx _ good rules = cc

@@ -82,10 +82,10 @@ module _ (tree : Tree) (number : ℕ) (old new : Node) (was : node_at tree numbe
       omega (arith, sum, shape.cost_is)
 
   -- a file that stands there now, and the one that stood there
-  record Before (q : ℕ) (node : Node) : Type 0 where
-    node_before : Node
-    before_is : node_at tree q ≡ Some node_before
-    shape_is : SameShape node_before node
+  pub record Before (q : ℕ) (node : Node) : Type 0 where
+    pub node_before : Node
+    pub before_is : node_at tree q ≡ Some node_before
+    pub shape_is : SameShape node_before node
     sound_is : SoundNode new → SoundNode node_before → SoundNode node
 
   before_of : (q : ℕ) (node : Node) (b : Bool) → eq_by_cmp nat_cmp q number ≡ b
@@ -105,7 +105,7 @@ module _ (tree : Tree) (number : ℕ) (old new : Node) (was : node_at tree numbe
     sound_is = λ _ good. good;
   }
 
-  before : (q : ℕ) (node : Node) → node_at next q ≡ Some node → Before q node
+  pub before : (q : ℕ) (node : Node) → node_at next q ≡ Some node → Before q node
   before q node e = before_of q node (eq_by_cmp nat_cmp q number) refl (sym (at_next q) ∙ e)
 
   -- a file that stood there, and the one that stands there now

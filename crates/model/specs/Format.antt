@@ -1,5 +1,5 @@
 -- The tree that a fresh image has.
-use Rattle.std.specs.Prelude.{ℕ, None}
+use Rattle.std.specs.Prelude.{None}
 use Rattle.std.specs.FinMap.{empty, insert}
 use Rattle.limits.specs.declared.TheConstants.{ROOT, ROOT_MODE}
 use Rattle.nfs_types.specs.declared.ctx.Moment.{Moment}

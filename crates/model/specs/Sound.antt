@@ -8,6 +8,7 @@ use Rattle.limits.specs.declared.TheConstants.{ROOT, BLOCK_BYTES, FILE_INDEXES, 
 use Rattle.limits.specs.declared.TheConstants.{LARGEST_FILE, LEAST_DATA_BLOCKS, LEAST_INODES, MODE_BITS}
 use Rattle.limits.specs.declared.TheConstants.{MOST_BLOCKS, MOST_INODES, MOST_LINKS, NAME_BYTES, NANOSECONDS}
 use Rattle.limits.specs.declared.TheConstants.{SLOTS_PER_BLOCK, TARGET_BYTES}
+use Rattle.nfs_types.specs.declared.ctx.Ctx.{Ctx}
 use Rattle.nfs_types.specs.declared.ctx.Moment.{Moment}
 use Rattle.nfs_types.specs.declared.handle.Stamp.{Stamp}
 use Rattle.nfs_types.specs.declared.verifier.Verifier.{Verifier}
@@ -42,6 +43,13 @@ pub record SoundTime (time : Moment) : Type 0 where
 pub record SoundStamp (stamp : Stamp) : Type 0 where
   pub boot : stamp.boot < 2 ^ 64
   pub transaction : stamp.transaction < 2 ^ 64
+
+-- who calls and when, and the stamp of what the call makes
+pub record SoundCtx (ctx : Ctx) : Type 0 where
+  pub uid : ctx.credential.uid < 2 ^ 32
+  pub gid : ctx.credential.gid < 2 ^ 32
+  pub moment : SoundTime ctx.moment
+  pub stamp : SoundStamp (record { boot = ctx.boot; transaction = ctx.transaction })
 
 -- The bytes of a regular file: no more than the largest file has, and zero wherever no block is mapped. An
 -- index may be mapped past the size.
@@ -144,3 +152,7 @@ pub record Sound (tree : Tree) : Type 0 where
   pub root_stamp : root.stamp ≡ record { boot = 0; transaction = 0 }
   pub files : (number : ℕ) (node : Node) → node_at tree number ≡ Some node → SoundAt tree number node
   pub room : used tree ≤ tree.geometry.data_blocks
+
+-- no file has the stamp of a later boot than this one
+abbrev pub IsMadeBy : ℕ → Tree → Type 0
+IsMadeBy boot tree = (number : ℕ) (node : Node) → node_at tree number ≡ Some node → node.stamp.boot ≤ boot

@@ -1,8 +1,10 @@
-//! Laws on calls that aren't served.
-ghost use Rattle.std.specs.Prelude.{◌≡◌};
+//! Laws on replies that no step gives.
+ghost use Rattle.std.specs.Prelude.{◌≡◌, true};
 ghost use Rattle.nfs_types.specs.declared.call.Call.{Call};
 ghost use Rattle.nfs_types.specs.declared.ctx.Ctx.{Ctx};
-ghost use Rattle.model.specs.Calls.{unsupported};
+ghost use Rattle.nfs_types.specs.declared.status.Status.TheVariants as status;
+ghost use Rattle.model.specs.Calls.{is_answered_stable, unsupported};
+ghost use Rattle.model.specs.Refused.{refused};
 ghost use Rattle.model.specs.Tree.{Tree};
 ghost use Rattle.model.specs.Step.{step};
 
@@ -10,4 +12,13 @@ ghost use Rattle.model.specs.Step.{step};
 pub fn an_unsupported_call_is_no_step()
     ensures { (tree next : Tree) (ctx : Ctx) (refused : Call)
         → step tree ctx refused (unsupported refused) next → ⊥ }
+{}
+
+/// Of a call that is answered only once what it changed is stable, no step replies IO or SERVERFAULT: those
+/// tell that the store failed, and not what the procedure found.
+pub fn no_stable_answer_tells_a_failure()
+    ensures io { (tree next : Tree) (ctx : Ctx) (asked : Call) → is_answered_stable asked ≡ true
+        → step tree ctx asked (refused status.Io asked) next → ⊥ }
+    ensures server_fault { (tree next : Tree) (ctx : Ctx) (asked : Call) → is_answered_stable asked ≡ true
+        → step tree ctx asked (refused status.ServerFault asked) next → ⊥ }
 {}

@@ -1,16 +1,15 @@
 -- A call message has one spelling, no two share one, and what is judged to be a call is one that is spelled.
-use Rattle.std.proofs.Common.{◌≡◌, ℕ, ◌+◌, ◌^◌, ◌<◌, inl, inr, replicate, Bool, true, false, cond, List, ◌++◌}
+use Rattle.std.proofs.Common.{◌≡◌, ℕ, ◌^◌, ◌<◌, replicate, Bool, true, false, cond, List, ◌++◌}
 use Rattle.std.proofs.Common.{length, Option, Some, None, Result, Ok, Err, refl, sym, ap, subst, ◌∙◌}
 use Rattle.std.proofs.Common.{append_assoc, arith}
 use Rattle.std.specs.Prelude.{◌==◌}
-use Rattle.std.proofs.lemmas.Bool.{eqb-true, cases_lt}
-use Rattle.std.proofs.lemmas.List.{get_or_past, get_or_append_left, get_or-append-add}
+use Rattle.std.proofs.lemmas.Bool.{eqb-true}
 use Rattle.nfs_types.specs.declared.ctx.Credential.{Credential}
 use Rattle.nfs_types.specs.declared.program.Program.{Program}
 use Rattle.nfs_types.specs.declared.program.ProgramCall.{ProgramCall}
 use Rattle.nfs_types.specs.declared.program.ProgramProcedure.{ProgramProcedure}
 use Rattle.nfs_types.specs.Fits.{ProgramCallFits}
-use Rattle.session_wire.specs.declared.rpc.constants.TheConstants.{CALL, RPC_VERSION, NFS_PROGRAM}
+use Rattle.session_wire.specs.declared.rpc.constants.TheConstants.{CALL, RPC_VERSION}
 use Rattle.session_wire.specs.declared.rpc.constants.TheConstants.{NFS_VERSION}
 use Rattle.session_wire.specs.declared.rpc.header.Opening.{Opening}
 use Rattle.session_wire.specs.declared.rpc.refusal.Refusal.{Refusal}
@@ -30,7 +29,7 @@ use Rattle.session_wire.specs.Procedures.{program_number, program_of, is_availab
 use Rattle.session_wire.specs.Procedures.{program_with, procedure_of, is_decoded, called}
 use Rattle.session_wire.specs.Calls.{arguments, CredentialFits, caller_of, call_bytes, SpellsCall}
 use Rattle.session_wire.specs.ReadingCalls.{call_of}
-use Rattle.session_wire.specs.Judging.{on_arguments, on_procedure, on_program, requested, on_credential}
+use Rattle.session_wire.specs.Judging.{on_arguments, on_procedure, on_program, on_credential}
 use Rattle.session_wire.specs.Judging.{on_header}
 use Rattle.session_wire.specs.Judging.{on_opening, judged}
 use Rattle.session_wire.proofs.Coded.{IsBytes}

@@ -1,5 +1,5 @@
 -- The arguments of calls that are read are those that were spelled, and the other way round.
-use Rattle.std.proofs.Common.{◌≡◌, ℕ, zero, suc, ◌^◌, ◌<◌, ◌≤◌, List, [], ◌∷◌, ◌++◌, length, Result, Ok}
+use Rattle.std.proofs.Common.{◌≡◌, ℕ, zero, suc, ◌^◌, ◌<◌, List, [], ◌∷◌, ◌++◌, length, Result, Ok}
 use Rattle.std.proofs.Common.{refl, sym, ap, subst, ◌∙◌, append_assoc, arith, inl, inr, replicate, ◌+◌, true}
 use Rattle.std.specs.Prelude.{IfSome}
 use Rattle.std.specs.Int.{w32, w64}
@@ -18,7 +18,7 @@ use Rattle.nfs_types.specs.declared.program.ProgramProcedure.{ProgramProcedure}
 use Rattle.nfs_types.specs.declared.program.ProgramProcedure.TheVariants as procedures
 use Rattle.nfs_types.specs.declared.program.ProgramCall.{ProgramCall}
 use Rattle.nfs_types.specs.declared.program.ProgramCall.TheVariants as program_calls
-use Rattle.nfs_types.specs.Fits.{HandleFits, StringFits, MomentFits, SetTimeFits, NewAttributesFit, CallFits}
+use Rattle.nfs_types.specs.Fits.{StringFits, MomentFits, SetTimeFits, NewAttributesFit}
 use Rattle.nfs_types.specs.Fits.{ProgramCallFits}
 use Rattle.session_wire.specs.declared.xdr.fault.XdrFault.{XdrFault}
 use Rattle.session_wire.specs.Items.{word, double, opaque, optional, padding}

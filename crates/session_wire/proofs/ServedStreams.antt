@@ -1,19 +1,26 @@
 -- The served stream, message by message.
-use Rattle.std.proofs.Common.{◌≡◌, ℕ, ◌+◌, ◌<◌, ◌⊎◌, inl, inr, Bool, true, false, List, [], ◌∷◌, ◌++◌, length}
+use Rattle.std.proofs.Common.{◌≡◌, ℕ, ◌+◌, ◌^◌, ◌<◌, ◌≤◌, ◌⊎◌, inl, inr, Bool, true, false, List, [], ◌∷◌, ◌++◌, length}
 use Rattle.std.proofs.Common.{refl, sym, ap, subst, ◌∙◌, arith}
 use Rattle.nfs_types.specs.declared.call.Call as types
 use Rattle.nfs_types.specs.declared.ctx.Credential.{Credential}
+use Rattle.nfs_types.specs.declared.ctx.Ctx.{Ctx}
 use Rattle.nfs_types.specs.declared.program.ProgramCall.{ProgramCall}
 use Rattle.nfs_types.specs.declared.program.ProgramCall.TheVariants as program_calls
+use Rattle.nfs_types.specs.Fits.{CallFits, ProgramCallFits}
 use Rattle.model.specs.Calls.{has_rules, plain_reply}
-use Rattle.model.proofs.Answered.{answered}
+use Rattle.model.specs.Sound.{Sound, SoundCtx}
+use Rattle.model.proofs.Answered.{answered, steps_sound}
 use Rattle.session_wire.specs.declared.message.Judged.{Judged}
 use Rattle.session_wire.specs.declared.message.Judged.TheVariants.{Closed, Refused, Call}
+use Rattle.session_wire.specs.declared.message.MessageCredential.{MessageCredential}
+use Rattle.session_wire.specs.declared.message.MessageCredential.TheVariants.{Nobody, Caller}
 use Rattle.session_wire.specs.declared.rpc.refusal.Refusal.{Refusal}
+use Rattle.session_wire.specs.Calls.{CredentialFits, caller_of}
 use Rattle.session_wire.specs.Judging.{judged}
 use Rattle.session_wire.specs.Replies.{refused}
 use Rattle.session_wire.specs.Served.{Serving, Standing, IsLater, IsReplyWithRules, IsNfsReply, IsCallReply}
-use Rattle.session_wire.specs.Served.{IsReplyTo, served, done, nfs_done}
+use Rattle.session_wire.specs.Served.{IsReplyTo, IsServable, served, done, nfs_done}
+use Rattle.session_wire.proofs.CallLaws.{judged_takes}
 
 pub none : (s : Serving) (old new : Standing) (replies : List (List ℕ)) → served s old [] replies new
     → (replies ≡ []) × (new ≡ old)
@@ -114,54 +121,120 @@ later s old new (message ∷ messages) (reply ∷ replies) all =
 
 -- ---- there are replies
 
-stepped : (s : Serving) (old : Standing) (xid : ℕ) (credential : Credential) (call : types.Call)
-    (rules : Bool) → has_rules call ≡ rules
-    → (bytes : List ℕ) × (new : Standing) × IsNfsReply s old rules xid credential call bytes new
-stepped s old xid credential call true is =
-    let a = answered old.tree (record {
-      credential = credential;
-      moment = s.moment;
-      boot = s.boot;
-      transaction = old.number;
-    }) call is in
-    let new : Standing = record old { tree = a.1; number = old.number + 1 } in
-    let on : IsLater old new = record {
-      numbers = omega arith;
-      failures = omega arith;
-      breaks = λ no yes. cc;
-      stays_broken = λ is. is;
-      stays_spent = λ is. is;
-    } in (
-      nfs_done xid a.0,
-      new,
-      IsReplyWithRules.Done a.0 (record {
-        later = on;
-        number = old.number;
-        fresh = omega arith;
-        rising = omega arith;
-        step = a.2;
-      }) refl,
-    )
-stepped s old xid credential call false is =
-    (done xid (plain_reply (program_calls.Nfs call)), old, record { stays = refl; told = inl refl })
+-- some answer to a message, with which the tree stays sound
+record Answered (s : Serving) (old : Standing) (j : Judged) : Type 0 where
+  bytes : List ℕ
+  new : Standing
+  is : IsReplyTo s old j bytes new
+  sound : Sound new.tree
+  number : new.number ≤ old.number + 1
 
-called : (s : Serving) (old : Standing) (xid : ℕ) (credential : Credential) (call : ProgramCall)
-    → (bytes : List ℕ) × (new : Standing) × IsCallReply s old xid credential call bytes new
-called s old xid credential (program_calls.Nfs call) = stepped s old xid credential call (has_rules call) refl
-called s old xid credential (program_calls.Mount call) =
-    (done xid (plain_reply (program_calls.Mount call)), old, record { stays = refl; told = inl refl })
+-- the same of a call of NFS
+record Stepped (s : Serving) (old : Standing) (rules : Bool) (xid : ℕ) (credential : Credential)
+    (call : types.Call) : Type 0 where
+  bytes : List ℕ
+  new : Standing
+  is : IsNfsReply s old rules xid credential call bytes new
+  sound : Sound new.tree
+  number : new.number ≤ old.number + 1
 
-replied : (s : Serving) (old : Standing) (j : Judged)
-    → (j ≡ Closed) ⊎ ((bytes : List ℕ) × (new : Standing) × IsReplyTo s old j bytes new)
-replied s old Closed = inl refl
-replied s old (Refused xid why) = inr (refused xid why, old, (refl, refl))
-replied s old (Call xid credential call) = inr (called s old xid credential call)
+module _ (s : Serving) (old : Standing) (xid : ℕ) (credential : Credential) (good : Sound old.tree) where
+  abbrev ctx : Ctx
+  ctx = record { credential = credential; moment = s.moment; boot = s.boot; transaction = old.number }
 
-pub can_be_served : (s : Serving) (old : Standing) (messages : List (List ℕ))
+  stepped : (call : types.Call) (rules : Bool) → has_rules call ≡ rules → SoundCtx ctx → CallFits call
+      → Stepped s old rules xid credential call
+  stepped call true is now fits =
+      let a = answered old.tree ctx call good is in
+      let new : Standing = record old { tree = a.1; number = old.number + 1 } in
+      let on : IsLater old new = record {
+        numbers = omega arith;
+        failures = omega arith;
+        breaks = λ no yes. cc;
+        stays_broken = λ is. is;
+        stays_spent = λ is. is;
+      } in
+      record {
+        bytes = nfs_done xid a.0;
+        new = new;
+        is = IsReplyWithRules.Done a.0 (record {
+          later = on;
+          number = old.number;
+          fresh = omega arith;
+          rising = omega arith;
+          step = a.2;
+        }) refl;
+        sound = steps_sound old.tree a.1 ctx call a.0 good now fits a.2;
+        number = omega arith;
+      }
+  stepped call false is now fits = record {
+    bytes = done xid (plain_reply (program_calls.Nfs call));
+    new = old;
+    is = record { stays = refl; told = inl refl };
+    sound = good;
+    number = omega arith;
+  }
+
+  called : (call : ProgramCall) → SoundCtx ctx → ProgramCallFits call
+      → Answered s old (Call xid credential call)
+  called (program_calls.Nfs call) now fits =
+      let a = stepped call (has_rules call) refl now fits in
+      record { bytes = a.bytes; new = a.new; is = a.is; sound = a.sound; number = a.number }
+  called (program_calls.Mount call) now fits = record {
+    bytes = done xid (plain_reply (program_calls.Mount call));
+    new = old;
+    is = record { stays = refl; told = inl refl };
+    sound = good;
+    number = omega arith;
+  }
+
+-- a caller that was read is one that can be
+record IsCaller (c : Credential) : Type 0 where
+  uid : c.uid < 2 ^ 32
+  gid : c.gid < 2 ^ 32
+
+caller_is : (m : MessageCredential) → CredentialFits m → IsCaller (caller_of m)
+caller_is Nobody fits = record { uid = omega arith; gid = omega arith }
+caller_is (Caller stamp machine caller) fits = record { uid = fits.uid; gid = fits.gid }
+
+replied : (s : Serving) (old : Standing) (message : List ℕ) (messages : List (List ℕ))
+    → IsServable s old (message ∷ messages) → (j : Judged) → judged message ≡ j
+    → (j ≡ Closed) ⊎ Answered s old j
+replied s old message messages can Closed is = inl refl
+replied s old message messages can (Refused xid why) is = inr (record {
+  bytes = refused xid why;
+  new = old;
+  is = (refl, refl);
+  sound = can.sound;
+  number = omega arith;
+})
+replied s old message messages can (Call xid credential call) is =
+    let t = judged_takes message xid credential call can.bytes.0 is in
+    let caller : IsCaller credential =
+    subst IsCaller t.1.caller_is (caller_is t.0.credential t.1.spelled.credential_fits) in
+    let fits : ProgramCallFits call = subst ProgramCallFits t.1.call_is t.1.spelled.call_fits in
+    let left = can.numbers in
+    inr (called s old xid credential can.sound call
+    (record {
+      uid = caller.uid;
+      gid = caller.gid;
+      moment = can.moment;
+      stamp = record { boot = can.boot; transaction = omega (arith, left) };
+    }) fits)
+
+pub can_be_served : (s : Serving) (old : Standing) (messages : List (List ℕ)) → IsServable s old messages
     → (replies : List (List ℕ)) × (new : Standing) × served s old messages replies new
-can_be_served s old [] = ([], old, (tt, refl))
-can_be_served s old (message ∷ messages) = elim (replied s old (judged message)) [
-  | inl closes ↦ ([], old, (closes, refl))
-  | inr told ↦ let rest = can_be_served s told.1 messages in
-      (told.0 ∷ rest.0, rest.1, (told.1, told.2, rest.2))
-]
+can_be_served s old [] can = ([], old, (tt, refl))
+can_be_served s old (message ∷ messages) can =
+    elim (replied s old message messages can (judged message) refl) [
+      | inl closes ↦ ([], old, (closes, refl))
+      | inr told ↦
+          let rest = can_be_served s told.new messages (record {
+            sound = told.sound;
+            moment = can.moment;
+            boot = can.boot;
+            numbers = let left = can.numbers in let one = told.number in omega (arith, left, one);
+            bytes = can.bytes.1;
+          }) in
+          (told.bytes ∷ rest.0, rest.1, (told.new, told.is, rest.2))
+    ]

@@ -1,4 +1,4 @@
--- How calls are spelled (RFC 1813, sections 2.5, 2.6 and 3.3; RFC 5531, sections 8.2 and 9, appendix A).
+-- How calls are spelled (RFC 1813, sections 2.6, 3.3 and 5.2; RFC 5531, sections 8.2 and 9, appendix A).
 use Rattle.std.specs.Prelude.{◌≡◌, ◌<◌, ◌≤◌, ◌^◌, ℕ, true, List, [], ◌++◌, length, flat_map}
 use Rattle.std.specs.List.{AllByRecursion}
 use Rattle.limits.specs.declared.TheConstants.{MOST_AUTH_BYTES, MACHINE_NAME_BYTES}

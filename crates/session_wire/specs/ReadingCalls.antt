@@ -1,4 +1,4 @@
--- Reading the arguments of a call from left to right (RFC 1813, sections 2.5, 2.6 and 3.3).
+-- Reading the arguments of a call from left to right (RFC 1813, sections 2.6 and 3.3).
 use Rattle.std.specs.Prelude.{ℕ, zero, suc, List, Option, Some, None, Result, Ok, Err, if◌then◌else◌}
 use Rattle.std.specs.Int.{w32, w64}
 use Rattle.limits.specs.declared.TheConstants.{MOST_HANDLE_BYTES}

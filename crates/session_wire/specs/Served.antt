@@ -1,5 +1,7 @@
 -- What one thread answers to a stream of messages.
-use Rattle.std.specs.Prelude.{◌≡◌, ℕ, ◌<◌, ◌≤◌, ◌⊎◌, Bool, true, false, List, [], ◌∷◌, ◌++◌}
+use Rattle.std.specs.Prelude.{◌≡◌, ℕ, ◌+◌, ◌^◌, ◌<◌, ◌≤◌, ◌⊎◌, Bool, true, false, List, [], ◌∷◌, ◌++◌}
+use Rattle.std.specs.Prelude.{length}
+use Rattle.std.specs.List.{AllByRecursion}
 use Rattle.nfs_types.specs.declared.call.Call as types
 use Rattle.nfs_types.specs.declared.ctx.Credential.{Credential}
 use Rattle.nfs_types.specs.declared.program.ProgramCall.{ProgramCall}
@@ -9,8 +11,10 @@ use Rattle.nfs_types.specs.declared.program.ProgramReply.TheVariants as program_
 use Rattle.nfs_types.specs.declared.ctx.Moment.{Moment}
 use Rattle.nfs_types.specs.declared.reply.Reply.{Reply}
 use Rattle.nfs_types.specs.declared.status.Status.TheVariants as status
+use Rattle.nfs_types.specs.Fits.{AreBytes}
 use Rattle.model.specs.Calls.{has_rules, is_answered_stable, plain_reply}
 use Rattle.model.specs.Refused as model
+use Rattle.model.specs.Sound.{Sound, SoundTime}
 use Rattle.model.specs.Step.{step}
 use Rattle.model.specs.Tree.{Tree}
 use Rattle.session_wire.specs.declared.message.Judged.{Judged}
@@ -117,6 +121,14 @@ IsReplyTo s old Closed bytes new = ⊥
 IsReplyTo s old (Refused xid refusal) bytes new = (bytes ≡ refused xid refusal) × (new ≡ old)
 IsReplyTo s old (Call xid credential call) bytes new =
     IsCallReply s old xid credential call bytes new
+
+-- A stream of bytes that comes to a sound tree, with a number left for the transaction of each message.
+pub record IsServable (s : Serving) (old : Standing) (messages : List (List ℕ)) : Type 0 where
+  pub sound : Sound old.tree
+  pub moment : SoundTime s.moment
+  pub boot : s.boot < 2 ^ 64
+  pub numbers : old.number + length messages ≤ 2 ^ 64
+  pub bytes : AllByRecursion AreBytes messages
 
 -- no message is left, or the connection closes on the next one
 abbrev pub Ends : List (List ℕ) → Type 0

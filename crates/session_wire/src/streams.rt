@@ -4,7 +4,7 @@ ghost use Rattle.session_wire.specs.declared.message.Judged.TheVariants.{Closed,
 ghost use Rattle.session_wire.specs.declared.rpc.refusal.Refusal.{Refusal};
 ghost use Rattle.session_wire.specs.Judging.{judged};
 ghost use Rattle.session_wire.specs.Replies.{refused};
-ghost use Rattle.session_wire.specs.Served.{IsLater, Serving, Standing, served};
+ghost use Rattle.session_wire.specs.Served.{IsLater, IsServable, Serving, Standing, served};
 
 /// A stream without messages gets no reply, and nothing changes.
 pub fn no_messages_get_no_replies()
@@ -42,8 +42,8 @@ pub fn a_stream_goes_on()
         → served s old messages replies new → IsLater old new }
 {}
 
-/// Each stream can be served.
+/// Each stream of bytes can be served that comes to a sound tree, while numbers of transactions are left.
 pub fn each_stream_can_be_served()
-    ensures { (s : Serving) (old : Standing) (messages : List (List ℕ))
+    ensures { (s : Serving) (old : Standing) (messages : List (List ℕ)) → IsServable s old messages
         → (replies : List (List ℕ)) × (new : Standing) × served s old messages replies new }
 {}

@@ -1,4 +1,4 @@
-//! Items of arguments (RFC 1813, sections 2.5 and 2.6).
+//! Items of arguments (RFC 1813, section 2.6).
 ghost use Rattle.std.specs.Prelude.{◌≡◌};
 ghost use Rattle.session_wire.specs.Reading.{Reads};
 ghost use Rattle.session_wire.specs.ReadingCalls.{moment_at, optional_word_at, optional_double_at};

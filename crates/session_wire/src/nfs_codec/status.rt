@@ -1,4 +1,4 @@
-//! The numbers of statuses and of kinds of files (RFC 1813, section 2.6).
+//! The numbers of statuses and of kinds of files (RFC 1813, sections 2.5 and 2.6).
 ghost use Rattle.std.specs.Prelude.{◌≡◌};
 ghost use Rattle.session_wire.specs.Results.{status_number, kind_number};
 
