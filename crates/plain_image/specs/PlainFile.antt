@@ -5,6 +5,8 @@ use Rattle.disk.specs.Crash.{Image}
 use Rattle.model.specs.SetAttr.{resized}
 use Rattle.layout.specs.declared.geometry.Geometry.{Geometry}
 use Rattle.layout.specs.declared.inode.Inode.{Inode}
+use Rattle.layout.specs.declared.inode.InodeKind.{InodeKind}
+use Rattle.layout.specs.declared.inode.InodeKind.TheVariants as kind
 use Rattle.layout.specs.Decode.{bytes_of, inode_at, numbers_of}
 use Rattle.layout.specs.Owners.{is_used}
 use Rattle.plain_image.specs.declared.files.PlainContent.{PlainContent}
@@ -16,12 +18,13 @@ use Rattle.plain_image.specs.PlainName.{entries_in, entries_of}
 abbrev pub mapped_bytes : Image → Inode → List ℕ
 mapped_bytes blocks inode = resized inode.size (bytes_of blocks (numbers_of blocks inode))
 
--- the bytes and a target are those, and the names are in the slots of those
-abbrev pub IsContent : ℕ → Image → Inode → PlainContent → Type 0
-IsContent inodes blocks inode (Bytes bytes) = bytes ≡ mapped_bytes blocks inode
-IsContent inodes blocks inode (Target bytes) = bytes ≡ mapped_bytes blocks inode
-IsContent inodes blocks inode (Names names) =
+-- what is in a file is of its kind: the bytes and a target are those, and the names are in the slots of those
+abbrev pub IsContent : ℕ → Image → InodeKind → Inode → PlainContent → Type 0
+IsContent inodes blocks kind.Directory inode (Names names) =
     entries_of names.items ≡ entries_in inodes (mapped_bytes blocks inode)
+IsContent inodes blocks kind.Link inode (Target bytes) = bytes ≡ mapped_bytes blocks inode
+IsContent inodes blocks kind.Regular inode (Bytes bytes) = bytes ≡ mapped_bytes blocks inode
+IsContent inodes blocks other inode content = ⊥
 
 -- the file of a number and an inode, with how many blocks it maps and what is in it
 pub record IsFileOf (inodes : ℕ) (blocks : Image) (number : ℕ) (inode : Inode) (file : PlainFile) : Type 0
@@ -29,7 +32,7 @@ pub record IsFileOf (inodes : ℕ) (blocks : Image) (number : ℕ) (inode : Inod
     pub number_is : file.number ≡ number
     pub inode_is : file.inode ≡ inode
     pub mapped : file.blocks ≡ count_by (λ one. not (nat_eq one 0)) (numbers_of blocks inode)
-    pub content : IsContent inodes blocks inode file.content
+    pub content : IsContent inodes blocks inode.kind inode file.content
 
 -- it is the file that lies in the table under its number
 abbrev pub IsDecoded : Geometry → Image → PlainFile → Type 0

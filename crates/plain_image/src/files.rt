@@ -1,5 +1,5 @@
 //! All files of an image.
-ghost use Rattle.std.specs.Prelude.{◌≡◌, ◌<◌, ◌++◌, IfOk, OnOk, All};
+ghost use Rattle.std.specs.Prelude.{◌≡◌, ◌≢◌, ◌<◌, ◌++◌, IfOk, OnOk, All};
 ghost use Rattle.limits.specs.declared.TheConstants.{SUPER_BLOCK};
 ghost use Rattle.disk.specs.Memory.{image_of};
 ghost use Rattle.layout.specs.SuperForm.{IsSuper};
@@ -58,6 +58,7 @@ fn file_of(
     number: u32,
     inode: Inode,
 ) -> Result<PlainFile, ImageFault>
+    requires { inode.kind ≢ InodeKind.Free }
     ensures { IfOk result (λ file. IsFileOf geometry.now.inodes (image_of disk.now) number inode file) }
 {
     let numbers = numbers_of(alloc, disk, geometry, &inode)?;
