@@ -18,7 +18,7 @@ use Rattle.store_promise.specs.Schedule.{progress_before}
 use Rattle.store_promise.specs.Transcript.{Transcript, committed_at, device_calls, made}
 use Rattle.store_promise.specs.Verdicts.{AreAnswers, HasVerdict, IsAnswer, IsReplyAt}
 use Rattle.store_promise.proofs.OneSetAttrAlong.{is_one, no-one}
-use Rattle.store_promise.proofs.OneSetAttrTold.{end_at, place_is}
+use Rattle.store_promise.proofs.OneSetAttrTold.{end_at, job_of, place_is, with_read}
 use Rattle.store_promise.proofs.Told.{step_is}
 
 -- ---- a list of which no two indexes differ
@@ -52,13 +52,6 @@ module _ (one : OneSetAttr) (boot : ℕ) (history : List Committed) (answers : L
   abbrev t : Transcript
   t = record { boot = boot; history = history; answers = answers; steps = steps_of one }
 
-  abbrev job : Job
-  job = record { credential = one.credential; moment = one.moment; call = asked one }
-
-  -- the first transaction, which has read the object
-  abbrev with_read : Begun
-  with_read = record { number = 1; held = one.addr ∷ []; fetched = one.addr ∷ []; claimed = [] }
-
   -- ---- the entry
 
   module _ (told : IsHistory (events_of one) t) where
@@ -82,7 +75,7 @@ module _ (one : OneSetAttr) (boot : ℕ) (history : List Committed) (answers : L
     worker_is : 0 ≡ c.worker
     worker_is = ap own (ap (slice_get (events_of one)) (sym found.2) ∙ was.event)
 
-    planned : At job (Planning with_read) ≡ At was.job (Planning was.begun)
+    planned : At (job_of one) (Planning (with_read one)) ≡ At was.job (Planning was.begun)
     planned =
         (λ i. progress_before (events_of one) (steps_of one) (worker_is i) (sym found.2 i)) ∙ was.planned
 
@@ -150,7 +143,7 @@ module _ (one : OneSetAttr) (boot : ℕ) (history : List Committed) (answers : L
       answerer = ap own (ap (slice_get (events_of one)) (sym given.2) ∙ answer.event)
 
       waits : Waiting 1 ≡ answer.stage
-      waits = same_stage job answer.job (Waiting 1) answer.stage
+      waits = same_stage (job_of one) answer.job (Waiting 1) answer.stage
           ((λ i. progress_before (events_of one) (steps_of one) (answerer i) (sym given.2 i)) ∙ answer.so_far)
 
       settles : step.Stable (record { 0 = 1 }) true ≡ answer.step

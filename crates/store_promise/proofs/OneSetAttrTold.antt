@@ -18,7 +18,7 @@ use Rattle.store_promise.specs.History.{IsHistory, WasCommitted}
 use Rattle.store_promise.specs.LogTold.{settled_told}
 use Rattle.store_promise.specs.OneSetAttr.{OneSetAttr, answer_at, asked, entry_in, events_of, steps_of}
 use Rattle.store_promise.specs.OneSetAttr.{told_of}
-use Rattle.store_promise.specs.Progress.{is_idle, Waiting}
+use Rattle.store_promise.specs.Progress.{is_idle, Begun, Job, Waiting}
 use Rattle.store_promise.specs.Schedule.{Told, at_first, told_after, told_before, worker_of}
 use Rattle.store_promise.specs.Transcript.{Transcript, committed_at, device_calls, made}
 use Rattle.store_promise.specs.Verdicts.{AreAnswers, IsAnswer}
@@ -72,6 +72,14 @@ ends_there : (before after there : Bool) → not (not before && after) || there 
 ends_there true after there passed busy idle = cc
 ends_there false true there passed busy idle = passed
 ends_there false false there passed busy idle = cc
+
+-- what the worker is handed
+abbrev pub job_of : OneSetAttr → Job
+job_of one = record { credential = one.credential; moment = one.moment; call = asked one }
+
+-- the first transaction, which has read the object
+abbrev pub with_read : OneSetAttr → Begun
+with_read one = record { number = 1; held = one.addr ∷ []; fetched = one.addr ∷ []; claimed = [] }
 
 -- the steps alone
 abbrev bare : OneSetAttr → Transcript
@@ -161,8 +169,8 @@ module _ (boot : ℕ) (one : OneSetAttr) (reply : Reply) where
     event = refl;
     blocks = 1;
     step = refl;
-    job = record { credential = one.credential; moment = one.moment; call = asked one };
-    begun = record { number = 1; held = one.addr ∷ []; fetched = one.addr ∷ []; claimed = [] };
+    job = job_of one;
+    begun = with_read one;
     planned = refl;
     ctx = refl;
     call = refl;
@@ -196,7 +204,7 @@ module _ (boot : ℕ) (one : OneSetAttr) (reply : Reply) where
   is_answer : IsAnswer (events_of one) t last
   is_answer = record {
     event = refl;
-    job = record { credential = one.credential; moment = one.moment; call = asked one };
+    job = job_of one;
     stage = Waiting 1;
     so_far = refl;
     step = step.Stable (record { 0 = 1 }) true;

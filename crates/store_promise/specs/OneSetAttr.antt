@@ -93,6 +93,14 @@ abbrev pub steps_of : OneSetAttr → List (Option Step)
 steps_of one = map (λ made. Some made)
     (steps_to_commit one ++ steps_of_log one ++ step.Stable (record { 0 = 1 }) true ∷ [])
 
+-- the same without any call of the log
+abbrev pub events_without_log : OneSetAttr → Schedule
+events_without_log one = events_to_commit one ++ event.Work 0 ∷ []
+
+abbrev pub steps_without_log : OneSetAttr → List (Option Step)
+steps_without_log one =
+    map (λ made. Some made) (steps_to_commit one ++ step.Stable (record { 0 = 1 }) true ∷ [])
+
 -- ---- what is told
 
 -- the procedure is committed by the seventh event, after the read alone

@@ -19,7 +19,7 @@ pub use fresh::{a_fresh_image_is_good, a_made_image_may_run};
 pub use log_steps::{a_commit_is_told, the_installer_is_told, the_logger_is_told};
 pub use one_setattr::{
     a_run_of_one_setattr_keeps_the_promise, a_run_that_answers_at_its_commit_breaks_the_promise,
-    a_run_that_loses_its_setattr_breaks_the_promise,
+    a_run_that_loses_its_setattr_breaks_the_promise, a_setattr_is_not_settled_without_the_log,
     a_setattr_that_shows_too_early_breaks_the_promise, the_steps_of_one_setattr_tell_its_run,
 };
 pub use open_store::a_stop_leaves_a_good_image;

@@ -11,6 +11,7 @@ ghost use Rattle.procs.specs.Asks.{Asks};
 ghost use Rattle.store_promise.specs.GoodImage.{IsGoodImage};
 ghost use Rattle.store_promise.specs.Headline.{IsGeometryOf, KeepsPromise};
 ghost use Rattle.store_promise.specs.OneSetAttr.{OneSetAttr, asked, ctx_in, events_of, steps_of};
+ghost use Rattle.store_promise.specs.OneSetAttr.{events_without_log, steps_without_log};
 ghost use Rattle.store_promise.specs.OneSetAttr.{told_of, told_too_early, LeavesTrees, WentOnByFive};
 ghost use Rattle.store_promise.specs.Openings.{IsOpened};
 ghost use Rattle.store_promise.specs.Transcript.{Transcript};
@@ -59,6 +60,14 @@ pub fn a_run_that_answers_at_its_commit_breaks_the_promise()
 {
     no_stable_answer_comes_with_its_commit();
 }
+
+/// A run whose worker is told that its SETATTR is settled, before the log has made any call for it, breaks
+/// the promise, whatever else it tells.
+pub fn a_setattr_is_not_settled_without_the_log()
+    ensures { (before later : Device) (tree : Tree) (first : ℕ) (one : OneSetAttr) (t : Transcript)
+        → t.steps ≡ steps_without_log one
+        → KeepsPromise before later tree first 1 (events_without_log one) t → ⊥ }
+{}
 
 /// Of these events and steps nothing else may be told: a run of them that keeps the promise tells the next
 /// boot number, the one entry and the one answer, and its reply is one that the sequential server may give.
