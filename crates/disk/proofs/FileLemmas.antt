@@ -1,7 +1,7 @@
 -- What one more call makes of a device over a file.
 use Rattle.std.proofs.Common.{◌≡◌, ℕ, ◌*◌, Bool, false, ◌||◌, ◌&&◌, List, [], ◌∷◌, ◌++◌}
-use Rattle.std.proofs.Common.{length, take, refl, sym, subst, ◌∙◌, ap, arith, inl, inr, Result, Ok, Err, is_err}
-use Rattle.std.proofs.Common.{if◌then◌else◌, cond}
+use Rattle.std.proofs.Common.{length, take, refl, sym, subst, ◌∙◌, ap, arith, inl, inr, Result, Ok, Err}
+use Rattle.std.proofs.Common.{is_err, if◌then◌else◌, cond}
 use Rattle.std.proofs.lemmas.List.{length-append, take_all, take-append-le, append_assoc}
 use Rattle.std.proofs.lemmas.List.Folds.{list_any-append}
 use Rattle.std.proofs.lemmas.List.Sums.{sum_by-append}
@@ -22,8 +22,8 @@ use Rattle.disk.specs.File.{KeepsModel}
 -- a block is at another's offset just where it is that one
 same_block : (one other : ℕ) → is_at one (other * BLOCK_BYTES) ≡ nat_eq one other
 same_block one other = elim (cases_Bool (nat_eq one other)) [
-  | inl t ↦ eq-eqb (one * BLOCK_BYTES) (other * BLOCK_BYTES) (ap (λ n. n * BLOCK_BYTES) (eqb-true one other t))
-      ∙ sym t
+  | inl t ↦ eq-eqb (one * BLOCK_BYTES) (other * BLOCK_BYTES)
+      (ap (λ n. n * BLOCK_BYTES) (eqb-true one other t)) ∙ sym t
   | inr f ↦ ne_eqb (one * BLOCK_BYTES) (other * BLOCK_BYTES)
       (λ e. eqb-false one other f (omega (arith, e))) ∙ sym f
 ]
@@ -116,7 +116,8 @@ module _ (first : ℕ → Content) (size : ℕ) (calls : Calls) where
       }
 
   -- the same of what is equal to it
-  pub written : (after : Calls) (b at : ℕ) (content : Content) (bytes : Snapshot Content) (r : Result Unit Failed)
+  pub written : (after : Calls) (b at : ℕ) (content : Content) (bytes : Snapshot Content)
+      (r : Result Unit Failed)
       → bytes.value ≡ content → at ≡ b * BLOCK_BYTES → after ≡ calls ++ (Write at bytes, r) ∷ []
       → HasWritten now b content r (file_device first size after)
   written after b at content bytes r same is noted =

@@ -1,6 +1,7 @@
 -- A device over a file, read off what its blocks held when it was opened and the calls since.
-use Rattle.std.specs.Prelude.{◌≡◌, ℕ, zero, suc, ◌*◌, Bool, true, false, List, [], ◌∷◌, ◌++◌, length, take, count_by, nat_eq, ◌&&◌, ◌<◌, replicate, All}
-use Rattle.std.specs.Prelude.{if◌then◌else◌, Result, Ok, Err, is_err}
+use Rattle.std.specs.Prelude.{◌≡◌, ℕ, zero, suc, ◌*◌, ◌<◌, Bool, true, false, ◌&&◌, if◌then◌else◌, nat_eq}
+use Rattle.std.specs.Prelude.{List, [], ◌∷◌, ◌++◌, length, take, count_by, replicate, All}
+use Rattle.std.specs.Prelude.{Result, Ok, Err, is_err}
 use Rattle.std.specs.List.{list_any}
 use Rattle.disk.specs.declared.device.Failed.{Failed}
 use Rattle.disk.specs.declared.block.BlockNo.{BlockNo}
@@ -24,7 +25,7 @@ bytes_of (Sync side) = replicate BLOCK_BYTES 0
 abbrev pub AreOfBlocks : Calls → Type 0
 AreOfBlocks calls = All (λ call. IsBlock (bytes_of call.0)) calls
 
--- what a block held when the file was opened: zeros, where nothing is said of it
+-- what a block held when the file was opened; zeros, where nothing is said of it
 abbrev pub first_in : List (BlockNo × Content) → ℕ → Content
 first_in [] block = replicate BLOCK_BYTES 0
 first_in (pair ∷ pairs) block = if nat_eq block pair.0.0 then pair.1 else first_in pairs block
@@ -81,7 +82,8 @@ file_device first size calls = record {
 -- a read that brings the newest content of its block, unless a write of the block had failed
 abbrev pub IsExplainedCall : (ℕ → Content) → Calls → FileCall → Type 0
 IsExplainedCall first earlier (Read at bytes) = (block : ℕ) → is_at block at ≡ true
-    → is_spoiled block earlier ≡ false → bytes.value ≡ newest (contents_after block (first block ∷ []) earlier)
+    → is_spoiled block earlier ≡ false
+    → bytes.value ≡ newest (contents_after block (first block ∷ []) earlier)
 IsExplainedCall first earlier (Write at bytes) = Unit
 IsExplainedCall first earlier (Sync side) = Unit
 
@@ -100,7 +102,7 @@ abbrev pub stored : ℕ → Content → Calls → Content
 stored block content [] = content
 stored block content (call ∷ calls) = stored block (put block call.0 content) calls
 
--- a file's answer to a read: what its block holds, but where a write of it failed: then any
+-- what a file answers to a read: what its block holds, or where a write of it has failed anything
 abbrev pub IsHonest : (ℕ → Content) → Calls → FileCall → Type 0
 IsHonest first earlier (Read at bytes) = (block : ℕ) → is_at block at ≡ true
     → is_spoiled block earlier ≡ false → bytes.value ≡ stored block (first block) earlier

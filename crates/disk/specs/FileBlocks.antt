@@ -3,13 +3,15 @@ use Rattle.std.specs.Prelude.{ℕ, ◌-◌, ◌<◌, Bool, true, false, List, []
 use Rattle.std.specs.Prelude.{if◌then◌else◌, Result, Ok, Err}
 use Rattle.std.proofs.Common.{arith}
 use Rattle.std.proofs.lemmas.List.{length-append, length-drop}
-use Rattle.std.proofs.lemmas.List.Elements.{All-append, All-nil, All-cons, All-head, All-tail, All-take, All-drop}
+use Rattle.std.proofs.lemmas.List.Elements.{All-append, All-nil, All-cons, All-head, All-tail, All-take}
+use Rattle.std.proofs.lemmas.List.Elements.{All-drop}
 use Rattle.disk.specs.declared.device.Failed.{Failed}
 use Rattle.disk.specs.declared.file.FileCall.{FileCall}
 use Rattle.disk.specs.declared.file.FileCall.TheVariants.{Read, Write, Sync}
 use Rattle.disk.specs.Device.{Content, newest_alone, is_on}
 use Rattle.disk.specs.Blocks.{IsBlock, AreContents, AreBlocks}
-use Rattle.disk.specs.File.{Calls, bytes_of, is_at, effect, contents_after, file_device, AreOfBlocks, KeepsModel}
+use Rattle.disk.specs.File.{Calls, bytes_of, is_at, effect, contents_after, file_device, AreOfBlocks}
+use Rattle.disk.specs.File.{KeepsModel}
 
 one_more : (old : List Content) (content : Content) → AreContents old → IsBlock content
     → AreContents (old ++ content ∷ [])
@@ -42,7 +44,8 @@ after_all : (block : ℕ) (contents : List Content) (calls : Calls) → AreOfBlo
     → AreContents (contents_after block contents calls)
 after_all block contents [] of are = are
 after_all block contents (e ∷ calls) of are =
-    after_all block (effect block e.0 e.1 contents) calls (All-tail (λ call. IsBlock (bytes_of call.0)) e calls of)
+    after_all block (effect block e.0 e.1 contents) calls
+    (All-tail (λ call. IsBlock (bytes_of call.0)) e calls of)
     (after_one block e.0 e.1 contents (All-head (λ call. IsBlock (bytes_of call.0)) e calls of) are)
 
 pub file_blocks : (first : ℕ → Content) (size : ℕ) (calls : Calls) → KeepsModel first size calls

@@ -96,8 +96,8 @@ impl<F: BlockFile> NotedFile<F> {
     }
 }
 
-/// What the blocks of a file held when it was opened. It is for proofs alone: no code can read it, and it takes
-/// no memory. A function that is handed one is proved for each.
+/// What the blocks of a file held when it was opened. It is for proofs alone: no code can read it, and it
+/// takes no memory. A function that is handed one is proved for each.
 #[derive(Drop)]
 pub struct FirstContents {
     blocks: Log<BlockNo, Block>,

@@ -69,14 +69,15 @@ impl<F: BlockFile> FileDisk<F> {
         }
     }
 
-    /// The same device, of a file that held this when it was opened: so a function over any `first` tells of
-    /// the device, whatever its file held.
+    /// The same device, of a file that held this when it was opened. A function that takes any `first` and
+    /// hands it here tells of the device whatever its file held.
     pub fn beginning_with(self, first: FirstContents) -> FileDisk<F>
         requires { self.file.calls.items ≡ [] }
         ensures first { result.first ≡ first }
         ensures size { result.blocks ≡ self.blocks }
         ensures fresh { result.file.calls.items ≡ [] }
-        ensures rest { IsAtRest (file_device (first_in first.blocks.items) result.blocks result.file.calls.items) }
+        ensures rest { IsAtRest (file_device (first_in first.blocks.items) result.blocks
+            result.file.calls.items) }
     {
         FileDisk {
             file: self.file,

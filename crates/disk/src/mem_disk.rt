@@ -190,7 +190,8 @@ impl CrashDisk for MemDisk {
         ensures failure { CountsFailure (memory_device self.old) (memory_device self.new) result }
         ensures due { IsErr result ↔ (IsDue self.old ⊎ IsFull self.old self.new) }
         ensures full { IsFull self.old self.new → blocks_of self.new ≡ blocks_of self.old }
-        ensures made { ¬ (IsFull self.old self.new) → blocks_of self.new ≡ slice_set (blocks_of self.old) block.0
+        ensures made { ¬ (IsFull self.old self.new)
+            → blocks_of self.new ≡ slice_set (blocks_of self.old) block.0
             (current (memory_device self.old) block.0 ++ content.now ∷ []) }
         ensures fails { to_fail self.new ≡ to_fail self.old }
     {

@@ -7,8 +7,8 @@ use crate::contents::Contents;
 use http_server::Log;
 use std::alloc::{AllocError, Global};
 
-/// Where contents find room. What was refused is noted for proofs alone, in `http_server`'s `Log`, and takes no
-/// memory. Who has one can't note a refusal but by being refused.
+/// Where contents find room. What was refused is noted for proofs alone, in `http_server`'s `Log`, and takes
+/// no memory. Who has one can't note a refusal but by being refused.
 #[derive(Drop)]
 pub struct Room {
     alloc: Global,
@@ -28,7 +28,8 @@ impl Room {
 
     /// Adds a newer content. Where memory was refused nothing changes, and it is noted.
     pub fn append(&mut self, contents: &mut Contents, content: &Block) -> Result<(), AllocError>
-        ensures appended { contents.new ≡ (if is_ok result then contents.old ++ content.now ∷ [] else contents.old) }
+        ensures appended { contents.new
+            ≡ (if is_ok result then contents.old ++ content.now ∷ [] else contents.old) }
         ensures whole { AreContents contents.new }
         ensures refused { length self.new.refused.items
             ≡ (if is_ok result then length self.old.refused.items else length self.old.refused.items + 1) }

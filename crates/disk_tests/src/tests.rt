@@ -1,5 +1,5 @@
-//! What no contract says: that calls succeed, what is asked of a file, and that a file of the system answers as a
-//! device does.
+//! What no contract says: that calls succeed, what is asked of a file, and that a file of the system answers
+//! as a device does.
 mod asked;
 mod fake;
 mod files;

@@ -102,7 +102,7 @@ fn a_short_write_goes_on(rt: HostRuntime) -> Result<(), Fail> {
     Ok(())
 }
 
-// An error of the file is a failure, and the file isn't asked again. A sync isn't tried anew, since the system may
+// An error of the file is a failure, and the file isn't asked again. A sync isn't tried anew, as the system may
 // have dropped what it couldn't write.
 #[test]
 fn errors_of_a_file_are_failures(rt: HostRuntime) -> Result<(), Fail> {

@@ -31,8 +31,8 @@ pub enum Step {
     Other,
 }
 
-// The calls so far, of which those with this many before them and more fail, and the bytes that were written. A
-// read or a write takes no more bytes than a piece has.
+// The calls so far, of which those with this many before them and more fail, and the bytes that were written.
+// A read or a write takes no more bytes than a piece has.
 #[derive(Drop)]
 pub struct Steps {
     pub made: RefCell<Vec<Step>>,

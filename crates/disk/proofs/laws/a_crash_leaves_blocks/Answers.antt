@@ -6,7 +6,8 @@ use Rattle.disk.proofs.laws.a_crash_leaves_blocks.Goals as goal
 
 pub returns-clause-image : goal.returns-clause-image
 returns-clause-image c d clock image are before leaves block h =
-    All-contains IsBlock (d.contents clock block) (image block) (are.blocks clock block before h) (leaves block h)
+    All-contains IsBlock (d.contents clock block) (image block) (are.blocks clock block before h)
+    (leaves block h)
 
 pub returns-clause-newest : goal.returns-clause-newest
 returns-clause-newest c d block are h =

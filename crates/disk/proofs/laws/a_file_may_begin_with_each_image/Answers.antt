@@ -1,4 +1,5 @@
-use Rattle.std.proofs.Common.{◌≡◌, ◌≢◌, ℕ, zero, suc, ◌+◌, sym, ◌<◌, Bool, ◌∙◌, ap, arith, inl, inr, if◌then◌else◌}
+use Rattle.std.proofs.Common.{◌≡◌, ◌≢◌, ℕ, zero, suc, ◌+◌, ◌<◌, Bool, sym, ◌∙◌, ap, arith, inl, inr}
+use Rattle.std.proofs.Common.{if◌then◌else◌}
 use Rattle.std.proofs.lemmas.Bool.{cases_Bool, eqb-true, eqb-false}
 use Rattle.std.specs.Prelude.{nat_eq}
 use Rattle.disk.specs.Device.{Content}
@@ -9,7 +10,8 @@ use Rattle.disk.proofs.laws.a_file_may_begin_with_each_image.Goals as goal
 below : (block size : ℕ) → block < size + 1 → block ≢ size → block < size
 below block size h other = omega (arith, h, other)
 
-is_first : (image : Image) (size block : ℕ) → block < size → first_in (pairs_of image size) block ≡ image block
+is_first : (image : Image) (size block : ℕ) → block < size
+    → first_in (pairs_of image size) block ≡ image block
 is_first image zero block h = absurd (omega (arith, h))
 is_first image (suc size) block h =
     let either : Bool → Content = λ b. if b then image size else first_in (pairs_of image size) block in
