@@ -6,8 +6,9 @@ use Rattle.std.proofs.lemmas.Bool.{cases_lt}
 use Rattle.std.proofs.lemmas.Bool.Decides.{nat_tests}
 use Rattle.limits.specs.declared.TheConstants.{BLOCK_BYTES, FIRST_HOME_BLOCK, LOG_HEADER_BLOCK, SUPER_BLOCK}
 use Rattle.limits.specs.declared.TheConstants.{START_BLOCK}
-use Rattle.disk.specs.Crash.{Image, IsCrashImage}
-use Rattle.disk.specs.Device.{Content, Device, current}
+use Rattle.disk.specs.Crash.{Image}
+use Rattle.disk.specs.Device.{Content}
+use Rattle.disk.specs.declared.block.BlockNo.{BlockNo}
 use Rattle.objects.specs.Spliced.{spliced}
 use Rattle.model.specs.After.{Entry, after}
 use Rattle.model.specs.Tree.{Tree}
@@ -15,10 +16,10 @@ use Rattle.layout.specs.declared.geometry.Geometry.{Geometry}
 use Rattle.layout.specs.Homes.{homes_of, is_home}
 use Rattle.layout.specs.Stands.{Stands}
 use Rattle.wal_law.specs.declared.change.LogChange.{LogChange}
-use Rattle.wal_law.specs.Effects.{brought_home}
-use Rattle.wal_law.specs.Law.{Agrees, HomeAgrees, IsOutside, with_changes}
+use Rattle.wal_law.specs.Effects.{newest_in}
+use Rattle.wal_law.specs.Law.{IsAfter, IsBoundary, IsOutside, pairs_of, with_changes}
 use Rattle.wal_law.specs.Log.{IsHomeOn, IsLawful, Log, installed_place, newest_of, or_else, place_before}
-use Rattle.wal_law.specs.Overlay.{content_or}
+use Rattle.wal_law.specs.Overlay.{content_or, logged_in, over}
 use Rattle.txn_law.specs.Object.{ObjectBytes}
 use Rattle.txn_law.specs.Window.{AreInLog, Footprint, IsInLog, IsWindowOver, after_commits, at_first, commits_among}
 use Rattle.txn_law.specs.Window.{opening, with_object, with_objects}
@@ -153,3 +154,49 @@ not_home size number is from less =
 pub take_len : (xs : List LogChange) → take (length xs) xs ≡ xs
 take_len [] = refl
 take_len (x ∷ xs) = ap (λ (ys : List LogChange). x ∷ ys) (take_len xs)
+
+-- ---- so the log that an image shows lays nothing over a block that is none
+
+all_behind : {A : Type 0} (P : A → Type 0) (n : ℕ) (xs : List A) → All P xs → All P (drop n xs)
+all_behind P zero xs all = all
+all_behind P (suc n) [] all = all
+all_behind P (suc n) (x ∷ xs) all = all_behind P n xs (rest_of_all P x xs all)
+
+no_pair : (size block : ℕ) → (FIRST_HOME_BLOCK ≤ block → block < size → ⊥) → (n : ℕ)
+    (changes : List LogChange) → All (λ (change : LogChange). IsHomeOn size change.block) changes
+    → newest_in (pairs_of (take n changes)) block ≡ None
+no_pair size block outside zero changes all = refl
+no_pair size block outside (suc n) [] all = refl
+no_pair size block outside (suc n) (change ∷ later) all =
+    let home = first_of_all (λ (one : LogChange). IsHomeOn size one.block) change later all in
+    let other : nat_eq change.block.0 block ≡ false =
+    differs change.block.0 block (λ same. outside (omega (arith, home.0, same)) (omega (arith, home.1, same))) in
+    let rest = no_pair size block outside n later
+    (rest_of_all (λ (one : LogChange). IsHomeOn size one.block) change later all) in
+    λ i. or_else (rest i) (if other i then Some change.content else None)
+
+pub shows_nothing : (log : Log) (base image : Image) (block : ℕ)
+    → (FIRST_HOME_BLOCK ≤ block → block < log.blocks → ⊥) → IsLawful log → IsBoundary base log image
+    → over image block ≡ image block
+shows_nothing log base image block outside lawful boundary =
+    let shown = boundary.positions in
+    let none : newest_in (logged_in image) block ≡ None =
+    ap (λ (pairs : List (BlockNo × Content)). newest_in pairs block) shown.changes
+    ∙ no_pair log.blocks block outside (shown.end - shown.first) (drop shown.first log.changes)
+    (all_behind (λ (change : LogChange). IsHomeOn log.blocks change.block) shown.first log.changes lawful.homes) in
+    ap (λ found. content_or found (image block)) none
+
+pub as_at_home : (log : Log) (base image : Image) (block : ℕ)
+    → (FIRST_HOME_BLOCK ≤ block → block < log.blocks → ⊥) → IsOutside log.blocks block → IsLawful log
+    → IsBoundary base log image → image block ≡ base block
+as_at_home log base image block outside within lawful boundary =
+    sym (shows_nothing log base image block outside lawful boundary) ∙ by_groups boundary.blocks
+  where
+    bare : (n : ℕ) → with_changes base (take n log.changes) block ≡ base block
+    bare n = ap (λ found. content_or found (base block))
+        (no_change log.blocks block outside log.changes n lawful.homes)
+
+    by_groups : IsAfter base log log.logged image ⊎ IsAfter base log (log.logged + log.taken) image
+        → over image block ≡ base block
+    by_groups (inl after) = after block within ∙ bare log.logged
+    by_groups (inr after) = after block within ∙ bare (log.logged + log.taken)

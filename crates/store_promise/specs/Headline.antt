@@ -1,15 +1,16 @@
 -- What a store promises of a whole run, on a device that keeps its model.
-use Rattle.std.specs.Prelude.{◌≡◌, ℕ, ◌+◌, ◌≤◌, take, length, count_by, Contains}
+use Rattle.std.specs.Prelude.{◌≡◌, ℕ, ◌+◌, ◌≤◌, take, length, count_by, Contains, Result, Ok, Err}
 use Rattle.disk.specs.Crash.{Image, IsAtRest, IsCrashImage}
 use Rattle.disk.specs.Device.{Device}
 use Rattle.layout.specs.declared.geometry.Geometry.{Geometry}
 use Rattle.model.specs.After.{after}
 use Rattle.model.specs.Tree.{Tree}
+use Rattle.store_promise.specs.declared.fault.OpenFault.{OpenFault}
 use Rattle.store_promise.specs.declared.transcript.Answer.{Answer}
 use Rattle.store_promise.specs.GoodImage.{IsGoodImage}
 use Rattle.store_promise.specs.History.{IsHistory}
 use Rattle.store_promise.specs.LogTold.{settled_told}
-use Rattle.store_promise.specs.Openings.{AtEachStop, IsBootOf, IsLater, IsOpened, LeavesImages}
+use Rattle.store_promise.specs.Openings.{AtEachStop, IsBootOf, IsLater, IsOpened, IsRefused, LeavesImages}
 use Rattle.store_promise.specs.Schedule.{Schedule, Opening, AreTaken, AreTimely, told_before}
 use Rattle.store_promise.specs.Transcript.{Transcript, entries_of, device_calls, commits_by, fails}
 use Rattle.store_promise.specs.Verdicts.{IsStableAnswer, IsCoveredWrite, AreAnswers}
@@ -79,7 +80,14 @@ pub record MayRun (keeps_model : Type 0) (before : Device) (tree : Tree) (first 
       → IsGoodImage before.size image tree first
   pub timely : AreTimely events
 
--- What is promised: a run that stands on this keeps its promise.
-abbrev pub IsPromised : Type 0 → Device → Device → Tree → ℕ → ℕ → Schedule → Transcript → Type 0
-IsPromised keeps_model before later tree first workers events t = MayRun keeps_model before tree first events
-    → KeepsPromise before later tree first workers events t
+-- what comes of a run: its transcript, or why the store wasn't opened
+abbrev pub IsAnswered : Device → Device → Tree → ℕ → ℕ → Schedule → Result Transcript OpenFault → Type 0
+IsAnswered before later tree first workers events (Ok t) = KeepsPromise before later tree first workers events t
+IsAnswered before later tree first workers events (Err cause) = IsRefused before later tree first cause
+
+-- What is promised: a run that stands on this keeps its promise, or was refused for a cause that a good image may
+-- have.
+abbrev pub IsPromised : Type 0 → Device → Device → Tree → ℕ → ℕ → Schedule → Result Transcript OpenFault
+    → Type 0
+IsPromised keeps_model before later tree first workers events answer =
+    MayRun keeps_model before tree first events → IsAnswered before later tree first workers events answer

@@ -34,17 +34,11 @@ IsChain g blocks tree (commit ∷ commits) [] last = ⊥
 abbrev pub IsOfBoot : ℕ → Tree → Type 0
 IsOfBoot boot tree = (number : ℕ) (node : Node) → node_at tree number ≡ Some node → node.stamp.boot ≤ boot
 
--- A store is open: the device agrees with the log beside the calls that are out, over what is at home; the
--- commits that aren't installed lead on from there, and each has its entry; and the super block at home is that
--- of this boot. The entries are those since the tree.
-pub record IsOpenStore (d : Device) (core : CoreState) (logging installing : Pending) (boot : ℕ) (tree : Tree)
-    (entries : List Entry) (last : Tree) : Type 0 where
-  pub base : Image
-  pub lawful : IsLawful core.log
-  pub agrees : AgreesBeside d base core.log logging installing
-  pub readable : IsReadable d core.log installing
+-- What the files are, over what is at home: the commits that aren't installed lead on from there, and each has its
+-- entry; and the super block at home is that of this boot. The entries are those since the tree.
+pub record HasFilesOver (base : Image) (core : CoreState) (boot : ℕ) (tree : Tree) (entries : List Entry)
+    (last : Tree) : Type 0 where
   pub window : IsCoreWindow base core
-  pub tidy : AreTidy core
   pub super : Super
   pub is_super : IsSuper (base SUPER_BLOCK) super
   pub boot_is : super.boot ≡ boot
@@ -53,3 +47,18 @@ pub record IsOpenStore (d : Device) (core : CoreState) (logging installing : Pen
   pub chain : IsChain super.geometry (homes_of core.log.blocks (opening base core.log)) tree core.records entries
       last
   pub stamps : (count : ℕ) (left : Tree) → after tree (take count entries) left → IsOfBoot boot left
+
+-- A store is open over what is at home: the device agrees with the log beside the calls that are out, and what is
+-- held agrees with what is in memory.
+pub record IsOpenOver (base : Image) (d : Device) (core : CoreState) (logging installing : Pending) (boot : ℕ)
+    (tree : Tree) (entries : List Entry) (last : Tree) : Type 0 where
+  pub lawful : IsLawful core.log
+  pub agrees : AgreesBeside d base core.log logging installing
+  pub readable : IsReadable d core.log installing
+  pub tidy : AreTidy core
+  pub files : HasFilesOver base core boot tree entries last
+
+-- a store is open over something
+abbrev pub IsOpenStore : Device → CoreState → Pending → Pending → ℕ → Tree → List Entry → Tree → Type 0
+IsOpenStore d core logging installing boot tree entries last = (base : Image)
+    × IsOpenOver base d core logging installing boot tree entries last

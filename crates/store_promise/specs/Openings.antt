@@ -100,9 +100,10 @@ IsShownBy fault.Log size image = (super : Super) × IsSuper (image SUPER_BLOCK) 
 IsShownBy fault.Device size image = ⊥
 IsShownBy fault.NoMemory size image = ⊥
 
--- calls were made, and no block has changed
+-- calls were made, none of which failed, and no block has changed
 pub record WasOnlyRead (before later : Device) : Type 0 where
   pub past : IsLater before later
+  pub failures : later.failures ≡ before.failures
   pub same : (clock block : ℕ) → before.clock ≤ clock → clock ≤ later.clock
       → later.contents clock block ≡ current before block
   pub spoiled : (block : ℕ) → later.spoiled block ≡ before.spoiled block

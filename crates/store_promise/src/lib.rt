@@ -22,7 +22,7 @@ pub use one_setattr::{
     a_run_that_loses_its_setattr_breaks_the_promise, a_setattr_is_not_settled_without_the_log,
     a_setattr_that_shows_too_early_breaks_the_promise, the_steps_of_one_setattr_tell_its_run,
 };
-pub use open_store::a_stop_leaves_a_good_image;
+pub use open_store::{a_stop_leaves_a_good_image, whole_groups_are_a_good_image};
 pub use promises::{
     a_failure_that_is_told_was_counted, a_full_log_is_full, a_run_of_no_events_keeps_the_promise,
     a_stop_leaves_an_image, a_worker_goes_by_its_plan, an_entry_was_called,
