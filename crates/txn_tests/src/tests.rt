@@ -39,6 +39,9 @@ impl Change for Toy {
 
     ghost planned_inodes = { λ toy. toy.inodes };
 
+    // It is planned for blocks alone.
+    ghost is_plan = { λ blocks inodes read written. blocks ≡ BLOCKS };
+
     fn read(&self) -> &[Object] {
         &self.read
     }
@@ -54,6 +57,8 @@ impl Change for Toy {
     fn inodes(&self) -> u32 {
         self.inodes
     }
+
+    fn is_planned(&self) {}
 }
 
 // A core over an empty log that begins at a position.
@@ -464,5 +469,93 @@ fn begin_and_end(core: &mut Core<Toy>) -> Result<(), BeginFault>
 {
     let tx = core.begin()?;
     core.abort(tx);
+    Ok(())
+}
+
+// Commits, and hands the transaction back where that is refused.
+fn try_commit(alloc: Global, core: &mut Core<Toy>, tx: Tx, toy: Toy) -> (Option<Tx>, Ended)
+    ensures blocks { core.new.log.blocks ≡ core.old.log.blocks }
+{
+    match core.commit(alloc, tx, toy) {
+        Commit::Committed(place) => (None, Ended::Place(place)),
+        Commit::Full(tx, _) => (Some(tx), Ended::Full),
+        Commit::Foreign(tx, _) => (Some(tx), Ended::Foreign),
+        Commit::NoMemory(tx, _) => (Some(tx), Ended::NoMemory),
+        Commit::Broken(tx, _) => (Some(tx), Ended::Broken),
+        Commit::Spent(tx, _) => (Some(tx), Ended::Spent),
+    }
+}
+
+// Ends a transaction that is out still.
+fn end(core: &mut Core<Toy>, tx: Option<Tx>) {
+    if let Some(tx) = tx {
+        core.abort(tx);
+    }
+}
+
+// A change that writes the first home block whole.
+fn whole_block(alloc: Global) -> Result<Toy, Fail> {
+    let mut written = Vec::new(alloc);
+    written.push(Object::new(Addr::whole(HOME), vec![in alloc; 3u8; 4096]?))?;
+    Ok(Toy {
+        read: Vec::new(alloc),
+        written,
+        inodes: INODES,
+    })
+}
+
+// Claims a block and wants it, and commits it before its fetch is given back and after.
+fn write_while_it_is_fetched<D: CrashDisk>(
+    alloc: Global,
+    core: &mut Core<Toy>,
+    disk: &mut D,
+) -> Result<[Ended; 2], Fail>
+    requires size { (D.device disk.old).size ≡ core.old.log.blocks }
+    requires idle { core.old.out ≡ [] }
+{
+    let early = whole_block(alloc)?;
+    let late = whole_block(alloc)?;
+    let tx = core.begin()?;
+    let tx = match core.claim(tx, HOME) {
+        Claim::Held(tx) => tx,
+        Claim::Busy(tx) | Claim::Loading(tx) | Claim::Outside(tx) | Claim::NoMemory(tx) => {
+            core.abort(tx);
+            return Err("not held")?;
+        }
+    };
+    let (tx, mut io) = match core.want(alloc, tx, Addr::whole(HOME)) {
+        Want::Fetch(tx, io) => (tx, io),
+        Want::Held(tx, _)
+        | Want::Busy(tx)
+        | Want::Loading(tx)
+        | Want::Outside(tx)
+        | Want::NoMemory(tx) => {
+            core.abort(tx);
+            return Err("not to be fetched")?;
+        }
+    };
+    let (tx, first) = try_commit(alloc, core, tx, early);
+    let read = io.perform(disk).is_ok();
+    if read {
+        core.fetched(io);
+    } else {
+        core.fetch_failed(io);
+    }
+    let Some(tx) = tx else {
+        return Err("committed too early")?;
+    };
+    let (tx, _) = want(alloc, core, disk, tx, Addr::whole(HOME));
+    let (tx, second) = try_commit(alloc, core, tx, late);
+    end(core, tx);
+    Ok([first, second])
+}
+
+#[test]
+fn a_block_whose_fetch_is_out_is_not_written(rt: HostRuntime) -> Result<(), Fail> {
+    let alloc = rt.alloc();
+    let mut disk = MemDisk::new(alloc, BLOCKS)?;
+    let mut core = core(alloc, 0)?;
+    let ended = write_while_it_is_fetched(alloc, &mut core, &mut disk)?;
+    assert_eq!(rt; ended, [Ended::Foreign, Ended::Place(Seq(1))]);
     Ok(())
 }
