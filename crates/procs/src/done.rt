@@ -63,6 +63,8 @@ impl Change for Done {
 
     ghost planned_inodes = { λ done. done.inodes };
 
+    ghost is_plan = { λ blocks inodes read written. length (blocks_of written) ≤ CHANGED_BLOCKS };
+
     fn read(&self) -> &[Object] {
         &self.read
     }
@@ -77,5 +79,9 @@ impl Change for Done {
 
     fn inodes(&self) -> u32 {
         self.inodes
+    }
+
+    fn is_planned(&self) {
+        let _ = &self.written;
     }
 }

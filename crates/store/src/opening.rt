@@ -2,6 +2,7 @@
 ghost use Rattle.std.specs.Prelude.{◌≡◌, ◌+◌, ◌^◌, ◌<◌, IfOk, None, []};
 ghost use Rattle.wal.specs.Io.{IsCallWithin};
 ghost use Rattle.layout.specs.Geometry.{IsLawful};
+ghost use Rattle.txn.specs.CoreLaw.{IsFresh};
 
 use crate::opened::Store;
 use disk::{Block, BlockNo, CrashDisk, Side};
@@ -68,9 +69,11 @@ fn read_super<D: CrashDisk>(disk: &mut D, block: &mut Block) -> Result<Super, Op
 
 // Makes the calls of an installation of all that is logged.
 fn install<D: CrashDisk>(disk: &mut D, wal: &mut Wal) -> Result<(), OpenFault>
-    requires { (D.device disk.old).size ≡ wal.old.blocks }
+    requires size { (D.device disk.old).size ≡ wal.old.blocks }
+    requires fresh { IsFresh wal.old }
     ensures size { (D.device disk.new).size ≡ (D.device disk.old).size }
     ensures blocks { wal.new.blocks ≡ wal.old.blocks }
+    ensures fresh { IsFresh wal.new }
 {
     'calls: for _ in 0..LOG_SLOTS + 3 {
         let Some(io) = wal.inst_next() else {
@@ -89,6 +92,7 @@ fn install_one<D: CrashDisk>(disk: &mut D, wal: &mut Wal, io: InstIo) -> bool
     requires { IsCallWithin (D.device disk.old).size io.call }
     ensures size { (D.device disk.new).size ≡ (D.device disk.old).size }
     ensures blocks { wal.new.blocks ≡ wal.old.blocks }
+    ensures fresh { IsFresh wal.old → IsFresh wal.new }
 {
     let ok = io.perform(disk).is_ok();
     wal.inst_done(io, ok);

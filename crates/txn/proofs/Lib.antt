@@ -1,3 +1,4 @@
 pub mod Blocks
 pub mod Mapped
 pub mod Filled
+pub mod Answered

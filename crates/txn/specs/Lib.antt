@@ -18,3 +18,4 @@ pub use Rattle.txn_law.specs.Commit
 pub use Rattle.txn_law.specs.Absorb
 pub use Rattle.txn_law.specs.HomeRead
 pub use Rattle.txn_law.specs.Tidy
+pub use Rattle.txn_law.specs.CoreLaw

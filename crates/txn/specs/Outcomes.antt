@@ -1,10 +1,11 @@
 -- What the core's answers say.
 use Rattle.std.specs.Prelude.{◌≡◌, ℕ, ◌+◌, ◌<◌, true, false, List, All, length}
+use Rattle.limits.specs.declared.TheConstants.{BLOCK_BYTES}
 use Rattle.disk.specs.Device.{Content}
 use Rattle.disk.specs.declared.block.BlockNo.{BlockNo}
 use Rattle.objects.specs.declared.addr.Addr.{Addr}
 use Rattle.wal_law.specs.Log.{blocks_of as group_blocks}
-use Rattle.wal_law.specs.Room.{IsRoom}
+use Rattle.wal_law.specs.Room.{IsRoom, with_group}
 use Rattle.wal_law.specs.Calls.{KeepsAgreement}
 use Rattle.wal_law.specs.Effects.{HasAppended}
 use Rattle.wal_law.specs.Grows.{GrowsBy}
@@ -12,6 +13,7 @@ use Rattle.wal_law.specs.declared.outcomes.Room.{Room}
 use Rattle.wal_law.specs.declared.outcomes.Room.TheVariants as room
 use Rattle.txn_law.specs.Commit.{Planned, IsOwn, committed}
 use Rattle.txn_law.specs.Core.{CoreState}
+use Rattle.txn_law.specs.CoreWindow.{SetsOnly}
 use Rattle.txn_law.specs.Group.{blocks_of, IsLaid}
 use Rattle.txn_law.specs.Wishes.{IsOpen, IsOutside, IsBusy, IsLoading, IsHeld, IsFetched, claimed}
 use Rattle.txn.specs.declared.outcomes.Want.{Want}
@@ -62,7 +64,10 @@ pub record BringsGroup (old : CoreState) (plan : Planned) (new : CoreState) : Ty
   pub group : List (BlockNo × Content)
   pub blocks : group_blocks group ≡ blocks_of plan.written
   pub contents : All (IsLaid old.present old.log plan.written) group
-  pub appended : HasAppended old.log group new.log
+  pub whole : All (λ change. length change.1 ≡ BLOCK_BYTES) group
+  pub sizes : All (λ object. length object.bytes ≡ object.addr.len) plan.written
+  pub appended : new.log ≡ with_group old.log group
+  pub seen : HasAppended old.log group new.log
   pub grown : GrowsBy old.log group new.log
 
 -- a commit took the next place, brought the log its group, was recorded, and ended its transaction
@@ -95,3 +100,12 @@ IsCommit old tx plan change (commit.Broken back same) new = IsRefused old tx cha
     × (old.log.broken ≡ true)
 IsCommit old tx plan change (commit.Spent back same) new = IsRefused old tx change back same new
     × IsTried old tx plan room.Spent
+
+-- what is current after a commit is what was, with what it writes laid over it
+abbrev pub IsSetBy : {C : Type 0} → CoreState → Planned → Commit C → CoreState → Type 0
+IsSetBy old plan (commit.Committed place) new = SetsOnly old plan.written new
+IsSetBy old plan (commit.Full back same) new = Unit {0}
+IsSetBy old plan (commit.Foreign back same) new = Unit {0}
+IsSetBy old plan (commit.NoMemory back same) new = Unit {0}
+IsSetBy old plan (commit.Broken back same) new = Unit {0}
+IsSetBy old plan (commit.Spent back same) new = Unit {0}

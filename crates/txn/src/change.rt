@@ -18,6 +18,10 @@ pub trait Change: Drop {
 
     ghost planned_inodes: { Self → ℕ };
 
+    // These objects, read and written, are what a plan reads and writes, for an image of these counts of blocks
+    // and inodes.
+    ghost is_plan: { ℕ → ℕ → List ObjectBytes → List ObjectBytes → Type 0 };
+
     fn read(&self) -> &[Object]
         ensures { result.now ≡ objects_read self.now };
 
@@ -29,4 +33,9 @@ pub trait Change: Drop {
 
     fn inodes(&self) -> u32
         ensures { result ≡ planned_inodes self.now };
+
+    /// What it read and what it writes is what a plan reads and writes.
+    fn is_planned(&self)
+        ensures { is_plan (planned_blocks self.now) (planned_inodes self.now) (objects_read self.now)
+            (objects_written self.now) };
 }

@@ -6,7 +6,7 @@ ghost use Rattle.txn.specs.Outcomes.{IsCommit};
 ghost use Rattle.txn_law.specs.Commit.{IsOwn, IsReadBy, IsWrittenBy, HasBytes};
 ghost use Rattle.txn_law.specs.Group.{blocks_of};
 
-use crate::group::{blocks_of_objects, group_of};
+use crate::group::{are_sized, blocks_of_objects, group_of};
 use crate::holds::{is_read_by, is_written_by};
 use crate::outcomes::Commit;
 use crate::present::{content_of, is_pending, refresh};
@@ -45,6 +45,7 @@ impl<C: Change> State<C> {
             Room::Full => return Commit::Full(tx, change),
             Room::Fits => {}
         }
+        are_sized(change.written());
         if self.records.reserve(1).is_err() {
             return Commit::NoMemory(tx, change);
         }

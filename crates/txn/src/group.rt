@@ -1,6 +1,6 @@
 //! The blocks that a change writes, with the bytes that they get.
 ghost use Rattle.std.specs.Prelude.{◌≡◌, ◌≤◌, length, IfOk, All};
-ghost use Rattle.limits.specs.declared.TheConstants.{CHANGED_BLOCKS};
+ghost use Rattle.limits.specs.declared.TheConstants.{BLOCK_BYTES, CHANGED_BLOCKS};
 ghost use Rattle.wal_law.specs.Log.{blocks_of as group_blocks};
 ghost use Rattle.wal_law.specs.Log.{newest};
 ghost use Rattle.txn_law.specs.Group.{blocks_of, is_among, base_in, laid, IsLaid};
@@ -38,6 +38,15 @@ fn contains(blocks: &[BlockNo], block: BlockNo) -> bool
     ensures { result ≡ is_among block blocks.now }
 {
     blocks.contains(&block)
+}
+
+/// Each object has as many bytes as its address names.
+pub(crate) fn are_sized(objects: &[Object])
+    ensures { All (λ object. length object.bytes ≡ object.addr.len) objects.now }
+{
+    for object in objects {
+        let _ = object.bytes();
+    }
 }
 
 /// The block's current content again: from memory, or zeros where a change writes all of it.
@@ -81,11 +90,13 @@ pub(crate) fn group_of(
 ) -> Result<Vec<(BlockNo, Block)>, AllocError>
     ensures blocks { IfOk result (λ group. group_blocks group.items ≡ blocks.now) }
     ensures contents { IfOk result (λ group. All (IsLaid present.now wal.now objects.now) group.items) }
+    ensures whole { IfOk result (λ group. All (λ change. length change.1 ≡ BLOCK_BYTES) group.items) }
 {
     let mut group = Vec::with_capacity(alloc, blocks.len())?;
     for block in blocks {
         let mut content = base_of(alloc, present, wal, *block)?;
         lay(&mut content, objects, *block);
+        let _ = content.as_slice();
         group.push((*block, content))?;
     }
     Ok(group)

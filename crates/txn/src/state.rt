@@ -3,7 +3,7 @@
 ghost use Rattle.std.specs.Prelude.{◌≡◌, ◌≤◌, ◌+◌, ◌^◌, ◌↔◌, IsTrue, IsSome, IsNone, IfSome, IsErrOf, OnErr};
 ghost use Rattle.txn.specs.Out.{listed};
 ghost use Rattle.std.specs.Prelude.{IfOk, ◌∷◌, true, false, is_some, if◌then◌else◌, [], length};
-ghost use Rattle.wal_law.specs.Log.{settled_place, installed_place, tail_count, IsHomeOn};
+ghost use Rattle.wal_law.specs.Log.{settled_place, installed_place, tail_count, IsHomeOn, IsLawful};
 ghost use Rattle.wal_law.specs.Calls.{LogCallGoesOut, LogCallComesBack, InstCallGoesOut, InstCallComesBack};
 ghost use Rattle.wal_law.specs.Io.{IsCallWithin};
 ghost use Rattle.wal_law.specs.Logger.{may_log, with_log_out, is_log_out, with_log_back};
@@ -80,6 +80,13 @@ impl<C: Change> State<C> {
             present: Vec::new(alloc),
             records: VecDeque::new(alloc),
         }
+    }
+
+    /// What is true of its log.
+    pub(crate) fn lawful(&self)
+        ensures { IsLawful self.now.log }
+    {
+        self.log.lawful();
     }
 
     /// The image's counts of blocks and of inodes.

@@ -5,14 +5,18 @@ ghost use Rattle.limits.specs.declared.TheConstants.{CHANGED_BLOCKS};
 ghost use Rattle.objects.specs.declared.addr.Addr.{Addr};
 ghost use Rattle.wal_law.specs.Log.{settled_place, tail_count};
 ghost use Rattle.wal_law.specs.Calls.{LogCallGoesOut, LogCallComesBack, InstCallGoesOut, InstCallComesBack};
+ghost use Rattle.wal_law.specs.Calls.{home_after};
+ghost use Rattle.disk.specs.Crash.{Image};
 ghost use Rattle.wal_law.specs.Io.{IsCallWithin};
 ghost use Rattle.wal_law.specs.Logger.{may_log, with_log_out, is_log_out, with_log_back};
 ghost use Rattle.wal_law.specs.Installer.{may_install, with_inst_out, is_inst_out, with_inst_back};
 ghost use Rattle.txn_law.specs.Core.{ended, installed};
+ghost use Rattle.txn_law.specs.CoreLaw.{IsFresh, IsLawfulCore};
+ghost use Rattle.txn_law.specs.CoreWindow.{IsHomeOf, KeepsHome, IsPending};
 ghost use Rattle.txn_law.specs.Fetched.{fetched, fetch_failed};
 ghost use Rattle.txn_law.specs.Group.{blocks_of};
 ghost use Rattle.txn_law.specs.Wishes.{IsWhole};
-ghost use Rattle.txn.specs.Outcomes.{IsWanted, IsWithin, IsClaimed, IsCommit};
+ghost use Rattle.txn.specs.Outcomes.{IsWanted, IsWithin, IsClaimed, IsCommit, IsSetBy};
 
 use crate::state::State;
 use crate::{BeginFault, Change, Claim, Commit, FetchIo, Stable, Tx, Want};
@@ -34,11 +38,16 @@ impl<C: Change> Model for Core<C> {
     ghost Value = { CoreState };
 
     ghost view = { λ c. c.state };
+
+    ghost use Rattle.txn_law.specs.CoreLaw.{IsLawfulCore};
+
+    ghost invariant = { λ c. IsLawfulCore C.is_plan c.state };
 }
 
 impl<C: Change> Core<C> {
     /// A core over a log, for an image with the log's blocks and this count of inodes.
     pub fn new(alloc: Global, log: Wal, inodes: u32) -> Core<C>
+        requires { IsFresh log }
         ensures { result ≡ record {
           log = log;
           inodes = inodes;
@@ -49,9 +58,19 @@ impl<C: Change> Core<C> {
           records = [];
         } }
     {
+        log.lawful();
+        log.whole();
         Core {
             state: State::new(alloc, log, inodes),
         }
+    }
+
+    /// What is true of every core: its log is lawful, what transactions have taken and what is in memory is tidy,
+    /// there are blocks that may be what is at home, and each commit that is kept is a plan's.
+    pub fn lawful(&self)
+        ensures { IsLawfulCore C.is_plan self.now }
+    {
+        let _ = &self.state;
     }
 
     /// The image's counts of blocks and of inodes.
@@ -71,6 +90,7 @@ impl<C: Change> Core<C> {
         ensures spent { IsErrOf result BeginFault.Spent
             ↔ ((self.old.log.broken ≡ false) × (self.old.begun + 1 ≡ 2 ^ 64)) }
         ensures no_memory { IsErrOf result BeginFault.NoMemory → ⊥ }
+        ensures keeps { KeepsHome self.old self.new }
     {
         self.state.begin()
     }
@@ -82,27 +102,33 @@ impl<C: Change> Core<C> {
     pub fn want(&mut self, alloc: Global, tx: Tx, addr: Addr) -> Want
         ensures answer { IsWanted self.old tx addr result self.new }
         ensures within { IsWithin self.old.log.blocks addr.len result }
+        ensures keeps { KeepsHome self.old self.new }
     {
         self.state.want(alloc, tx, addr)
     }
 
     /// Takes a whole block for writing, whose bytes don't matter. It answers as `want` does, and never Fetch.
     pub fn claim(&mut self, tx: Tx, block: BlockNo) -> Claim
-        ensures { (addr : Addr) × IsWhole block addr × IsClaimed self.old tx addr result self.new }
+        ensures answer { (addr : Addr) × IsWhole block addr × IsClaimed self.old tx addr result self.new }
+        ensures keeps { KeepsHome self.old self.new }
     {
         self.state.claim(tx, block)
     }
 
     /// Gives a fetch back with what was read. The block stays in memory while anyone has taken a part of it.
     pub fn fetched(&mut self, io: FetchIo)
-        ensures { self.new ≡ fetched self.old io.block io.content }
+        ensures core { self.new ≡ fetched self.old io.block io.content }
+        ensures keeps { (base : Image) → (IsPending self.old io.block → io.content ≡ base io.block.0)
+            → IsHomeOf base self.old → IsHomeOf base self.new }
     {
+        io.whole();
         self.state.fetched(io);
     }
 
     /// Gives a fetch back that failed. The next want of the block asks for it again.
     pub fn fetch_failed(&mut self, io: FetchIo)
-        ensures { self.new ≡ fetch_failed self.old io.block }
+        ensures core { self.new ≡ fetch_failed self.old io.block }
+        ensures keeps { KeepsHome self.old self.new }
     {
         self.state.fetch_failed(io);
     }
@@ -114,19 +140,30 @@ impl<C: Change> Core<C> {
     /// the log. These and NoMemory change nothing.
     pub fn commit(&mut self, alloc: Global, tx: Tx, change: C) -> Commit<C>
         requires { length (blocks_of (C.objects_written change)) ≤ CHANGED_BLOCKS }
-        ensures { IsCommit self.old tx (record {
+        ensures answer { IsCommit self.old tx (record {
           read = C.objects_read change;
           written = C.objects_written change;
           blocks = C.planned_blocks change;
           inodes = C.planned_inodes change;
         }) change result self.new }
+        ensures sets { IsSetBy self.old (record {
+          read = C.objects_read change;
+          written = C.objects_written change;
+          blocks = C.planned_blocks change;
+          inodes = C.planned_inodes change;
+        }) result self.new }
+        ensures keeps { KeepsHome self.old self.new }
     {
-        self.state.commit(alloc, tx, change)
+        change.is_planned();
+        let answer = self.state.commit(alloc, tx, change);
+        self.state.lawful();
+        answer
     }
 
     /// Ends a transaction without a change, and lets go of what it has taken.
     pub fn abort(&mut self, tx: Tx)
-        ensures { self.new ≡ ended self.old tx }
+        ensures core { self.new ≡ ended self.old tx }
+        ensures keeps { KeepsHome self.old self.new }
     {
         self.state.abort(tx);
     }
@@ -176,8 +213,11 @@ impl<C: Change> Core<C> {
         ensures none { IsNone result → self.new ≡ self.old }
         ensures within { IfSome result (λ io. IsCallWithin self.new.log.blocks io.call) }
         ensures law { IfSome result (λ io. LogCallGoesOut self.old.log io self.new.log) }
+        ensures keeps { KeepsHome self.old self.new }
     {
-        self.state.log_next()
+        let io = self.state.log_next();
+        self.state.lawful();
+        io
     }
 
     /// Gives the log's device call back, with whether it was answered Ok.
@@ -187,8 +227,10 @@ impl<C: Change> Core<C> {
         ensures blocks { self.new.log.blocks ≡ self.old.log.blocks }
         ensures others { self.new ≡ record self.old { log = self.new.log } }
         ensures law { LogCallComesBack self.old.log io ok self.new.log }
+        ensures keeps { KeepsHome self.old self.new }
     {
         self.state.log_done(io, ok);
+        self.state.lawful();
     }
 
     /// The installer's next device call, if there is one and none is out.
@@ -198,8 +240,11 @@ impl<C: Change> Core<C> {
         ensures none { IsNone result → self.new ≡ self.old }
         ensures within { IfSome result (λ io. IsCallWithin self.new.log.blocks io.call) }
         ensures law { IfSome result (λ io. InstCallGoesOut self.old.log io self.new.log) }
+        ensures keeps { KeepsHome self.old self.new }
     {
-        self.state.inst_next()
+        let io = self.state.inst_next();
+        self.state.lawful();
+        io
     }
 
     /// Gives the installer's device call back, with whether it was answered Ok.
@@ -209,7 +254,10 @@ impl<C: Change> Core<C> {
         ensures blocks { self.new.log.blocks ≡ self.old.log.blocks }
         ensures others { self.new ≡ installed self.old self.new.log }
         ensures law { InstCallComesBack self.old.log io ok self.new.log }
+        ensures keeps { (base : Image) → IsHomeOf base self.old
+            → IsHomeOf (if is_inst_out self.old.log io then home_after base self.old.log ok else base) self.new }
     {
         self.state.inst_done(io, ok);
+        self.state.lawful();
     }
 }

@@ -1,5 +1,6 @@
 //! What the core hands out.
-ghost use Rattle.std.specs.Prelude.{◌≡◌, ◌<◌, false, OnOk};
+ghost use Rattle.std.specs.Prelude.{◌≡◌, ◌<◌, false, length, OnOk};
+ghost use Rattle.limits.specs.declared.TheConstants.{BLOCK_BYTES};
 ghost use Rattle.disk.specs.Device.{CountsFailure, HasRead, current, newest};
 
 use disk::{Block, BlockNo, CrashDisk, Failed};
@@ -50,6 +51,13 @@ impl FetchIo {
         ensures { result ≡ self.now.block }
     {
         self.block
+    }
+
+    // What was read is a whole block.
+    pub(crate) fn whole(&self)
+        ensures { length self.now.content ≡ BLOCK_BYTES }
+    {
+        let _ = self.buffer.as_slice();
     }
 
     /// Reads the block from its home.

@@ -17,17 +17,17 @@ use Rattle.txn_law.specs.Steps.{IsWholeIn}
 use Rattle.txn_law.specs.Tidy.{AreTidy, IsReadHere, IsClaimedWhole}
 use Rattle.txn_law.proofs.Swept.{in_more, in_first}
 
-found_by : (test : Hold → Bool) (holds : List Hold) (hold : Hold) → find test holds ≡ Some hold
-    → (test hold ≡ true) × Contains holds hold
-found_by test [] hold e = absurd (cc)
-found_by test (x ∷ xs) hold e = go (found_by test xs hold) (test x) refl e
+pub found_by : {X : Type 0} (test : X → Bool) (xs : List X) (x : X) → find test xs ≡ Some x
+    → (test x ≡ true) × Contains xs x
+found_by test [] x e = absurd (cc)
+found_by test (y ∷ ys) x e = go (found_by test ys x) (test y) refl e
   where
-    go : (find test xs ≡ Some hold → (test hold ≡ true) × Contains xs hold) → (t : Bool) → test x ≡ t
-        → cond t (Some x) (find test xs) ≡ Some hold → (test hold ≡ true) × Contains (x ∷ xs) hold
-    go rest true is e = let same : x ≡ hold = cc in (ap test (sym same) ∙ is, in_first x hold xs same)
-    go rest false is e = let (passes, there) = rest e in (passes, in_more x hold xs there)
+    go : (find test ys ≡ Some x → (test x ≡ true) × Contains ys x) → (t : Bool) → test y ≡ t
+        → cond t (Some y) (find test ys) ≡ Some x → (test x ≡ true) × Contains (y ∷ ys) x
+    go rest true is e = let same : y ≡ x = cc in (ap test (sym same) ∙ is, in_first y x ys same)
+    go rest false is e = let (passes, there) = rest e in (passes, in_more y x ys there)
 
-all_four : (a b c d : Bool) → (a && b && c && d) ≡ true → (a ≡ true) × (b ≡ true) × (c ≡ true) × (d ≡ true)
+pub all_four : (a b c d : Bool) → (a && b && c && d) ≡ true → (a ≡ true) × (b ≡ true) × (c ≡ true) × (d ≡ true)
 all_four true true true true e = (refl, refl, refl, refl)
 all_four true true true false e = absurd (cc)
 all_four true true false d e = absurd (cc)

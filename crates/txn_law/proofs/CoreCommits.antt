@@ -192,3 +192,12 @@ module _ (base : Image) (old : CoreState) (tx : ℕ) (plan : Planned) (group : L
       (kept_by_commit base old.log log old.records (held_of old.present) kept commit group lawful h.grown refl
       is_brought (all_refreshed log now (with_objects now plan.written) fresh old.present window.memory)
       window pinned)
+
+  -- and sets what was written, and nothing else
+  pub core_now : (block : ℕ) → now_of base log (with_commit log commit old.records) block
+      ≡ with_objects now plan.written block
+  core_now block =
+      sym (tail_is_now base log (with_commit log commit old.records) (held_of (committed old tx plan log).present) block
+      core_committed)
+      ∙ all_new base old.log log old.records (held_of old.present) [] commit group lawful h.grown refl
+      is_brought (All-nil (IsCurrent (with_objects now plan.written))) window block

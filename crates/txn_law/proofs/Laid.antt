@@ -94,7 +94,7 @@ among-push block other (b ∷ bs) = ap (λ t. nat_eq b.0 block.0 || t) (among-pu
     ∙ sym (or-assoc (nat_eq b.0 block.0) (is_among block bs) (nat_eq other.0 block.0))
 
 -- a block is among those of the objects where one of them lies in it
-among_after : (block : BlockNo) (blocks : List BlockNo) (objects : List ObjectBytes)
+pub among_after : (block : BlockNo) (blocks : List BlockNo) (objects : List ObjectBytes)
     → is_among block (blocks_after blocks objects) ≡ (is_among block blocks || lies_in objects block)
 among_after block blocks [] = sym (or-false (is_among block blocks))
 among_after block blocks (o ∷ os) =
@@ -122,7 +122,7 @@ among_after block blocks (o ∷ os) =
         ∙ or-assoc (is_among block blocks) (nat_eq o.addr.block.0 block.0) (lies_in os block)
 
 -- and a block of a group has a content there
-among_group : (group : List (BlockNo × Content)) (block : BlockNo)
+pub among_group : (group : List (BlockNo × Content)) (block : BlockNo)
     → is_among block (group_blocks group) ≡ is_some (newest_in group block.0)
 among_group [] block = refl
 among_group (change ∷ group) block = ap (λ t. nat_eq change.0.0 block.0 || t) (among_group group block)

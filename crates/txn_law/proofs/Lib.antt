@@ -12,3 +12,9 @@ pub mod Wishes
 pub mod Fetches
 pub mod Found
 pub mod Entries
+pub mod Tidied
+pub mod TidyCommit
+pub mod Fresh
+pub mod OtherHome
+pub mod Homes
+pub mod CoreLaws

@@ -23,7 +23,7 @@ use Rattle.txn_law.specs.Window.{now_of, IsPinned, ArePinned, IsCurrent, IsWindo
 use Rattle.txn_law.proofs.Installed.{window_inst_back}
 use Rattle.txn_law.proofs.Moves.{other_memory}
 
-or-true : (a : Bool) → (a || true) ≡ true
+pub or-true : (a : Bool) → (a || true) ≡ true
 or-true true = refl
 or-true false = refl
 

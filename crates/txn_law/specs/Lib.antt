@@ -14,3 +14,4 @@ pub mod Commit
 pub mod Absorb
 pub mod HomeRead
 pub mod Tidy
+pub mod CoreLaw

@@ -1,9 +1,9 @@
 -- What transactions have taken and what is in memory agree with one another and with the log.
-use Rattle.std.specs.Prelude.{◌≡◌, true, Some, None, List, [], ◌∷◌, All, length}
+use Rattle.std.specs.Prelude.{◌≡◌, true, Some, None, List, [], ◌∷◌, All}
 use Rattle.limits.specs.declared.TheConstants.{BLOCK_BYTES}
 use Rattle.disk.specs.Device.{Content}
 use Rattle.objects.specs.Addr.{Overlap}
-use Rattle.wal_law.specs.declared.change.LogChange.{LogChange}
+use Rattle.wal_law.specs.Grows.{IsWholeChange}
 use Rattle.wal_law.specs.Log.{Log, newest}
 use Rattle.txn_law.specs.Core.{CoreState}
 use Rattle.txn_law.specs.Holds.{Mode, mode_of, Excludes}
@@ -37,10 +37,6 @@ IsOnce (entry ∷ later) = (present_of later entry.block ≡ None) × IsOnce lat
 -- the log doesn't have a block whose fetch is pending
 abbrev pub IsUnlogged : Log → Present → Type 0
 IsUnlogged log entry = entry.content ≡ None → newest log entry.block.0 ≡ None
-
--- the log has whole blocks
-abbrev pub IsWholeChange : LogChange → Type 0
-IsWholeChange change = length change.content ≡ BLOCK_BYTES
 
 pub record AreTidy (core : CoreState) : Type 0 where
   pub apart : AreApart core.holds

@@ -39,6 +39,9 @@ impl Change for Toy {
 
     ghost planned_inodes = { λ toy. toy.inodes };
 
+    // It is planned for blocks alone.
+    ghost is_plan = { λ blocks inodes read written. blocks ≡ BLOCKS };
+
     fn read(&self) -> &[Object] {
         &self.read
     }
@@ -54,6 +57,8 @@ impl Change for Toy {
     fn inodes(&self) -> u32 {
         self.inodes
     }
+
+    fn is_planned(&self) {}
 }
 
 // A core over an empty log that begins at a position.

@@ -3,6 +3,7 @@ ghost use Rattle.std.specs.Prelude.{◌≡◌, ◌≤◌, ◌<◌, ◌^◌, ◌+
 ghost use Rattle.limits.specs.declared.TheConstants.{LOG_SLOTS, FIRST_HOME_BLOCK};
 ghost use Rattle.wal_law.specs.Log.{newest, settled_place, installed_place, tail_count, opened, IsHomeOn};
 ghost use Rattle.wal_law.specs.Log.{blocks_of, IsLawful};
+ghost use Rattle.wal_law.specs.Grows.{IsWholeChange};
 ghost use Rattle.wal_law.specs.Room.{IsRoom};
 
 mod append;
@@ -84,6 +85,13 @@ impl Wal {
         ensures { IsLawful self.now }
     {
         let _ = &self.blocks;
+    }
+
+    /// Each of its changes is of a whole block.
+    pub fn whole(&self)
+        ensures { All IsWholeChange self.now.changes }
+    {
+        search::are_whole(&self.changes);
     }
 
     /// The newest content of a block. One that the log doesn't have is home.

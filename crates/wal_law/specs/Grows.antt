@@ -1,6 +1,7 @@
 -- What an append does to the ends of the log's groups.
 use Rattle.std.specs.Prelude.{◌≡◌, ℕ, ◌+◌, ◌≤◌, ◌&&◌, if◌then◌else◌, nat_eq, List, [], ◌∷◌, length, take}
 use Rattle.std.specs.Prelude.{drop}
+use Rattle.limits.specs.declared.TheConstants.{BLOCK_BYTES}
 use Rattle.disk.specs.Device.{Content}
 use Rattle.disk.specs.declared.block.BlockNo.{BlockNo}
 use Rattle.wal_law.specs.declared.change.LogChange.{LogChange}
@@ -29,3 +30,7 @@ pub record GrowsBy (old : Log) (group : List (BlockNo × Content)) (new : Log) :
       else place_before (drop count old.changes) old.places)
   pub opened : (count : ℕ) → count ≤ old.logged + old.taken
       → recovered (drop count new.changes) ≡ recovered (drop count old.changes)
+
+-- a change of a whole block
+abbrev pub IsWholeChange : LogChange → Type 0
+IsWholeChange change = length change.content ≡ BLOCK_BYTES

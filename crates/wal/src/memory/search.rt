@@ -1,11 +1,21 @@
 //! Searches among changes.
-ghost use Rattle.std.specs.Prelude.{◌≡◌, ◌≤◌, ◌+◌, length, MatchOption, Some, None, take, drop};
+ghost use Rattle.std.specs.Prelude.{◌≡◌, ◌≤◌, ◌+◌, length, MatchOption, Some, None, take, drop, All};
+ghost use Rattle.wal_law.specs.Grows.{IsWholeChange};
 ghost use Rattle.wal_law.specs.Log.{newest_of, place_before};
 ghost use Rattle.wal_law.specs.Installer.{passed_over};
 
 use crate::{LogChange, Seq};
 use disk::{Block, BlockNo};
 use std::collections::VecDeque;
+
+// Each of the changes is of a whole block.
+pub(super) fn are_whole(changes: &VecDeque<LogChange>)
+    ensures { All IsWholeChange changes.now.items }
+{
+    for i in 0..changes.len() {
+        let _ = changes[i].content.as_slice();
+    }
+}
 
 // The content of the last change of a block among those from one index up to, not with, another.
 pub(super) fn last_change(

@@ -1,13 +1,29 @@
-use Rattle.std.proofs.Common.{subst}
+use Rattle.std.proofs.Common.{◌≡◌, ℕ, sym, ap, subst, ◌∙◌}
+use Rattle.disk.specs.Crash.{Image}
 use Rattle.txn_law.specs.Core.{CoreState}
+use Rattle.txn_law.specs.CoreLaw.{IsLawfulCore}
+use Rattle.txn_law.specs.CoreWindow.{IsHomeOf, KeepsHome}
 use Rattle.txn.specs.Outcomes.{IsClaimed}
+use Rattle.txn.proofs.Answered.{claimed_home, claimed_law}
 use Rattle.txn.proofs.transactions.Core.claim.Goals as goal
 
-pub returns : goal.returns
-returns g c =
+pub invariant_of-self : goal.invariant_of-self
+invariant_of-self g c =
+    let (addr, whole, done) = c.claim.ensures in
+    claimed_law g.C.Change.is_plan c.self.inside.state c.claim.new.self c.args.tx c.args.block addr c.claim.result
+    whole done c.self.invariant
+
+pub returns-clause-answer : goal.returns-clause-answer
+returns-clause-answer g c =
     let (addr, whole, done) = c.claim.ensures in (
       addr,
       whole,
       subst (λ (old : CoreState). IsClaimed old c.args.tx addr c.claim.result c.claim.new.self)
           c.self.view_is done,
     )
+
+pub returns-clause-keeps : goal.returns-clause-keeps
+returns-clause-keeps g c =
+    let (addr, whole, done) = c.claim.ensures in
+    subst (λ (old : CoreState). KeepsHome old c.claim.new.self) c.self.view_is
+    (claimed_home c.self.inside.state c.claim.new.self c.args.tx addr c.claim.result done)

@@ -1,9 +1,36 @@
-use Rattle.std.proofs.Common.{subst}
-use Rattle.wal_law.specs.Calls.{InstCallComesBack}
+use Rattle.std.proofs.Common.{◌≡◌, ℕ, sym, ap, subst, ◌∙◌}
+use Rattle.disk.specs.Crash.{Image}
 use Rattle.txn_law.specs.Core.{CoreState}
+use Rattle.txn_law.specs.CoreLaw.{IsLawfulCore}
+use Rattle.txn_law.specs.CoreWindow.{IsHomeOf, KeepsHome}
+use Rattle.std.proofs.Common.{if◌then◌else◌}
+use Rattle.wal_law.specs.Calls.{InstCallComesBack, home_after}
+use Rattle.wal_law.specs.Log.{Log, IsLawful}
+use Rattle.wal_law.specs.Installer.{is_inst_out}
+use Rattle.txn_law.specs.Core.{installed}
+use Rattle.txn_law.proofs.CoreLaws.{home_inst_done, lawful_inst_done}
 use Rattle.txn.proofs.transactions.Core.inst_done.Goals as goal
+
+pub invariant_of-self : goal.invariant_of-self
+invariant_of-self g c =
+    let old : CoreState = c.self.inside.state in
+    subst (λ (core : CoreState). IsLawfulCore g.C.Change.is_plan core)
+    (sym (c.inst_done.ensures.others ∙ ap (λ (log : Log). installed old log) c.inst_done.ensures.log))
+    (lawful_inst_done g.C.Change.is_plan old (is_inst_out old.log c.args.io) c.args.ok
+    (subst IsLawful c.inst_done.ensures.log c.lawful.ensures) c.self.invariant)
 
 pub returns-clause-law : goal.returns-clause-law
 returns-clause-law g c =
     subst (λ (old : CoreState). InstCallComesBack old.log c.args.io c.args.ok c.inst_done.new.self.log)
     c.self.view_is c.inst_done.ensures.law
+
+pub returns-clause-keeps : goal.returns-clause-keeps
+returns-clause-keeps g c =
+    let old : CoreState = c.self.inside.state in
+    subst (λ (before : CoreState). (base : Image) → IsHomeOf base before
+    → IsHomeOf (if is_inst_out before.log c.args.io then home_after base before.log c.args.ok else base)
+    c.inst_done.new.self) c.self.view_is
+    (λ base h. subst
+    (λ (core : CoreState). IsHomeOf (if is_inst_out old.log c.args.io then home_after base old.log c.args.ok else base)
+    core) (sym (c.inst_done.ensures.others ∙ ap (λ (log : Log). installed old log) c.inst_done.ensures.log))
+    (home_inst_done base old (is_inst_out old.log c.args.io) c.args.ok c.self.invariant.log c.self.invariant.tidy h))

@@ -1,0 +1,158 @@
+-- Lemmas: whatever the core answers, it keeps what is true of every core, and what may be at home.
+use Rattle.std.proofs.Common.{◌≡◌, ℕ, ◌+◌, List, [], ◌∷◌, ◌++◌, All, map, length, refl, sym, ap, subst, ◌∙◌}
+use Rattle.std.proofs.Common.{Option, Some, None, Result, Ok, Err}
+use Rattle.std.specs.Prelude.{IsSome, IsNone, IfOk, OnErr}
+use Rattle.std.proofs.lemmas.List.Elements.{All-append, All-map}
+use Rattle.limits.specs.declared.TheConstants.{BLOCK_BYTES}
+use Rattle.disk.specs.Device.{Content}
+use Rattle.disk.specs.Crash.{Image}
+use Rattle.disk.specs.declared.block.BlockNo.{BlockNo}
+use Rattle.objects.specs.declared.addr.Addr.{Addr}
+use Rattle.wal_law.specs.declared.change.LogChange.{LogChange}
+use Rattle.wal_law.specs.Grows.{IsWholeChange}
+use Rattle.wal_law.specs.Log.{Log, IsLawful, changes_of}
+use Rattle.txn_law.specs.Commit.{Planned, with_record, committed}
+use Rattle.txn_law.specs.Core.{CoreState}
+use Rattle.txn_law.specs.CoreLaw.{IsLawfulCore}
+use Rattle.txn_law.specs.CoreWindow.{IsHomeOf, KeepsHome, SetsOnly}
+use Rattle.txn_law.specs.Object.{ObjectBytes}
+use Rattle.txn_law.specs.Tidy.{AreTidy}
+use Rattle.txn_law.specs.Window.{now_of, with_objects}
+use Rattle.txn_law.specs.Wishes.{IsWhole, claimed}
+use Rattle.txn_law.proofs.CoreLaws.{home_held, home_fetch, home_claim, lawful_held, lawful_fetch, lawful_claim}
+use Rattle.txn_law.proofs.CoreLaws.{lawful_commit, lawful_begun}
+use Rattle.txn_law.proofs.Homes.{commit_home, commit_sets}
+use Rattle.txn.specs.Outcomes.{IsWanted, IsClaimed, TakesPlace, IsRefused, IsCommit, IsSetBy}
+use Rattle.txn.specs.declared.outcomes.BeginFault.{BeginFault}
+use Rattle.txn.specs.declared.outcomes.Want.{Want}
+use Rattle.txn.specs.declared.outcomes.Want.TheVariants as want
+use Rattle.txn.specs.declared.outcomes.Claim.{Claim}
+use Rattle.txn.specs.declared.outcomes.Claim.TheVariants as claim
+use Rattle.txn.specs.declared.outcomes.Commit.{Commit}
+use Rattle.txn.specs.declared.outcomes.Commit.TheVariants as commit
+
+same_home : (old new : CoreState) → new ≡ old → KeepsHome old new
+same_home old new e base h = subst (λ (core : CoreState). IsHomeOf base core) (sym e) h
+
+pub wanted_home : (old new : CoreState) (tx : ℕ) (addr : Addr) (answer : Want)
+    → IsWanted old tx addr answer new → KeepsHome old new
+wanted_home old new tx addr (want.Held back bytes) h = home_held old new tx addr bytes.items h.2
+wanted_home old new tx addr (want.Fetch back io) h = home_fetch old new tx addr io h.2
+wanted_home old new tx addr (want.Busy back) h = same_home old new h.2
+wanted_home old new tx addr (want.Loading back) h = same_home old new h.2
+wanted_home old new tx addr (want.Outside back) h = same_home old new h.2
+wanted_home old new tx addr (want.NoMemory back) h = same_home old new h.2
+
+pub claimed_home : (old new : CoreState) (tx : ℕ) (addr : Addr) (answer : Claim)
+    → IsClaimed old tx addr answer new → KeepsHome old new
+claimed_home old new tx addr (claim.Held back) h base home =
+    subst (λ (core : CoreState). IsHomeOf base core) (sym h.2) (home_claim old tx addr base home)
+claimed_home old new tx addr (claim.Busy back) h base home = same_home old new h.2 base home
+claimed_home old new tx addr (claim.Loading back) h base home = same_home old new h.2 base home
+claimed_home old new tx addr (claim.Outside back) h base home = same_home old new h.2 base home
+claimed_home old new tx addr (claim.NoMemory back) h base home = same_home old new h.2 base home
+
+-- a group of whole blocks keeps the log's changes whole
+whole_group : (place : ℕ) (changes : List LogChange) (group : List (BlockNo × Content))
+    → All IsWholeChange changes → All (λ change. length change.1 ≡ BLOCK_BYTES) group
+    → All IsWholeChange (changes ++ changes_of place group)
+whole_group place changes group old new =
+    All-append IsWholeChange changes (changes_of place group) old
+    (All-map IsWholeChange (λ (change : BlockNo × Content). record {
+      place = place;
+      block = change.0;
+      content = change.1;
+    }) group new)
+
+module _ (P : ℕ → ℕ → List ObjectBytes → List ObjectBytes → Type 0) where
+  same_law : (old new : CoreState) → new ≡ old → IsLawfulCore P old → IsLawfulCore P new
+  same_law old new e h = subst (λ (core : CoreState). IsLawfulCore P core) (sym e) h
+
+  pub wanted_law : (old new : CoreState) (tx : ℕ) (addr : Addr) (answer : Want)
+      → IsWanted old tx addr answer new → IsLawfulCore P old → IsLawfulCore P new
+  wanted_law old new tx addr (want.Held back bytes) h = lawful_held P old new tx addr bytes.items h.1 h.2
+  wanted_law old new tx addr (want.Fetch back io) h = lawful_fetch P old new tx addr io h.1 h.2
+  wanted_law old new tx addr (want.Busy back) h = same_law old new h.2
+  wanted_law old new tx addr (want.Loading back) h = same_law old new h.2
+  wanted_law old new tx addr (want.Outside back) h = same_law old new h.2
+  wanted_law old new tx addr (want.NoMemory back) h = same_law old new h.2
+
+  pub claimed_law : (old new : CoreState) (tx : ℕ) (block : BlockNo) (addr : Addr) (answer : Claim)
+      → IsWhole block addr → IsClaimed old tx addr answer new → IsLawfulCore P old → IsLawfulCore P new
+  claimed_law old new tx block addr (claim.Held back) whole h core =
+      subst (λ (now : CoreState). IsLawfulCore P now) (sym h.2) (lawful_claim P old tx block addr whole h.1 core)
+  claimed_law old new tx block addr (claim.Busy back) whole h core = same_law old new h.2 core
+  claimed_law old new tx block addr (claim.Loading back) whole h core = same_law old new h.2 core
+  claimed_law old new tx block addr (claim.Outside back) whole h core = same_law old new h.2 core
+  claimed_law old new tx block addr (claim.NoMemory back) whole h core = same_law old new h.2 core
+
+  pub commit_law : {C : Type 0} (old new : CoreState) (tx : ℕ) (plan : Planned) (change : C) (answer : Commit C)
+      → IsCommit old tx plan change answer new → IsLawful new.log → P plan.blocks plan.inodes plan.read plan.written
+      → IsLawfulCore P old → IsLawfulCore P new
+  commit_law old new tx plan change (commit.Committed place) h lawful is_plan core =
+      subst (λ (now : CoreState). IsLawfulCore P now) (sym h.core)
+      (lawful_commit P old tx plan h.group.group new.log h.tried.own h.group.sizes h.group.blocks h.group.contents
+      h.group.grown h.blocks lawful
+      (subst (λ (log : Log). All IsWholeChange log.changes) (sym h.group.appended)
+      (whole_group (old.log.places + 1) old.log.changes h.group.group core.tidy.changes h.group.whole)) is_plan core)
+  commit_law old new tx plan change (commit.Full back same) h lawful is_plan core = same_law old new h.0.core core
+  commit_law old new tx plan change (commit.Foreign back same) h lawful is_plan core = same_law old new h.0.core core
+  commit_law old new tx plan change (commit.NoMemory back same) h lawful is_plan core = same_law old new h.0.core core
+  commit_law old new tx plan change (commit.Broken back same) h lawful is_plan core = same_law old new h.0.core core
+  commit_law old new tx plan change (commit.Spent back same) h lawful is_plan core = same_law old new h.0.core core
+
+pub commit_keeps : {C : Type 0} (old new : CoreState) (tx : ℕ) (plan : Planned) (change : C) (answer : Commit C)
+    → IsLawful old.log → AreTidy old → IsCommit old tx plan change answer new → KeepsHome old new
+commit_keeps old new tx plan change (commit.Committed place) lawful tidy h base home =
+    subst (λ (now : CoreState). IsHomeOf base now) (sym h.core)
+    (commit_home base old tx plan h.group.group new.log lawful tidy h.tried.own h.group.sizes h.group.blocks
+    h.group.contents h.group.grown h.blocks home)
+commit_keeps old new tx plan change (commit.Full back same) lawful tidy h base home = same_home old new h.0.core base home
+commit_keeps old new tx plan change (commit.Foreign back same) lawful tidy h base home = same_home old new h.0.core base home
+commit_keeps old new tx plan change (commit.NoMemory back same) lawful tidy h base home = same_home old new h.0.core base home
+commit_keeps old new tx plan change (commit.Broken back same) lawful tidy h base home = same_home old new h.0.core base home
+commit_keeps old new tx plan change (commit.Spent back same) lawful tidy h base home = same_home old new h.0.core base home
+
+-- the log's or the installer's next call goes out, or there is none
+module _ {X : Type 0} (old new : CoreState) (log : Log) where
+  pub next_home : (o : Option X) → (IsSome o → new ≡ record old { log = log }) → (IsNone o → new ≡ old)
+      → KeepsHome old (record old { log = log }) → KeepsHome old new
+  next_home (Some x) some none keeps base h = subst (λ (core : CoreState). IsHomeOf base core) (sym (some refl)) (keeps base h)
+  next_home None some none keeps base h = subst (λ (core : CoreState). IsHomeOf base core) (sym (none refl)) h
+
+  pub next_law : (P : ℕ → ℕ → List ObjectBytes → List ObjectBytes → Type 0) (o : Option X)
+      → (IsSome o → new ≡ record old { log = log }) → (IsNone o → new ≡ old) → IsLawful new.log
+      → (IsLawful log → IsLawfulCore P (record old { log = log })) → IsLawfulCore P old → IsLawfulCore P new
+  next_law P (Some x) some none lawful made h =
+      subst (λ (core : CoreState). IsLawfulCore P core) (sym (some refl))
+      (made (subst IsLawful (ap (λ (core : CoreState). core.log) (some refl)) lawful))
+  next_law P None some none lawful made h = subst (λ (core : CoreState). IsLawfulCore P core) (sym (none refl)) h
+
+-- a transaction is begun, or not
+pub begun_law : (P : ℕ → ℕ → List ObjectBytes → List ObjectBytes → Type 0) (old new : CoreState)
+    (answer : Result ℕ BeginFault) → IfOk answer (λ tx. (tx ≡ old.begun + 1)
+    × (new ≡ record old { begun = old.begun + 1; out = (old.begun + 1) ∷ [] })) → OnErr answer (new ≡ old)
+    → IsLawfulCore P old → IsLawfulCore P new
+begun_law P old new (Ok tx) done none h =
+    subst (λ (core : CoreState). IsLawfulCore P core) (sym done.1)
+    (lawful_begun P old (old.begun + 1) ((old.begun + 1) ∷ []) h)
+begun_law P old new (Err fault) done none h = subst (λ (core : CoreState). IsLawfulCore P core) (sym none) h
+
+pub begun_home : (old new : CoreState) (answer : Result ℕ BeginFault) → IfOk answer (λ tx. (tx ≡ old.begun + 1)
+    × (new ≡ record old { begun = old.begun + 1; out = (old.begun + 1) ∷ [] })) → OnErr answer (new ≡ old)
+    → KeepsHome old new
+begun_home old new (Ok tx) done none base h = subst (λ (core : CoreState). IsHomeOf base core) (sym done.1)
+    (record { whole = h.whole; window = h.window })
+begun_home old new (Err fault) done none base h = subst (λ (core : CoreState). IsHomeOf base core) (sym none) h
+
+pub commit_set : {C : Type 0} (old new : CoreState) (tx : ℕ) (plan : Planned) (change : C) (answer : Commit C)
+    → IsLawful old.log → AreTidy old → IsCommit old tx plan change answer new → IsSetBy old plan answer new
+commit_set old new tx plan change (commit.Committed place) lawful tidy h =
+    subst (λ (now : CoreState). SetsOnly old plan.written now) (sym h.core)
+    (λ base home. commit_sets base old tx plan h.group.group new.log lawful tidy h.tried.own h.group.sizes
+    h.group.blocks h.group.contents h.group.grown home)
+commit_set old new tx plan change (commit.Full back same) lawful tidy h = tt
+commit_set old new tx plan change (commit.Foreign back same) lawful tidy h = tt
+commit_set old new tx plan change (commit.NoMemory back same) lawful tidy h = tt
+commit_set old new tx plan change (commit.Broken back same) lawful tidy h = tt
+commit_set old new tx plan change (commit.Spent back same) lawful tidy h = tt

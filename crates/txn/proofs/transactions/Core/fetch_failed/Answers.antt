@@ -1,0 +1,18 @@
+use Rattle.std.proofs.Common.{◌≡◌, ℕ, sym, ap, subst, ◌∙◌}
+use Rattle.disk.specs.Crash.{Image}
+use Rattle.txn_law.specs.Core.{CoreState}
+use Rattle.txn_law.specs.CoreLaw.{IsLawfulCore}
+use Rattle.txn_law.specs.CoreWindow.{IsHomeOf, KeepsHome}
+use Rattle.txn_law.proofs.CoreLaws.{home_failed, lawful_failed}
+use Rattle.txn.proofs.transactions.Core.fetch_failed.Goals as goal
+
+pub invariant_of-self : goal.invariant_of-self
+invariant_of-self g c =
+    subst (λ (core : CoreState). IsLawfulCore g.C.Change.is_plan core) (sym c.fetch_failed.ensures)
+    (lawful_failed g.C.Change.is_plan c.self.inside.state c.args.io.block c.self.invariant)
+
+pub returns-clause-keeps : goal.returns-clause-keeps
+returns-clause-keeps g c =
+    subst (λ (old : CoreState). KeepsHome old c.fetch_failed.new.self) c.self.view_is
+    (λ base h. subst (λ (core : CoreState). IsHomeOf base core) (sym c.fetch_failed.ensures)
+    (home_failed c.self.inside.state c.args.io.block base h))

@@ -1,0 +1,24 @@
+use Rattle.std.proofs.Common.{◌≡◌, ℕ, sym, ap, subst, ◌∙◌}
+use Rattle.disk.specs.Crash.{Image}
+use Rattle.txn_law.specs.Core.{CoreState}
+use Rattle.txn_law.specs.CoreLaw.{IsLawfulCore}
+use Rattle.txn_law.specs.CoreWindow.{IsHomeOf, KeepsHome}
+use Rattle.txn_law.proofs.CoreLaws.{lawful_fetched}
+use Rattle.txn_law.specs.CoreWindow.{IsPending}
+use Rattle.txn_law.specs.Fetched.{fetched}
+use Rattle.txn_law.proofs.Homes.{fetched_home}
+use Rattle.txn.proofs.transactions.Core.fetched.Goals as goal
+
+pub invariant_of-self : goal.invariant_of-self
+invariant_of-self g c =
+    subst (λ (core : CoreState). IsLawfulCore g.C.Change.is_plan core) (sym c.fetched.ensures)
+    (lawful_fetched g.C.Change.is_plan c.self.inside.state c.args.io.block c.args.io.content c.whole.ensures
+    c.self.invariant)
+
+pub returns-clause-keeps : goal.returns-clause-keeps
+returns-clause-keeps g c =
+    subst (λ (old : CoreState). (base : Image) → (IsPending old c.args.io.block
+    → c.args.io.content ≡ base c.args.io.block.0) → IsHomeOf base old → IsHomeOf base c.fetched.new.self)
+    c.self.view_is
+    (λ base brought h. subst (λ (core : CoreState). IsHomeOf base core) (sym c.fetched.ensures)
+    (fetched_home base c.self.inside.state c.args.io.block c.args.io.content c.self.invariant.tidy brought h))

@@ -1,0 +1,12 @@
+use Rattle.std.proofs.Common.{◌≡◌, ℕ, sym, ap, subst, ◌∙◌}
+use Rattle.disk.specs.Crash.{Image}
+use Rattle.txn_law.specs.Core.{CoreState}
+use Rattle.txn_law.specs.CoreLaw.{IsLawfulCore}
+use Rattle.txn_law.specs.CoreWindow.{IsHomeOf, KeepsHome}
+use Rattle.txn_law.proofs.CoreLaws.{lawful_new}
+use Rattle.txn.proofs.transactions.Core.new.Goals as goal
+
+pub invariant_of-result : goal.invariant_of-result
+invariant_of-result g c =
+    subst (λ (core : CoreState). IsLawfulCore g.C.Change.is_plan core) (sym c.new.ensures)
+    (lawful_new g.C.Change.is_plan c.args.log c.args.inodes c.lawful.ensures c.requires c.whole.ensures)

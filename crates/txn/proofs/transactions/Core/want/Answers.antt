@@ -1,0 +1,17 @@
+use Rattle.std.proofs.Common.{◌≡◌, ℕ, sym, ap, subst, ◌∙◌}
+use Rattle.disk.specs.Crash.{Image}
+use Rattle.txn_law.specs.Core.{CoreState}
+use Rattle.txn_law.specs.CoreLaw.{IsLawfulCore}
+use Rattle.txn_law.specs.CoreWindow.{IsHomeOf, KeepsHome}
+use Rattle.txn.proofs.Answered.{wanted_home, wanted_law}
+use Rattle.txn.proofs.transactions.Core.want.Goals as goal
+
+pub invariant_of-self : goal.invariant_of-self
+invariant_of-self g c =
+    wanted_law g.C.Change.is_plan c.self.inside.state c.want.new.self c.args.tx c.args.addr c.want.result
+    c.want.ensures.answer c.self.invariant
+
+pub returns-clause-keeps : goal.returns-clause-keeps
+returns-clause-keeps g c =
+    subst (λ (old : CoreState). KeepsHome old c.want.new.self) c.self.view_is
+    (wanted_home c.self.inside.state c.want.new.self c.args.tx c.args.addr c.want.result c.want.ensures.answer)

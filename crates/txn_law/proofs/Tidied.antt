@@ -1,0 +1,391 @@
+-- Lemmas: what transactions have taken and what is in memory stay tidy.
+use Rattle.std.proofs.Common.{◌≡◌, ℕ, Bool, true, false, not, cond, ◌&&◌, ◌||◌, if◌then◌else◌, nat_eq, List, [], ◌∷◌}
+use Rattle.std.proofs.Common.{◌++◌, Option, Some, None, is_none, All, length, refl, sym, ap, subst, ◌∙◌, ◌⊎◌, inl, inr, arith}
+use Rattle.std.specs.Prelude.{Contains, is_some}
+use Rattle.std.specs.List.{find, filter, list_any}
+use Rattle.std.proofs.lemmas.Bool.{eqb-true, eq-eqb}
+use Rattle.std.proofs.lemmas.List.Elements.{All-nil, All-cons, All-head, All-tail, All-push, All-weaker}
+use Rattle.std.proofs.lemmas.List.Elements.{All-contains, All-contains_itself, All-filter}
+use Rattle.limits.specs.declared.TheConstants.{BLOCK_BYTES}
+use Rattle.disk.specs.Device.{Content}
+use Rattle.disk.specs.declared.block.BlockNo.{BlockNo}
+use Rattle.objects.specs.Addr.{Overlap}
+use Rattle.objects.specs.declared.addr.Addr.{Addr}
+use Rattle.wal_law.specs.Log.{Log, newest, newest_of, or_else, installed_place}
+use Rattle.txn_law.specs.Core.{CoreState, ended, past, installed}
+use Rattle.txn_law.specs.Fetch.{Fetch}
+use Rattle.txn_law.specs.Fetched.{filled, fetched, fetch_failed, without_pending}
+use Rattle.txn_law.specs.Holds.{Mode, exclusive, mode_of, Excludes, IsHoldOf, IsFree, is_taken, is_hold_of, hold_of}
+use Rattle.txn_law.specs.Holds.{without_hold, joined, with_hold, released}
+use Rattle.txn_law.specs.Present.{present_of, content_in, is_pending}
+use Rattle.txn_law.specs.Records.{is_kept, swept}
+use Rattle.txn_law.specs.Tidy.{AreBeside, AreApart, IsReadHere, IsClaimedWhole, IsOnce, IsUnlogged}
+use Rattle.wal_law.specs.Grows.{IsWholeChange}
+use Rattle.txn_law.specs.Tidy.{AreTidy}
+use Rattle.txn_law.specs.Window.{Footprint}
+use Rattle.txn_law.specs.Wishes.{IsOpen, with_block, taken, current, IsHeld, IsFetched, claimed, IsWhole}
+use Rattle.txn_law.specs.declared.hold.Hold.{Hold}
+use Rattle.txn_law.specs.declared.present.Present.{Present}
+use Rattle.txn_law.proofs.Claims.{found_by, all_four}
+use Rattle.txn_law.proofs.Entries.{is_of, same_block, once_filter, once_push, filled_content, once_filled, each_filled}
+use Rattle.txn_law.proofs.Found.{find_kept, find_push_some, find_push_none}
+use Rattle.txn_law.proofs.Swept.{or-true, in_cons}
+
+-- what is kept passes the test
+pub passing : {X : Type 0} (P : X → Type 0) (q : X → Bool) (xs : List X) → All P xs
+    → All (λ x. (q x ≡ true) × P x) (filter q xs)
+passing P q [] h = All-nil (λ x. (q x ≡ true) × P x)
+passing P q (x ∷ xs) h = go (passing P q xs (All-tail P x xs h)) (q x) refl
+  where
+    go : All (λ y. (q y ≡ true) × P y) (filter q xs) → (t : Bool) → q x ≡ t
+        → All (λ y. (q y ≡ true) × P y) (cond t (x ∷ filter q xs) (filter q xs))
+    go rest true e = All-cons (λ y. (q y ≡ true) × P y) x (filter q xs) (e, All-head P x xs h) rest
+    go rest false e = rest
+
+pub apart_filter : (q : Hold → Bool) (xs : List Hold) → AreApart xs → AreApart (filter q xs)
+apart_filter q [] h = tt
+apart_filter q (x ∷ xs) h = go (apart_filter q xs h.1) (q x)
+  where
+    go : AreApart (filter q xs) → (t : Bool) → AreApart (cond t (x ∷ filter q xs) (filter q xs))
+    go rest true = (All-filter q (AreBeside x) xs h.0, rest)
+    go rest false = rest
+
+apart_push : (xs : List Hold) (hold : Hold) → AreApart xs → All (λ x. AreBeside x hold) xs
+    → AreApart (xs ++ hold ∷ [])
+apart_push [] hold h beside = (All-nil (AreBeside hold), tt)
+apart_push (x ∷ xs) hold h beside = (
+  All-push (AreBeside x) xs hold h.0 (All-head (λ y. AreBeside y hold) x xs beside),
+  apart_push xs hold h.1 (All-tail (λ y. AreBeside y hold) x xs beside),
+)
+
+is_hold : (tx : ℕ) (addr : Addr) (x : Hold) → IsHoldOf tx addr x → is_hold_of tx addr x ≡ true
+is_hold tx addr x h =
+    let a = eq-eqb x.transaction tx h.0 in
+    let b = eq-eqb x.addr.block.0 addr.block.0 (ap (λ (d : Addr). d.block.0) h.1) in
+    let o = eq-eqb x.addr.offset addr.offset (ap (λ (d : Addr). d.offset) h.1) in
+    let l = eq-eqb x.addr.len addr.len (ap (λ (d : Addr). d.len) h.1) in
+    rw (a, b, o, l) refl
+
+module _ (holds : List Hold) (hold : Hold) where
+  -- the holds besides this one
+  abbrev pub others : List Hold
+  others = without_hold holds hold.transaction hold.addr
+
+  apart_from : IsFree holds hold.transaction hold.addr exclusive → (new : Hold) → new.addr ≡ hold.addr
+      → All (λ x. AreBeside x new) others
+  apart_from free new at =
+      All-weaker (λ x. (not (is_hold_of hold.transaction hold.addr x) ≡ true)
+      × (Overlap x.addr hold.addr → Excludes (mode_of x) exclusive → IsHoldOf hold.transaction hold.addr x))
+      (λ x. AreBeside x new)
+      (λ x h over excludes. let it = is_hold hold.transaction hold.addr x (h.1 (subst (λ (d : Addr). Overlap x.addr d) at over) excludes) in
+      absurd (let no : not true ≡ true = ap not (sym it) ∙ h.0 in cc))
+      others
+      (passing (λ x. Overlap x.addr hold.addr → Excludes (mode_of x) exclusive
+      → IsHoldOf hold.transaction hold.addr x)
+      (λ x. not (is_hold_of hold.transaction hold.addr x)) holds free.others)
+
+  pub apart_with : AreApart holds → IsFree holds hold.transaction hold.addr exclusive
+      → AreApart (with_hold holds hold)
+  apart_with apart free = go (hold_of holds hold.transaction hold.addr)
+    where
+      rest : AreApart others
+      rest = apart_filter (λ x. not (is_hold_of hold.transaction hold.addr x)) holds apart
+
+      go : (had : Option Hold) → AreApart (others ++ joined had hold ∷ [])
+      go None = apart_push others hold rest (apart_from free hold refl)
+      go (Some h) = apart_push others (joined (Some h) hold) rest (apart_from free (joined (Some h) hold) refl)
+
+  -- what holds of all holds, and of the new one beside one that there was, holds of all then
+  pub each_with : (P Q : Hold → Type 0) → ((x : Hold) → P x → Q x) → All P holds → Q hold
+      → ((had : Hold) → P had → had.addr.block.0 ≡ hold.addr.block.0 → had.addr.offset ≡ hold.addr.offset
+      → had.addr.len ≡ hold.addr.len → Q (joined (Some had) hold)) → All Q (with_hold holds hold)
+  each_with P Q keep each new beside = go (hold_of holds hold.transaction hold.addr) refl
+    where
+      rest : All Q others
+      rest = All-weaker P Q keep others
+          (All-filter (λ x. not (is_hold_of hold.transaction hold.addr x)) P holds each)
+
+      go : (had : Option Hold) → hold_of holds hold.transaction hold.addr ≡ had
+          → All Q (others ++ joined had hold ∷ [])
+      go None e = All-push Q others hold rest new
+      go (Some had) e =
+          let (is, there) = found_by (is_hold_of hold.transaction hold.addr) holds had e in
+          let four = all_four (nat_eq had.transaction hold.transaction)
+          (nat_eq had.addr.block.0 hold.addr.block.0) (nat_eq had.addr.offset hold.addr.offset)
+          (nat_eq had.addr.len hold.addr.len) is in
+          All-push Q others (joined (Some had) hold) rest (beside had (All-contains P holds had each there)
+          (eqb-true had.addr.block.0 hold.addr.block.0 four.1)
+          (eqb-true had.addr.offset hold.addr.offset four.2) (eqb-true had.addr.len hold.addr.len four.3))
+
+-- the claims stay whole
+claimed_with : (holds : List Hold) (hold : Hold) → All IsClaimedWhole holds → IsClaimedWhole hold
+    → All IsClaimedWhole (with_hold holds hold)
+claimed_with holds hold each new =
+    each_with holds hold IsClaimedWhole IsClaimedWhole (λ x h. h) each new
+    (λ had whole block offset len is. go had whole offset len had.is_claimed hold.is_claimed refl refl is)
+  where
+    go : (had : Hold) → IsClaimedWhole had → had.addr.offset ≡ hold.addr.offset → had.addr.len ≡ hold.addr.len
+        → (a b : Bool) → had.is_claimed ≡ a → hold.is_claimed ≡ b → (a || b) ≡ true
+        → (hold.addr.offset ≡ 0) × (hold.addr.len ≡ BLOCK_BYTES)
+    go had whole offset len true b is e some =
+        let (o, l) = whole is in (sym offset ∙ o, sym len ∙ l)
+    go had whole offset len false true isnt is either = new is
+    go had whole offset len false false isnt e some = absurd (cc)
+
+-- what is read stays in memory
+read_with : (holds : List Hold) (hold : Hold) (old new : List Present)
+    → ((block : BlockNo) (content : Content) → content_in (present_of old block) ≡ Some content
+    → content_in (present_of new block) ≡ Some content)
+    → All (IsReadHere old) holds → IsReadHere new hold → All (IsReadHere new) (with_hold holds hold)
+read_with holds hold old new stays each here =
+    each_with holds hold (IsReadHere old) (IsReadHere new)
+    (λ x h is. let (content, there) = h is in (content, stays x.addr.block content there)) each here
+    (λ had h block offset len is. go had h block had.is_read hold.is_read refl refl is)
+  where
+    go : (had : Hold) → IsReadHere old had → had.addr.block.0 ≡ hold.addr.block.0 → (a b : Bool)
+        → had.is_read ≡ a → hold.is_read ≡ b → (a || b) ≡ true
+        → (content : Content) × (content_in (present_of new hold.addr.block) ≡ Some content)
+    go had h block true b is e some =
+        let (content, there) = h is in (
+          content,
+          subst (λ (at : BlockNo). content_in (present_of new at) ≡ Some content)
+          (same_block had.addr.block hold.addr.block block) (stays had.addr.block content there),
+        )
+    go had h block false true isnt is either = here is
+    go had h block false false isnt e some = absurd (cc)
+
+-- a block more in memory
+module _ (present : List Present) (block : BlockNo) (content : Option Content) where
+  abbrev new_entry : Present
+  new_entry = record { block = block; content = content }
+
+  pub block_stays : (at : BlockNo) (c : Content) → content_in (present_of present at) ≡ Some c
+      → content_in (present_of (with_block present block content) at) ≡ Some c
+  block_stays at c e = go (is_some (present_of present block))
+    where
+      found : (o : Option Present) → present_of present at ≡ o → content_in o ≡ Some c
+          → content_in (present_of (present ++ new_entry ∷ []) at) ≡ Some c
+      found None is e = absurd (cc)
+      found (Some x) is e = ap content_in (find_push_some (is_of at) present (new_entry ∷ []) x is) ∙ e
+
+      go : (t : Bool) → content_in (present_of (if t then present else present ++ new_entry ∷ []) at) ≡ Some c
+      go true = e
+      go false = found (present_of present at) refl e
+
+  pub block_once : IsOnce present → IsOnce (with_block present block content)
+  block_once once = go (present_of present block) refl
+    where
+      go : (o : Option Present) → present_of present block ≡ o
+          → IsOnce (if is_some o then present else present ++ new_entry ∷ [])
+      go (Some x) e = once
+      go None e = once_push present new_entry e once
+
+  pub block_each : (P : Present → Type 0) → P new_entry → All P present → All P (with_block present block content)
+  block_each P new each = go (is_some (present_of present block))
+    where
+      go : (t : Bool) → All P (if t then present else present ++ new_entry ∷ [])
+      go true = each
+      go false = All-push P present new_entry each new
+
+-- where no fetch of a block is pending, its entry has a content
+loaded : (present : List Present) (block : BlockNo) (x : Present) → present_of present block ≡ Some x
+    → is_pending (present_of present block) ≡ false → (c : Content) × (x.content ≡ Some c)
+loaded present block x e not_pending = go x.content refl
+  where
+    go : (o : Option Content) → x.content ≡ o → (c : Content) × (o ≡ Some c)
+    go (Some c) is = (c, refl)
+    go None is = absurd (let it : is_none x.content ≡ false = sym (ap is_pending e) ∙ not_pending in let yes : is_none x.content ≡ true = ap is_none is in cc)
+
+-- a block that isn't pending is there once it is brought
+there_now : (present : List Present) (block : BlockNo) (content : Content)
+    → is_pending (present_of present block) ≡ false
+    → (c : Content) × (content_in (present_of (with_block present block (Some content)) block) ≡ Some c)
+there_now present block content not_pending = go (present_of present block) refl
+  where
+    go : (o : Option Present) → present_of present block ≡ o
+        → (c : Content) × (content_in (present_of (with_block present block (Some content)) block) ≡ Some c)
+    go (Some x) e =
+        let (c, is) = loaded present block x e not_pending in
+        (c, block_stays present block (Some content) block c (ap content_in e ∙ is))
+    go None e = (
+      content,
+      ap (λ (o : Option Present). content_in (present_of (if is_some o then present else present
+      ++ record { block = block; content = Some content } ∷ []) block)) e
+          ∙ ap content_in (find_push_none (is_of block) present (record { block = block; content = Some content } ∷ []) e)
+          ∙ ap (λ b. content_in (cond b (Some (record { block = block; content = Some content })) None))
+          (eq-eqb block.0 block.0 refl),
+    )
+
+pub tidy_held : (old new : CoreState) (tx : ℕ) (addr : Addr) (bytes : List ℕ) → IsOpen old tx addr
+    → IsHeld old tx addr bytes new → AreTidy old → AreTidy new
+tidy_held old new tx addr bytes open' held tidy =
+    let hold : Hold = record { transaction = tx; addr = addr; is_read = true; is_claimed = false } in
+    subst AreTidy (sym held.core) (record {
+      apart = apart_with old.holds hold tidy.apart open'.free;
+      read = read_with old.holds hold old.present (with_block old.present addr.block (Some held.content))
+          (block_stays old.present addr.block (Some held.content)) tidy.read
+          (λ is. there_now old.present addr.block held.content open'.settled);
+      claimed = claimed_with old.holds hold tidy.claimed (λ is. absurd (cc));
+      once = block_once old.present addr.block (Some held.content) tidy.once;
+      pending = block_each old.present addr.block (Some held.content) (IsUnlogged old.log) (λ none. absurd (cc))
+          tidy.pending;
+      changes = tidy.changes;
+    })
+
+pub tidy_fetch : (old new : CoreState) (tx : ℕ) (addr : Addr) (io : Fetch) → IsOpen old tx addr
+    → IsFetched old tx addr io new → AreTidy old → AreTidy new
+tidy_fetch old new tx addr io open' fetch tidy =
+    let hold : Hold = record { transaction = tx; addr = addr; is_read = false; is_claimed = false } in
+    subst AreTidy (sym fetch.core) (record {
+      apart = apart_with old.holds hold tidy.apart open'.free;
+      read = read_with old.holds hold old.present (with_block old.present addr.block None)
+          (block_stays old.present addr.block None) tidy.read (λ is. absurd (cc));
+      claimed = claimed_with old.holds hold tidy.claimed (λ is. absurd (cc));
+      once = block_once old.present addr.block None tidy.once;
+      pending = block_each old.present addr.block None (IsUnlogged old.log) (λ none. fetch.unlogged) tidy.pending;
+      changes = tidy.changes;
+    })
+
+pub tidy_claim : (old : CoreState) (tx : ℕ) (block : BlockNo) (addr : Addr) → IsWhole block addr
+    → IsOpen old tx addr → AreTidy old → AreTidy (claimed old tx addr)
+tidy_claim old tx block addr whole open' tidy =
+    let hold : Hold = record { transaction = tx; addr = addr; is_read = false; is_claimed = true } in
+    record {
+      apart = apart_with old.holds hold tidy.apart open'.free;
+      read = read_with old.holds hold old.present old.present (λ at c e. e) tidy.read (λ is. absurd (cc));
+      claimed = claimed_with old.holds hold tidy.claimed (λ is. (whole.1, whole.2));
+      once = tidy.once;
+      pending = tidy.pending;
+      changes = tidy.changes;
+    }
+
+-- what is held is taken
+taken_one : (holds : List Hold) (hold : Hold) → Contains holds hold → is_taken holds hold.addr.block ≡ true
+taken_one [] hold (k, lt, e) = absurd (omega (arith, lt))
+taken_one (x ∷ xs) hold h = go (taken_one xs hold) (in_cons x hold xs h)
+  where
+    go : (Contains xs hold → is_taken xs hold.addr.block ≡ true) → (x ≡ hold) ⊎ Contains xs hold
+        → is_taken (x ∷ xs) hold.addr.block ≡ true
+    go rest (inl same) = ap (λ b. b || is_taken xs hold.addr.block)
+        (eq-eqb x.addr.block.0 hold.addr.block.0 (ap (λ (h : Hold). h.addr.block.0) same))
+    go rest (inr later) = ap (λ b. nat_eq x.addr.block.0 hold.addr.block.0 || b) (rest later)
+        ∙ or-true (nat_eq x.addr.block.0 hold.addr.block.0)
+
+-- a block that is taken stays in memory
+swept_stays : (holds : List Hold) (records : List Footprint) (present : List Present) (block : BlockNo)
+    (c : Content) → is_taken holds block ≡ true → content_in (present_of present block) ≡ Some c
+    → content_in (present_of (swept holds records present) block) ≡ Some c
+swept_stays holds records present block c is e = go (present_of present block) refl e
+  where
+    go : (o : Option Present) → present_of present block ≡ o → content_in o ≡ Some c
+        → content_in (present_of (swept holds records present) block) ≡ Some c
+    go None there e = absurd (cc)
+    go (Some x) there e =
+        let (same, has) = found_by (is_of block) present x there in
+        let at : x.block ≡ block = same_block x.block block (eqb-true x.block.0 block.0 same) in
+        let kept : (is_none x.content || is_taken holds x.block || is_kept records x.block) ≡ true =
+        ap (λ b. is_none x.content || b || is_kept records x.block) (ap (is_taken holds) at ∙ is)
+        ∙ ap (λ b. b || is_kept records x.block) (or-true (is_none x.content)) in
+        ap content_in (find_kept (is_of block) (λ (entry : Present). is_none entry.content
+        || is_taken holds entry.block || is_kept records entry.block) present x there kept) ∙ e
+
+pub read_swept : (holds : List Hold) (records : List Footprint) (old new : List Present)
+    → ((block : BlockNo) (content : Content) → content_in (present_of old block) ≡ Some content
+    → content_in (present_of new block) ≡ Some content)
+    → All (IsReadHere old) holds → All (IsReadHere (swept holds records new)) holds
+read_swept holds records old new stays each =
+    All-weaker (λ x. IsReadHere old x × Contains holds x) (IsReadHere (swept holds records new))
+    (λ x h is. let (content, there) = h.0 is in
+    (content, swept_stays holds records new x.addr.block content (taken_one holds x h.1)
+    (stays x.addr.block content there))) holds
+    (λ k d lt. (each k d lt, All-contains_itself holds k d lt))
+
+pub tidy_end : (old : CoreState) (tx : ℕ) → AreTidy old → AreTidy (ended old tx)
+tidy_end old tx tidy = record {
+  apart = apart_filter (λ hold. not (nat_eq hold.transaction tx)) old.holds tidy.apart;
+  read = read_swept (released old.holds tx) old.records old.present old.present (λ at c e. e)
+      (All-filter (λ hold. not (nat_eq hold.transaction tx)) (IsReadHere old.present) old.holds tidy.read);
+  claimed = All-filter (λ hold. not (nat_eq hold.transaction tx)) IsClaimedWhole old.holds tidy.claimed;
+  once = once_filter (λ entry. is_none entry.content || is_taken (released old.holds tx) entry.block
+      || is_kept old.records entry.block) old.present tidy.once;
+  pending = All-filter (λ entry. is_none entry.content || is_taken (released old.holds tx) entry.block
+      || is_kept old.records entry.block) (IsUnlogged old.log) old.present tidy.pending;
+  changes = tidy.changes;
+}
+
+pub tidy_fetched : (old : CoreState) (block : BlockNo) (content : Content) → AreTidy old
+    → AreTidy (fetched old block content)
+tidy_fetched old block content tidy = record {
+  apart = tidy.apart;
+  read = read_swept old.holds old.records old.present (filled old.present block content)
+      (filled_content block content old.present) tidy.read;
+  claimed = tidy.claimed;
+  once = once_filter (λ entry. is_none entry.content || is_taken old.holds entry.block
+      || is_kept old.records entry.block) (filled old.present block content)
+      (once_filled block content old.present tidy.once);
+  pending = All-filter (λ entry. is_none entry.content || is_taken old.holds entry.block
+      || is_kept old.records entry.block) (IsUnlogged old.log) (filled old.present block content)
+      (each_filled block content (IsUnlogged old.log) (λ x h none. absurd (some x.content none)) old.present
+      tidy.pending);
+  changes = tidy.changes;
+}
+  where
+    some : (o : Option Content) → or_else o (Some content) ≡ None → ⊥
+    some (Some c) e = absurd (cc)
+    some None e = absurd (cc)
+
+pub tidy_failed : (old : CoreState) (block : BlockNo) → AreTidy old → AreTidy (fetch_failed old block)
+tidy_failed old block tidy = record {
+  apart = tidy.apart;
+  read = All-weaker (IsReadHere old.present) (IsReadHere (without_pending old.present block))
+      (λ x h is. let (content, there) = h is in (content, stays x.addr.block content there)) old.holds tidy.read;
+  claimed = tidy.claimed;
+  once = once_filter (λ entry. not (nat_eq entry.block.0 block.0) || is_some entry.content) old.present
+      tidy.once;
+  pending = All-filter (λ entry. not (nat_eq entry.block.0 block.0) || is_some entry.content)
+      (IsUnlogged old.log) old.present tidy.pending;
+  changes = tidy.changes;
+}
+  where
+    stays : (at : BlockNo) (c : Content) → content_in (present_of old.present at) ≡ Some c
+        → content_in (present_of (without_pending old.present block) at) ≡ Some c
+    stays at c e = go (present_of old.present at) refl e
+      where
+        go : (o : Option Present) → present_of old.present at ≡ o → content_in o ≡ Some c
+            → content_in (present_of (without_pending old.present block) at) ≡ Some c
+        go None there e = absurd (cc)
+        go (Some x) there e =
+            let kept : (not (nat_eq x.block.0 block.0) || is_some x.content) ≡ true =
+            ap (λ (o : Option Content). not (nat_eq x.block.0 block.0) || is_some o) e
+            ∙ or-true (not (nat_eq x.block.0 block.0)) in
+            ap content_in (find_kept (is_of at) (λ (entry : Present). not (nat_eq entry.block.0 block.0)
+            || is_some entry.content) old.present x there kept) ∙ e
+
+-- the log has moved on, and has lost no block
+pub tidy_installed : (old : CoreState) (log : Log)
+    → ((block : ℕ) → newest old.log block ≡ None → newest log block ≡ None)
+    → All IsWholeChange log.changes → AreTidy old → AreTidy (installed old log)
+tidy_installed old log none whole tidy = record {
+  apart = tidy.apart;
+  read = read_swept old.holds (past (installed_place log) old.records) old.present old.present (λ at c e. e)
+      tidy.read;
+  claimed = tidy.claimed;
+  once = once_filter (λ entry. is_none entry.content || is_taken old.holds entry.block
+      || is_kept (past (installed_place log) old.records) entry.block) old.present tidy.once;
+  pending = All-filter (λ entry. is_none entry.content || is_taken old.holds entry.block
+      || is_kept (past (installed_place log) old.records) entry.block) (IsUnlogged log) old.present
+      (All-weaker (IsUnlogged old.log) (IsUnlogged log) (λ x h e. none x.block.0 (h e)) old.present tidy.pending);
+  changes = whole;
+}
+
+pub tidy_log : (old : CoreState) (log : Log) → log.changes ≡ old.log.changes → AreTidy old
+    → AreTidy (record old { log = log })
+tidy_log old log e tidy = record {
+  apart = tidy.apart;
+  read = tidy.read;
+  claimed = tidy.claimed;
+  once = tidy.once;
+  pending = All-weaker (IsUnlogged old.log) (IsUnlogged log)
+      (λ x h none. ap (λ xs. newest_of xs x.block.0) e ∙ h none) old.present tidy.pending;
+  changes = subst (All IsWholeChange) (sym e) tidy.changes;
+}
