@@ -471,3 +471,66 @@ fn begin_and_end(core: &mut Core<Toy>) -> Result<(), BeginFault>
     core.abort(tx);
     Ok(())
 }
+
+// Claims a block and wants it, which has to be fetched.
+fn claim_and_want(alloc: Global, core: &mut Core<Toy>) -> Result<(Tx, FetchIo), Fail>
+    requires { core.old.out ≡ [] }
+    ensures { IfOk result (λ begun. core.new.out ≡ begun.0 ∷ []) }
+{
+    let tx = core.begin()?;
+    match core.claim(tx, HOME) {
+        Claim::Held(tx) => want_fetch(alloc, core, tx),
+        Claim::Busy(tx) | Claim::Loading(tx) | Claim::Outside(tx) | Claim::NoMemory(tx) => {
+            core.abort(tx);
+            Err("not held")?
+        }
+    }
+}
+
+// Wants the first home block, which has to be fetched.
+fn want_fetch(alloc: Global, core: &mut Core<Toy>, tx: Tx) -> Result<(Tx, FetchIo), Fail>
+    requires { core.old.out ≡ tx ∷ [] }
+    ensures { IfOk result (λ begun. core.new.out ≡ begun.0 ∷ []) }
+{
+    let tx = match core.want(alloc, tx, Addr::whole(HOME)) {
+        Want::Fetch(tx, io) => return Ok((tx, io)),
+        Want::Held(tx, _) => tx,
+        Want::Busy(tx) => tx,
+        Want::Loading(tx) => tx,
+        Want::Outside(tx) => tx,
+        Want::NoMemory(tx) => tx,
+    };
+    core.abort(tx);
+    Err("not to be fetched")?
+}
+
+// A change that writes the first home block whole.
+fn whole_block(alloc: Global) -> Result<Toy, Fail> {
+    let mut written = Vec::new(alloc);
+    written.push(Object::new(Addr::whole(HOME), vec![in alloc; 3u8; 4096]?))?;
+    Ok(Toy {
+        read: Vec::new(alloc),
+        written,
+        inodes: INODES,
+    })
+}
+
+// Commits a claimed block before its fetch is given back.
+fn write_while_it_is_fetched(alloc: Global, core: &mut Core<Toy>) -> Result<Ended, Fail>
+    requires { core.old.out ≡ [] }
+{
+    let toy = whole_block(alloc)?;
+    let (tx, io) = claim_and_want(alloc, core)?;
+    let ended = commit(alloc, core, tx, toy);
+    core.fetch_failed(io);
+    Ok(ended)
+}
+
+#[test]
+fn a_block_whose_fetch_is_out_is_not_written(rt: HostRuntime) -> Result<(), Fail> {
+    let alloc = rt.alloc();
+    let mut core = core(alloc, 0)?;
+    let ended = write_while_it_is_fetched(alloc, &mut core)?;
+    assert_eq!(rt; ended, Ended::Foreign);
+    Ok(())
+}
