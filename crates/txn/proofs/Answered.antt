@@ -1,28 +1,27 @@
 -- Lemmas: whatever the core answers, it keeps what is true of every core, and what may be at home.
-use Rattle.std.proofs.Common.{◌≡◌, ℕ, ◌+◌, List, [], ◌∷◌, ◌++◌, All, map, length, refl, sym, ap, subst, ◌∙◌}
+use Rattle.std.proofs.Common.{◌≡◌, ℕ, ◌+◌, List, [], ◌∷◌, ◌++◌, All, length, refl, sym, ap, subst}
 use Rattle.std.proofs.Common.{Option, Some, None, Result, Ok, Err}
 use Rattle.std.specs.Prelude.{IsSome, IsNone, IfOk, OnErr}
 use Rattle.std.proofs.lemmas.List.Elements.{All-append, All-map}
 use Rattle.limits.specs.declared.TheConstants.{BLOCK_BYTES}
 use Rattle.disk.specs.Device.{Content}
-use Rattle.disk.specs.Crash.{Image}
 use Rattle.disk.specs.declared.block.BlockNo.{BlockNo}
 use Rattle.objects.specs.declared.addr.Addr.{Addr}
 use Rattle.wal_law.specs.declared.change.LogChange.{LogChange}
 use Rattle.wal_law.specs.Grows.{IsWholeChange}
 use Rattle.wal_law.specs.Log.{Log, IsLawful, changes_of}
-use Rattle.txn_law.specs.Commit.{Planned, with_record, committed}
+use Rattle.txn_law.specs.Commit.{Planned}
 use Rattle.txn_law.specs.Core.{CoreState}
 use Rattle.txn_law.specs.CoreLaw.{IsLawfulCore}
-use Rattle.txn_law.specs.CoreWindow.{IsHomeOf, KeepsHome, SetsOnly}
+use Rattle.txn_law.specs.CoreWindow.{IsHomeOf, KeepsHome, KeepsReads, SetsOnly}
 use Rattle.txn_law.specs.Object.{ObjectBytes}
 use Rattle.txn_law.specs.Tidy.{AreTidy}
-use Rattle.txn_law.specs.Window.{now_of, with_objects}
-use Rattle.txn_law.specs.Wishes.{IsWhole, claimed}
+use Rattle.txn_law.specs.Wishes.{IsWhole}
 use Rattle.txn_law.proofs.CoreLaws.{home_held, home_fetch, home_claim, lawful_held, lawful_fetch, lawful_claim}
 use Rattle.txn_law.proofs.CoreLaws.{lawful_commit, lawful_begun}
+use Rattle.txn_law.proofs.HeldReads.{reads_held, reads_fetch, reads_claim, reads_log}
 use Rattle.txn_law.proofs.Homes.{commit_home, commit_sets}
-use Rattle.txn.specs.Outcomes.{IsWanted, IsClaimed, TakesPlace, IsRefused, IsCommit, IsSetBy}
+use Rattle.txn.specs.Outcomes.{IsWanted, IsClaimed, IsCommit, IsSetBy}
 use Rattle.txn.specs.declared.outcomes.BeginFault.{BeginFault}
 use Rattle.txn.specs.declared.outcomes.Want.{Want}
 use Rattle.txn.specs.declared.outcomes.Want.TheVariants as want
@@ -156,3 +155,43 @@ commit_set old new tx plan change (commit.Foreign back same) lawful tidy h = tt
 commit_set old new tx plan change (commit.NoMemory back same) lawful tidy h = tt
 commit_set old new tx plan change (commit.Broken back same) lawful tidy h = tt
 commit_set old new tx plan change (commit.Spent back same) lawful tidy h = tt
+
+-- What is held for reading stays.
+
+same_reads : (old new : CoreState) → new ≡ old → (other : ℕ) → KeepsReads old new other
+same_reads old new e other = subst (λ (core : CoreState). KeepsReads old core other) (sym e) (λ object h. h)
+
+pub wanted_reads : (old new : CoreState) (tx : ℕ) (addr : Addr) (answer : Want)
+    → IsWanted old tx addr answer new → (other : ℕ) → KeepsReads old new other
+wanted_reads old new tx addr (want.Held back bytes) h other = reads_held old new tx addr bytes.items other h.2
+wanted_reads old new tx addr (want.Fetch back io) h other = reads_fetch old new tx addr io other h.2
+wanted_reads old new tx addr (want.Busy back) h other = same_reads old new h.2 other
+wanted_reads old new tx addr (want.Loading back) h other = same_reads old new h.2 other
+wanted_reads old new tx addr (want.Outside back) h other = same_reads old new h.2 other
+wanted_reads old new tx addr (want.NoMemory back) h other = same_reads old new h.2 other
+
+pub claimed_reads : (old new : CoreState) (tx : ℕ) (addr : Addr) (answer : Claim)
+    → IsClaimed old tx addr answer new → (other : ℕ) → KeepsReads old new other
+claimed_reads old new tx addr (claim.Held back) h other =
+    subst (λ (core : CoreState). KeepsReads old core other) (sym h.2) (reads_claim old tx addr other)
+claimed_reads old new tx addr (claim.Busy back) h other = same_reads old new h.2 other
+claimed_reads old new tx addr (claim.Loading back) h other = same_reads old new h.2 other
+claimed_reads old new tx addr (claim.Outside back) h other = same_reads old new h.2 other
+claimed_reads old new tx addr (claim.NoMemory back) h other = same_reads old new h.2 other
+
+pub next_reads : {X : Type 0} (o : Option X) (old new : CoreState) (log : Log)
+    → (IsSome o → new ≡ record old { log = log }) → (IsNone o → new ≡ old) → (other : ℕ) → KeepsReads old new other
+next_reads (Some x) old new log some none other =
+    subst (λ (core : CoreState). KeepsReads old core other) (sym (some refl)) (reads_log old log other)
+next_reads None old new log some none other = same_reads old new (none refl) other
+
+pub begun_reads : (old new : CoreState) (answer : Result ℕ BeginFault) → IfOk answer (λ tx. (tx ≡ old.begun + 1)
+    × (new ≡ record old { begun = old.begun + 1; out = (old.begun + 1) ∷ [] })) → OnErr answer (new ≡ old)
+    → (other : ℕ) → KeepsReads old new other
+begun_reads old new (Ok tx) done none other =
+    subst (λ (core : CoreState). KeepsReads old core other) (sym done.1)
+    (λ object h. record {
+      held = h.held;
+      current = record { content = h.current.content; there = h.current.there; same = h.current.same };
+    })
+begun_reads old new (Err fault) done none other = same_reads old new none other

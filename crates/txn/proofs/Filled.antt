@@ -1,7 +1,7 @@
 -- What is filled in is the first entry of its block.
-use Rattle.std.proofs.Common.{◌≡◌, ◌<◌, ◌≤◌, ℕ, zero, suc, ◌+◌, Bool, true, false, not, cond, if◌then◌else◌, nat_eq, nat_lt}
+use Rattle.std.proofs.Common.{◌≡◌, ◌<◌, ◌≤◌, ℕ, ◌+◌, Bool, true, false, not, cond, if◌then◌else◌, nat_eq, nat_lt}
 use Rattle.std.proofs.Common.{List}
-use Rattle.std.proofs.Common.{[], ◌∷◌, length, Option, Some, None, set, get_or, refl, ap, sym, ◌∙◌, arith, one-add}
+use Rattle.std.proofs.Common.{[], ◌∷◌, length, Some, None, set, get_or, refl, ap, sym, ◌∙◌, arith, one-add}
 use Rattle.std.specs.Prelude.{position}
 use Rattle.std.specs.List.{position_or_len}
 use Rattle.std.proofs.lemmas.Bool.{ltb-true, ltb-false}

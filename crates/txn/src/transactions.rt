@@ -1,6 +1,6 @@
 //! The transactional core.
 ghost use Rattle.std.specs.Prelude.{◌≡◌, ◌≤◌, ◌+◌, ◌^◌, ◌↔◌, IsTrue, IsSome, IsNone, IfSome, IsErrOf, OnErr};
-ghost use Rattle.std.specs.Prelude.{IfOk, ◌∷◌, true, false, is_some, if◌then◌else◌, [], length};
+ghost use Rattle.std.specs.Prelude.{ℕ, IfOk, ◌∷◌, true, false, is_some, if◌then◌else◌, [], length};
 ghost use Rattle.limits.specs.declared.TheConstants.{CHANGED_BLOCKS};
 ghost use Rattle.objects.specs.declared.addr.Addr.{Addr};
 ghost use Rattle.wal_law.specs.Log.{settled_place, tail_count};
@@ -12,7 +12,7 @@ ghost use Rattle.wal_law.specs.Logger.{may_log, with_log_out, is_log_out, with_l
 ghost use Rattle.wal_law.specs.Installer.{may_install, with_inst_out, is_inst_out, with_inst_back};
 ghost use Rattle.txn_law.specs.Core.{ended, installed};
 ghost use Rattle.txn_law.specs.CoreLaw.{IsFresh, IsLawfulCore};
-ghost use Rattle.txn_law.specs.CoreWindow.{IsHomeOf, KeepsHome, IsPending};
+ghost use Rattle.txn_law.specs.CoreWindow.{IsHomeOf, KeepsHome, KeepsReads, IsPending};
 ghost use Rattle.txn_law.specs.Fetched.{fetched, fetch_failed};
 ghost use Rattle.txn_law.specs.Group.{blocks_of};
 ghost use Rattle.txn_law.specs.Wishes.{IsWhole};
@@ -90,6 +90,7 @@ impl<C: Change> Core<C> {
         ensures spent { IsErrOf result BeginFault.Spent
             ↔ ((self.old.log.broken ≡ false) × (self.old.begun + 1 ≡ 2 ^ 64)) }
         ensures no_memory { IsErrOf result BeginFault.NoMemory → ⊥ }
+        ensures stays { (other : ℕ) → KeepsReads self.old self.new other }
         ensures keeps { KeepsHome self.old self.new }
     {
         self.state.begin()
@@ -102,6 +103,7 @@ impl<C: Change> Core<C> {
     pub fn want(&mut self, alloc: Global, tx: Tx, addr: Addr) -> Want
         ensures answer { IsWanted self.old tx addr result self.new }
         ensures within { IsWithin self.old.log.blocks addr.len result }
+        ensures stays { (other : ℕ) → KeepsReads self.old self.new other }
         ensures keeps { KeepsHome self.old self.new }
     {
         self.state.want(alloc, tx, addr)
@@ -110,6 +112,7 @@ impl<C: Change> Core<C> {
     /// Takes a whole block for writing, whose bytes don't matter. It answers as `want` does, and never Fetch.
     pub fn claim(&mut self, tx: Tx, block: BlockNo) -> Claim
         ensures answer { (addr : Addr) × IsWhole block addr × IsClaimed self.old tx addr result self.new }
+        ensures stays { (other : ℕ) → KeepsReads self.old self.new other }
         ensures keeps { KeepsHome self.old self.new }
     {
         self.state.claim(tx, block)
@@ -118,6 +121,7 @@ impl<C: Change> Core<C> {
     /// Gives a fetch back with what was read. The block stays in memory while anyone has taken a part of it.
     pub fn fetched(&mut self, io: FetchIo)
         ensures core { self.new ≡ fetched self.old io.block io.content }
+        ensures stays { (other : ℕ) → KeepsReads self.old self.new other }
         ensures keeps { (base : Image) → (IsPending self.old io.block → io.content ≡ base io.block.0)
             → IsHomeOf base self.old → IsHomeOf base self.new }
     {
@@ -128,6 +132,7 @@ impl<C: Change> Core<C> {
     /// Gives a fetch back that failed. The next want of the block asks for it again.
     pub fn fetch_failed(&mut self, io: FetchIo)
         ensures core { self.new ≡ fetch_failed self.old io.block }
+        ensures stays { (other : ℕ) → KeepsReads self.old self.new other }
         ensures keeps { KeepsHome self.old self.new }
     {
         self.state.fetch_failed(io);
@@ -163,6 +168,7 @@ impl<C: Change> Core<C> {
     /// Ends a transaction without a change, and lets go of what it has taken.
     pub fn abort(&mut self, tx: Tx)
         ensures core { self.new ≡ ended self.old tx }
+        ensures stays { (other : ℕ) → (other ≡ tx → ⊥) → KeepsReads self.old self.new other }
         ensures keeps { KeepsHome self.old self.new }
     {
         self.state.abort(tx);
@@ -213,6 +219,7 @@ impl<C: Change> Core<C> {
         ensures none { IsNone result → self.new ≡ self.old }
         ensures within { IfSome result (λ io. IsCallWithin self.new.log.blocks io.call) }
         ensures law { IfSome result (λ io. LogCallGoesOut self.old.log io self.new.log) }
+        ensures stays { (other : ℕ) → KeepsReads self.old self.new other }
         ensures keeps { KeepsHome self.old self.new }
     {
         let io = self.state.log_next();
@@ -227,6 +234,7 @@ impl<C: Change> Core<C> {
         ensures blocks { self.new.log.blocks ≡ self.old.log.blocks }
         ensures others { self.new ≡ record self.old { log = self.new.log } }
         ensures law { LogCallComesBack self.old.log io ok self.new.log }
+        ensures stays { (other : ℕ) → KeepsReads self.old self.new other }
         ensures keeps { KeepsHome self.old self.new }
     {
         self.state.log_done(io, ok);
@@ -240,6 +248,7 @@ impl<C: Change> Core<C> {
         ensures none { IsNone result → self.new ≡ self.old }
         ensures within { IfSome result (λ io. IsCallWithin self.new.log.blocks io.call) }
         ensures law { IfSome result (λ io. InstCallGoesOut self.old.log io self.new.log) }
+        ensures stays { (other : ℕ) → KeepsReads self.old self.new other }
         ensures keeps { KeepsHome self.old self.new }
     {
         let io = self.state.inst_next();
@@ -254,6 +263,7 @@ impl<C: Change> Core<C> {
         ensures blocks { self.new.log.blocks ≡ self.old.log.blocks }
         ensures others { self.new ≡ installed self.old self.new.log }
         ensures law { InstCallComesBack self.old.log io ok self.new.log }
+        ensures stays { (other : ℕ) → KeepsReads self.old self.new other }
         ensures keeps { (base : Image) → IsHomeOf base self.old
             → IsHomeOf (if is_inst_out self.old.log io then home_after base self.old.log ok else base) self.new }
     {

@@ -1,23 +1,21 @@
 -- Lemmas: each step of the core keeps what is true of every core.
-use Rattle.std.proofs.Common.{◌≡◌, ℕ, ◌+◌, ◌-◌, ◌<◌, Bool, true, false, if◌then◌else◌, nat_lt, nat_eq, List, [], ◌∷◌, ◌++◌}
-use Rattle.std.proofs.Common.{length, take, drop, replicate, All, Option, Some, None, refl, sym, ap, subst, ◌∙◌, arith}
-use Rattle.std.specs.List.{filter}
-use Rattle.std.proofs.lemmas.List.Elements.{All-nil, All-push, All-drop, All-filter, All-weaker}
+use Rattle.std.proofs.Common.{◌≡◌, ℕ, ◌+◌, ◌-◌, Bool, true, false, if◌then◌else◌, nat_lt, nat_eq, List, [], ◌∷◌, ◌++◌}
+use Rattle.std.proofs.Common.{length, drop, replicate, All, refl, sym, ap, subst, ◌∙◌, arith}
+use Rattle.std.proofs.lemmas.List.Elements.{All-push, All-drop, All-filter}
 use Rattle.std.proofs.Math.ListN.{length-replicate}
 use Rattle.limits.specs.declared.TheConstants.{BLOCK_BYTES}
 use Rattle.disk.specs.Device.{Content}
 use Rattle.disk.specs.Crash.{Image}
 use Rattle.disk.specs.declared.block.BlockNo.{BlockNo}
 use Rattle.objects.specs.declared.addr.Addr.{Addr}
-use Rattle.wal_law.specs.declared.change.LogChange.{LogChange}
 use Rattle.wal_law.specs.Calls.{home_after}
 use Rattle.wal_law.specs.Effects.{HasGoneOn, brought_home}
 use Rattle.wal_law.specs.Grows.{GrowsBy}
 use Rattle.wal_law.specs.Installer.{next_home, with_inst_out, with_inst_back}
 use Rattle.wal_law.specs.Logger.{with_log_out, with_log_back}
-use Rattle.wal_law.specs.Log.{Log, IsLawful, newest, or_else, installed_place, blocks_of as group_blocks}
+use Rattle.wal_law.specs.Log.{Log, IsLawful, newest, installed_place, blocks_of as group_blocks}
 use Rattle.wal_law.proofs.Effects.{seen_inst_done}
-use Rattle.txn_law.specs.Commit.{Planned, IsOwn, with_record, committed}
+use Rattle.txn_law.specs.Commit.{Planned, IsOwn, committed}
 use Rattle.txn_law.specs.Core.{CoreState, past, installed, ended}
 use Rattle.txn_law.specs.CoreLaw.{IsFresh, IsPlanned, IsLawfulCore}
 use Rattle.txn_law.specs.CoreWindow.{held_of, IsCoreWindow, AreBlocks, IsHomeOf, KeepsHome}
@@ -32,7 +30,7 @@ use Rattle.txn_law.specs.Wishes.{IsOpen, IsHeld, IsFetched, claimed, IsWhole}
 use Rattle.txn_law.proofs.Commits.{past-drop}
 use Rattle.txn_law.proofs.Fetches.{core_fetch_failed}
 use Rattle.txn_law.proofs.Fresh.{fresh_window}
-use Rattle.txn_law.proofs.Homes.{whole_after, fetched_home, fetched_some_home, commit_home}
+use Rattle.txn_law.proofs.Homes.{whole_after, fetched_some_home, commit_home}
 use Rattle.txn_law.proofs.Moves.{window_log_out, window_log_back, window_inst_out}
 use Rattle.txn_law.proofs.OtherHome.{either}
 use Rattle.txn_law.proofs.Swept.{window_swept, core_installed}

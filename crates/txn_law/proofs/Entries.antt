@@ -1,18 +1,18 @@
 -- Lemmas on the blocks in memory, of which each has one entry.
 use Rattle.std.proofs.Common.{◌≡◌, ℕ, Bool, true, false, cond, if◌then◌else◌, nat_eq, List, [], ◌∷◌, ◌++◌}
-use Rattle.std.proofs.Common.{Option, Some, None, All, refl, sym, ap, map, option_map, ◌∙◌, ne_eqb}
-use Rattle.std.specs.List.{find, filter}
-use Rattle.std.proofs.lemmas.Bool.{eqb-true, eq-eqb}
+use Rattle.std.proofs.Common.{Option, Some, None, All, refl, sym, ap, option_map, ◌∙◌, ne_eqb}
+use Rattle.std.specs.List.{filter}
+use Rattle.std.proofs.lemmas.Bool.{eq-eqb}
 use Rattle.std.proofs.lemmas.List.Elements.{All-cons, All-head, All-tail}
 use Rattle.disk.specs.Device.{Content}
 use Rattle.disk.specs.declared.block.BlockNo.{BlockNo}
-use Rattle.wal_law.specs.Log.{Log, newest, or_else}
+use Rattle.wal_law.specs.Log.{Log, or_else}
 use Rattle.txn_law.specs.Commit.{refreshed_entry, refreshed}
 use Rattle.txn_law.specs.Fetched.{filled}
 use Rattle.txn_law.specs.Present.{present_of, content_in}
 use Rattle.txn_law.specs.Tidy.{IsOnce}
 use Rattle.txn_law.specs.declared.present.Present.{Present}
-use Rattle.txn_law.proofs.Found.{find_none, find_push_none, find_fails}
+use Rattle.txn_law.proofs.Found.{find_none, find_push_none}
 
 -- an entry of this block
 abbrev pub is_of : BlockNo → Present → Bool

@@ -1,12 +1,10 @@
 -- Lemmas: each step of the core leads from blocks that may be what is at home to such blocks.
-use Rattle.std.proofs.Common.{◌≡◌, ℕ, ◌+◌, ◌<◌, Bool, true, false, not, cond, ◌&&◌, ◌||◌, if◌then◌else◌, nat_eq, nat_lt}
-use Rattle.std.proofs.Common.{List, [], ◌∷◌, ◌++◌, length, take, drop, replicate, All, Option, Some, None, is_none}
-use Rattle.std.proofs.Common.{refl, sym, ap, subst, ◌∙◌, ◌⊎◌, inl, inr, arith, get_or}
+use Rattle.std.proofs.Common.{◌≡◌, ℕ, ◌+◌, Bool, true, false, cond, ◌&&◌, ◌||◌, if◌then◌else◌, nat_eq}
+use Rattle.std.proofs.Common.{List, [], ◌∷◌, length, take, All, Option, Some, None, is_none}
+use Rattle.std.proofs.Common.{refl, sym, ap, subst, ◌∙◌, ◌⊎◌, inl, inr, arith}
 use Rattle.std.specs.Prelude.{Contains, nat_le}
-use Rattle.std.specs.List.{filter}
 use Rattle.std.proofs.lemmas.Bool.{eqb-true, eq-eqb}
-use Rattle.std.proofs.lemmas.List.Elements.{All-nil, All-cons, All-head, All-tail, All-push, All-take, All-contains}
-use Rattle.std.proofs.Math.ListN.{length-replicate}
+use Rattle.std.proofs.lemmas.List.Elements.{All-head, All-tail, All-take, All-contains}
 use Rattle.limits.specs.declared.TheConstants.{BLOCK_BYTES}
 use Rattle.disk.specs.Device.{Content}
 use Rattle.disk.specs.Crash.{Image}
@@ -22,9 +20,7 @@ use Rattle.txn_law.specs.Core.{CoreState}
 use Rattle.txn_law.specs.CoreWindow.{with_entry, held_of, IsCoreWindow, AreBlocks, IsHomeOf}
 use Rattle.txn_law.specs.Fetched.{filled, fetched}
 use Rattle.txn_law.specs.Group.{is_among, blocks_of, IsLaid}
-use Rattle.txn_law.specs.Object.{ObjectBytes}
-use Rattle.txn_law.specs.Present.{present_of, content_in, is_pending}
-use Rattle.txn_law.specs.Records.{lies_in}
+use Rattle.txn_law.specs.Present.{present_of, is_pending}
 use Rattle.wal_law.specs.Grows.{IsWholeChange}
 use Rattle.txn_law.specs.Tidy.{IsOnce, IsUnlogged, AreTidy}
 use Rattle.txn_law.specs.Window.{now_of, with_objects}
@@ -172,14 +168,16 @@ fetched_some_home core block content tidy size (base, h) = go (is_pending (prese
     go : (t : Bool) → is_pending (present_of core.present block) ≡ t
         → (base : Image) × IsHomeOf base (fetched core block content)
     go true e =
-        let other : Image = with_home base block.0 content in
-        (other, fetched_home other core block content tidy
-        (λ waits. sym (ap (λ (t : Bool). if t then content else base block.0) (eq-eqb block.0 block.0 refl)))
-        (record {
-          whole = whole_with core.log.blocks base block.0 content size h.whole;
-          window = other_home base core.log core.records (held_of core.present) block.0 content
-              (unlogged_block core block tidy e) (λ c. waits_away core.present block c tidy.once e) h.window;
-        }))
+        let other : Image = with_home base block.0 content in (
+          other,
+          fetched_home other core block content tidy
+              (λ waits. sym (ap (λ (t : Bool). if t then content else base block.0) (eq-eqb block.0 block.0 refl)))
+              (record {
+                whole = whole_with core.log.blocks base block.0 content size h.whole;
+                window = other_home base core.log core.records (held_of core.present) block.0 content
+                    (unlogged_block core block tidy e) (λ c. waits_away core.present block c tidy.once e) h.window;
+              }),
+        )
     go false e = (base, fetched_home base core block content tidy (λ waits. absurd (cc)) h)
 
 among_all : (P : BlockNo → Type 0) (block : BlockNo) (blocks : List BlockNo) → All P blocks

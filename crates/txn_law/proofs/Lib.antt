@@ -18,3 +18,4 @@ pub mod Fresh
 pub mod OtherHome
 pub mod Homes
 pub mod CoreLaws
+pub mod HeldReads

@@ -1,6 +1,6 @@
 -- Lemmas: a block that the log doesn't have, nobody has in memory and no kept commit read may be anything at
 -- home.
-use Rattle.std.proofs.Common.{◌≡◌, ℕ, ◌+◌, ◌-◌, ◌≤◌, Bool, true, false, if◌then◌else◌, nat_eq, List, [], ◌∷◌, length}
+use Rattle.std.proofs.Common.{◌≡◌, ℕ, Bool, true, false, if◌then◌else◌, nat_eq, List, [], ◌∷◌}
 use Rattle.std.proofs.Common.{take, drop, All, Option, Some, None, refl, sym, ap, subst, ◌∙◌, arith, zero, suc}
 use Rattle.std.proofs.Common.{get_or}
 use Rattle.std.specs.Prelude.{Contains}
@@ -12,13 +12,13 @@ use Rattle.disk.specs.Crash.{Image}
 use Rattle.wal_law.specs.declared.change.LogChange.{LogChange}
 use Rattle.wal_law.specs.Grows.{recovered}
 use Rattle.wal_law.specs.Law.{with_changes, with_home}
-use Rattle.wal_law.specs.Log.{Log, newest, newest_of, or_else, place_before, installed_place}
+use Rattle.wal_law.specs.Log.{Log, newest, newest_of, or_else}
 use Rattle.wal_law.specs.Overlay.{content_or}
 use Rattle.objects.specs.Spliced.{spliced}
 use Rattle.txn_law.specs.Object.{ObjectBytes}
 use Rattle.txn_law.specs.Window.{Footprint, Follow, IsAsRead, part, with_object, with_objects, after_commits}
-use Rattle.txn_law.specs.Window.{opening, now_of, GroupEnd, at_first, commits_among, AreInLog, IsInLog, IsPinned}
-use Rattle.txn_law.specs.Window.{ArePinned, IsCurrent, IsWindowOver}
+use Rattle.txn_law.specs.Window.{opening, now_of, at_first, commits_among, AreInLog, IsInLog}
+use Rattle.txn_law.specs.Window.{IsCurrent, IsWindowOver}
 
 pub either : (a b : Option Content) → or_else a b ≡ None → (a ≡ None) × (b ≡ None)
 either (Some c) b e = absurd (cc)
@@ -142,8 +142,8 @@ module _ (base : Image) (log : Log) (commits : List Footprint) (held : List (ℕ
     λ i o less found. away (h.pinned k d lt i o less).0
         (subst (λ (n : ℕ). Contains held (n, (h.pinned k d lt i o less).0)) found (h.pinned k d lt i o less).1),
     λ i o less found. absurd (let w = h.written 0 (at_first refl) in let here : IsInLog log.changes (get_or (get_or commits k d).written i o) =
-    (subst (λ (n : ℕ). All (AreInLog log.changes) (drop n commits)) first w) k d lt i o less in
-    let clash : None ≡ Some here.0 = sym none ∙ ap (newest log) (sym found) ∙ here.1 in cc),
+        (subst (λ (n : ℕ). All (AreInLog log.changes) (drop n commits)) first w) k d lt i o less in
+        let clash : None ≡ Some here.0 = sym none ∙ ap (newest log) (sym found) ∙ here.1 in cc),
   )
 
   leads : (n : ℕ) (cs : List Footprint) → All (AreElsewhere at) cs

@@ -1,8 +1,8 @@
 -- Lemmas: what transactions have taken and what is in memory stay tidy.
-use Rattle.std.proofs.Common.{◌≡◌, ℕ, Bool, true, false, not, cond, ◌&&◌, ◌||◌, if◌then◌else◌, nat_eq, List, [], ◌∷◌}
-use Rattle.std.proofs.Common.{◌++◌, Option, Some, None, is_none, All, length, refl, sym, ap, subst, ◌∙◌, ◌⊎◌, inl, inr, arith}
+use Rattle.std.proofs.Common.{◌≡◌, ℕ, Bool, true, false, not, cond, ◌||◌, if◌then◌else◌, nat_eq, List, [], ◌∷◌}
+use Rattle.std.proofs.Common.{◌++◌, Option, Some, None, is_none, All, refl, sym, ap, subst, ◌∙◌, ◌⊎◌, inl, inr, arith}
 use Rattle.std.specs.Prelude.{Contains, is_some}
-use Rattle.std.specs.List.{find, filter, list_any}
+use Rattle.std.specs.List.{filter}
 use Rattle.std.proofs.lemmas.Bool.{eqb-true, eq-eqb}
 use Rattle.std.proofs.lemmas.List.Elements.{All-nil, All-cons, All-head, All-tail, All-push, All-weaker}
 use Rattle.std.proofs.lemmas.List.Elements.{All-contains, All-contains_itself, All-filter}
@@ -15,7 +15,7 @@ use Rattle.wal_law.specs.Log.{Log, newest, newest_of, or_else, installed_place}
 use Rattle.txn_law.specs.Core.{CoreState, ended, past, installed}
 use Rattle.txn_law.specs.Fetch.{Fetch}
 use Rattle.txn_law.specs.Fetched.{filled, fetched, fetch_failed, without_pending}
-use Rattle.txn_law.specs.Holds.{Mode, exclusive, mode_of, Excludes, IsHoldOf, IsFree, is_taken, is_hold_of, hold_of}
+use Rattle.txn_law.specs.Holds.{exclusive, mode_of, Excludes, IsHoldOf, IsFree, is_taken, is_hold_of, hold_of}
 use Rattle.txn_law.specs.Holds.{without_hold, joined, with_hold, released}
 use Rattle.txn_law.specs.Present.{present_of, content_in, is_pending}
 use Rattle.txn_law.specs.Records.{is_kept, swept}
@@ -23,7 +23,7 @@ use Rattle.txn_law.specs.Tidy.{AreBeside, AreApart, IsReadHere, IsClaimedWhole, 
 use Rattle.wal_law.specs.Grows.{IsWholeChange}
 use Rattle.txn_law.specs.Tidy.{AreTidy}
 use Rattle.txn_law.specs.Window.{Footprint}
-use Rattle.txn_law.specs.Wishes.{IsOpen, with_block, taken, current, IsHeld, IsFetched, claimed, IsWhole}
+use Rattle.txn_law.specs.Wishes.{IsOpen, with_block, IsHeld, IsFetched, claimed, IsWhole}
 use Rattle.txn_law.specs.declared.hold.Hold.{Hold}
 use Rattle.txn_law.specs.declared.present.Present.{Present}
 use Rattle.txn_law.proofs.Claims.{found_by, all_four}
@@ -58,7 +58,7 @@ apart_push (x ∷ xs) hold h beside = (
   apart_push xs hold h.1 (All-tail (λ y. AreBeside y hold) x xs beside),
 )
 
-is_hold : (tx : ℕ) (addr : Addr) (x : Hold) → IsHoldOf tx addr x → is_hold_of tx addr x ≡ true
+pub is_hold : (tx : ℕ) (addr : Addr) (x : Hold) → IsHoldOf tx addr x → is_hold_of tx addr x ≡ true
 is_hold tx addr x h =
     let a = eq-eqb x.transaction tx h.0 in
     let b = eq-eqb x.addr.block.0 addr.block.0 (ap (λ (d : Addr). d.block.0) h.1) in
@@ -149,7 +149,7 @@ read_with holds hold old new stays each here =
         let (content, there) = h is in (
           content,
           subst (λ (at : BlockNo). content_in (present_of new at) ≡ Some content)
-          (same_block had.addr.block hold.addr.block block) (stays had.addr.block content there),
+              (same_block had.addr.block hold.addr.block block) (stays had.addr.block content there),
         )
     go had h block false true isnt is either = here is
     go had h block false false isnt e some = absurd (cc)
@@ -210,7 +210,7 @@ there_now present block content not_pending = go (present_of present block) refl
     go None e = (
       content,
       ap (λ (o : Option Present). content_in (present_of (if is_some o then present else present
-      ++ record { block = block; content = Some content } ∷ []) block)) e
+          ++ record { block = block; content = Some content } ∷ []) block)) e
           ∙ ap content_in (find_push_none (is_of block) present (record { block = block; content = Some content } ∷ []) e)
           ∙ ap (λ b. content_in (cond b (Some (record { block = block; content = Some content })) None))
           (eq-eqb block.0 block.0 refl),
@@ -260,7 +260,7 @@ tidy_claim old tx block addr whole open' tidy =
     }
 
 -- what is held is taken
-taken_one : (holds : List Hold) (hold : Hold) → Contains holds hold → is_taken holds hold.addr.block ≡ true
+pub taken_one : (holds : List Hold) (hold : Hold) → Contains holds hold → is_taken holds hold.addr.block ≡ true
 taken_one [] hold (k, lt, e) = absurd (omega (arith, lt))
 taken_one (x ∷ xs) hold h = go (taken_one xs hold) (in_cons x hold xs h)
   where
@@ -272,7 +272,7 @@ taken_one (x ∷ xs) hold h = go (taken_one xs hold) (in_cons x hold xs h)
         ∙ or-true (nat_eq x.addr.block.0 hold.addr.block.0)
 
 -- a block that is taken stays in memory
-swept_stays : (holds : List Hold) (records : List Footprint) (present : List Present) (block : BlockNo)
+pub swept_stays : (holds : List Hold) (records : List Footprint) (present : List Present) (block : BlockNo)
     (c : Content) → is_taken holds block ≡ true → content_in (present_of present block) ≡ Some c
     → content_in (present_of (swept holds records present) block) ≡ Some c
 swept_stays holds records present block c is e = go (present_of present block) refl e
@@ -295,9 +295,11 @@ pub read_swept : (holds : List Hold) (records : List Footprint) (old new : List 
     → All (IsReadHere old) holds → All (IsReadHere (swept holds records new)) holds
 read_swept holds records old new stays each =
     All-weaker (λ x. IsReadHere old x × Contains holds x) (IsReadHere (swept holds records new))
-    (λ x h is. let (content, there) = h.0 is in
-    (content, swept_stays holds records new x.addr.block content (taken_one holds x h.1)
-    (stays x.addr.block content there))) holds
+    (λ x h is. let (content, there) = h.0 is in (
+      content,
+      swept_stays holds records new x.addr.block content (taken_one holds x h.1)
+          (stays x.addr.block content there),
+    )) holds
     (λ k d lt. (each k d lt, All-contains_itself holds k d lt))
 
 pub tidy_end : (old : CoreState) (tx : ℕ) → AreTidy old → AreTidy (ended old tx)
@@ -334,11 +336,27 @@ tidy_fetched old block content tidy = record {
     some (Some c) e = absurd (cc)
     some None e = absurd (cc)
 
+-- a block that is there stays where another one's fetch failed
+pub failed_stays : (present : List Present) (block at : BlockNo) (c : Content)
+    → content_in (present_of present at) ≡ Some c
+    → content_in (present_of (without_pending present block) at) ≡ Some c
+failed_stays present block at c e = go (present_of present at) refl e
+  where
+    go : (o : Option Present) → present_of present at ≡ o → content_in o ≡ Some c
+        → content_in (present_of (without_pending present block) at) ≡ Some c
+    go None there e = absurd (cc)
+    go (Some x) there e =
+        let kept : (not (nat_eq x.block.0 block.0) || is_some x.content) ≡ true =
+        ap (λ (o : Option Content). not (nat_eq x.block.0 block.0) || is_some o) e
+        ∙ or-true (not (nat_eq x.block.0 block.0)) in
+        ap content_in (find_kept (is_of at) (λ (entry : Present). not (nat_eq entry.block.0 block.0)
+        || is_some entry.content) present x there kept) ∙ e
+
 pub tidy_failed : (old : CoreState) (block : BlockNo) → AreTidy old → AreTidy (fetch_failed old block)
 tidy_failed old block tidy = record {
   apart = tidy.apart;
   read = All-weaker (IsReadHere old.present) (IsReadHere (without_pending old.present block))
-      (λ x h is. let (content, there) = h is in (content, stays x.addr.block content there)) old.holds tidy.read;
+      (λ x h is. let (content, there) = h is in (content, failed_stays old.present block x.addr.block content there)) old.holds tidy.read;
   claimed = tidy.claimed;
   once = once_filter (λ entry. not (nat_eq entry.block.0 block.0) || is_some entry.content) old.present
       tidy.once;
@@ -346,20 +364,6 @@ tidy_failed old block tidy = record {
       (IsUnlogged old.log) old.present tidy.pending;
   changes = tidy.changes;
 }
-  where
-    stays : (at : BlockNo) (c : Content) → content_in (present_of old.present at) ≡ Some c
-        → content_in (present_of (without_pending old.present block) at) ≡ Some c
-    stays at c e = go (present_of old.present at) refl e
-      where
-        go : (o : Option Present) → present_of old.present at ≡ o → content_in o ≡ Some c
-            → content_in (present_of (without_pending old.present block) at) ≡ Some c
-        go None there e = absurd (cc)
-        go (Some x) there e =
-            let kept : (not (nat_eq x.block.0 block.0) || is_some x.content) ≡ true =
-            ap (λ (o : Option Content). not (nat_eq x.block.0 block.0) || is_some o) e
-            ∙ or-true (not (nat_eq x.block.0 block.0)) in
-            ap content_in (find_kept (is_of at) (λ (entry : Present). not (nat_eq entry.block.0 block.0)
-            || is_some entry.content) old.present x there kept) ∙ e
 
 -- the log has moved on, and has lost no block
 pub tidy_installed : (old : CoreState) (log : Log)

@@ -4,6 +4,7 @@ use Rattle.limits.specs.declared.TheConstants.{BLOCK_BYTES}
 use Rattle.disk.specs.Device.{Content}
 use Rattle.disk.specs.Crash.{Image}
 use Rattle.disk.specs.declared.block.BlockNo.{BlockNo}
+use Rattle.txn_law.specs.Commit.{IsReadBy}
 use Rattle.txn_law.specs.Core.{CoreState}
 use Rattle.txn_law.specs.Object.{ObjectBytes}
 use Rattle.txn_law.specs.Present.{present_of, is_pending}
@@ -45,3 +46,7 @@ SetsOnly old written new = (base : Image) → IsHomeOf base old → (block : ℕ
 -- whatever is at home, a step leads from a window over it to one over the same
 abbrev pub KeepsHome : CoreState → CoreState → Type 0
 KeepsHome old new = (base : Image) → IsHomeOf base old → IsHomeOf base new
+
+-- what a transaction holds for reading stays, with its bytes
+abbrev pub KeepsReads : CoreState → CoreState → ℕ → Type 0
+KeepsReads old new tx = (object : ObjectBytes) → IsReadBy old tx object → IsReadBy new tx object

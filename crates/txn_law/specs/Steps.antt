@@ -1,16 +1,15 @@
 -- What the core does to its window.
-use Rattle.std.specs.Prelude.{◌≡◌, ℕ, ◌+◌, ◌≤◌, ◌⊎◌, ◌&&◌, true, if◌then◌else◌, nat_eq, nat_lt, List, [], ◌∷◌}
-use Rattle.std.specs.Prelude.{◌++◌, length, take, drop, replicate, Some, All}
+use Rattle.std.specs.Prelude.{◌≡◌, ℕ, ◌⊎◌, true, if◌then◌else◌, nat_lt, List, [], ◌∷◌}
+use Rattle.std.specs.Prelude.{◌++◌, length, replicate, Some, All}
 use Rattle.std.specs.List.{AllByRecursion}
 use Rattle.disk.specs.Device.{Content}
 use Rattle.disk.specs.Crash.{Image}
 use Rattle.disk.specs.declared.block.BlockNo.{BlockNo}
 use Rattle.limits.specs.declared.TheConstants.{BLOCK_BYTES}
-use Rattle.wal_law.specs.Log.{Log, installed_place, newest, newest_of, or_else, place_before}
+use Rattle.wal_law.specs.Log.{Log, installed_place, newest}
 use Rattle.wal_law.specs.Log.{blocks_of as group_blocks}
 use Rattle.wal_law.specs.Overlay.{content_or}
 use Rattle.wal_law.specs.Effects.{newest_in}
-use Rattle.wal_law.specs.Grows.{recovered}
 use Rattle.txn_law.specs.Group.{blocks_of, base_in, IsLaid}
 use Rattle.txn_law.specs.Object.{ObjectBytes}
 use Rattle.txn_law.specs.Present.{present_of, content_in}

@@ -6,7 +6,7 @@ use Rattle.objects.specs.Addr.{Overlap}
 use Rattle.wal_law.specs.Grows.{IsWholeChange}
 use Rattle.wal_law.specs.Log.{Log, newest}
 use Rattle.txn_law.specs.Core.{CoreState}
-use Rattle.txn_law.specs.Holds.{Mode, mode_of, Excludes}
+use Rattle.txn_law.specs.Holds.{mode_of, Excludes}
 use Rattle.txn_law.specs.Present.{present_of, content_in}
 use Rattle.txn_law.specs.declared.hold.Hold.{Hold}
 use Rattle.txn_law.specs.declared.present.Present.{Present}

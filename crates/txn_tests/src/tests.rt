@@ -472,25 +472,36 @@ fn begin_and_end(core: &mut Core<Toy>) -> Result<(), BeginFault>
     Ok(())
 }
 
-// Commits, and hands the transaction back where that is refused.
-fn try_commit(alloc: Global, core: &mut Core<Toy>, tx: Tx, toy: Toy) -> (Option<Tx>, Ended)
-    ensures blocks { core.new.log.blocks ≡ core.old.log.blocks }
+// Claims a block and wants it, which has to be fetched.
+fn claim_and_want(alloc: Global, core: &mut Core<Toy>) -> Result<(Tx, FetchIo), Fail>
+    requires { core.old.out ≡ [] }
+    ensures { IfOk result (λ begun. core.new.out ≡ begun.0 ∷ []) }
 {
-    match core.commit(alloc, tx, toy) {
-        Commit::Committed(place) => (None, Ended::Place(place)),
-        Commit::Full(tx, _) => (Some(tx), Ended::Full),
-        Commit::Foreign(tx, _) => (Some(tx), Ended::Foreign),
-        Commit::NoMemory(tx, _) => (Some(tx), Ended::NoMemory),
-        Commit::Broken(tx, _) => (Some(tx), Ended::Broken),
-        Commit::Spent(tx, _) => (Some(tx), Ended::Spent),
+    let tx = core.begin()?;
+    match core.claim(tx, HOME) {
+        Claim::Held(tx) => want_fetch(alloc, core, tx),
+        Claim::Busy(tx) | Claim::Loading(tx) | Claim::Outside(tx) | Claim::NoMemory(tx) => {
+            core.abort(tx);
+            Err("not held")?
+        }
     }
 }
 
-// Ends a transaction that is out still.
-fn end(core: &mut Core<Toy>, tx: Option<Tx>) {
-    if let Some(tx) = tx {
-        core.abort(tx);
-    }
+// Wants the first home block, which has to be fetched.
+fn want_fetch(alloc: Global, core: &mut Core<Toy>, tx: Tx) -> Result<(Tx, FetchIo), Fail>
+    requires { core.old.out ≡ tx ∷ [] }
+    ensures { IfOk result (λ begun. core.new.out ≡ begun.0 ∷ []) }
+{
+    let tx = match core.want(alloc, tx, Addr::whole(HOME)) {
+        Want::Fetch(tx, io) => return Ok((tx, io)),
+        Want::Held(tx, _) => tx,
+        Want::Busy(tx) => tx,
+        Want::Loading(tx) => tx,
+        Want::Outside(tx) => tx,
+        Want::NoMemory(tx) => tx,
+    };
+    core.abort(tx);
+    Err("not to be fetched")?
 }
 
 // A change that writes the first home block whole.
@@ -504,58 +515,22 @@ fn whole_block(alloc: Global) -> Result<Toy, Fail> {
     })
 }
 
-// Claims a block and wants it, and commits it before its fetch is given back and after.
-fn write_while_it_is_fetched<D: CrashDisk>(
-    alloc: Global,
-    core: &mut Core<Toy>,
-    disk: &mut D,
-) -> Result<[Ended; 2], Fail>
-    requires size { (D.device disk.old).size ≡ core.old.log.blocks }
-    requires idle { core.old.out ≡ [] }
+// Commits a claimed block before its fetch is given back.
+fn write_while_it_is_fetched(alloc: Global, core: &mut Core<Toy>) -> Result<Ended, Fail>
+    requires { core.old.out ≡ [] }
 {
-    let early = whole_block(alloc)?;
-    let late = whole_block(alloc)?;
-    let tx = core.begin()?;
-    let tx = match core.claim(tx, HOME) {
-        Claim::Held(tx) => tx,
-        Claim::Busy(tx) | Claim::Loading(tx) | Claim::Outside(tx) | Claim::NoMemory(tx) => {
-            core.abort(tx);
-            return Err("not held")?;
-        }
-    };
-    let (tx, mut io) = match core.want(alloc, tx, Addr::whole(HOME)) {
-        Want::Fetch(tx, io) => (tx, io),
-        Want::Held(tx, _)
-        | Want::Busy(tx)
-        | Want::Loading(tx)
-        | Want::Outside(tx)
-        | Want::NoMemory(tx) => {
-            core.abort(tx);
-            return Err("not to be fetched")?;
-        }
-    };
-    let (tx, first) = try_commit(alloc, core, tx, early);
-    let read = io.perform(disk).is_ok();
-    if read {
-        core.fetched(io);
-    } else {
-        core.fetch_failed(io);
-    }
-    let Some(tx) = tx else {
-        return Err("committed too early")?;
-    };
-    let (tx, _) = want(alloc, core, disk, tx, Addr::whole(HOME));
-    let (tx, second) = try_commit(alloc, core, tx, late);
-    end(core, tx);
-    Ok([first, second])
+    let toy = whole_block(alloc)?;
+    let (tx, io) = claim_and_want(alloc, core)?;
+    let ended = commit(alloc, core, tx, toy);
+    core.fetch_failed(io);
+    Ok(ended)
 }
 
 #[test]
 fn a_block_whose_fetch_is_out_is_not_written(rt: HostRuntime) -> Result<(), Fail> {
     let alloc = rt.alloc();
-    let mut disk = MemDisk::new(alloc, BLOCKS)?;
     let mut core = core(alloc, 0)?;
-    let ended = write_while_it_is_fetched(alloc, &mut core, &mut disk)?;
-    assert_eq!(rt; ended, [Ended::Foreign, Ended::Place(Seq(1))]);
+    let ended = write_while_it_is_fetched(alloc, &mut core)?;
+    assert_eq!(rt; ended, Ended::Foreign);
     Ok(())
 }

@@ -1,9 +1,8 @@
 use Rattle.std.proofs.Common.{◌≡◌, ◌<◌, ◌+◌, ◌++◌, ◌∷◌, [], ℕ, List, length, take, drop, map, set, get_or}
-use Rattle.std.proofs.Common.{get_or-drop, refl, ap, sym, ◌∙◌, add-zero, arith}
+use Rattle.std.proofs.Common.{get_or-drop, ap, sym, ◌∙◌, add-zero, arith}
 use Rattle.std.proofs.lemmas.List.{take_more_set, take_more, map-append, drop-set-lt}
 use Rattle.std.proofs.lemmas.Grind.{drop_more_same}
 use Rattle.txn_law.specs.Commit.{refreshed_entry}
-use Rattle.txn_law.specs.declared.present.Present.{Present}
 use Rattle.txn.proofs.present.refresh_each.Goals as goal
 
 same_first : {X : Type 0} (xs ys : List X) (i : ℕ) (d : X) → drop i xs ≡ drop i ys → get_or xs i d ≡ get_or ys i d

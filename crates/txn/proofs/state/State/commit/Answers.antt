@@ -4,8 +4,6 @@ use Rattle.wal_law.specs.Log.{Log}
 use Rattle.txn_law.specs.Commit.{Planned, with_record, refreshed}
 use Rattle.txn_law.specs.Core.{CoreState, ended}
 use Rattle.txn_law.specs.Window.{Footprint}
-use Rattle.txn_law.specs.declared.present.Present.{Present}
-use Rattle.txn.specs.Out.{listed}
 use Rattle.txn.proofs.Mapped.{recorded, committed_is}
 use Rattle.txn.proofs.state.State.commit.Goals as goal
 

@@ -1,9 +1,9 @@
-use Rattle.std.proofs.Common.{◌≡◌, ℕ, sym, ap, subst, ◌∙◌}
-use Rattle.disk.specs.Crash.{Image}
+use Rattle.std.proofs.Common.{sym, subst}
 use Rattle.txn_law.specs.Core.{CoreState}
 use Rattle.txn_law.specs.CoreLaw.{IsLawfulCore}
-use Rattle.txn_law.specs.CoreWindow.{IsHomeOf, KeepsHome}
+use Rattle.txn_law.specs.CoreWindow.{IsHomeOf, KeepsHome, KeepsReads}
 use Rattle.txn_law.proofs.CoreLaws.{home_end, lawful_end}
+use Rattle.txn_law.proofs.HeldReads.{reads_end}
 use Rattle.txn.proofs.transactions.Core.abort.Goals as goal
 
 pub invariant_of-self : goal.invariant_of-self
@@ -16,3 +16,9 @@ returns-clause-keeps g c =
     subst (λ (old : CoreState). KeepsHome old c.abort.new.self) c.self.view_is
     (λ base h. subst (λ (core : CoreState). IsHomeOf base core) (sym c.abort.ensures)
     (home_end c.self.inside.state c.args.tx base h))
+
+pub returns-clause-stays : goal.returns-clause-stays
+returns-clause-stays g c = λ other differ.
+    subst (λ (old : CoreState). KeepsReads old c.abort.new.self other) c.self.view_is
+    (subst (λ (core : CoreState). KeepsReads c.self.inside.state core other) (sym c.abort.ensures)
+    (reads_end c.self.inside.state c.args.tx other differ))

@@ -1,10 +1,9 @@
-use Rattle.std.proofs.Common.{◌≡◌, ℕ, sym, ap, subst, ◌∙◌}
-use Rattle.disk.specs.Crash.{Image}
+use Rattle.std.proofs.Common.{subst}
 use Rattle.txn_law.specs.Core.{CoreState}
-use Rattle.txn_law.specs.CoreLaw.{IsLawfulCore}
-use Rattle.txn_law.specs.CoreWindow.{IsHomeOf, KeepsHome}
+use Rattle.txn_law.specs.CoreWindow.{KeepsHome, KeepsReads}
 use Rattle.txn.specs.Outcomes.{IsClaimed}
 use Rattle.txn.proofs.Answered.{claimed_home, claimed_law}
+use Rattle.txn.proofs.Answered.{claimed_reads}
 use Rattle.txn.proofs.transactions.Core.claim.Goals as goal
 
 pub invariant_of-self : goal.invariant_of-self
@@ -27,3 +26,9 @@ returns-clause-keeps g c =
     let (addr, whole, done) = c.claim.ensures in
     subst (λ (old : CoreState). KeepsHome old c.claim.new.self) c.self.view_is
     (claimed_home c.self.inside.state c.claim.new.self c.args.tx addr c.claim.result done)
+
+pub returns-clause-stays : goal.returns-clause-stays
+returns-clause-stays g c = λ other.
+    let (addr, whole, done) = c.claim.ensures in
+    subst (λ (old : CoreState). KeepsReads old c.claim.new.self other) c.self.view_is
+    (claimed_reads c.self.inside.state c.claim.new.self c.args.tx addr c.claim.result done other)

@@ -1,8 +1,6 @@
-use Rattle.std.proofs.Common.{◌≡◌, ℕ, sym, ap, subst, ◌∙◌}
-use Rattle.disk.specs.Crash.{Image}
+use Rattle.std.proofs.Common.{subst}
 use Rattle.txn_law.specs.Core.{CoreState}
-use Rattle.txn_law.specs.CoreLaw.{IsLawfulCore}
-use Rattle.txn_law.specs.CoreWindow.{IsHomeOf, KeepsHome}
+use Rattle.txn_law.specs.CoreWindow.{KeepsHome}
 use Rattle.txn_law.specs.Commit.{Planned}
 use Rattle.txn.specs.Outcomes.{IsSetBy}
 use Rattle.txn.proofs.Answered.{commit_law, commit_keeps, commit_set}

@@ -1,9 +1,9 @@
-use Rattle.std.proofs.Common.{◌≡◌, ℕ, sym, ap, subst, ◌∙◌}
-use Rattle.disk.specs.Crash.{Image}
+use Rattle.std.proofs.Common.{sym, subst}
 use Rattle.txn_law.specs.Core.{CoreState}
 use Rattle.txn_law.specs.CoreLaw.{IsLawfulCore}
-use Rattle.txn_law.specs.CoreWindow.{IsHomeOf, KeepsHome}
+use Rattle.txn_law.specs.CoreWindow.{IsHomeOf, KeepsHome, KeepsReads}
 use Rattle.txn_law.proofs.CoreLaws.{home_failed, lawful_failed}
+use Rattle.txn_law.proofs.HeldReads.{reads_failed}
 use Rattle.txn.proofs.transactions.Core.fetch_failed.Goals as goal
 
 pub invariant_of-self : goal.invariant_of-self
@@ -16,3 +16,9 @@ returns-clause-keeps g c =
     subst (λ (old : CoreState). KeepsHome old c.fetch_failed.new.self) c.self.view_is
     (λ base h. subst (λ (core : CoreState). IsHomeOf base core) (sym c.fetch_failed.ensures)
     (home_failed c.self.inside.state c.args.io.block base h))
+
+pub returns-clause-stays : goal.returns-clause-stays
+returns-clause-stays g c = λ other.
+    subst (λ (old : CoreState). KeepsReads old c.fetch_failed.new.self other) c.self.view_is
+    (subst (λ (core : CoreState). KeepsReads c.self.inside.state core other) (sym c.fetch_failed.ensures)
+    (reads_failed c.self.inside.state c.args.io.block other))

@@ -1,12 +1,12 @@
-use Rattle.std.proofs.Common.{◌≡◌, ℕ, sym, ap, subst, ◌∙◌}
+use Rattle.std.proofs.Common.{◌≡◌, sym, subst}
 use Rattle.disk.specs.Crash.{Image}
 use Rattle.txn_law.specs.Core.{CoreState}
 use Rattle.txn_law.specs.CoreLaw.{IsLawfulCore}
-use Rattle.txn_law.specs.CoreWindow.{IsHomeOf, KeepsHome}
+use Rattle.txn_law.specs.CoreWindow.{IsHomeOf, KeepsReads}
 use Rattle.txn_law.proofs.CoreLaws.{lawful_fetched}
 use Rattle.txn_law.specs.CoreWindow.{IsPending}
-use Rattle.txn_law.specs.Fetched.{fetched}
 use Rattle.txn_law.proofs.Homes.{fetched_home}
+use Rattle.txn_law.proofs.HeldReads.{reads_fetched}
 use Rattle.txn.proofs.transactions.Core.fetched.Goals as goal
 
 pub invariant_of-self : goal.invariant_of-self
@@ -22,3 +22,9 @@ returns-clause-keeps g c =
     c.self.view_is
     (λ base brought h. subst (λ (core : CoreState). IsHomeOf base core) (sym c.fetched.ensures)
     (fetched_home base c.self.inside.state c.args.io.block c.args.io.content c.self.invariant.tidy brought h))
+
+pub returns-clause-stays : goal.returns-clause-stays
+returns-clause-stays g c = λ other.
+    subst (λ (old : CoreState). KeepsReads old c.fetched.new.self other) c.self.view_is
+    (subst (λ (core : CoreState). KeepsReads c.self.inside.state core other) (sym c.fetched.ensures)
+    (reads_fetched c.self.inside.state c.args.io.block c.args.io.content other))

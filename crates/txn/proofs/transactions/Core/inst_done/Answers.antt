@@ -1,14 +1,15 @@
-use Rattle.std.proofs.Common.{◌≡◌, ℕ, sym, ap, subst, ◌∙◌}
+use Rattle.std.proofs.Common.{sym, ap, subst, ◌∙◌}
 use Rattle.disk.specs.Crash.{Image}
 use Rattle.txn_law.specs.Core.{CoreState}
 use Rattle.txn_law.specs.CoreLaw.{IsLawfulCore}
-use Rattle.txn_law.specs.CoreWindow.{IsHomeOf, KeepsHome}
+use Rattle.txn_law.specs.CoreWindow.{IsHomeOf, KeepsReads}
 use Rattle.std.proofs.Common.{if◌then◌else◌}
 use Rattle.wal_law.specs.Calls.{InstCallComesBack, home_after}
 use Rattle.wal_law.specs.Log.{Log, IsLawful}
 use Rattle.wal_law.specs.Installer.{is_inst_out}
 use Rattle.txn_law.specs.Core.{installed}
 use Rattle.txn_law.proofs.CoreLaws.{home_inst_done, lawful_inst_done}
+use Rattle.txn_law.proofs.HeldReads.{reads_installed}
 use Rattle.txn.proofs.transactions.Core.inst_done.Goals as goal
 
 pub invariant_of-self : goal.invariant_of-self
@@ -34,3 +35,9 @@ returns-clause-keeps g c =
     (λ (core : CoreState). IsHomeOf (if is_inst_out old.log c.args.io then home_after base old.log c.args.ok else base)
     core) (sym (c.inst_done.ensures.others ∙ ap (λ (log : Log). installed old log) c.inst_done.ensures.log))
     (home_inst_done base old (is_inst_out old.log c.args.io) c.args.ok c.self.invariant.log c.self.invariant.tidy h))
+
+pub returns-clause-stays : goal.returns-clause-stays
+returns-clause-stays g c = λ other.
+    subst (λ (old : CoreState). KeepsReads old c.inst_done.new.self other) c.self.view_is
+    (subst (λ (core : CoreState). KeepsReads c.self.inside.state core other) (sym c.inst_done.ensures.others)
+    (reads_installed c.self.inside.state c.inst_done.new.self.log other))

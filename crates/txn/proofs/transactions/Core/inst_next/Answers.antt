@@ -1,13 +1,12 @@
-use Rattle.std.proofs.Common.{◌≡◌, ℕ, sym, ap, subst, ◌∙◌}
-use Rattle.disk.specs.Crash.{Image}
+use Rattle.std.proofs.Common.{subst}
 use Rattle.txn_law.specs.Core.{CoreState}
-use Rattle.txn_law.specs.CoreLaw.{IsLawfulCore}
-use Rattle.txn_law.specs.CoreWindow.{IsHomeOf, KeepsHome}
+use Rattle.txn_law.specs.CoreWindow.{KeepsHome, KeepsReads}
 use Rattle.std.proofs.Common.{IfSome}
 use Rattle.wal_law.specs.Calls.{InstCallGoesOut}
 use Rattle.wal_law.specs.Installer.{with_inst_out}
 use Rattle.txn_law.proofs.CoreLaws.{home_inst_out, lawful_inst_out}
 use Rattle.txn.proofs.Answered.{next_home, next_law}
+use Rattle.txn.proofs.Answered.{next_reads}
 use Rattle.txn.proofs.transactions.Core.inst_next.Goals as goal
 
 pub invariant_of-self : goal.invariant_of-self
@@ -26,3 +25,9 @@ returns-clause-keeps g c =
     subst (λ (old : CoreState). KeepsHome old c.inst_next-io.new.self) c.self.view_is
     (next_home c.self.inside.state c.inst_next-io.new.self (with_inst_out c.self.inside.state.log) c.inst_next-io.result
     c.inst_next-io.ensures.some c.inst_next-io.ensures.none (home_inst_out c.self.inside.state c.self.invariant.log))
+
+pub returns-clause-stays : goal.returns-clause-stays
+returns-clause-stays g c = λ other.
+    subst (λ (old : CoreState). KeepsReads old c.inst_next-io.new.self other) c.self.view_is
+    (next_reads c.inst_next-io.result c.self.inside.state c.inst_next-io.new.self (with_inst_out c.self.inside.state.log)
+    c.inst_next-io.ensures.some c.inst_next-io.ensures.none other)

@@ -1,12 +1,12 @@
-use Rattle.std.proofs.Common.{◌≡◌, ℕ, sym, ap, subst, ◌∙◌}
-use Rattle.disk.specs.Crash.{Image}
+use Rattle.std.proofs.Common.{sym, ap, subst, ◌∙◌}
 use Rattle.txn_law.specs.Core.{CoreState}
 use Rattle.txn_law.specs.CoreLaw.{IsLawfulCore}
-use Rattle.txn_law.specs.CoreWindow.{IsHomeOf, KeepsHome}
+use Rattle.txn_law.specs.CoreWindow.{IsHomeOf, KeepsHome, KeepsReads}
 use Rattle.wal_law.specs.Calls.{LogCallComesBack}
 use Rattle.wal_law.specs.Log.{IsLawful}
 use Rattle.wal_law.specs.Logger.{is_log_out}
 use Rattle.txn_law.proofs.CoreLaws.{home_log_done, lawful_log_done}
+use Rattle.txn_law.proofs.HeldReads.{reads_log}
 use Rattle.txn.proofs.transactions.Core.log_done.Goals as goal
 
 pub invariant_of-self : goal.invariant_of-self
@@ -29,3 +29,9 @@ returns-clause-keeps g c =
     (λ base h. subst (λ (core : CoreState). IsHomeOf base core)
     (sym (c.log_done.ensures.others ∙ ap (λ log. record old { log = log }) c.log_done.ensures.log))
     (home_log_done old (is_log_out old.log c.args.io) c.args.ok c.self.invariant.log base h))
+
+pub returns-clause-stays : goal.returns-clause-stays
+returns-clause-stays g c = λ other.
+    subst (λ (old : CoreState). KeepsReads old c.log_done.new.self other) c.self.view_is
+    (subst (λ (core : CoreState). KeepsReads c.self.inside.state core other) (sym c.log_done.ensures.others)
+    (reads_log c.self.inside.state c.log_done.new.self.log other))

@@ -1,8 +1,6 @@
-use Rattle.std.proofs.Common.{◌≡◌, ℕ, sym, ap, subst, ◌∙◌}
-use Rattle.disk.specs.Crash.{Image}
+use Rattle.std.proofs.Common.{sym, subst}
 use Rattle.txn_law.specs.Core.{CoreState}
 use Rattle.txn_law.specs.CoreLaw.{IsLawfulCore}
-use Rattle.txn_law.specs.CoreWindow.{IsHomeOf, KeepsHome}
 use Rattle.txn_law.proofs.CoreLaws.{lawful_new}
 use Rattle.txn.proofs.transactions.Core.new.Goals as goal
 

@@ -1,9 +1,8 @@
-use Rattle.std.proofs.Common.{◌≡◌, ℕ, sym, ap, subst, ◌∙◌}
-use Rattle.disk.specs.Crash.{Image}
+use Rattle.std.proofs.Common.{subst}
 use Rattle.txn_law.specs.Core.{CoreState}
-use Rattle.txn_law.specs.CoreLaw.{IsLawfulCore}
-use Rattle.txn_law.specs.CoreWindow.{IsHomeOf, KeepsHome}
+use Rattle.txn_law.specs.CoreWindow.{KeepsHome, KeepsReads}
 use Rattle.txn.proofs.Answered.{wanted_home, wanted_law}
+use Rattle.txn.proofs.Answered.{wanted_reads}
 use Rattle.txn.proofs.transactions.Core.want.Goals as goal
 
 pub invariant_of-self : goal.invariant_of-self
@@ -15,3 +14,8 @@ pub returns-clause-keeps : goal.returns-clause-keeps
 returns-clause-keeps g c =
     subst (λ (old : CoreState). KeepsHome old c.want.new.self) c.self.view_is
     (wanted_home c.self.inside.state c.want.new.self c.args.tx c.args.addr c.want.result c.want.ensures.answer)
+
+pub returns-clause-stays : goal.returns-clause-stays
+returns-clause-stays g c = λ other.
+    subst (λ (old : CoreState). KeepsReads old c.want.new.self other) c.self.view_is
+    (wanted_reads c.self.inside.state c.want.new.self c.args.tx c.args.addr c.want.result c.want.ensures.answer other)
