@@ -15,8 +15,9 @@ use Rattle.store_promise.specs.Schedule.{Schedule, Opening, AreTaken, AreTimely,
 use Rattle.store_promise.specs.Transcript.{Transcript, entries_of, device_calls, commits_by, fails}
 use Rattle.store_promise.specs.Verdicts.{IsStableAnswer, IsCoveredWrite, AreAnswers}
 
--- What was promised to last by a clock, of a run whose events began at another, is among so many procedures: those that were answered as stable by then, the writes that an answer
--- to a COMMIT covers, and the places that the steps told as settled.
+-- What was promised to last by a clock, of a run whose events began at another, is among so many procedures:
+-- those that were answered as stable by then, the writes that an answer to a COMMIT covers, and the places that
+-- the steps told as settled.
 pub record HoldsPromised (events : Schedule) (start : ℕ) (t : Transcript) (clock count : ℕ) : Type 0 where
   pub stable : (a : Answer) (place : ℕ) → Contains t.answers a → start + a.clock ≤ clock
       → IsStableAnswer t a place → place ≤ count
