@@ -7,7 +7,7 @@ use nfs_types::{
 };
 use plain_server::PlainTree;
 use plain_wire::{read_call, read_reply};
-use session_wire::{MessageCredential, ReplyBody};
+use session_wire::{CallMessage, MessageCredential, ReplyBody};
 use std::alloc::{AllocError, Global};
 use std::test::Fail;
 use worked_messages::{MADE, NOW, content};
@@ -35,8 +35,13 @@ fn caller(alloc: Global, credential: MessageCredential) -> Credential {
 /// Who asks for what by this message.
 pub fn asked(alloc: Global, message: &[u32]) -> Result<(Credential, Call), Fail> {
     let read = read_call(alloc, &content(alloc, message)?)?.ok_or("a call")?;
-    match read.call {
-        ProgramCall::Nfs(call) => Ok((caller(alloc, read.credential), call)),
+    let CallMessage {
+        credential,
+        call,
+        ..
+    } = read;
+    match call {
+        ProgramCall::Nfs(call) => Ok((caller(alloc, credential), call)),
         ProgramCall::Mount(_) => Err(Fail::from("a call of MOUNT")),
     }
 }
