@@ -1,5 +1,5 @@
 -- Lemmas: whatever the core answers, it keeps what is true of every core, and what may be at home.
-use Rattle.std.proofs.Common.{◌≡◌, ℕ, ◌+◌, List, [], ◌∷◌, ◌++◌, All, length, refl, sym, ap, subst}
+use Rattle.std.proofs.Common.{◌≡◌, ℕ, ◌+◌, List, [], ◌∷◌, ◌++◌, All, length, refl, sym, ap, subst, ◌∙◌}
 use Rattle.std.proofs.Common.{Option, Some, None, Result, Ok, Err}
 use Rattle.std.specs.Prelude.{IsSome, IsNone, IfOk, OnErr}
 use Rattle.std.proofs.lemmas.List.Elements.{All-append, All-map}
@@ -9,11 +9,12 @@ use Rattle.disk.specs.declared.block.BlockNo.{BlockNo}
 use Rattle.objects.specs.declared.addr.Addr.{Addr}
 use Rattle.wal_law.specs.declared.change.LogChange.{LogChange}
 use Rattle.wal_law.specs.Grows.{IsWholeChange}
-use Rattle.wal_law.specs.Log.{Log, IsLawful, changes_of}
-use Rattle.txn_law.specs.Commit.{Planned}
-use Rattle.txn_law.specs.Core.{CoreState}
+use Rattle.wal_law.specs.Log.{Log, IsLawful, newest, changes_of}
+use Rattle.txn_law.specs.Commit.{Planned, with_record, refreshed_content}
+use Rattle.txn_law.specs.Core.{CoreState, without}
 use Rattle.txn_law.specs.CoreLaw.{IsLawfulCore}
 use Rattle.txn_law.specs.CoreWindow.{IsHomeOf, KeepsHome, KeepsReads, SetsOnly}
+use Rattle.txn_law.specs.Leaves.{Leaves, taken_by, is_fetching, in_memory, but_by}
 use Rattle.txn_law.specs.Object.{ObjectBytes}
 use Rattle.txn_law.specs.Tidy.{AreTidy}
 use Rattle.txn_law.specs.Wishes.{IsWhole}
@@ -21,7 +22,9 @@ use Rattle.txn_law.proofs.CoreLaws.{home_held, home_fetch, home_claim, lawful_he
 use Rattle.txn_law.proofs.CoreLaws.{lawful_commit, lawful_begun}
 use Rattle.txn_law.proofs.HeldReads.{reads_held, reads_fetch, reads_claim, reads_log}
 use Rattle.txn_law.proofs.Homes.{commit_home, commit_sets}
-use Rattle.txn.specs.Outcomes.{IsWanted, IsClaimed, IsCommit, IsSetBy}
+use Rattle.txn_law.proofs.Leaves.{leaves_held, leaves_fetch, leaves_claim, leaves_commit}
+use Rattle.txn.specs.Exactly.{IsWantedExactly, IsClaimedExactly, TakesPlaceExactly, IsCommitExactly}
+use Rattle.txn.specs.Outcomes.{IsWanted, IsClaimed, TakesPlace, IsCommit, IsSetBy}
 use Rattle.txn.specs.declared.outcomes.BeginFault.{BeginFault}
 use Rattle.txn.specs.declared.outcomes.Want.{Want}
 use Rattle.txn.specs.declared.outcomes.Want.TheVariants as want
@@ -34,7 +37,7 @@ same_home : (old new : CoreState) → new ≡ old → KeepsHome old new
 same_home old new e base h = subst (λ (core : CoreState). IsHomeOf base core) (sym e) h
 
 pub wanted_home : (old new : CoreState) (tx : ℕ) (addr : Addr) (answer : Want)
-    → IsWanted old tx addr answer new → KeepsHome old new
+    → IsWantedExactly old tx addr answer new → KeepsHome old new
 wanted_home old new tx addr (want.Held back bytes) h = home_held old new tx addr bytes.items h.2
 wanted_home old new tx addr (want.Fetch back io) h = home_fetch old new tx addr io h.2
 wanted_home old new tx addr (want.Busy back) h = same_home old new h.2
@@ -43,7 +46,7 @@ wanted_home old new tx addr (want.Outside back) h = same_home old new h.2
 wanted_home old new tx addr (want.NoMemory back) h = same_home old new h.2
 
 pub claimed_home : (old new : CoreState) (tx : ℕ) (addr : Addr) (answer : Claim)
-    → IsClaimed old tx addr answer new → KeepsHome old new
+    → IsClaimedExactly old tx addr answer new → KeepsHome old new
 claimed_home old new tx addr (claim.Held back) h base home =
     subst (λ (core : CoreState). IsHomeOf base core) (sym h.2) (home_claim old tx addr base home)
 claimed_home old new tx addr (claim.Busy back) h base home = same_home old new h.2 base home
@@ -68,7 +71,7 @@ module _ (P : ℕ → ℕ → List ObjectBytes → List ObjectBytes → Type 0) 
   same_law old new e h = subst (λ (core : CoreState). IsLawfulCore P core) (sym e) h
 
   pub wanted_law : (old new : CoreState) (tx : ℕ) (addr : Addr) (answer : Want)
-      → IsWanted old tx addr answer new → IsLawfulCore P old → IsLawfulCore P new
+      → IsWantedExactly old tx addr answer new → IsLawfulCore P old → IsLawfulCore P new
   wanted_law old new tx addr (want.Held back bytes) h = lawful_held P old new tx addr bytes.items h.1 h.2
   wanted_law old new tx addr (want.Fetch back io) h = lawful_fetch P old new tx addr io h.1 h.2
   wanted_law old new tx addr (want.Busy back) h = same_law old new h.2
@@ -77,7 +80,7 @@ module _ (P : ℕ → ℕ → List ObjectBytes → List ObjectBytes → Type 0) 
   wanted_law old new tx addr (want.NoMemory back) h = same_law old new h.2
 
   pub claimed_law : (old new : CoreState) (tx : ℕ) (block : BlockNo) (addr : Addr) (answer : Claim)
-      → IsWhole block addr → IsClaimed old tx addr answer new → IsLawfulCore P old → IsLawfulCore P new
+      → IsWhole block addr → IsClaimedExactly old tx addr answer new → IsLawfulCore P old → IsLawfulCore P new
   claimed_law old new tx block addr (claim.Held back) whole h core =
       subst (λ (now : CoreState). IsLawfulCore P now) (sym h.2) (lawful_claim P old tx block addr whole h.1 core)
   claimed_law old new tx block addr (claim.Busy back) whole h core = same_law old new h.2 core
@@ -86,7 +89,7 @@ module _ (P : ℕ → ℕ → List ObjectBytes → List ObjectBytes → Type 0) 
   claimed_law old new tx block addr (claim.NoMemory back) whole h core = same_law old new h.2 core
 
   pub commit_law : {C : Type 0} (old new : CoreState) (tx : ℕ) (plan : Planned) (change : C) (answer : Commit C)
-      → IsCommit old tx plan change answer new → IsLawful new.log → P plan.blocks plan.inodes plan.read plan.written
+      → IsCommitExactly old tx plan change answer new → IsLawful new.log → P plan.blocks plan.inodes plan.read plan.written
       → IsLawfulCore P old → IsLawfulCore P new
   commit_law old new tx plan change (commit.Committed place) h lawful is_plan core =
       subst (λ (now : CoreState). IsLawfulCore P now) (sym h.core)
@@ -101,7 +104,7 @@ module _ (P : ℕ → ℕ → List ObjectBytes → List ObjectBytes → Type 0) 
   commit_law old new tx plan change (commit.Spent back same) h lawful is_plan core = same_law old new h.0.core core
 
 pub commit_keeps : {C : Type 0} (old new : CoreState) (tx : ℕ) (plan : Planned) (change : C) (answer : Commit C)
-    → IsLawful old.log → AreTidy old → IsCommit old tx plan change answer new → KeepsHome old new
+    → IsLawful old.log → AreTidy old → IsCommitExactly old tx plan change answer new → KeepsHome old new
 commit_keeps old new tx plan change (commit.Committed place) lawful tidy h base home =
     subst (λ (now : CoreState). IsHomeOf base now) (sym h.core)
     (commit_home base old tx plan h.group.group new.log lawful tidy h.tried.own h.group.sizes h.group.blocks
@@ -145,7 +148,7 @@ begun_home old new (Ok tx) done none base h = subst (λ (core : CoreState). IsHo
 begun_home old new (Err fault) done none base h = subst (λ (core : CoreState). IsHomeOf base core) (sym none) h
 
 pub commit_set : {C : Type 0} (old new : CoreState) (tx : ℕ) (plan : Planned) (change : C) (answer : Commit C)
-    → IsLawful old.log → AreTidy old → IsCommit old tx plan change answer new → IsSetBy old plan answer new
+    → IsLawful old.log → AreTidy old → IsCommitExactly old tx plan change answer new → IsSetBy old plan answer new
 commit_set old new tx plan change (commit.Committed place) lawful tidy h =
     subst (λ (now : CoreState). SetsOnly old plan.written now) (sym h.core)
     (λ base home. commit_sets base old tx plan h.group.group new.log lawful tidy h.tried.own h.group.sizes
@@ -162,7 +165,7 @@ same_reads : (old new : CoreState) → new ≡ old → (other : ℕ) → KeepsRe
 same_reads old new e other = subst (λ (core : CoreState). KeepsReads old core other) (sym e) (λ object h. h)
 
 pub wanted_reads : (old new : CoreState) (tx : ℕ) (addr : Addr) (answer : Want)
-    → IsWanted old tx addr answer new → (other : ℕ) → KeepsReads old new other
+    → IsWantedExactly old tx addr answer new → (other : ℕ) → KeepsReads old new other
 wanted_reads old new tx addr (want.Held back bytes) h other = reads_held old new tx addr bytes.items other h.2
 wanted_reads old new tx addr (want.Fetch back io) h other = reads_fetch old new tx addr io other h.2
 wanted_reads old new tx addr (want.Busy back) h other = same_reads old new h.2 other
@@ -171,7 +174,7 @@ wanted_reads old new tx addr (want.Outside back) h other = same_reads old new h.
 wanted_reads old new tx addr (want.NoMemory back) h other = same_reads old new h.2 other
 
 pub claimed_reads : (old new : CoreState) (tx : ℕ) (addr : Addr) (answer : Claim)
-    → IsClaimed old tx addr answer new → (other : ℕ) → KeepsReads old new other
+    → IsClaimedExactly old tx addr answer new → (other : ℕ) → KeepsReads old new other
 claimed_reads old new tx addr (claim.Held back) h other =
     subst (λ (core : CoreState). KeepsReads old core other) (sym h.2) (reads_claim old tx addr other)
 claimed_reads old new tx addr (claim.Busy back) h other = same_reads old new h.2 other
@@ -195,3 +198,53 @@ begun_reads old new (Ok tx) done none other =
       current = record { content = h.current.content; there = h.current.there; same = h.current.same };
     })
 begun_reads old new (Err fault) done none other = same_reads old new none other
+
+-- What each answer leaves.
+
+pub wanted_leaves : (old new : CoreState) (tx : ℕ) (addr : Addr) (answer : Want)
+    → IsWantedExactly old tx addr answer new → IsWanted old tx addr answer new
+wanted_leaves old new tx addr (want.Held back bytes) h =
+    (h.0, h.1, leaves_held old new tx addr bytes.items h.1 h.2)
+wanted_leaves old new tx addr (want.Fetch back io) h = (h.0, h.1, leaves_fetch old new tx addr io h.2)
+wanted_leaves old new tx addr (want.Busy back) h = h
+wanted_leaves old new tx addr (want.Loading back) h = h
+wanted_leaves old new tx addr (want.Outside back) h = h
+wanted_leaves old new tx addr (want.NoMemory back) h = h
+
+pub claimed_leaves : (old new : CoreState) (tx : ℕ) (addr : Addr) (answer : Claim)
+    → IsClaimedExactly old tx addr answer new → IsClaimed old tx addr answer new
+claimed_leaves old new tx addr (claim.Held back) h = (h.0, h.1, leaves_claim old new tx addr h.1 h.2)
+claimed_leaves old new tx addr (claim.Busy back) h = h
+claimed_leaves old new tx addr (claim.Loading back) h = h
+claimed_leaves old new tx addr (claim.Outside back) h = h
+claimed_leaves old new tx addr (claim.NoMemory back) h = h
+
+place_leaves : (old new : CoreState) (tx : ℕ) (plan : Planned) (place : ℕ) → AreTidy old
+    → TakesPlaceExactly old tx plan place new → TakesPlace old tx plan place new
+place_leaves old new tx plan place tidy h = record {
+  tried = h.tried;
+  next = h.next;
+  group = h.group;
+  places = h.places;
+  blocks = h.blocks;
+  only = h.core ∙ ap (λ (core : CoreState). record old {
+    log = new.log;
+    out = without tx old.out;
+    holds = core.holds;
+    present = core.present;
+    records = with_record new.log new.log.places plan old.records;
+  }) (sym h.core);
+  leaves = subst (λ (core : CoreState). Leaves core (but_by tx (taken_by old)) (is_fetching old)
+      (λ block. refreshed_content (in_memory old block) (newest new.log block.0))) (sym h.core)
+      (leaves_commit old tx plan new.log tidy);
+  law = h.law;
+}
+
+pub commit_leaves : {C : Type 0} (old new : CoreState) (tx : ℕ) (plan : Planned) (change : C) (answer : Commit C)
+    → AreTidy old → IsCommitExactly old tx plan change answer new → IsCommit old tx plan change answer new
+commit_leaves old new tx plan change (commit.Committed place) tidy h = place_leaves old new tx plan place.0 tidy h
+commit_leaves old new tx plan change (commit.Full back same) tidy h = h
+commit_leaves old new tx plan change (commit.Foreign back same) tidy h = h
+commit_leaves old new tx plan change (commit.NoMemory back same) tidy h = h
+commit_leaves old new tx plan change (commit.Broken back same) tidy h = h
+commit_leaves old new tx plan change (commit.Spent back same) tidy h = h

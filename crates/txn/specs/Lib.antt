@@ -1,4 +1,5 @@
 pub mod Outcomes
+pub mod Exactly
 pub mod Source
 pub mod Out
 -- What the contracts here cite, for the crates above.
@@ -10,8 +11,10 @@ pub use Rattle.txn_law.specs.Records
 pub use Rattle.txn_law.specs.Window
 pub use Rattle.txn_law.specs.Core
 pub use Rattle.txn_law.specs.CoreWindow
+pub use Rattle.txn_law.specs.Leaves
 pub use Rattle.txn_law.specs.Fetch
 pub use Rattle.txn_law.specs.Wishes
+pub use Rattle.txn_law.specs.Lists
 pub use Rattle.txn_law.specs.Fetched
 pub use Rattle.txn_law.specs.Steps
 pub use Rattle.txn_law.specs.Commit

@@ -4,18 +4,20 @@ use Rattle.limits.specs.declared.TheConstants.{BLOCK_BYTES}
 use Rattle.disk.specs.Device.{Content}
 use Rattle.disk.specs.declared.block.BlockNo.{BlockNo}
 use Rattle.objects.specs.declared.addr.Addr.{Addr}
-use Rattle.wal_law.specs.Log.{blocks_of as group_blocks}
+use Rattle.wal_law.specs.Log.{newest, blocks_of as group_blocks}
 use Rattle.wal_law.specs.Room.{IsRoom, with_group}
 use Rattle.wal_law.specs.Calls.{KeepsAgreement}
 use Rattle.wal_law.specs.Effects.{HasAppended}
 use Rattle.wal_law.specs.Grows.{GrowsBy}
 use Rattle.wal_law.specs.declared.outcomes.Room.{Room}
 use Rattle.wal_law.specs.declared.outcomes.Room.TheVariants as room
-use Rattle.txn_law.specs.Commit.{Planned, IsOwn, committed}
-use Rattle.txn_law.specs.Core.{CoreState}
+use Rattle.txn_law.specs.Commit.{Planned, IsOwn, with_record, refreshed_content}
+use Rattle.txn_law.specs.Core.{CoreState, without}
 use Rattle.txn_law.specs.CoreWindow.{SetsOnly}
+use Rattle.txn_law.specs.Fetch.{Fetch}
 use Rattle.txn_law.specs.Group.{blocks_of, IsLaid}
-use Rattle.txn_law.specs.Wishes.{IsOpen, IsOutside, IsBusy, IsLoading, IsHeld, IsFetched, claimed}
+use Rattle.txn_law.specs.Leaves.{Leaves, taken_by, is_fetching, in_memory, but_by}
+use Rattle.txn_law.specs.Wishes.{IsOpen, IsOutside, IsBusy, IsLoading, IsHeld, IsFetched, IsTaken}
 use Rattle.txn.specs.declared.outcomes.Want.{Want}
 use Rattle.txn.specs.declared.outcomes.Want.TheVariants as want
 use Rattle.txn.specs.declared.outcomes.Claim.{Claim}
@@ -23,17 +25,20 @@ use Rattle.txn.specs.declared.outcomes.Claim.TheVariants as claim
 use Rattle.txn.specs.declared.outcomes.Commit.{Commit}
 use Rattle.txn.specs.declared.outcomes.Commit.TheVariants as commit
 
--- what came of a wish to read an object: the transaction comes back, and each refusal has its cause and
--- changes nothing
+-- What came of a wish to read an object, by what is left where it is held and where it is to be fetched: the
+-- transaction comes back, and each refusal has its cause and changes nothing.
+abbrev pub IsWantedWith : (List ℕ → Type 0) → (Fetch → Type 0) → CoreState → ℕ → Addr → Want → CoreState → Type 0
+IsWantedWith held fetch old tx addr (want.Held back bytes) new = (back ≡ tx) × IsOpen old tx addr
+    × held bytes.items
+IsWantedWith held fetch old tx addr (want.Busy back) new = (back ≡ tx) × IsBusy old tx addr × (new ≡ old)
+IsWantedWith held fetch old tx addr (want.Fetch back io) new = (back ≡ tx) × IsOpen old tx addr × fetch io
+IsWantedWith held fetch old tx addr (want.Loading back) new = (back ≡ tx) × IsLoading old tx addr × (new ≡ old)
+IsWantedWith held fetch old tx addr (want.Outside back) new = (back ≡ tx) × IsOutside old addr × (new ≡ old)
+IsWantedWith held fetch old tx addr (want.NoMemory back) new = (back ≡ tx) × IsOpen old tx addr × (new ≡ old)
+
 abbrev pub IsWanted : CoreState → ℕ → Addr → Want → CoreState → Type 0
-IsWanted old tx addr (want.Held back bytes) new = (back ≡ tx) × IsOpen old tx addr
-    × IsHeld old tx addr bytes.items new
-IsWanted old tx addr (want.Busy back) new = (back ≡ tx) × IsBusy old tx addr × (new ≡ old)
-IsWanted old tx addr (want.Fetch back io) new = (back ≡ tx) × IsOpen old tx addr
-    × IsFetched old tx addr io new
-IsWanted old tx addr (want.Loading back) new = (back ≡ tx) × IsLoading old tx addr × (new ≡ old)
-IsWanted old tx addr (want.Outside back) new = (back ≡ tx) × IsOutside old addr × (new ≡ old)
-IsWanted old tx addr (want.NoMemory back) new = (back ≡ tx) × IsOpen old tx addr × (new ≡ old)
+IsWanted old tx addr answer new =
+    IsWantedWith (λ bytes. IsHeld old tx addr bytes new) (λ io. IsFetched old tx addr io new) old tx addr answer new
 
 -- the bytes are as many as asked for, and what is to be fetched is a block of the image
 abbrev pub IsWithin : ℕ → ℕ → Want → Type 0
@@ -44,13 +49,17 @@ IsWithin blocks len (want.Loading back) = Unit {0}
 IsWithin blocks len (want.Outside back) = Unit {0}
 IsWithin blocks len (want.NoMemory back) = Unit {0}
 
--- what came of a wish to write a whole block: as of a wish to read it, but that nothing is fetched
+-- what came of a wish to write a whole block, by what is left where it is held: as of a wish to read it, but that
+-- nothing is fetched
+abbrev pub IsClaimedWith : Type 0 → CoreState → ℕ → Addr → Claim → CoreState → Type 0
+IsClaimedWith held old tx addr (claim.Held back) new = (back ≡ tx) × IsOpen old tx addr × held
+IsClaimedWith held old tx addr (claim.Busy back) new = (back ≡ tx) × IsBusy old tx addr × (new ≡ old)
+IsClaimedWith held old tx addr (claim.Loading back) new = (back ≡ tx) × IsLoading old tx addr × (new ≡ old)
+IsClaimedWith held old tx addr (claim.Outside back) new = (back ≡ tx) × IsOutside old addr × (new ≡ old)
+IsClaimedWith held old tx addr (claim.NoMemory back) new = (back ≡ tx) × IsOpen old tx addr × (new ≡ old)
+
 abbrev pub IsClaimed : CoreState → ℕ → Addr → Claim → CoreState → Type 0
-IsClaimed old tx addr (claim.Held back) new = (back ≡ tx) × IsOpen old tx addr × (new ≡ claimed old tx addr)
-IsClaimed old tx addr (claim.Busy back) new = (back ≡ tx) × IsBusy old tx addr × (new ≡ old)
-IsClaimed old tx addr (claim.Loading back) new = (back ≡ tx) × IsLoading old tx addr × (new ≡ old)
-IsClaimed old tx addr (claim.Outside back) new = (back ≡ tx) × IsOutside old addr × (new ≡ old)
-IsClaimed old tx addr (claim.NoMemory back) new = (back ≡ tx) × IsOpen old tx addr × (new ≡ old)
+IsClaimed old tx addr answer new = IsClaimedWith (IsTaken old tx addr new) old tx addr answer new
 
 -- a change that finds this room in a log that isn't broken
 pub record IsTried (core : CoreState) (tx : ℕ) (plan : Planned) (found : Room) : Type 0 where
@@ -70,14 +79,23 @@ pub record BringsGroup (old : CoreState) (plan : Planned) (new : CoreState) : Ty
   pub seen : HasAppended old.log group new.log
   pub grown : GrowsBy old.log group new.log
 
--- a commit took the next place, brought the log its group, was recorded, and ended its transaction
+-- A commit took the next place, brought the log its group, was recorded, and ended its transaction. What is in
+-- memory has what the log has.
 pub record TakesPlace (old : CoreState) (tx : ℕ) (plan : Planned) (place : ℕ) (new : CoreState) : Type 0 where
   pub tried : IsTried old tx plan room.Fits
   pub next : place ≡ old.log.places + 1
   pub group : BringsGroup old plan new
   pub places : new.log.places ≡ old.log.places + 1
   pub blocks : new.log.blocks ≡ old.log.blocks
-  pub core : new ≡ committed old tx plan new.log
+  pub only : new ≡ record old {
+    log = new.log;
+    out = without tx old.out;
+    holds = new.holds;
+    present = new.present;
+    records = with_record new.log new.log.places plan old.records;
+  }
+  pub leaves : Leaves new (but_by tx (taken_by old)) (is_fetching old)
+      (λ block. refreshed_content (in_memory old block) (newest new.log block.0))
   pub law : KeepsAgreement old.log new.log
 
 -- a commit was refused: nothing has changed, and the transaction and its change come back
@@ -87,19 +105,23 @@ pub record IsRefused {C : Type 0} (old : CoreState) (tx : ℕ) (change : C) (bac
   pub transaction : back ≡ tx
   pub change_back : same ≡ change
 
--- what came of a commit
-abbrev pub IsCommit : {C : Type 0} → CoreState → ℕ → Planned → C → Commit C → CoreState → Type 0
-IsCommit old tx plan change (commit.Committed place) new = TakesPlace old tx plan place.0 new
-IsCommit old tx plan change (commit.Full back same) new = IsRefused old tx change back same new
+-- what came of a commit, by what is left where it took a place
+abbrev pub IsCommitWith : {C : Type 0} → (ℕ → Type 0) → CoreState → ℕ → Planned → C → Commit C → CoreState → Type 0
+IsCommitWith taken old tx plan change (commit.Committed place) new = taken place.0
+IsCommitWith taken old tx plan change (commit.Full back same) new = IsRefused old tx change back same new
     × IsTried old tx plan room.Full
-IsCommit old tx plan change (commit.Foreign back same) new = IsRefused old tx change back same new
+IsCommitWith taken old tx plan change (commit.Foreign back same) new = IsRefused old tx change back same new
     × (old.log.broken ≡ false) × (IsOwn old tx plan → ⊥)
-IsCommit old tx plan change (commit.NoMemory back same) new = IsRefused old tx change back same new
+IsCommitWith taken old tx plan change (commit.NoMemory back same) new = IsRefused old tx change back same new
     × IsTried old tx plan room.Fits
-IsCommit old tx plan change (commit.Broken back same) new = IsRefused old tx change back same new
+IsCommitWith taken old tx plan change (commit.Broken back same) new = IsRefused old tx change back same new
     × (old.log.broken ≡ true)
-IsCommit old tx plan change (commit.Spent back same) new = IsRefused old tx change back same new
+IsCommitWith taken old tx plan change (commit.Spent back same) new = IsRefused old tx change back same new
     × IsTried old tx plan room.Spent
+
+abbrev pub IsCommit : {C : Type 0} → CoreState → ℕ → Planned → C → Commit C → CoreState → Type 0
+IsCommit old tx plan change answer new =
+    IsCommitWith (λ place. TakesPlace old tx plan place new) old tx plan change answer new
 
 -- what is current after a commit is what was, with what it writes laid over it
 abbrev pub IsSetBy : {C : Type 0} → CoreState → Planned → Commit C → CoreState → Type 0

@@ -2,7 +2,7 @@
 ghost use Rattle.std.specs.Prelude.{◌≡◌, ◌≤◌, ◌<◌, ◌↔◌, length, All, IsTrue, true};
 ghost use Rattle.wal_law.specs.Log.{IsHomeOn};
 ghost use Rattle.limits.specs.declared.TheConstants.{CHANGED_BLOCKS};
-ghost use Rattle.txn.specs.Outcomes.{IsCommit};
+ghost use Rattle.txn.specs.Exactly.{IsCommitExactly};
 ghost use Rattle.txn_law.specs.Commit.{IsOwn, IsReadBy, IsWrittenBy, HasBytes};
 ghost use Rattle.txn_law.specs.Group.{blocks_of};
 
@@ -25,7 +25,7 @@ impl<C: Change> State<C> {
     /// change nothing.
     pub(crate) fn commit(&mut self, alloc: Global, tx: Tx, change: C) -> Commit<C>
         requires { length (blocks_of (C.objects_written change)) ≤ CHANGED_BLOCKS }
-        ensures { IsCommit self.old tx (record {
+        ensures { IsCommitExactly self.old tx (record {
           read = C.objects_read change;
           written = C.objects_written change;
           blocks = C.planned_blocks change;

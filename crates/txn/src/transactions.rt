@@ -3,18 +3,18 @@ ghost use Rattle.std.specs.Prelude.{◌≡◌, ◌≤◌, ◌+◌, ◌^◌, ◌�
 ghost use Rattle.std.specs.Prelude.{ℕ, IfOk, ◌∷◌, true, false, is_some, if◌then◌else◌, [], length};
 ghost use Rattle.limits.specs.declared.TheConstants.{CHANGED_BLOCKS};
 ghost use Rattle.objects.specs.declared.addr.Addr.{Addr};
-ghost use Rattle.wal_law.specs.Log.{settled_place, tail_count};
+ghost use Rattle.wal_law.specs.Log.{settled_place, installed_place, tail_count};
 ghost use Rattle.wal_law.specs.Calls.{LogCallGoesOut, LogCallComesBack, InstCallGoesOut, InstCallComesBack};
 ghost use Rattle.wal_law.specs.Calls.{home_after};
 ghost use Rattle.disk.specs.Crash.{Image};
 ghost use Rattle.wal_law.specs.Io.{IsCallWithin};
 ghost use Rattle.wal_law.specs.Logger.{may_log, with_log_out, is_log_out, with_log_back};
 ghost use Rattle.wal_law.specs.Installer.{may_install, with_inst_out, is_inst_out, with_inst_back};
-ghost use Rattle.txn_law.specs.Core.{ended, installed};
+ghost use Rattle.txn_law.specs.Core.{without, past};
 ghost use Rattle.txn_law.specs.CoreLaw.{IsFresh, IsLawfulCore};
 ghost use Rattle.txn_law.specs.CoreWindow.{IsHomeOf, KeepsHome, KeepsReads, IsPending};
-ghost use Rattle.txn_law.specs.Fetched.{fetched, fetch_failed};
 ghost use Rattle.txn_law.specs.Group.{blocks_of};
+ghost use Rattle.txn_law.specs.Leaves.{Leaves, taken_by, is_fetching, in_memory, but_by, without_fetch, with_content};
 ghost use Rattle.txn_law.specs.Wishes.{IsWhole};
 ghost use Rattle.txn.specs.Outcomes.{IsWanted, IsWithin, IsClaimed, IsCommit, IsSetBy};
 
@@ -120,7 +120,10 @@ impl<C: Change> Core<C> {
 
     /// Gives a fetch back with what was read. The block stays in memory while anyone has taken a part of it.
     pub fn fetched(&mut self, io: FetchIo)
-        ensures core { self.new ≡ fetched self.old io.block io.content }
+        ensures only { self.new ≡ record self.old { present = self.new.present } }
+        ensures leaves { Leaves self.new (taken_by self.old) (without_fetch io.block (is_fetching self.old))
+            (if is_fetching self.old io.block then with_content io.block io.content (in_memory self.old)
+            else in_memory self.old) }
         ensures stays { (other : ℕ) → KeepsReads self.old self.new other }
         ensures keeps { (base : Image) → (IsPending self.old io.block → io.content ≡ base io.block.0)
             → IsHomeOf base self.old → IsHomeOf base self.new }
@@ -131,7 +134,9 @@ impl<C: Change> Core<C> {
 
     /// Gives a fetch back that failed. The next want of the block asks for it again.
     pub fn fetch_failed(&mut self, io: FetchIo)
-        ensures core { self.new ≡ fetch_failed self.old io.block }
+        ensures only { self.new ≡ record self.old { present = self.new.present } }
+        ensures leaves { Leaves self.new (taken_by self.old) (without_fetch io.block (is_fetching self.old))
+            (in_memory self.old) }
         ensures stays { (other : ℕ) → KeepsReads self.old self.new other }
         ensures keeps { KeepsHome self.old self.new }
     {
@@ -167,7 +172,13 @@ impl<C: Change> Core<C> {
 
     /// Ends a transaction without a change, and lets go of what it has taken.
     pub fn abort(&mut self, tx: Tx)
-        ensures core { self.new ≡ ended self.old tx }
+        ensures only { self.new ≡ record self.old {
+          out = without tx self.old.out;
+          holds = self.new.holds;
+          present = self.new.present;
+        } }
+        ensures leaves { Leaves self.new (but_by tx (taken_by self.old)) (is_fetching self.old)
+            (in_memory self.old) }
         ensures stays { (other : ℕ) → (other ≡ tx → ⊥) → KeepsReads self.old self.new other }
         ensures keeps { KeepsHome self.old self.new }
     {
@@ -261,7 +272,12 @@ impl<C: Change> Core<C> {
         ensures log { self.new.log ≡ (if is_inst_out self.old.log io then with_inst_back self.old.log ok
             else self.old.log) }
         ensures blocks { self.new.log.blocks ≡ self.old.log.blocks }
-        ensures others { self.new ≡ installed self.old self.new.log }
+        ensures only { self.new ≡ record self.old {
+          log = self.new.log;
+          records = past (installed_place self.new.log) self.old.records;
+          present = self.new.present;
+        } }
+        ensures leaves { Leaves self.new (taken_by self.old) (is_fetching self.old) (in_memory self.old) }
         ensures law { InstCallComesBack self.old.log io ok self.new.log }
         ensures stays { (other : ℕ) → KeepsReads self.old self.new other }
         ensures keeps { (base : Image) → IsHomeOf base self.old

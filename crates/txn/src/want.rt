@@ -1,7 +1,8 @@
 //! Reading and claiming what a transaction works on.
 ghost use Rattle.std.specs.Prelude.{◌≡◌, IfOk, OnErr, true, false, length};
 ghost use Rattle.objects.specs.declared.addr.Addr.{Addr};
-ghost use Rattle.txn.specs.Outcomes.{IsWanted, IsWithin, IsClaimed};
+ghost use Rattle.txn.specs.Outcomes.{IsWithin};
+ghost use Rattle.txn.specs.Exactly.{IsWantedExactly, IsClaimedExactly};
 ghost use Rattle.txn_law.specs.Present.{present_of, is_pending};
 ghost use Rattle.txn_law.specs.Window.{part};
 ghost use Rattle.txn_law.specs.Wishes.{IsWhole};
@@ -30,7 +31,7 @@ impl<C: Change> State<C> {
     /// pending, and nothing is taken. Fetch: the block has to be read from home; the object is taken, and the
     /// same want after `fetched` answers Held or NoMemory. NoMemory: nothing has changed.
     pub(crate) fn want(&mut self, alloc: Global, tx: Tx, addr: Addr) -> Want
-        ensures answer { IsWanted self.old tx addr result self.new }
+        ensures answer { IsWantedExactly self.old tx addr result self.new }
         ensures within { IsWithin self.old.log.blocks addr.len result }
     {
         if !self.is_inside(addr.block) {
@@ -51,14 +52,14 @@ impl<C: Change> State<C> {
 
     /// Takes a whole block for writing, whose bytes don't matter. It answers as `want` does, and never Fetch.
     pub(crate) fn claim(&mut self, tx: Tx, block: BlockNo) -> Claim
-        ensures { (addr : Addr) × IsWhole block addr × IsClaimed self.old tx addr result self.new }
+        ensures { (addr : Addr) × IsWhole block addr × IsClaimedExactly self.old tx addr result self.new }
     {
         self.claim_at(tx, Addr::whole(block))
     }
 
     // Takes an object for writing.
     fn claim_at(&mut self, tx: Tx, addr: Addr) -> Claim
-        ensures { IsClaimed self.old tx addr result self.new }
+        ensures { IsClaimedExactly self.old tx addr result self.new }
     {
         if !self.is_inside(addr.block) {
             return Claim::Outside(tx);

@@ -26,7 +26,8 @@ use Rattle.txn_law.specs.Object.{ObjectBytes}
 use Rattle.wal_law.specs.Grows.{IsWholeChange}
 use Rattle.txn_law.specs.Tidy.{AreTidy}
 use Rattle.txn_law.specs.Window.{Footprint, IsWindowOver}
-use Rattle.txn_law.specs.Wishes.{IsOpen, IsHeld, IsFetched, claimed, IsWhole}
+use Rattle.txn_law.specs.Lists.{IsHeldExactly, IsFetchedExactly, claimed}
+use Rattle.txn_law.specs.Wishes.{IsOpen, IsWhole}
 use Rattle.txn_law.proofs.Commits.{past-drop}
 use Rattle.txn_law.proofs.Fetches.{core_fetch_failed}
 use Rattle.txn_law.proofs.Fresh.{fresh_window}
@@ -41,14 +42,14 @@ use Rattle.txn_law.proofs.Wishes.{core_held, core_fetch, core_claim, core_end}
 
 -- Steps that keep the window of the core, over the same blocks at home.
 
-pub home_held : (old new : CoreState) (tx : ℕ) (addr : Addr) (bytes : List ℕ) → IsHeld old tx addr bytes new
+pub home_held : (old new : CoreState) (tx : ℕ) (addr : Addr) (bytes : List ℕ) → IsHeldExactly old tx addr bytes new
     → KeepsHome old new
 home_held old new tx addr bytes held base h = record {
   whole = subst (λ (core : CoreState). AreBlocks core.log.blocks base) (sym held.core) h.whole;
   window = core_held base old new tx addr bytes held h.window;
 }
 
-pub home_fetch : (old new : CoreState) (tx : ℕ) (addr : Addr) (io : Fetch) → IsFetched old tx addr io new
+pub home_fetch : (old new : CoreState) (tx : ℕ) (addr : Addr) (io : Fetch) → IsFetchedExactly old tx addr io new
     → KeepsHome old new
 home_fetch old new tx addr io fetch base h = record {
   whole = subst (λ (core : CoreState). AreBlocks core.log.blocks base) (sym fetch.core) h.whole;
@@ -236,7 +237,7 @@ module _ (P : ℕ → ℕ → List ObjectBytes → List ObjectBytes → Type 0) 
   }
 
   pub lawful_held : (old new : CoreState) (tx : ℕ) (addr : Addr) (bytes : List ℕ) → IsOpen old tx addr
-      → IsHeld old tx addr bytes new → IsLawfulCore P old → IsLawfulCore P new
+      → IsHeldExactly old tx addr bytes new → IsLawfulCore P old → IsLawfulCore P new
   lawful_held old new tx addr bytes open' held h = record {
     log = subst (λ (core : CoreState). IsLawful core.log) (sym held.core) h.log;
     tidy = tidy_held old new tx addr bytes open' held h.tidy;
@@ -246,7 +247,7 @@ module _ (P : ℕ → ℕ → List ObjectBytes → List ObjectBytes → Type 0) 
   }
 
   pub lawful_fetch : (old new : CoreState) (tx : ℕ) (addr : Addr) (io : Fetch) → IsOpen old tx addr
-      → IsFetched old tx addr io new → IsLawfulCore P old → IsLawfulCore P new
+      → IsFetchedExactly old tx addr io new → IsLawfulCore P old → IsLawfulCore P new
   lawful_fetch old new tx addr io open' fetch h = record {
     log = subst (λ (core : CoreState). IsLawful core.log) (sym fetch.core) h.log;
     tidy = tidy_fetch old new tx addr io open' fetch h.tidy;

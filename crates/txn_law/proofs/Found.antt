@@ -62,6 +62,22 @@ module _ {X : Type 0} (p : X → Bool) where
       go rest true e = absurd (cc)
       go rest false e = rest e
 
+  pub find_push_other : (xs : List X) (y : X) → p y ≡ false → find p (xs ++ y ∷ []) ≡ find p xs
+  find_push_other [] y e = ap (λ b. cond b (Some y) None) e
+  find_push_other (z ∷ zs) y e = ap (λ o. cond (p z) (Some z) o) (find_push_other zs y e)
+
+  -- none is found where none that passes is kept
+  pub find_none_kept : (q : X → Bool) (xs : List X) → ((x : X) → p x ≡ true → q x ≡ false)
+      → find p (filter q xs) ≡ None
+  find_none_kept q [] away = refl
+  find_none_kept q (y ∷ ys) away = go (find_none_kept q ys away) (q y) refl (p y) refl
+    where
+      go : find p (filter q ys) ≡ None → (u : Bool) → q y ≡ u → (t : Bool) → p y ≡ t
+          → find p (cond u (y ∷ filter q ys) (filter q ys)) ≡ None
+      go rest false kept t is = rest
+      go rest true kept true is = absurd (let no : q y ≡ false = away y is in cc)
+      go rest true kept false is = ap (λ b. cond b (Some y) (find p (filter q ys))) is ∙ rest
+
   -- where none is found, none passes
   pub find_fails : (xs : List X) → find p xs ≡ None → All (λ x. p x ≡ false) xs
   find_fails [] e = All-nil (λ x. p x ≡ false)

@@ -23,12 +23,14 @@ use Rattle.txn_law.specs.Tidy.{AreBeside, AreApart, IsReadHere, IsClaimedWhole, 
 use Rattle.wal_law.specs.Grows.{IsWholeChange}
 use Rattle.txn_law.specs.Tidy.{AreTidy}
 use Rattle.txn_law.specs.Window.{Footprint}
-use Rattle.txn_law.specs.Wishes.{IsOpen, with_block, IsHeld, IsFetched, claimed, IsWhole}
+use Rattle.txn_law.specs.Lists.{with_block, IsHeldExactly, IsFetchedExactly, claimed}
+use Rattle.txn_law.specs.Wishes.{IsOpen, IsWhole}
 use Rattle.txn_law.specs.declared.hold.Hold.{Hold}
 use Rattle.txn_law.specs.declared.present.Present.{Present}
 use Rattle.txn_law.proofs.Claims.{found_by, all_four}
 use Rattle.txn_law.proofs.Entries.{is_of, same_block, once_filter, once_push, filled_content, once_filled, each_filled}
 use Rattle.txn_law.proofs.Found.{find_kept, find_push_some, find_push_none}
+use Rattle.txn_law.proofs.Memory.{swept_stays}
 use Rattle.txn_law.proofs.Swept.{or-true, in_cons}
 
 -- what is kept passes the test
@@ -217,7 +219,7 @@ there_now present block content not_pending = go (present_of present block) refl
     )
 
 pub tidy_held : (old new : CoreState) (tx : ℕ) (addr : Addr) (bytes : List ℕ) → IsOpen old tx addr
-    → IsHeld old tx addr bytes new → AreTidy old → AreTidy new
+    → IsHeldExactly old tx addr bytes new → AreTidy old → AreTidy new
 tidy_held old new tx addr bytes open' held tidy =
     let hold : Hold = record { transaction = tx; addr = addr; is_read = true; is_claimed = false } in
     subst AreTidy (sym held.core) (record {
@@ -233,7 +235,7 @@ tidy_held old new tx addr bytes open' held tidy =
     })
 
 pub tidy_fetch : (old new : CoreState) (tx : ℕ) (addr : Addr) (io : Fetch) → IsOpen old tx addr
-    → IsFetched old tx addr io new → AreTidy old → AreTidy new
+    → IsFetchedExactly old tx addr io new → AreTidy old → AreTidy new
 tidy_fetch old new tx addr io open' fetch tidy =
     let hold : Hold = record { transaction = tx; addr = addr; is_read = false; is_claimed = false } in
     subst AreTidy (sym fetch.core) (record {
@@ -272,22 +274,11 @@ taken_one (x ∷ xs) hold h = go (taken_one xs hold) (in_cons x hold xs h)
         ∙ or-true (nat_eq x.addr.block.0 hold.addr.block.0)
 
 -- a block that is taken stays in memory
-pub swept_stays : (holds : List Hold) (records : List Footprint) (present : List Present) (block : BlockNo)
+pub taken_stays : (holds : List Hold) (records : List Footprint) (present : List Present) (block : BlockNo)
     (c : Content) → is_taken holds block ≡ true → content_in (present_of present block) ≡ Some c
     → content_in (present_of (swept holds records present) block) ≡ Some c
-swept_stays holds records present block c is e = go (present_of present block) refl e
-  where
-    go : (o : Option Present) → present_of present block ≡ o → content_in o ≡ Some c
-        → content_in (present_of (swept holds records present) block) ≡ Some c
-    go None there e = absurd (cc)
-    go (Some x) there e =
-        let (same, has) = found_by (is_of block) present x there in
-        let at : x.block ≡ block = same_block x.block block (eqb-true x.block.0 block.0 same) in
-        let kept : (is_none x.content || is_taken holds x.block || is_kept records x.block) ≡ true =
-        ap (λ b. is_none x.content || b || is_kept records x.block) (ap (is_taken holds) at ∙ is)
-        ∙ ap (λ b. b || is_kept records x.block) (or-true (is_none x.content)) in
-        ap content_in (find_kept (is_of block) (λ (entry : Present). is_none entry.content
-        || is_taken holds entry.block || is_kept records entry.block) present x there kept) ∙ e
+taken_stays holds records present block c is e =
+    swept_stays holds records present block c e (ap (λ b. b || is_kept records block) is)
 
 pub read_swept : (holds : List Hold) (records : List Footprint) (old new : List Present)
     → ((block : BlockNo) (content : Content) → content_in (present_of old block) ≡ Some content
@@ -297,7 +288,7 @@ read_swept holds records old new stays each =
     All-weaker (λ x. IsReadHere old x × Contains holds x) (IsReadHere (swept holds records new))
     (λ x h is. let (content, there) = h.0 is in (
       content,
-      swept_stays holds records new x.addr.block content (taken_one holds x h.1)
+      taken_stays holds records new x.addr.block content (taken_one holds x h.1)
           (stays x.addr.block content there),
     )) holds
     (λ k d lt. (each k d lt, All-contains_itself holds k d lt))

@@ -10,7 +10,8 @@ use Rattle.disk.specs.declared.block.BlockNo.{BlockNo}
 use Rattle.objects.specs.declared.addr.Addr.{Addr}
 use Rattle.wal_law.specs.Log.{newest, or_else}
 use Rattle.wal_law.specs.Overlay.{content_or}
-use Rattle.txn_law.specs.Wishes.{current, with_block, IsHeld, IsFetched, claimed}
+use Rattle.txn_law.specs.Lists.{with_block, IsHeldExactly, IsFetchedExactly, claimed}
+use Rattle.txn_law.specs.Wishes.{current}
 use Rattle.txn_law.specs.Core.{CoreState, ended}
 use Rattle.txn_law.specs.Fetch.{Fetch}
 use Rattle.txn_law.specs.Holds.{released}
@@ -87,7 +88,7 @@ current_is_now base core block content h e = go (content_in (present_of core.pre
         ∙ tail_is_now base core.log core.records (held_of core.present) block.0 h
 
 pub core_held : (base : Image) (old new : CoreState) (tx : ℕ) (addr : Addr) (bytes : List ℕ)
-    → IsHeld old tx addr bytes new → IsCoreWindow base old → IsCoreWindow base new
+    → IsHeldExactly old tx addr bytes new → IsCoreWindow base old → IsCoreWindow base new
 core_held base old new tx addr bytes held h =
     subst (λ (core : CoreState). IsCoreWindow base core) (sym held.core)
     (with_more base old addr.block (Some held.content)
@@ -96,7 +97,7 @@ core_held base old new tx addr bytes held h =
     (All-nil (IsCurrent (now_of base old.log old.records)))) h)
 
 pub core_fetch : (base : Image) (old new : CoreState) (tx : ℕ) (addr : Addr) (io : Fetch)
-    → IsFetched old tx addr io new → IsCoreWindow base old → IsCoreWindow base new
+    → IsFetchedExactly old tx addr io new → IsCoreWindow base old → IsCoreWindow base new
 core_fetch base old new tx addr io fetch h =
     subst (λ (core : CoreState). IsCoreWindow base core) (sym fetch.core)
     (with_more base old addr.block None (All-nil (IsCurrent (now_of base old.log old.records))) h)

@@ -6,8 +6,10 @@ pub mod Records
 pub mod Window
 pub mod Core
 pub mod CoreWindow
+pub mod Leaves
 pub mod Fetch
 pub mod Wishes
+pub mod Lists
 pub mod Fetched
 pub mod Steps
 pub mod Commit

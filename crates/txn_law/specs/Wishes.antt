@@ -1,17 +1,18 @@
--- What the core answers to a wish, and what it does then.
-use Rattle.std.specs.Prelude.{◌≡◌, ℕ, Bool, true, false, if◌then◌else◌, Option, Some, None, is_some, List, []}
-use Rattle.std.specs.Prelude.{◌∷◌, ◌++◌}
+-- What the core answers to a wish, and what it leaves then.
+use Rattle.std.specs.Prelude.{◌≡◌, ℕ, true, false, Option, Some, None}
+use Rattle.std.specs.Prelude.{List}
 use Rattle.limits.specs.declared.TheConstants.{BLOCK_BYTES}
 use Rattle.disk.specs.Device.{Content}
 use Rattle.disk.specs.declared.block.BlockNo.{BlockNo}
 use Rattle.objects.specs.declared.addr.Addr.{Addr}
 use Rattle.wal_law.specs.Log.{IsHomeOn, newest, or_else}
+use Rattle.txn_law.specs.Commit.{IsReadBy, IsWrittenBy}
 use Rattle.txn_law.specs.Core.{CoreState}
 use Rattle.txn_law.specs.Fetch.{Fetch}
-use Rattle.txn_law.specs.Holds.{IsFree, exclusive, with_hold}
+use Rattle.txn_law.specs.Holds.{IsFree, exclusive}
+use Rattle.txn_law.specs.Leaves.{Leaves, taken_by, is_fetching, in_memory, with_taken, with_fetch, with_content}
 use Rattle.txn_law.specs.Present.{present_of, content_in, is_pending}
 use Rattle.txn_law.specs.Window.{part}
-use Rattle.txn_law.specs.declared.present.Present.{Present}
 
 -- the block is one that a change may write, nobody else has taken a byte of the address, and no fetch of the
 -- block is pending
@@ -35,50 +36,39 @@ IsLoading core tx addr = IsHomeOn core.log.blocks addr.block × IsFree core.hold
 abbrev pub current : CoreState → BlockNo → Option Content
 current core block = or_else (content_in (present_of core.present block)) (newest core.log block.0)
 
--- the blocks in memory once a block is there too
-abbrev pub with_block : List Present → BlockNo → Option Content → List Present
-with_block present block content = if is_some (present_of present block) then present else present
-    ++ record { block = block; content = content } ∷ []
+-- a wish that is met changes nothing but what is taken and what is in memory
+abbrev pub TakesOnly : CoreState → CoreState → Type 0
+TakesOnly old new = new ≡ record old { holds = new.holds; present = new.present }
 
--- the core once the transaction has taken the address, for reading or to be fetched, and its block is in
--- memory or is being fetched
-abbrev pub taken : CoreState → ℕ → Addr → Bool → Option Content → CoreState
-taken core tx addr is_read content = record core {
-  holds = with_hold core.holds (record {
-    transaction = tx;
-    addr = addr;
-    is_read = is_read;
-    is_claimed = false;
-  });
-  present = with_block core.present addr.block content;
-}
-
--- an object is held: its bytes are the current ones
+-- An object is held: its bytes are the current ones.
 pub record IsHeld (old : CoreState) (tx : ℕ) (addr : Addr) (bytes : List ℕ) (new : CoreState) : Type 0 where
   pub content : Content
   pub current : current old addr.block ≡ Some content
   pub bytes_there : bytes ≡ part content addr
-  pub core : new ≡ taken old tx addr true (Some content)
+  pub only : TakesOnly old new
+  pub leaves : Leaves new
+      (with_taken (record { transaction = tx; addr = addr; is_read = true; is_claimed = false }) (taken_by old))
+      (is_fetching old) (with_content addr.block content (in_memory old))
+  pub read : IsReadBy new tx (record { addr = addr; bytes = bytes })
 
--- a block is to be fetched: it is nowhere in memory
+-- A block is to be fetched: it is nowhere in memory. It is taken, but neither for reading nor for writing.
 pub record IsFetched (old : CoreState) (tx : ℕ) (addr : Addr) (io : Fetch) (new : CoreState) : Type 0 where
   pub block : io.block ≡ addr.block
-  pub absent : present_of old.present addr.block ≡ None
+  pub absent : in_memory old addr.block ≡ None
   pub unlogged : newest old.log addr.block.0 ≡ None
-  pub core : new ≡ taken old tx addr false None
+  pub only : TakesOnly old new
+  pub leaves : Leaves new
+      (with_taken (record { transaction = tx; addr = addr; is_read = false; is_claimed = false }) (taken_by old))
+      (with_fetch addr.block (is_fetching old)) (in_memory old)
+
+-- A block is taken for writing.
+pub record IsTaken (old : CoreState) (tx : ℕ) (addr : Addr) (new : CoreState) : Type 0 where
+  pub only : TakesOnly old new
+  pub leaves : Leaves new
+      (with_taken (record { transaction = tx; addr = addr; is_read = false; is_claimed = true }) (taken_by old))
+      (is_fetching old) (in_memory old)
+  pub written : IsWrittenBy new tx addr
 
 -- the address of a whole block
 abbrev pub IsWhole : BlockNo → Addr → Type 0
 IsWhole block addr = (addr.block ≡ block) × (addr.offset ≡ 0) × (addr.len ≡ BLOCK_BYTES)
-
--- the core once the transaction has claimed the whole block
-abbrev pub claimed : CoreState → ℕ → Addr → CoreState
-claimed core tx addr =
-    record core {
-      holds = with_hold core.holds (record {
-        transaction = tx;
-        addr = addr;
-        is_read = false;
-        is_claimed = true;
-      });
-    }

@@ -22,7 +22,7 @@ ghost use Rattle.wal_law.specs.Grows.{GrowsBy};
 ghost use Rattle.txn_law.specs.Core.{CoreState, past, installed, ended};
 ghost use Rattle.txn_law.specs.Records.{swept};
 ghost use Rattle.txn_law.specs.declared.hold.Hold.{Hold};
-ghost use Rattle.txn_law.specs.Wishes.{IsHeld, IsFetched, claimed};
+ghost use Rattle.txn_law.specs.Lists.{IsHeldExactly, IsFetchedExactly, claimed};
 ghost use Rattle.txn_law.specs.Fetch.{Fetch};
 ghost use Rattle.objects.specs.declared.addr.Addr.{Addr};
 ghost use Rattle.txn_law.specs.CoreWindow.{IsCoreWindow, held_of};
@@ -167,9 +167,9 @@ pub fn what_is_not_in_memory_is_written_whole()
 /// What a transaction takes, and its end, keep the window of the core.
 pub fn a_transaction_keeps_the_window_of_the_core()
     ensures held { (base : Image) (old new : CoreState) (tx : ℕ) (addr : Addr) (bytes : List ℕ)
-        → IsHeld old tx addr bytes new → IsCoreWindow base old → IsCoreWindow base new }
+        → IsHeldExactly old tx addr bytes new → IsCoreWindow base old → IsCoreWindow base new }
     ensures fetch { (base : Image) (old new : CoreState) (tx : ℕ) (addr : Addr) (io : Fetch)
-        → IsFetched old tx addr io new → IsCoreWindow base old → IsCoreWindow base new }
+        → IsFetchedExactly old tx addr io new → IsCoreWindow base old → IsCoreWindow base new }
     ensures claim { (base : Image) (old : CoreState) (tx : ℕ) (addr : Addr) → IsCoreWindow base old
         → IsCoreWindow base (claimed old tx addr) }
     ensures end { (base : Image) (old : CoreState) (tx : ℕ) → IsCoreWindow base old

@@ -4,6 +4,8 @@ use Rattle.txn_law.specs.CoreLaw.{IsLawfulCore}
 use Rattle.txn_law.specs.CoreWindow.{IsHomeOf, KeepsHome, KeepsReads}
 use Rattle.txn_law.proofs.CoreLaws.{home_end, lawful_end}
 use Rattle.txn_law.proofs.HeldReads.{reads_end}
+use Rattle.txn_law.specs.Leaves.{Leaves, taken_by, is_fetching, in_memory, but_by}
+use Rattle.txn_law.proofs.Leaves.{leaves_end}
 use Rattle.txn.proofs.transactions.Core.abort.Goals as goal
 
 pub invariant_of-self : goal.invariant_of-self
@@ -22,3 +24,11 @@ returns-clause-stays g c = λ other differ.
     subst (λ (old : CoreState). KeepsReads old c.abort.new.self other) c.self.view_is
     (subst (λ (core : CoreState). KeepsReads c.self.inside.state core other) (sym c.abort.ensures)
     (reads_end c.self.inside.state c.args.tx other differ))
+
+pub returns-clause-leaves : goal.returns-clause-leaves
+returns-clause-leaves g c =
+    subst (λ (old : CoreState). Leaves c.abort.new.self (but_by c.args.tx (taken_by old)) (is_fetching old)
+    (in_memory old)) c.self.view_is
+    (subst (λ (core : CoreState). Leaves core (but_by c.args.tx (taken_by c.self.inside.state))
+    (is_fetching c.self.inside.state) (in_memory c.self.inside.state)) (sym c.abort.ensures)
+    (leaves_end c.self.inside.state c.args.tx c.self.invariant.tidy))

@@ -3,7 +3,7 @@ use Rattle.txn_law.specs.Core.{CoreState}
 use Rattle.txn_law.specs.CoreWindow.{KeepsHome, KeepsReads}
 use Rattle.txn.specs.Outcomes.{IsClaimed}
 use Rattle.txn.proofs.Answered.{claimed_home, claimed_law}
-use Rattle.txn.proofs.Answered.{claimed_reads}
+use Rattle.txn.proofs.Answered.{claimed_leaves, claimed_reads}
 use Rattle.txn.proofs.transactions.Core.claim.Goals as goal
 
 pub invariant_of-self : goal.invariant_of-self
@@ -18,7 +18,8 @@ returns-clause-answer g c =
       addr,
       whole,
       subst (λ (old : CoreState). IsClaimed old c.args.tx addr c.claim.result c.claim.new.self)
-          c.self.view_is done,
+          c.self.view_is
+          (claimed_leaves c.self.inside.state c.claim.new.self c.args.tx addr c.claim.result done),
     )
 
 pub returns-clause-keeps : goal.returns-clause-keeps

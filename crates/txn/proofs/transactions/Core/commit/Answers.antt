@@ -4,6 +4,8 @@ use Rattle.txn_law.specs.CoreWindow.{KeepsHome}
 use Rattle.txn_law.specs.Commit.{Planned}
 use Rattle.txn.specs.Outcomes.{IsSetBy}
 use Rattle.txn.proofs.Answered.{commit_law, commit_keeps, commit_set}
+use Rattle.txn.specs.Outcomes.{IsCommit}
+use Rattle.txn.proofs.Answered.{commit_leaves}
 use Rattle.txn.proofs.transactions.Core.commit.Goals as goal
 
 pub invariant_of-self : goal.invariant_of-self
@@ -40,3 +42,16 @@ returns-clause-sets g c =
     subst (λ (old : CoreState). IsSetBy old plan c.commit-answer.result c.commit-answer.new.self) c.self.view_is
     (commit_set c.self.inside.state c.commit-answer.new.self c.args.tx plan c.args.change
     c.commit-answer.result c.self.invariant.log c.self.invariant.tidy c.commit-answer.ensures)
+
+pub returns-clause-answer : goal.returns-clause-answer
+returns-clause-answer g c =
+    let plan : Planned = record {
+      read = g.C.Change.objects_read c.args.change;
+      written = g.C.Change.objects_written c.args.change;
+      blocks = g.C.Change.planned_blocks c.args.change;
+      inodes = g.C.Change.planned_inodes c.args.change;
+    } in
+    subst (λ (old : CoreState). IsCommit old c.args.tx plan c.args.change c.commit-answer.result
+    c.commit-answer.new.self) c.self.view_is
+    (commit_leaves c.self.inside.state c.commit-answer.new.self c.args.tx plan c.args.change
+    c.commit-answer.result c.self.invariant.tidy c.commit-answer.ensures)

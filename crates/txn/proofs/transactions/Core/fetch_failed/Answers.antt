@@ -4,6 +4,8 @@ use Rattle.txn_law.specs.CoreLaw.{IsLawfulCore}
 use Rattle.txn_law.specs.CoreWindow.{IsHomeOf, KeepsHome, KeepsReads}
 use Rattle.txn_law.proofs.CoreLaws.{home_failed, lawful_failed}
 use Rattle.txn_law.proofs.HeldReads.{reads_failed}
+use Rattle.txn_law.specs.Leaves.{Leaves, taken_by, is_fetching, in_memory, without_fetch}
+use Rattle.txn_law.proofs.Leaves.{leaves_failed}
 use Rattle.txn.proofs.transactions.Core.fetch_failed.Goals as goal
 
 pub invariant_of-self : goal.invariant_of-self
@@ -22,3 +24,11 @@ returns-clause-stays g c = λ other.
     subst (λ (old : CoreState). KeepsReads old c.fetch_failed.new.self other) c.self.view_is
     (subst (λ (core : CoreState). KeepsReads c.self.inside.state core other) (sym c.fetch_failed.ensures)
     (reads_failed c.self.inside.state c.args.io.block other))
+
+pub returns-clause-leaves : goal.returns-clause-leaves
+returns-clause-leaves g c =
+    subst (λ (old : CoreState). Leaves c.fetch_failed.new.self (taken_by old)
+    (without_fetch c.args.io.block (is_fetching old)) (in_memory old)) c.self.view_is
+    (subst (λ (core : CoreState). Leaves core (taken_by c.self.inside.state)
+    (without_fetch c.args.io.block (is_fetching c.self.inside.state)) (in_memory c.self.inside.state))
+    (sym c.fetch_failed.ensures) (leaves_failed c.self.inside.state c.args.io.block c.self.invariant.tidy))

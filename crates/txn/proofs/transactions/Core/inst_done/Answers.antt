@@ -10,6 +10,8 @@ use Rattle.wal_law.specs.Installer.{is_inst_out}
 use Rattle.txn_law.specs.Core.{installed}
 use Rattle.txn_law.proofs.CoreLaws.{home_inst_done, lawful_inst_done}
 use Rattle.txn_law.proofs.HeldReads.{reads_installed}
+use Rattle.txn_law.specs.Leaves.{Leaves, taken_by, is_fetching, in_memory}
+use Rattle.txn_law.proofs.Leaves.{leaves_installed}
 use Rattle.txn.proofs.transactions.Core.inst_done.Goals as goal
 
 pub invariant_of-self : goal.invariant_of-self
@@ -41,3 +43,11 @@ returns-clause-stays g c = λ other.
     subst (λ (old : CoreState). KeepsReads old c.inst_done.new.self other) c.self.view_is
     (subst (λ (core : CoreState). KeepsReads c.self.inside.state core other) (sym c.inst_done.ensures.others)
     (reads_installed c.self.inside.state c.inst_done.new.self.log other))
+
+pub returns-clause-leaves : goal.returns-clause-leaves
+returns-clause-leaves g c =
+    subst (λ (old : CoreState). Leaves c.inst_done.new.self (taken_by old) (is_fetching old) (in_memory old))
+    c.self.view_is
+    (subst (λ (core : CoreState). Leaves core (taken_by c.self.inside.state) (is_fetching c.self.inside.state)
+    (in_memory c.self.inside.state)) (sym c.inst_done.ensures.others)
+    (leaves_installed c.self.inside.state c.inst_done.new.self.log c.self.invariant.tidy))

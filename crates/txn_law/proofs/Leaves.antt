@@ -1,0 +1,268 @@
+-- Lemmas: what each step of the core leaves.
+use Rattle.std.proofs.Common.{◌≡◌, ℕ, Bool, true, false, ◌||◌, if◌then◌else◌, nat_eq, List, Option, Some, None}
+use Rattle.std.proofs.Common.{is_none, refl, sym, ap, subst, ◌∙◌}
+use Rattle.std.proofs.lemmas.Bool.{eqb-true, eq-eqb}
+use Rattle.disk.specs.Device.{Content}
+use Rattle.disk.specs.declared.block.BlockNo.{BlockNo}
+use Rattle.objects.specs.declared.addr.Addr.{Addr}
+use Rattle.wal_law.specs.Log.{Log, newest, or_else, installed_place}
+use Rattle.txn_law.specs.Commit.{Planned, with_record, refreshed_content, refreshed, committed}
+use Rattle.txn_law.specs.Core.{CoreState, ended, past, installed}
+use Rattle.txn_law.specs.Fetch.{Fetch}
+use Rattle.txn_law.specs.Fetched.{filled, fetched, fetch_failed}
+use Rattle.txn_law.specs.Holds.{is_hold_of, hold_of, joined, with_hold, is_read, is_written, released}
+use Rattle.txn_law.specs.Leaves.{Leaves, taken_by, is_fetching, in_memory, but_by}
+use Rattle.txn_law.specs.Leaves.{without_fetch, with_content}
+use Rattle.txn_law.specs.Lists.{with_block, claimed, IsHeldExactly, IsFetchedExactly}
+use Rattle.txn_law.specs.Present.{present_of, content_in, is_pending}
+use Rattle.txn_law.specs.Tidy.{IsOnce, AreTidy}
+use Rattle.txn_law.specs.Wishes.{IsOpen, IsHeld, IsFetched, IsTaken}
+use Rattle.txn_law.specs.declared.hold.Hold.{Hold}
+use Rattle.txn_law.specs.declared.present.Present.{Present}
+use Rattle.txn_law.proofs.Entries.{same_block, once_filled, once_refreshed}
+use Rattle.txn_law.proofs.Memory.{swept_fetches, swept_comes, swept_stays, other_block, own_block, new_block}
+use Rattle.txn_law.proofs.Memory.{filled_memory, filled_fetches, failed_memory, failed_fetches}
+use Rattle.txn_law.proofs.Memory.{refreshed_memory, refreshed_fetches}
+use Rattle.txn_law.proofs.TakenBy.{is_hold_by, taken_with, taken_released}
+
+pub leaves_end : (old : CoreState) (tx : ℕ) → AreTidy old
+    → Leaves (ended old tx) (but_by tx (taken_by old)) (is_fetching old) (in_memory old)
+leaves_end old tx tidy = record {
+  holds = taken_released old.holds tx;
+  fetches = λ block. swept_fetches (released old.holds tx) old.records old.present block tidy.once;
+  comes = λ block. swept_comes (released old.holds tx) old.records old.present block tidy.once;
+  stays = swept_stays (released old.holds tx) old.records old.present;
+}
+
+pub leaves_installed : (old : CoreState) (log : Log) → AreTidy old
+    → Leaves (installed old log) (taken_by old) (is_fetching old) (in_memory old)
+leaves_installed old log tidy = record {
+  holds = λ t a. refl;
+  fetches = λ block. swept_fetches old.holds (past (installed_place log) old.records) old.present block tidy.once;
+  comes = λ block. swept_comes old.holds (past (installed_place log) old.records) old.present block tidy.once;
+  stays = swept_stays old.holds (past (installed_place log) old.records) old.present;
+}
+
+pub leaves_fetched : (old : CoreState) (block : BlockNo) (content : Content) → AreTidy old
+    → Leaves (fetched old block content) (taken_by old) (without_fetch block (is_fetching old))
+    (if is_fetching old block then with_content block content (in_memory old) else in_memory old)
+leaves_fetched old block content tidy = record {
+  holds = λ t a. refl;
+  fetches = λ at. swept_fetches old.holds old.records (filled old.present block content) at once
+      ∙ filled_fetches old.present block content at;
+  comes = λ at c e. there at (is_fetching old block)
+      (sym (filled_memory old.present block content at)
+      ∙ swept_comes old.holds old.records (filled old.present block content) at once c e);
+  stays = λ at c e. swept_stays old.holds old.records (filled old.present block content) at c
+      (filled_memory old.present block content at ∙ from at (is_fetching old block) e);
+}
+  where
+    once : IsOnce (filled old.present block content)
+    once = once_filled block content old.present tidy.once
+
+    there : (at : BlockNo) (t : Bool) {o : Option Content}
+        → (if t then (if nat_eq at.0 block.0 then Some content else in_memory old at) else in_memory old at) ≡ o
+        → (if t then with_content block content (in_memory old) else in_memory old) at ≡ o
+    there at true e = e
+    there at false e = e
+
+    from : (at : BlockNo) (t : Bool) {o : Option Content}
+        → (if t then with_content block content (in_memory old) else in_memory old) at ≡ o
+        → (if t then (if nat_eq at.0 block.0 then Some content else in_memory old at) else in_memory old at) ≡ o
+    from at true e = e
+    from at false e = e
+
+pub leaves_failed : (old : CoreState) (block : BlockNo) → AreTidy old
+    → Leaves (fetch_failed old block) (taken_by old) (without_fetch block (is_fetching old)) (in_memory old)
+leaves_failed old block tidy = record {
+  holds = λ t a. refl;
+  fetches = λ at. failed_fetches old.present block at tidy.once;
+  comes = λ at c e. sym (failed_memory old.present block at tidy.once) ∙ e;
+  stays = λ at c e needed. failed_memory old.present block at tidy.once ∙ e;
+}
+
+pub leaves_commit : (old : CoreState) (tx : ℕ) (plan : Planned) (log : Log) → AreTidy old
+    → Leaves (committed old tx plan log) (but_by tx (taken_by old)) (is_fetching old)
+    (λ block. refreshed_content (in_memory old block) (newest log block.0))
+leaves_commit old tx plan log tidy = record {
+  holds = taken_released old.holds tx;
+  fetches = λ at. swept_fetches (released old.holds tx) (with_record log log.places plan old.records)
+      (refreshed log old.present) at once ∙ refreshed_fetches log old.present at;
+  comes = λ at c e. sym (refreshed_memory log old.present at)
+      ∙ swept_comes (released old.holds tx) (with_record log log.places plan old.records)
+      (refreshed log old.present) at once c e;
+  stays = λ at c e. swept_stays (released old.holds tx) (with_record log log.places plan old.records)
+      (refreshed log old.present) at c (refreshed_memory log old.present at ∙ e);
+}
+  where
+    once : IsOnce (refreshed log old.present)
+    once = once_refreshed log old.present tidy.once
+
+-- A hold is of its own transaction and address.
+own_hold : (hold : Hold) → is_hold_of hold.transaction hold.addr hold ≡ true
+own_hold hold = is_hold_by hold.transaction hold.addr hold refl refl refl refl
+
+taken_own : (holds : List Hold) (hold : Hold)
+    → hold_of (with_hold holds hold) hold.transaction hold.addr
+    ≡ Some (joined (hold_of holds hold.transaction hold.addr) hold)
+taken_own holds hold = taken_with holds hold hold.transaction hold.addr
+    ∙ ap (λ (b : Bool). if b then Some (joined (hold_of holds hold.transaction hold.addr) hold)
+    else hold_of holds hold.transaction hold.addr) (own_hold hold)
+
+reads_new : (had : Option Hold) (hold : Hold) → hold.is_read ≡ true → is_read (Some (joined had hold)) ≡ true
+reads_new None hold e = e
+reads_new (Some x) hold e = go x.is_read
+  where
+    go : (t : Bool) → (t || hold.is_read) ≡ true
+    go true = refl
+    go false = e
+
+writes_new : (had : Option Hold) (hold : Hold) → hold.is_claimed ≡ true → is_written (Some (joined had hold)) ≡ true
+writes_new None hold e = go hold.is_read
+  where
+    go : (t : Bool) → (t || hold.is_claimed) ≡ true
+    go true = refl
+    go false = e
+writes_new (Some x) hold e = go (x.is_read || hold.is_read) x.is_claimed
+  where
+    go : (t u : Bool) → (t || (u || hold.is_claimed)) ≡ true
+    go true u = refl
+    go false true = refl
+    go false false = e
+
+-- what a wish takes
+abbrev to_read : ℕ → Addr → Hold
+to_read tx addr = record { transaction = tx; addr = addr; is_read = true; is_claimed = false }
+
+abbrev to_fetch : ℕ → Addr → Hold
+to_fetch tx addr = record { transaction = tx; addr = addr; is_read = false; is_claimed = false }
+
+abbrev to_write : ℕ → Addr → Hold
+to_write tx addr = record { transaction = tx; addr = addr; is_read = false; is_claimed = true }
+
+pub leaves_claim : (old new : CoreState) (tx : ℕ) (addr : Addr) → IsOpen old tx addr → new ≡ claimed old tx addr
+    → IsTaken old tx addr new
+leaves_claim old new tx addr open' is = subst (λ (core : CoreState). IsTaken old tx addr core) (sym is) (record {
+  only = refl;
+  leaves = record {
+    holds = taken_with old.holds (to_write tx addr);
+    fetches = λ block. refl;
+    comes = λ block c e. e;
+    stays = λ block c e needed. e;
+  };
+  written = record {
+    held = ap is_written (taken_own old.holds (to_write tx addr))
+        ∙ writes_new (hold_of old.holds tx addr) (to_write tx addr) refl;
+    loaded = open'.settled;
+  };
+})
+
+-- Where no fetch of a block is pending, bringing its current content puts that in memory, and no other.
+module _ (old : CoreState) (block : BlockNo) (content : Content)
+    (loaded : is_fetching old block ≡ false)
+    (current_is : or_else (in_memory old block) (newest old.log block.0) ≡ Some content) where
+  pub brought_fetches : (at : BlockNo)
+      → is_pending (present_of (with_block old.present block (Some content)) at) ≡ is_fetching old at
+  brought_fetches at = go (nat_eq at.0 block.0) refl
+    where
+      own : (o : Option Present) → present_of old.present block ≡ o
+          → is_pending (present_of (with_block old.present block (Some content)) block) ≡ is_pending o
+      own (Some x) e = ap is_pending (own_block old.present block (Some content) block x e)
+      own None e = ap is_pending (new_block old.present block (Some content) block e)
+
+      go : (t : Bool) → nat_eq at.0 block.0 ≡ t
+          → is_pending (present_of (with_block old.present block (Some content)) at) ≡ is_fetching old at
+      go true same = subst (λ (b : BlockNo). is_pending (present_of (with_block old.present block (Some content)) b)
+          ≡ is_fetching old b) (sym (same_block at block (eqb-true at.0 block.0 same)))
+          (own (present_of old.present block) refl)
+      go false other = ap is_pending (other_block old.present block (Some content) at other)
+
+  pub brought_memory : (at : BlockNo) → content_in (present_of (with_block old.present block (Some content)) at)
+      ≡ with_content block content (in_memory old) at
+  brought_memory at = go (nat_eq at.0 block.0) refl
+    where
+      has : (x : Present) (c : Option Content) → present_of old.present block ≡ Some x → x.content ≡ c
+          → x.content ≡ Some content
+      has x None e is =
+          absurd (let not_so : is_fetching old block ≡ true = ap is_pending e ∙ ap is_none is in cc)
+      has x (Some d) e is = is
+          ∙ sym (ap (λ (o : Option Content). or_else o (newest old.log block.0)) (ap content_in e ∙ is)) ∙ current_is
+
+      own : (o : Option Present) → present_of old.present block ≡ o
+          → content_in (present_of (with_block old.present block (Some content)) block) ≡ Some content
+      own (Some x) e = ap content_in (own_block old.present block (Some content) block x e) ∙ has x x.content e refl
+      own None e = ap content_in (new_block old.present block (Some content) block e)
+
+      go : (t : Bool) → nat_eq at.0 block.0 ≡ t
+          → content_in (present_of (with_block old.present block (Some content)) at)
+          ≡ (if t then Some content else in_memory old at)
+      go true same = ap (λ (b : BlockNo). content_in (present_of (with_block old.present block (Some content)) b))
+          (same_block at block (eqb-true at.0 block.0 same)) ∙ own (present_of old.present block) refl
+      go false other = ap content_in (other_block old.present block (Some content) at other)
+
+pub leaves_held : (old new : CoreState) (tx : ℕ) (addr : Addr) (bytes : List ℕ) → IsOpen old tx addr
+    → IsHeldExactly old tx addr bytes new → IsHeld old tx addr bytes new
+leaves_held old new tx addr bytes open' held = subst (λ (core : CoreState). IsHeld old tx addr bytes core) (sym held.core)
+    (record {
+      content = held.content;
+      current = held.current;
+      bytes_there = held.bytes_there;
+      only = refl;
+      leaves = record {
+        holds = taken_with old.holds (to_read tx addr);
+        fetches = brought_fetches old addr.block held.content open'.settled held.current;
+        comes = λ at c e. sym (brought_memory old addr.block held.content open'.settled held.current at) ∙ e;
+        stays = λ at c e needed. brought_memory old addr.block held.content open'.settled held.current at ∙ e;
+      };
+      read = record {
+        held = ap is_read (taken_own old.holds (to_read tx addr))
+            ∙ reads_new (hold_of old.holds tx addr) (to_read tx addr) refl;
+        current = record {
+          content = held.content;
+          there = brought_memory old addr.block held.content open'.settled held.current addr.block
+              ∙ ap (λ (b : Bool). if b then Some held.content else in_memory old addr.block)
+              (eq-eqb addr.block.0 addr.block.0 refl);
+          same = sym held.bytes_there;
+        };
+      };
+    })
+
+pub leaves_fetch : (old new : CoreState) (tx : ℕ) (addr : Addr) (io : Fetch)
+    → IsFetchedExactly old tx addr io new → IsFetched old tx addr io new
+leaves_fetch old new tx addr io fetch = subst (λ (core : CoreState). IsFetched old tx addr io core) (sym fetch.core)
+    (record {
+      block = fetch.block;
+      absent = ap content_in fetch.absent;
+      unlogged = fetch.unlogged;
+      only = refl;
+      leaves = record {
+        holds = taken_with old.holds (to_fetch tx addr);
+        fetches = fetches;
+        comes = λ at c e. sym (memory at) ∙ e;
+        stays = λ at c e needed. memory at ∙ e;
+      };
+    })
+  where
+    new_one : present_of (with_block old.present addr.block None) addr.block
+        ≡ Some (record { block = addr.block; content = None })
+    new_one = new_block old.present addr.block None addr.block fetch.absent
+
+    fetches : (at : BlockNo) → is_pending (present_of (with_block old.present addr.block None) at)
+        ≡ (nat_eq at.0 addr.block.0 || is_fetching old at)
+    fetches at = go (nat_eq at.0 addr.block.0) refl
+      where
+        go : (t : Bool) → nat_eq at.0 addr.block.0 ≡ t
+            → is_pending (present_of (with_block old.present addr.block None) at) ≡ (t || is_fetching old at)
+        go true same = ap (λ (b : BlockNo). is_pending (present_of (with_block old.present addr.block None) b))
+            (same_block at addr.block (eqb-true at.0 addr.block.0 same)) ∙ ap is_pending new_one
+        go false other = ap is_pending (other_block old.present addr.block None at other)
+
+    memory : (at : BlockNo) → content_in (present_of (with_block old.present addr.block None) at) ≡ in_memory old at
+    memory at = go (nat_eq at.0 addr.block.0) refl
+      where
+        go : (t : Bool) → nat_eq at.0 addr.block.0 ≡ t
+            → content_in (present_of (with_block old.present addr.block None) at) ≡ in_memory old at
+        go true same = subst (λ (b : BlockNo). content_in (present_of (with_block old.present addr.block None) b)
+            ≡ in_memory old b) (sym (same_block at addr.block (eqb-true at.0 addr.block.0 same)))
+            (ap content_in new_one ∙ sym (ap content_in fetch.absent))
+        go false other = ap content_in (other_block old.present addr.block None at other)
