@@ -3,6 +3,8 @@ use Rattle.std.proofs.Common.{◌≡◌, ℕ, ◌+◌, List, [], ◌∷◌, ◌+
 use Rattle.std.proofs.Common.{Option, Some, None, Result, Ok, Err}
 use Rattle.std.specs.Prelude.{IsSome, IsNone, IfOk, OnErr}
 use Rattle.std.proofs.lemmas.List.Elements.{All-append, All-map}
+use Rattle.std.proofs.Common.{false, true, nat_eq}
+use Rattle.std.specs.List.{list_any}
 use Rattle.limits.specs.declared.TheConstants.{BLOCK_BYTES}
 use Rattle.disk.specs.Device.{Content}
 use Rattle.disk.specs.declared.block.BlockNo.{BlockNo}
@@ -11,7 +13,7 @@ use Rattle.wal_law.specs.declared.change.LogChange.{LogChange}
 use Rattle.wal_law.specs.Grows.{IsWholeChange}
 use Rattle.wal_law.specs.Log.{Log, IsLawful, newest, changes_of}
 use Rattle.txn_law.specs.Commit.{Planned, with_record, refreshed_content}
-use Rattle.txn_law.specs.Core.{CoreState, without}
+use Rattle.txn_law.specs.Core.{CoreState, IsOut, without}
 use Rattle.txn_law.specs.CoreLaw.{IsLawfulCore}
 use Rattle.txn_law.specs.CoreWindow.{IsHomeOf, KeepsHome, KeepsReads, SetsOnly}
 use Rattle.txn_law.specs.Leaves.{Leaves, taken_by, is_fetching, in_memory, but_by}
@@ -22,6 +24,7 @@ use Rattle.txn_law.proofs.CoreLaws.{home_held, home_fetch, home_claim, lawful_he
 use Rattle.txn_law.proofs.CoreLaws.{lawful_commit, lawful_begun}
 use Rattle.txn_law.proofs.HeldReads.{reads_held, reads_fetch, reads_claim, reads_log}
 use Rattle.txn_law.proofs.Homes.{commit_home, commit_sets}
+use Rattle.txn_law.proofs.OtherReads.{reads_commit}
 use Rattle.txn_law.proofs.Leaves.{leaves_held, leaves_fetch, leaves_claim, leaves_commit}
 use Rattle.txn.specs.Exactly.{IsWantedExactly, IsClaimedExactly, TakesPlaceExactly, IsCommitExactly}
 use Rattle.txn.specs.Outcomes.{IsWanted, IsClaimed, TakesPlace, IsCommit, IsSetBy}
@@ -70,23 +73,23 @@ module _ (P : ℕ → ℕ → List ObjectBytes → List ObjectBytes → Type 0) 
   same_law : (old new : CoreState) → new ≡ old → IsLawfulCore P old → IsLawfulCore P new
   same_law old new e h = subst (λ (core : CoreState). IsLawfulCore P core) (sym e) h
 
-  pub wanted_law : (old new : CoreState) (tx : ℕ) (addr : Addr) (answer : Want)
+  pub wanted_law : (old new : CoreState) (tx : ℕ) (addr : Addr) (answer : Want) → IsOut old tx
       → IsWantedExactly old tx addr answer new → IsLawfulCore P old → IsLawfulCore P new
-  wanted_law old new tx addr (want.Held back bytes) h = lawful_held P old new tx addr bytes.items h.1 h.2
-  wanted_law old new tx addr (want.Fetch back io) h = lawful_fetch P old new tx addr io h.1 h.2
-  wanted_law old new tx addr (want.Busy back) h = same_law old new h.2
-  wanted_law old new tx addr (want.Loading back) h = same_law old new h.2
-  wanted_law old new tx addr (want.Outside back) h = same_law old new h.2
-  wanted_law old new tx addr (want.NoMemory back) h = same_law old new h.2
+  wanted_law old new tx addr (want.Held back bytes) is_out h = lawful_held P old new tx addr bytes.items is_out h.1 h.2
+  wanted_law old new tx addr (want.Fetch back io) is_out h = lawful_fetch P old new tx addr io is_out h.1 h.2
+  wanted_law old new tx addr (want.Busy back) is_out h = same_law old new h.2
+  wanted_law old new tx addr (want.Loading back) is_out h = same_law old new h.2
+  wanted_law old new tx addr (want.Outside back) is_out h = same_law old new h.2
+  wanted_law old new tx addr (want.NoMemory back) is_out h = same_law old new h.2
 
   pub claimed_law : (old new : CoreState) (tx : ℕ) (block : BlockNo) (addr : Addr) (answer : Claim)
-      → IsWhole block addr → IsClaimedExactly old tx addr answer new → IsLawfulCore P old → IsLawfulCore P new
-  claimed_law old new tx block addr (claim.Held back) whole h core =
-      subst (λ (now : CoreState). IsLawfulCore P now) (sym h.2) (lawful_claim P old tx block addr whole h.1 core)
-  claimed_law old new tx block addr (claim.Busy back) whole h core = same_law old new h.2 core
-  claimed_law old new tx block addr (claim.Loading back) whole h core = same_law old new h.2 core
-  claimed_law old new tx block addr (claim.Outside back) whole h core = same_law old new h.2 core
-  claimed_law old new tx block addr (claim.NoMemory back) whole h core = same_law old new h.2 core
+      → IsWhole block addr → IsOut old tx → IsClaimedExactly old tx addr answer new → IsLawfulCore P old → IsLawfulCore P new
+  claimed_law old new tx block addr (claim.Held back) whole is_out h core =
+      subst (λ (now : CoreState). IsLawfulCore P now) (sym h.2) (lawful_claim P old tx block addr whole is_out h.1 core)
+  claimed_law old new tx block addr (claim.Busy back) whole is_out h core = same_law old new h.2 core
+  claimed_law old new tx block addr (claim.Loading back) whole is_out h core = same_law old new h.2 core
+  claimed_law old new tx block addr (claim.Outside back) whole is_out h core = same_law old new h.2 core
+  claimed_law old new tx block addr (claim.NoMemory back) whole is_out h core = same_law old new h.2 core
 
   pub commit_law : {C : Type 0} (old new : CoreState) (tx : ℕ) (plan : Planned) (change : C) (answer : Commit C)
       → IsCommitExactly old tx plan change answer new → IsLawful new.log → P plan.blocks plan.inodes plan.read plan.written
@@ -132,13 +135,15 @@ module _ {X : Type 0} (old new : CoreState) (log : Log) where
 
 -- a transaction is begun, or not
 pub begun_law : (P : ℕ → ℕ → List ObjectBytes → List ObjectBytes → Type 0) (old new : CoreState)
-    (answer : Result ℕ BeginFault) → IfOk answer (λ tx. (tx ≡ old.begun + 1)
+    (answer : Result ℕ BeginFault) → old.out ≡ [] → IfOk answer (λ tx. (tx ≡ old.begun + 1)
     × (new ≡ record old { begun = old.begun + 1; out = (old.begun + 1) ∷ [] })) → OnErr answer (new ≡ old)
     → IsLawfulCore P old → IsLawfulCore P new
-begun_law P old new (Ok tx) done none h =
+begun_law P old new (Ok tx) nobody done none h =
     subst (λ (core : CoreState). IsLawfulCore P core) (sym done.1)
-    (lawful_begun P old (old.begun + 1) ((old.begun + 1) ∷ []) h)
-begun_law P old new (Err fault) done none h = subst (λ (core : CoreState). IsLawfulCore P core) (sym none) h
+    (lawful_begun P old (old.begun + 1) ((old.begun + 1) ∷ [])
+    (λ other is_out. absurd (let no : false ≡ true =
+    sym (ap (λ (out : List ℕ). list_any (λ t. nat_eq t other) out) nobody) ∙ is_out in cc)) h)
+begun_law P old new (Err fault) nobody done none h = subst (λ (core : CoreState). IsLawfulCore P core) (sym none) h
 
 pub begun_home : (old new : CoreState) (answer : Result ℕ BeginFault) → IfOk answer (λ tx. (tx ≡ old.begun + 1)
     × (new ≡ record old { begun = old.begun + 1; out = (old.begun + 1) ∷ [] })) → OnErr answer (new ≡ old)
@@ -198,6 +203,19 @@ begun_reads old new (Ok tx) done none other =
       current = record { content = h.current.content; there = h.current.there; same = h.current.same };
     })
 begun_reads old new (Err fault) done none other = same_reads old new none other
+
+pub commit_reads : {C : Type 0} (P : ℕ → ℕ → List ObjectBytes → List ObjectBytes → Type 0) (old new : CoreState)
+    (tx : ℕ) (plan : Planned) (change : C) (answer : Commit C) → IsLawfulCore P old
+    → IsCommitExactly old tx plan change answer new → (other : ℕ) → (other ≡ tx → ⊥) → KeepsReads old new other
+commit_reads P old new tx plan change (commit.Committed place) core h other differ =
+    subst (λ (now : CoreState). KeepsReads old now other) (sym h.core)
+    (reads_commit core.home.0 old tx plan h.group.group new.log other core.log core.tidy h.tried.own h.group.sizes
+    h.group.blocks h.group.contents h.group.grown h.blocks core.home.1 differ)
+commit_reads P old new tx plan change (commit.Full back same) core h other differ = same_reads old new h.0.core other
+commit_reads P old new tx plan change (commit.Foreign back same) core h other differ = same_reads old new h.0.core other
+commit_reads P old new tx plan change (commit.NoMemory back same) core h other differ = same_reads old new h.0.core other
+commit_reads P old new tx plan change (commit.Broken back same) core h other differ = same_reads old new h.0.core other
+commit_reads P old new tx plan change (commit.Spent back same) core h other differ = same_reads old new h.0.core other
 
 -- What each answer leaves.
 

@@ -5,15 +5,17 @@ ghost use Rattle.limits.specs.declared.TheConstants.{CHANGED_BLOCKS};
 ghost use Rattle.objects.specs.declared.addr.Addr.{Addr};
 ghost use Rattle.wal_law.specs.Log.{settled_place, installed_place, tail_count};
 ghost use Rattle.wal_law.specs.Calls.{LogCallGoesOut, LogCallComesBack, InstCallGoesOut, InstCallComesBack};
-ghost use Rattle.wal_law.specs.Calls.{home_after};
+ghost use Rattle.wal_law.specs.Calls.{AgreesBeside, Pending, home_after};
+ghost use Rattle.disk.specs.Device.{Device, current, newest as newest_content};
 ghost use Rattle.disk.specs.Crash.{Image};
 ghost use Rattle.wal_law.specs.Io.{IsCallWithin};
 ghost use Rattle.wal_law.specs.Logger.{may_log, with_log_out, is_log_out, with_log_back};
 ghost use Rattle.wal_law.specs.Installer.{may_install, with_inst_out, is_inst_out, with_inst_back};
-ghost use Rattle.txn_law.specs.Core.{without, past};
+ghost use Rattle.txn_law.specs.Core.{IsOut, without, past};
 ghost use Rattle.txn_law.specs.CoreLaw.{IsFresh, IsLawfulCore};
 ghost use Rattle.txn_law.specs.CoreWindow.{IsHomeOf, KeepsHome, KeepsReads, IsPending};
 ghost use Rattle.txn_law.specs.Group.{blocks_of};
+ghost use Rattle.txn_law.specs.HomeRead.{IsReadable, HasContents};
 ghost use Rattle.txn_law.specs.Leaves.{Leaves, taken_by, is_fetching, in_memory, but_by, without_fetch, with_content};
 ghost use Rattle.txn_law.specs.Wishes.{IsWhole};
 ghost use Rattle.txn.specs.Outcomes.{IsWanted, IsWithin, IsClaimed, IsCommit, IsSetBy};
@@ -96,11 +98,13 @@ impl<C: Change> Core<C> {
         self.state.begin()
     }
 
-    /// Takes an object for reading. Outside: the block isn't one that a change may write. Busy: another
-    /// transaction has taken a byte of it, or this one by another address. Loading: a fetch of the block is
-    /// pending, and nothing is taken. Fetch: the block has to be read from home; the object is taken, and the
-    /// same want after `fetched` answers Held or NoMemory. NoMemory: nothing has changed.
+    /// Takes an object for reading, in a transaction that is out of this core. Outside: the block isn't one that
+    /// a change may write. Busy: another transaction has taken a byte of it, or this one by another address.
+    /// Loading: a fetch of the block is pending, and nothing is taken. Fetch: the block has to be read from home;
+    /// the object is taken, and the same want after `fetched` answers Held or NoMemory. NoMemory: nothing has
+    /// changed.
     pub fn want(&mut self, alloc: Global, tx: Tx, addr: Addr) -> Want
+        requires { IsOut self.old tx }
         ensures answer { IsWanted self.old tx addr result self.new }
         ensures within { IsWithin self.old.log.blocks addr.len result }
         ensures stays { (other : ℕ) → KeepsReads self.old self.new other }
@@ -111,6 +115,7 @@ impl<C: Change> Core<C> {
 
     /// Takes a whole block for writing, whose bytes don't matter. It answers as `want` does, and never Fetch.
     pub fn claim(&mut self, tx: Tx, block: BlockNo) -> Claim
+        requires { IsOut self.old tx }
         ensures answer { (addr : Addr) × IsWhole block addr × IsClaimed self.old tx addr result self.new }
         ensures stays { (other : ℕ) → KeepsReads self.old self.new other }
         ensures keeps { KeepsHome self.old self.new }
@@ -118,12 +123,17 @@ impl<C: Change> Core<C> {
         self.state.claim(tx, block)
     }
 
-    /// Gives a fetch back with what was read. The block stays in memory while anyone has taken a part of it.
+    /// Gives a fetch back with what was read. The block is in memory then while anyone has taken a part of it,
+    /// where its fetch was pending; else nothing changes. What the disk has of a pending block is what is at home.
     pub fn fetched(&mut self, io: FetchIo)
         ensures only { self.new ≡ record self.old { present = self.new.present } }
         ensures leaves { Leaves self.new (taken_by self.old) (without_fetch io.block (is_fetching self.old))
             (if is_fetching self.old io.block then with_content io.block io.content (in_memory self.old)
             else in_memory self.old) }
+        ensures brings { (d : Device) (base : Image) (logging installing : Pending)
+            → AgreesBeside d base self.old.log logging installing → IsReadable d self.old.log installing
+            → HasContents d → io.content ≡ newest_content (current d io.block.0) → IsPending self.old io.block
+            → io.content ≡ base io.block.0 }
         ensures stays { (other : ℕ) → KeepsReads self.old self.new other }
         ensures keeps { (base : Image) → (IsPending self.old io.block → io.content ≡ base io.block.0)
             → IsHomeOf base self.old → IsHomeOf base self.new }
@@ -162,6 +172,7 @@ impl<C: Change> Core<C> {
           blocks = C.planned_blocks change;
           inodes = C.planned_inodes change;
         }) result self.new }
+        ensures stays { (other : ℕ) → (other ≡ tx → ⊥) → KeepsReads self.old self.new other }
         ensures keeps { KeepsHome self.old self.new }
     {
         change.is_planned();

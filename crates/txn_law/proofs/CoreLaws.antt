@@ -1,7 +1,8 @@
 -- Lemmas: each step of the core keeps what is true of every core.
 use Rattle.std.proofs.Common.{◌≡◌, ℕ, ◌+◌, ◌-◌, Bool, true, false, if◌then◌else◌, nat_lt, nat_eq, List, [], ◌∷◌, ◌++◌}
 use Rattle.std.proofs.Common.{length, drop, replicate, All, refl, sym, ap, subst, ◌∙◌, arith}
-use Rattle.std.proofs.lemmas.List.Elements.{All-push, All-drop, All-filter}
+use Rattle.std.proofs.lemmas.List.Elements.{All-push, All-drop, All-filter, All-weaker}
+use Rattle.std.specs.List.{list_any}
 use Rattle.std.proofs.Math.ListN.{length-replicate}
 use Rattle.limits.specs.declared.TheConstants.{BLOCK_BYTES}
 use Rattle.disk.specs.Device.{Content}
@@ -16,7 +17,7 @@ use Rattle.wal_law.specs.Logger.{with_log_out, with_log_back}
 use Rattle.wal_law.specs.Log.{Log, IsLawful, newest, installed_place, blocks_of as group_blocks}
 use Rattle.wal_law.proofs.Effects.{seen_inst_done}
 use Rattle.txn_law.specs.Commit.{Planned, IsOwn, committed}
-use Rattle.txn_law.specs.Core.{CoreState, past, installed, ended}
+use Rattle.txn_law.specs.Core.{CoreState, IsOut, past, installed, ended}
 use Rattle.txn_law.specs.CoreLaw.{IsFresh, IsPlanned, IsLawfulCore}
 use Rattle.txn_law.specs.CoreWindow.{held_of, IsCoreWindow, AreBlocks, IsHomeOf, KeepsHome}
 use Rattle.txn_law.specs.Fetch.{Fetch}
@@ -24,7 +25,7 @@ use Rattle.txn_law.specs.Fetched.{fetched, fetch_failed}
 use Rattle.txn_law.specs.Group.{blocks_of, IsLaid}
 use Rattle.txn_law.specs.Object.{ObjectBytes}
 use Rattle.wal_law.specs.Grows.{IsWholeChange}
-use Rattle.txn_law.specs.Tidy.{AreTidy}
+use Rattle.txn_law.specs.Tidy.{IsOfOne, AreTidy}
 use Rattle.txn_law.specs.Window.{Footprint, IsWindowOver}
 use Rattle.txn_law.specs.Lists.{IsHeldExactly, IsFetchedExactly, claimed}
 use Rattle.txn_law.specs.Wishes.{IsOpen, IsWhole}
@@ -202,6 +203,8 @@ module _ (P : ℕ → ℕ → List ObjectBytes → List ObjectBytes → Type 0) 
   lawful_new log inodes lawful fresh whole = record {
     log = lawful;
     tidy = record {
+      owned = λ k d lt. absurd (omega (arith, lt));
+      placed = λ k d lt. absurd (omega (arith, lt));
       apart = tt;
       read = λ k d lt. absurd (omega (arith, lt));
       claimed = λ k d lt. absurd (omega (arith, lt));
@@ -219,12 +222,16 @@ module _ (P : ℕ → ℕ → List ObjectBytes → List ObjectBytes → Type 0) 
     planned = λ k d lt. absurd (omega (arith, lt));
   }
 
-  -- what only other transactions have begun or ended changes nothing of it
-  pub lawful_begun : (old : CoreState) (begun : ℕ) (out : List ℕ) → IsLawfulCore P old
+  -- a transaction more changes nothing of it
+  pub lawful_begun : (old : CoreState) (begun : ℕ) (out : List ℕ)
+      → ((tx : ℕ) → IsOut old tx → list_any (λ other. nat_eq other tx) out ≡ true) → IsLawfulCore P old
       → IsLawfulCore P (record old { begun = begun; out = out })
-  lawful_begun old begun out h = record {
+  lawful_begun old begun out still h = record {
     log = h.log;
     tidy = record {
+      owned = All-weaker (IsOfOne old) (IsOfOne (record old { begun = begun; out = out }))
+          (λ x own. (still x.transaction own.0, own.1)) old.holds h.tidy.owned;
+      placed = h.tidy.placed;
       apart = h.tidy.apart;
       read = h.tidy.read;
       claimed = h.tidy.claimed;
@@ -236,31 +243,31 @@ module _ (P : ℕ → ℕ → List ObjectBytes → List ObjectBytes → Type 0) 
     planned = h.planned;
   }
 
-  pub lawful_held : (old new : CoreState) (tx : ℕ) (addr : Addr) (bytes : List ℕ) → IsOpen old tx addr
-      → IsHeldExactly old tx addr bytes new → IsLawfulCore P old → IsLawfulCore P new
-  lawful_held old new tx addr bytes open' held h = record {
+  pub lawful_held : (old new : CoreState) (tx : ℕ) (addr : Addr) (bytes : List ℕ) → IsOut old tx
+      → IsOpen old tx addr → IsHeldExactly old tx addr bytes new → IsLawfulCore P old → IsLawfulCore P new
+  lawful_held old new tx addr bytes is_out open' held h = record {
     log = subst (λ (core : CoreState). IsLawful core.log) (sym held.core) h.log;
-    tidy = tidy_held old new tx addr bytes open' held h.tidy;
+    tidy = tidy_held old new tx addr bytes is_out open' held h.tidy;
     home = (h.home.0, home_held old new tx addr bytes held h.home.0 h.home.1);
     planned = subst (λ (core : CoreState). All (IsPlanned P core.log.blocks core.inodes) core.records)
         (sym held.core) h.planned;
   }
 
-  pub lawful_fetch : (old new : CoreState) (tx : ℕ) (addr : Addr) (io : Fetch) → IsOpen old tx addr
-      → IsFetchedExactly old tx addr io new → IsLawfulCore P old → IsLawfulCore P new
-  lawful_fetch old new tx addr io open' fetch h = record {
+  pub lawful_fetch : (old new : CoreState) (tx : ℕ) (addr : Addr) (io : Fetch) → IsOut old tx
+      → IsOpen old tx addr → IsFetchedExactly old tx addr io new → IsLawfulCore P old → IsLawfulCore P new
+  lawful_fetch old new tx addr io is_out open' fetch h = record {
     log = subst (λ (core : CoreState). IsLawful core.log) (sym fetch.core) h.log;
-    tidy = tidy_fetch old new tx addr io open' fetch h.tidy;
+    tidy = tidy_fetch old new tx addr io is_out open' fetch h.tidy;
     home = (h.home.0, home_fetch old new tx addr io fetch h.home.0 h.home.1);
     planned = subst (λ (core : CoreState). All (IsPlanned P core.log.blocks core.inodes) core.records)
         (sym fetch.core) h.planned;
   }
 
   pub lawful_claim : (old : CoreState) (tx : ℕ) (block : BlockNo) (addr : Addr) → IsWhole block addr
-      → IsOpen old tx addr → IsLawfulCore P old → IsLawfulCore P (claimed old tx addr)
-  lawful_claim old tx block addr whole open' h = record {
+      → IsOut old tx → IsOpen old tx addr → IsLawfulCore P old → IsLawfulCore P (claimed old tx addr)
+  lawful_claim old tx block addr whole is_out open' h = record {
     log = h.log;
-    tidy = tidy_claim old tx block addr whole open' h.tidy;
+    tidy = tidy_claim old tx block addr whole is_out open' h.tidy;
     home = (h.home.0, home_claim old tx addr h.home.0 h.home.1);
     planned = h.planned;
   }
@@ -295,7 +302,7 @@ module _ (P : ℕ → ℕ → List ObjectBytes → List ObjectBytes → Type 0) 
       → IsLawfulCore P (record old { log = with_log_out old.log })
   lawful_log_out old lawful h = record {
     log = lawful;
-    tidy = tidy_log old (with_log_out old.log) refl h.tidy;
+    tidy = tidy_log old (with_log_out old.log) refl refl h.tidy;
     home = (h.home.0, home_log_out old h.log h.home.0 h.home.1);
     planned = h.planned;
   }
@@ -305,13 +312,13 @@ module _ (P : ℕ → ℕ → List ObjectBytes → List ObjectBytes → Type 0) 
       → IsLawfulCore P (record old { log = if is_out then with_log_back old.log ok else old.log })
   lawful_log_done old true ok lawful h = record {
     log = lawful;
-    tidy = tidy_log old (with_log_back old.log ok) (back_changes old.log ok) h.tidy;
+    tidy = tidy_log old (with_log_back old.log ok) (back_blocks old.log ok) (back_changes old.log ok) h.tidy;
     home = (h.home.0, home_log_done old true ok h.log h.home.0 h.home.1);
     planned = subst (λ (n : ℕ). All (IsPlanned P n old.inodes) old.records) (sym (back_blocks old.log ok)) h.planned;
   }
   lawful_log_done old false ok lawful h = record {
     log = lawful;
-    tidy = tidy_log old old.log refl h.tidy;
+    tidy = tidy_log old old.log refl refl h.tidy;
     home = (h.home.0, home_log_done old false ok h.log h.home.0 h.home.1);
     planned = h.planned;
   }
@@ -320,7 +327,7 @@ module _ (P : ℕ → ℕ → List ObjectBytes → List ObjectBytes → Type 0) 
       → IsLawfulCore P (record old { log = with_inst_out old.log })
   lawful_inst_out old lawful h = record {
     log = lawful;
-    tidy = tidy_log old (with_inst_out old.log) (out_changes old.log) h.tidy;
+    tidy = tidy_log old (with_inst_out old.log) (out_blocks old.log) (out_changes old.log) h.tidy;
     home = (h.home.0, home_inst_out old h.log h.home.0 h.home.1);
     planned = subst (λ (n : ℕ). All (IsPlanned P n old.inodes) old.records) (sym (out_blocks old.log)) h.planned;
   }
@@ -332,7 +339,7 @@ module _ (P : ℕ → ℕ → List ObjectBytes → List ObjectBytes → Type 0) 
       let log : Log = if is_out then with_inst_back old.log ok else old.log in
       let seen : HasGoneOn old.log log = seen_inst_done old.log is_out ok h.log in record {
         log = lawful;
-        tidy = tidy_installed old log
+        tidy = tidy_installed old log seen.blocks
             (λ block none. (either (newest log block) (brought_home old.log block)
             (sym (seen.newest_content block) ∙ none)).0) (done_changes old.log is_out ok h.tidy.changes) h.tidy;
         home = (
@@ -352,7 +359,7 @@ module _ (P : ℕ → ℕ → List ObjectBytes → List ObjectBytes → Type 0) 
       → IsLawfulCore P (committed old tx plan log)
   lawful_commit old tx plan group log own sizes blocks contents grown same lawful whole is_plan h = record {
     log = lawful;
-    tidy = tidy_commit old tx plan group log own blocks grown h.tidy whole;
+    tidy = tidy_commit old tx plan group log own blocks grown h.tidy same whole;
     home = (
       h.home.0,
       commit_home h.home.0 old tx plan group log h.log h.tidy own sizes blocks contents grown same h.home.1,

@@ -19,7 +19,7 @@ use Rattle.txn_law.proofs.Entries.{same_block, filled_content}
 use Rattle.txn_law.proofs.TakenBy.{taken_with, taken_released}
 use Rattle.txn_law.proofs.Tidied.{block_stays, taken_one, taken_stays, failed_stays}
 
-some_read : (o : Option Hold) → is_read o ≡ true → (x : Hold) × (o ≡ Some x) × (x.is_read ≡ true)
+pub some_read : (o : Option Hold) → is_read o ≡ true → (x : Hold) × (o ≡ Some x) × (x.is_read ≡ true)
 some_read None e = absurd (cc)
 some_read (Some x) e = (x, refl, e)
 
@@ -37,7 +37,7 @@ read_grows holds hold t a reads = ap is_read (taken_with holds hold t a) ∙ go 
     go false = reads
 
 -- what is held for reading is taken
-taken_read : (holds : List Hold) (t : ℕ) (a : Addr) → is_read (hold_of holds t a) ≡ true
+pub taken_read : (holds : List Hold) (t : ℕ) (a : Addr) → is_read (hold_of holds t a) ≡ true
     → is_taken holds a.block ≡ true
 taken_read holds t a reads =
     let (x, found, is) = some_read (hold_of holds t a) reads in
@@ -83,7 +83,7 @@ reads_claim old tx addr t =
     (read_grows old.holds (record { transaction = tx; addr = addr; is_read = false; is_claimed = true }) t)
     (λ a c reads e. e)
 
-left : (holds : List Hold) (tx t : ℕ) (a : Addr) → (t ≡ tx → ⊥)
+pub left : (holds : List Hold) (tx t : ℕ) (a : Addr) → (t ≡ tx → ⊥)
     → hold_of (released holds tx) t a ≡ hold_of holds t a
 left holds tx t a differ =
     taken_released holds tx t a ∙ ap (λ (b : Bool). if b then None else hold_of holds t a) (ne_eqb t tx differ)

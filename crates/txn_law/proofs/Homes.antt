@@ -6,11 +6,11 @@ use Rattle.std.specs.Prelude.{Contains, nat_le}
 use Rattle.std.proofs.lemmas.Bool.{eqb-true, eq-eqb}
 use Rattle.std.proofs.lemmas.List.Elements.{All-head, All-tail, All-take, All-contains}
 use Rattle.limits.specs.declared.TheConstants.{BLOCK_BYTES}
-use Rattle.disk.specs.Device.{Content}
+use Rattle.disk.specs.Device.{Content, Device, current, newest as newest_content}
 use Rattle.disk.specs.Crash.{Image}
 use Rattle.disk.specs.declared.block.BlockNo.{BlockNo}
 use Rattle.wal_law.specs.declared.change.LogChange.{LogChange}
-use Rattle.wal_law.specs.Calls.{home_after}
+use Rattle.wal_law.specs.Calls.{AgreesBeside, Pending, home_after}
 use Rattle.wal_law.specs.Grows.{GrowsBy}
 use Rattle.wal_law.specs.Law.{with_changes, with_home}
 use Rattle.wal_law.specs.Log.{Log, IsLawful, IsHomeOn, newest, newest_of, or_else, blocks_of as group_blocks}
@@ -22,15 +22,17 @@ use Rattle.txn_law.specs.Fetched.{filled, fetched}
 use Rattle.txn_law.specs.Group.{is_among, blocks_of, IsLaid}
 use Rattle.txn_law.specs.Present.{present_of, is_pending}
 use Rattle.wal_law.specs.Grows.{IsWholeChange}
-use Rattle.txn_law.specs.Tidy.{IsOnce, IsUnlogged, AreTidy}
+use Rattle.txn_law.specs.HomeRead.{IsReadable, HasContents}
+use Rattle.txn_law.specs.Tidy.{IsOnce, IsUnlogged, IsPlaced, AreTidy}
 use Rattle.txn_law.specs.Window.{now_of, with_objects}
 use Rattle.txn_law.specs.declared.present.Present.{Present}
 use Rattle.txn_law.proofs.Claims.{found_by, whole_writes}
 use Rattle.txn_law.proofs.CoreCommits.{core_committed, core_now}
 use Rattle.txn_law.proofs.Entries.{is_of, same_block}
 use Rattle.txn_law.proofs.Fetches.{core_fetched}
+use Rattle.txn_law.proofs.HomeReads.{read_home}
 use Rattle.txn_law.proofs.Laid.{among_after}
-use Rattle.txn_law.proofs.Moves.{home_is_current}
+use Rattle.txn_law.proofs.Moves.{home_is_current, tail_is_now}
 use Rattle.txn_law.proofs.OtherHome.{other_home}
 use Rattle.txn_law.proofs.Swept.{window_swept, in_cons}
 
@@ -63,6 +65,13 @@ whole_after blocks base log ok h whole = go (ok && nat_le (log.installing + 2) l
     go true = whole_under blocks base (take log.installing log.changes) (All-take IsWholeChange log.installing log.changes h)
         whole
     go false = whole
+
+-- what is current is whole
+pub whole_now : (base : Image) (core : CoreState) → IsHomeOf base core → AreTidy core
+    → AreBlocks core.log.blocks (now_of base core.log core.records)
+whole_now base core h tidy block lt =
+    sym (ap (λ (c : Content). length c) (tail_is_now base core.log core.records (held_of core.present) block h.window))
+    ∙ whole_under core.log.blocks base core.log.changes tidy.changes h.whole block lt
 
 whole_with : (blocks : ℕ) (base : Image) (at : ℕ) (content : Content) → length content ≡ BLOCK_BYTES
     → AreBlocks blocks base → AreBlocks blocks (with_home base at content)
@@ -145,6 +154,29 @@ unlogged_block core block tidy e = go (present_of core.present block) refl e
         let (same, there) = found_by (is_of block) core.present x is in
         subst (λ (n : ℕ). newest core.log n ≡ None) (eqb-true x.block.0 block.0 same)
         (All-contains (IsUnlogged core.log) core.present x tidy.pending there (none x.content e))
+
+-- a block whose fetch is pending is one that a change may write
+placed_block : (core : CoreState) (block : BlockNo) → AreTidy core
+    → is_pending (present_of core.present block) ≡ true → IsHomeOn core.log.blocks block
+placed_block core block tidy e = go (present_of core.present block) refl e
+  where
+    go : (o : Option Present) → present_of core.present block ≡ o → is_pending o ≡ true → IsHomeOn core.log.blocks block
+    go None is e = absurd (cc)
+    go (Some x) is e =
+        let (same, there) = found_by (is_of block) core.present x is in
+        subst (IsHomeOn core.log.blocks) (same_block x.block block (eqb-true x.block.0 block.0 same))
+        (All-contains (IsPlaced core.log.blocks) core.present x tidy.placed there)
+
+-- what the disk has of it is what is at home
+pub pending_is_home : (d : Device) (base : Image) (core : CoreState) (logging installing : Pending) (block : BlockNo)
+    → AreTidy core → AgreesBeside d base core.log logging installing → IsReadable d core.log installing
+    → HasContents d → is_pending (present_of core.present block) ≡ true
+    → newest_content (current d block.0) ≡ base block.0
+pending_is_home d base core logging installing block tidy agrees readable contents waits =
+    let home = placed_block core block tidy waits in
+    let low = home.0 in
+    (read_home d base core.log logging installing block.0 agrees readable contents
+    (home.1, inr (omega (arith, low))) (unlogged_block core block tidy waits)).1
 
 -- a fetch that brings what is at home, where it is pending, keeps what may be at home
 pub fetched_home : (base : Image) (core : CoreState) (block : BlockNo) (content : Content) → AreTidy core

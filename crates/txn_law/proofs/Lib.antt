@@ -22,3 +22,5 @@ pub mod TakenBy
 pub mod Memory
 pub mod Leaves
 pub mod HeldReads
+pub mod Beside
+pub mod OtherReads

@@ -2,7 +2,7 @@
 use Rattle.std.proofs.Common.{◌≡◌, ℕ, Bool, true, false, not, cond, ◌||◌, if◌then◌else◌, nat_eq, List, [], ◌∷◌}
 use Rattle.std.proofs.Common.{◌++◌, Option, Some, None, is_none, All, refl, sym, ap, subst, ◌∙◌, ◌⊎◌, inl, inr, arith}
 use Rattle.std.specs.Prelude.{Contains, is_some}
-use Rattle.std.specs.List.{filter}
+use Rattle.std.specs.List.{filter, list_any}
 use Rattle.std.proofs.lemmas.Bool.{eqb-true, eq-eqb}
 use Rattle.std.proofs.lemmas.List.Elements.{All-nil, All-cons, All-head, All-tail, All-push, All-weaker}
 use Rattle.std.proofs.lemmas.List.Elements.{All-contains, All-contains_itself, All-filter}
@@ -11,15 +11,15 @@ use Rattle.disk.specs.Device.{Content}
 use Rattle.disk.specs.declared.block.BlockNo.{BlockNo}
 use Rattle.objects.specs.Addr.{Overlap}
 use Rattle.objects.specs.declared.addr.Addr.{Addr}
-use Rattle.wal_law.specs.Log.{Log, newest, newest_of, or_else, installed_place}
-use Rattle.txn_law.specs.Core.{CoreState, ended, past, installed}
+use Rattle.wal_law.specs.Log.{Log, IsHomeOn, newest, newest_of, or_else, installed_place}
+use Rattle.txn_law.specs.Core.{CoreState, IsOut, without, ended, past, installed}
 use Rattle.txn_law.specs.Fetch.{Fetch}
 use Rattle.txn_law.specs.Fetched.{filled, fetched, fetch_failed, without_pending}
 use Rattle.txn_law.specs.Holds.{exclusive, mode_of, Excludes, IsHoldOf, IsFree, is_taken, is_hold_of, hold_of}
 use Rattle.txn_law.specs.Holds.{without_hold, joined, with_hold, released}
 use Rattle.txn_law.specs.Present.{present_of, content_in, is_pending}
 use Rattle.txn_law.specs.Records.{is_kept, swept}
-use Rattle.txn_law.specs.Tidy.{AreBeside, AreApart, IsReadHere, IsClaimedWhole, IsOnce, IsUnlogged}
+use Rattle.txn_law.specs.Tidy.{AreBeside, AreApart, IsReadHere, IsClaimedWhole, IsOnce, IsUnlogged, IsOfOne, IsPlaced}
 use Rattle.wal_law.specs.Grows.{IsWholeChange}
 use Rattle.txn_law.specs.Tidy.{AreTidy}
 use Rattle.txn_law.specs.Window.{Footprint}
@@ -218,11 +218,19 @@ there_now present block content not_pending = go (present_of present block) refl
           (eq-eqb block.0 block.0 refl),
     )
 
-pub tidy_held : (old new : CoreState) (tx : ℕ) (addr : Addr) (bytes : List ℕ) → IsOpen old tx addr
+-- what is taken is of one that is out
+owned_with : (core : CoreState) (hold : Hold) → IsOfOne core hold → All (IsOfOne core) core.holds
+    → All (IsOfOne core) (with_hold core.holds hold)
+owned_with core hold own each =
+    each_with core.holds hold (IsOfOne core) (IsOfOne core) (λ x h. h) each own (λ had h block offset len. own)
+
+pub tidy_held : (old new : CoreState) (tx : ℕ) (addr : Addr) (bytes : List ℕ) → IsOut old tx → IsOpen old tx addr
     → IsHeldExactly old tx addr bytes new → AreTidy old → AreTidy new
-tidy_held old new tx addr bytes open' held tidy =
+tidy_held old new tx addr bytes is_out open' held tidy =
     let hold : Hold = record { transaction = tx; addr = addr; is_read = true; is_claimed = false } in
     subst AreTidy (sym held.core) (record {
+      owned = owned_with old hold (is_out, open'.home) tidy.owned;
+      placed = block_each old.present addr.block (Some held.content) (IsPlaced old.log.blocks) open'.home tidy.placed;
       apart = apart_with old.holds hold tidy.apart open'.free;
       read = read_with old.holds hold old.present (with_block old.present addr.block (Some held.content))
           (block_stays old.present addr.block (Some held.content)) tidy.read
@@ -234,11 +242,13 @@ tidy_held old new tx addr bytes open' held tidy =
       changes = tidy.changes;
     })
 
-pub tidy_fetch : (old new : CoreState) (tx : ℕ) (addr : Addr) (io : Fetch) → IsOpen old tx addr
+pub tidy_fetch : (old new : CoreState) (tx : ℕ) (addr : Addr) (io : Fetch) → IsOut old tx → IsOpen old tx addr
     → IsFetchedExactly old tx addr io new → AreTidy old → AreTidy new
-tidy_fetch old new tx addr io open' fetch tidy =
+tidy_fetch old new tx addr io is_out open' fetch tidy =
     let hold : Hold = record { transaction = tx; addr = addr; is_read = false; is_claimed = false } in
     subst AreTidy (sym fetch.core) (record {
+      owned = owned_with old hold (is_out, open'.home) tidy.owned;
+      placed = block_each old.present addr.block None (IsPlaced old.log.blocks) open'.home tidy.placed;
       apart = apart_with old.holds hold tidy.apart open'.free;
       read = read_with old.holds hold old.present (with_block old.present addr.block None)
           (block_stays old.present addr.block None) tidy.read (λ is. absurd (cc));
@@ -248,11 +258,13 @@ tidy_fetch old new tx addr io open' fetch tidy =
       changes = tidy.changes;
     })
 
-pub tidy_claim : (old : CoreState) (tx : ℕ) (block : BlockNo) (addr : Addr) → IsWhole block addr
+pub tidy_claim : (old : CoreState) (tx : ℕ) (block : BlockNo) (addr : Addr) → IsWhole block addr → IsOut old tx
     → IsOpen old tx addr → AreTidy old → AreTidy (claimed old tx addr)
-tidy_claim old tx block addr whole open' tidy =
+tidy_claim old tx block addr whole is_out open' tidy =
     let hold : Hold = record { transaction = tx; addr = addr; is_read = false; is_claimed = true } in
     record {
+      owned = owned_with old hold (is_out, open'.home) tidy.owned;
+      placed = tidy.placed;
       apart = apart_with old.holds hold tidy.apart open'.free;
       read = read_with old.holds hold old.present old.present (λ at c e. e) tidy.read (λ is. absurd (cc));
       claimed = claimed_with old.holds hold tidy.claimed (λ is. (whole.1, whole.2));
@@ -293,8 +305,42 @@ read_swept holds records old new stays each =
     )) holds
     (λ k d lt. (each k d lt, All-contains_itself holds k d lt))
 
+-- what the others have taken is of transactions that are still out
+out_still : (out : List ℕ) (tx t : ℕ) → nat_eq t tx ≡ false → list_any (λ other. nat_eq other t) out ≡ true
+    → list_any (λ other. nat_eq other t) (without tx out) ≡ true
+out_still [] tx t differ e = e
+out_still (o ∷ os) tx t differ e = go (out_still os tx t differ) (nat_eq o t) refl (nat_eq o tx) refl e
+  where
+    go : (list_any (λ other. nat_eq other t) os ≡ true → list_any (λ other. nat_eq other t) (without tx os) ≡ true)
+        → (u : Bool) → nat_eq o t ≡ u → (v : Bool) → nat_eq o tx ≡ v
+        → (u || list_any (λ other. nat_eq other t) os) ≡ true
+        → list_any (λ other. nat_eq other t) (cond (not v) (o ∷ without tx os) (without tx os)) ≡ true
+    go rest true is true same e =
+        absurd (let yes : nat_eq t tx ≡ true =
+        eq-eqb t tx (sym (eqb-true o t is) ∙ eqb-true o tx same) in cc)
+    go rest true is false other e = ap (λ b. b || list_any (λ x. nat_eq x t) (without tx os)) is
+    go rest false is true same e = rest e
+    go rest false is false other e = ap (λ b. b || list_any (λ x. nat_eq x t) (without tx os)) is ∙ rest e
+
+pub owned_end : (old : CoreState) (tx : ℕ) → AreTidy old
+    → All (λ hold. IsOut (ended old tx) hold.transaction × IsHomeOn old.log.blocks hold.addr.block)
+    (released old.holds tx)
+owned_end old tx tidy =
+    All-weaker (λ hold. (not (nat_eq hold.transaction tx) ≡ true) × IsOfOne old hold)
+    (λ hold. IsOut (ended old tx) hold.transaction × IsHomeOn old.log.blocks hold.addr.block)
+    (λ hold h. (out_still old.out tx hold.transaction (differs (nat_eq hold.transaction tx) h.0) h.1.0, h.1.1))
+    (released old.holds tx)
+    (passing (IsOfOne old) (λ hold. not (nat_eq hold.transaction tx)) old.holds tidy.owned)
+  where
+    differs : (t : Bool) → not t ≡ true → t ≡ false
+    differs true e = absurd (cc)
+    differs false e = refl
+
 pub tidy_end : (old : CoreState) (tx : ℕ) → AreTidy old → AreTidy (ended old tx)
 tidy_end old tx tidy = record {
+  owned = owned_end old tx tidy;
+  placed = All-filter (λ entry. is_none entry.content || is_taken (released old.holds tx) entry.block
+      || is_kept old.records entry.block) (IsPlaced old.log.blocks) old.present tidy.placed;
   apart = apart_filter (λ hold. not (nat_eq hold.transaction tx)) old.holds tidy.apart;
   read = read_swept (released old.holds tx) old.records old.present old.present (λ at c e. e)
       (All-filter (λ hold. not (nat_eq hold.transaction tx)) (IsReadHere old.present) old.holds tidy.read);
@@ -309,6 +355,10 @@ tidy_end old tx tidy = record {
 pub tidy_fetched : (old : CoreState) (block : BlockNo) (content : Content) → AreTidy old
     → AreTidy (fetched old block content)
 tidy_fetched old block content tidy = record {
+  owned = tidy.owned;
+  placed = All-filter (λ entry. is_none entry.content || is_taken old.holds entry.block
+      || is_kept old.records entry.block) (IsPlaced old.log.blocks) (filled old.present block content)
+      (each_filled block content (IsPlaced old.log.blocks) (λ x h. h) old.present tidy.placed);
   apart = tidy.apart;
   read = read_swept old.holds old.records old.present (filled old.present block content)
       (filled_content block content old.present) tidy.read;
@@ -345,6 +395,9 @@ failed_stays present block at c e = go (present_of present at) refl e
 
 pub tidy_failed : (old : CoreState) (block : BlockNo) → AreTidy old → AreTidy (fetch_failed old block)
 tidy_failed old block tidy = record {
+  owned = tidy.owned;
+  placed = All-filter (λ entry. not (nat_eq entry.block.0 block.0) || is_some entry.content)
+      (IsPlaced old.log.blocks) old.present tidy.placed;
   apart = tidy.apart;
   read = All-weaker (IsReadHere old.present) (IsReadHere (without_pending old.present block))
       (λ x h is. let (content, there) = h is in (content, failed_stays old.present block x.addr.block content there)) old.holds tidy.read;
@@ -357,10 +410,15 @@ tidy_failed old block tidy = record {
 }
 
 -- the log has moved on, and has lost no block
-pub tidy_installed : (old : CoreState) (log : Log)
+pub tidy_installed : (old : CoreState) (log : Log) → log.blocks ≡ old.log.blocks
     → ((block : ℕ) → newest old.log block ≡ None → newest log block ≡ None)
     → All IsWholeChange log.changes → AreTidy old → AreTidy (installed old log)
-tidy_installed old log none whole tidy = record {
+tidy_installed old log same none whole tidy = record {
+  owned = subst (λ (n : ℕ). All (λ hold. IsOut old hold.transaction × IsHomeOn n hold.addr.block) old.holds)
+      (sym same) tidy.owned;
+  placed = All-filter (λ entry. is_none entry.content || is_taken old.holds entry.block
+      || is_kept (past (installed_place log) old.records) entry.block) (IsPlaced log.blocks) old.present
+      (subst (λ (n : ℕ). All (IsPlaced n) old.present) (sym same) tidy.placed);
   apart = tidy.apart;
   read = read_swept old.holds (past (installed_place log) old.records) old.present old.present (λ at c e. e)
       tidy.read;
@@ -373,9 +431,12 @@ tidy_installed old log none whole tidy = record {
   changes = whole;
 }
 
-pub tidy_log : (old : CoreState) (log : Log) → log.changes ≡ old.log.changes → AreTidy old
-    → AreTidy (record old { log = log })
-tidy_log old log e tidy = record {
+pub tidy_log : (old : CoreState) (log : Log) → log.blocks ≡ old.log.blocks → log.changes ≡ old.log.changes
+    → AreTidy old → AreTidy (record old { log = log })
+tidy_log old log same e tidy = record {
+  owned = subst (λ (n : ℕ). All (λ hold. IsOut old hold.transaction × IsHomeOn n hold.addr.block) old.holds)
+      (sym same) tidy.owned;
+  placed = subst (λ (n : ℕ). All (IsPlaced n) old.present) (sym same) tidy.placed;
   apart = tidy.apart;
   read = tidy.read;
   claimed = tidy.claimed;

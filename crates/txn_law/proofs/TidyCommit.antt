@@ -1,6 +1,6 @@
 -- Lemma: a commit leaves what transactions have taken and what is in memory tidy.
 use Rattle.std.proofs.Common.{◌≡◌, ℕ, Bool, true, false, not, cond, ◌||◌, nat_eq, List, [], ◌∷◌, Option, Some, None}
-use Rattle.std.proofs.Common.{is_none, All, option_map, refl, sym, ap, ◌∙◌, arith}
+use Rattle.std.proofs.Common.{is_none, All, option_map, refl, sym, ap, subst, ◌∙◌, arith}
 use Rattle.std.specs.Prelude.{is_some}
 use Rattle.std.proofs.Common.{get_or}
 use Rattle.std.proofs.lemmas.Bool.{eqb-true, eq-eqb}
@@ -9,22 +9,22 @@ use Rattle.disk.specs.Device.{Content}
 use Rattle.disk.specs.declared.block.BlockNo.{BlockNo}
 use Rattle.wal_law.specs.Effects.{newest_in}
 use Rattle.wal_law.specs.Grows.{GrowsBy}
-use Rattle.wal_law.specs.Log.{Log, newest, or_else, blocks_of as group_blocks}
+use Rattle.wal_law.specs.Log.{Log, IsHomeOn, newest, or_else, blocks_of as group_blocks}
 use Rattle.wal_law.specs.Overlay.{content_or}
 use Rattle.txn_law.specs.Commit.{Planned, IsWrittenBy, IsOwn, with_record, refreshed_content, refreshed_entry, refreshed}
 use Rattle.txn_law.specs.Commit.{committed}
-use Rattle.txn_law.specs.Core.{CoreState}
+use Rattle.txn_law.specs.Core.{CoreState, IsOut, ended}
 use Rattle.txn_law.specs.Group.{is_among, blocks_of}
 use Rattle.txn_law.specs.Holds.{is_taken, released}
 use Rattle.txn_law.specs.Object.{ObjectBytes}
 use Rattle.txn_law.specs.Present.{present_of, content_in, is_pending}
 use Rattle.txn_law.specs.Records.{lies_in, is_kept}
 use Rattle.wal_law.specs.Grows.{IsWholeChange}
-use Rattle.txn_law.specs.Tidy.{IsReadHere, IsClaimedWhole, IsOnce, IsUnlogged, AreTidy}
+use Rattle.txn_law.specs.Tidy.{IsReadHere, IsClaimedWhole, IsOnce, IsUnlogged, IsPlaced, AreTidy}
 use Rattle.txn_law.specs.declared.present.Present.{Present}
 use Rattle.txn_law.proofs.Entries.{same_block, once_filter, once_refreshed, present_of-refreshed}
 use Rattle.txn_law.proofs.Laid.{among_after, among_group}
-use Rattle.txn_law.proofs.Tidied.{apart_filter, read_swept}
+use Rattle.txn_law.proofs.Tidied.{apart_filter, read_swept, owned_end}
 
 -- each entry is the one of its block
 pub once_is : (xs : List Present) → IsOnce xs → All (λ x. present_of xs x.block ≡ Some x) xs
@@ -98,8 +98,15 @@ module _ (old : CoreState) (tx : ℕ) (plan : Planned) (group : List (BlockNo ×
             ∙ ap (λ (o : Option Content). refreshed_content o (newest log x.block.0)) e,
       )
 
-  pub tidy_commit : All IsWholeChange log.changes → AreTidy (committed old tx plan log)
-  tidy_commit whole = record {
+  pub tidy_commit : log.blocks ≡ old.log.blocks → All IsWholeChange log.changes → AreTidy (committed old tx plan log)
+  tidy_commit same whole = record {
+    owned = subst (λ (n : ℕ). All (λ hold. IsOut (ended old tx) hold.transaction × IsHomeOn n hold.addr.block)
+        (released old.holds tx)) (sym same) (owned_end old tx tidy);
+    placed = All-filter (λ entry. is_none entry.content || is_taken (released old.holds tx) entry.block
+        || is_kept (with_record log log.places plan old.records) entry.block) (IsPlaced log.blocks)
+        (refreshed log old.present)
+        (All-map (IsPlaced log.blocks) (refreshed_entry log) old.present
+        (subst (λ (n : ℕ). All (IsPlaced n) old.present) (sym same) tidy.placed));
     apart = apart_filter (λ hold. not (nat_eq hold.transaction tx)) old.holds tidy.apart;
     read = read_swept (released old.holds tx) (with_record log log.places plan old.records) (refreshed log old.present)
         (refreshed log old.present) (λ at c e. e)

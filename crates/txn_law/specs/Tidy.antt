@@ -1,11 +1,11 @@
 -- What transactions have taken and what is in memory agree with one another and with the log.
-use Rattle.std.specs.Prelude.{◌≡◌, true, Some, None, List, [], ◌∷◌, All}
+use Rattle.std.specs.Prelude.{◌≡◌, ℕ, true, Some, None, List, [], ◌∷◌, All}
 use Rattle.limits.specs.declared.TheConstants.{BLOCK_BYTES}
 use Rattle.disk.specs.Device.{Content}
 use Rattle.objects.specs.Addr.{Overlap}
 use Rattle.wal_law.specs.Grows.{IsWholeChange}
-use Rattle.wal_law.specs.Log.{Log, newest}
-use Rattle.txn_law.specs.Core.{CoreState}
+use Rattle.wal_law.specs.Log.{Log, IsHomeOn, newest}
+use Rattle.txn_law.specs.Core.{CoreState, IsOut}
 use Rattle.txn_law.specs.Holds.{mode_of, Excludes}
 use Rattle.txn_law.specs.Present.{present_of, content_in}
 use Rattle.txn_law.specs.declared.hold.Hold.{Hold}
@@ -38,7 +38,17 @@ IsOnce (entry ∷ later) = (present_of later entry.block ≡ None) × IsOnce lat
 abbrev pub IsUnlogged : Log → Present → Type 0
 IsUnlogged log entry = entry.content ≡ None → newest log entry.block.0 ≡ None
 
+-- what is taken is of a transaction that is out, in a block that a change may write
+abbrev pub IsOfOne : CoreState → Hold → Type 0
+IsOfOne core hold = IsOut core hold.transaction × IsHomeOn core.log.blocks hold.addr.block
+
+-- what is in memory or being fetched is a block that a change may write
+abbrev pub IsPlaced : ℕ → Present → Type 0
+IsPlaced blocks entry = IsHomeOn blocks entry.block
+
 pub record AreTidy (core : CoreState) : Type 0 where
+  pub owned : All (IsOfOne core) core.holds
+  pub placed : All (IsPlaced core.log.blocks) core.present
   pub apart : AreApart core.holds
   pub read : All (IsReadHere core.present) core.holds
   pub claimed : All IsClaimedWhole core.holds

@@ -5,7 +5,8 @@ use Rattle.txn_law.specs.Commit.{Planned}
 use Rattle.txn.specs.Outcomes.{IsSetBy}
 use Rattle.txn.proofs.Answered.{commit_law, commit_keeps, commit_set}
 use Rattle.txn.specs.Outcomes.{IsCommit}
-use Rattle.txn.proofs.Answered.{commit_leaves}
+use Rattle.txn.proofs.Answered.{commit_leaves, commit_reads}
+use Rattle.txn_law.specs.CoreWindow.{KeepsReads}
 use Rattle.txn.proofs.transactions.Core.commit.Goals as goal
 
 pub invariant_of-self : goal.invariant_of-self
@@ -55,3 +56,15 @@ returns-clause-answer g c =
     c.commit-answer.new.self) c.self.view_is
     (commit_leaves c.self.inside.state c.commit-answer.new.self c.args.tx plan c.args.change
     c.commit-answer.result c.self.invariant.tidy c.commit-answer.ensures)
+
+pub returns-clause-stays : goal.returns-clause-stays
+returns-clause-stays g c = λ other differ.
+    let plan : Planned = record {
+      read = g.C.Change.objects_read c.args.change;
+      written = g.C.Change.objects_written c.args.change;
+      blocks = g.C.Change.planned_blocks c.args.change;
+      inodes = g.C.Change.planned_inodes c.args.change;
+    } in
+    subst (λ (old : CoreState). KeepsReads old c.commit-answer.new.self other) c.self.view_is
+    (commit_reads g.C.Change.is_plan c.self.inside.state c.commit-answer.new.self c.args.tx plan c.args.change
+    c.commit-answer.result c.self.invariant c.commit-answer.ensures other differ)

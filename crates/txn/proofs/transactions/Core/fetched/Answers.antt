@@ -5,7 +5,11 @@ use Rattle.txn_law.specs.CoreLaw.{IsLawfulCore}
 use Rattle.txn_law.specs.CoreWindow.{IsHomeOf, KeepsReads}
 use Rattle.txn_law.proofs.CoreLaws.{lawful_fetched}
 use Rattle.txn_law.specs.CoreWindow.{IsPending}
-use Rattle.txn_law.proofs.Homes.{fetched_home}
+use Rattle.txn_law.proofs.Homes.{fetched_home, pending_is_home}
+use Rattle.std.proofs.Common.{◌∙◌}
+use Rattle.disk.specs.Device.{Device, current, newest as newest_content}
+use Rattle.wal_law.specs.Calls.{AgreesBeside, Pending}
+use Rattle.txn_law.specs.HomeRead.{IsReadable, HasContents}
 use Rattle.txn_law.proofs.HeldReads.{reads_fetched}
 use Rattle.txn_law.specs.Leaves.{Leaves, taken_by, is_fetching, in_memory, without_fetch, with_content}
 use Rattle.std.proofs.Common.{if◌then◌else◌}
@@ -43,3 +47,13 @@ returns-clause-leaves g c =
     then with_content c.args.io.block c.args.io.content (in_memory c.self.inside.state)
     else in_memory c.self.inside.state)) (sym c.fetched.ensures)
     (leaves_fetched c.self.inside.state c.args.io.block c.args.io.content c.self.invariant.tidy))
+
+pub returns-clause-brings : goal.returns-clause-brings
+returns-clause-brings g c =
+    subst (λ (old : CoreState). (d : Device) (base : Image) (logging installing : Pending)
+    → AgreesBeside d base old.log logging installing → IsReadable d old.log installing → HasContents d
+    → c.args.io.content ≡ newest_content (current d c.args.io.block.0) → IsPending old c.args.io.block
+    → c.args.io.content ≡ base c.args.io.block.0) c.self.view_is
+    (λ d base logging installing agrees readable contents same waits. same
+    ∙ pending_is_home d base c.self.inside.state logging installing c.args.io.block c.self.invariant.tidy agrees
+    readable contents waits)

@@ -1,5 +1,5 @@
-use Rattle.std.proofs.Common.{subst}
-use Rattle.txn_law.specs.Core.{CoreState}
+use Rattle.std.proofs.Common.{sym, subst}
+use Rattle.txn_law.specs.Core.{CoreState, IsOut}
 use Rattle.txn_law.specs.CoreWindow.{KeepsHome, KeepsReads}
 use Rattle.txn.proofs.Answered.{wanted_home, wanted_law}
 use Rattle.txn.proofs.Answered.{wanted_reads}
@@ -10,7 +10,8 @@ use Rattle.txn.proofs.transactions.Core.want.Goals as goal
 pub invariant_of-self : goal.invariant_of-self
 invariant_of-self g c =
     wanted_law g.C.Change.is_plan c.self.inside.state c.want.new.self c.args.tx c.args.addr c.want.result
-    c.want.ensures.answer c.self.invariant
+    (subst (λ (old : CoreState). IsOut old c.args.tx) (sym c.self.view_is) c.requires) c.want.ensures.answer
+    c.self.invariant
 
 pub returns-clause-keeps : goal.returns-clause-keeps
 returns-clause-keeps g c =
