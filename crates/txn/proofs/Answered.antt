@@ -18,6 +18,7 @@ use Rattle.txn_law.specs.CoreLaw.{IsLawfulCore}
 use Rattle.txn_law.specs.CoreWindow.{IsHomeOf, KeepsHome, KeepsReads, SetsOnly}
 use Rattle.txn_law.specs.Leaves.{Leaves, taken_by, is_fetching, in_memory, but_by}
 use Rattle.txn_law.specs.Object.{ObjectBytes}
+use Rattle.txn_law.specs.Steps.{StandsStill}
 use Rattle.txn_law.specs.Tidy.{AreTidy}
 use Rattle.txn_law.specs.Wishes.{IsWhole}
 use Rattle.txn_law.proofs.CoreLaws.{home_held, home_fetch, home_claim, lawful_held, lawful_fetch, lawful_claim}
@@ -98,7 +99,7 @@ module _ (P : ℕ → ℕ → List ObjectBytes → List ObjectBytes → Type 0) 
       subst (λ (now : CoreState). IsLawfulCore P now) (sym h.core)
       (lawful_commit P old tx plan h.group.group new.log h.tried.own h.group.sizes h.group.blocks h.group.contents
       h.group.grown h.blocks lawful
-      (subst (λ (log : Log). All IsWholeChange log.changes) (sym h.group.appended)
+      (subst (λ (log : Log). All IsWholeChange log.changes) (sym h.appended)
       (whole_group (old.log.places + 1) old.log.changes h.group.group core.tidy.changes h.group.whole)) is_plan core)
   commit_law old new tx plan change (commit.Full back same) h lawful is_plan core = same_law old new h.0.core core
   commit_law old new tx plan change (commit.Foreign back same) h lawful is_plan core = same_law old new h.0.core core
@@ -244,7 +245,15 @@ place_leaves old new tx plan place tidy h = record {
   next = h.next;
   group = h.group;
   places = h.places;
-  blocks = h.blocks;
+  still = subst (λ (log : Log). StandsStill old.log log) (sym h.appended) (record {
+    blocks = refl;
+    start = refl;
+    log_step = refl;
+    log_out = refl;
+    inst_step = refl;
+    inst_out = refl;
+    broken = refl;
+  });
   only = h.core ∙ ap (λ (core : CoreState). record old {
     log = new.log;
     out = without tx old.out;

@@ -2,6 +2,7 @@
 use Rattle.std.specs.Prelude.{◌≡◌, ℕ, ◌+◌}
 use Rattle.objects.specs.declared.addr.Addr.{Addr}
 use Rattle.wal_law.specs.Calls.{KeepsAgreement}
+use Rattle.wal_law.specs.Room.{with_group}
 use Rattle.wal_law.specs.declared.outcomes.Room.TheVariants as room
 use Rattle.txn_law.specs.Commit.{Planned, committed}
 use Rattle.txn_law.specs.Core.{CoreState}
@@ -24,6 +25,7 @@ pub record TakesPlaceExactly (old : CoreState) (tx : ℕ) (plan : Planned) (plac
   pub tried : IsTried old tx plan room.Fits
   pub next : place ≡ old.log.places + 1
   pub group : BringsGroup old plan new
+  pub appended : new.log ≡ with_group old.log group.group
   pub places : new.log.places ≡ old.log.places + 1
   pub blocks : new.log.blocks ≡ old.log.blocks
   pub core : new ≡ committed old tx plan new.log

@@ -5,7 +5,7 @@ use Rattle.disk.specs.Device.{Content}
 use Rattle.disk.specs.declared.block.BlockNo.{BlockNo}
 use Rattle.objects.specs.declared.addr.Addr.{Addr}
 use Rattle.wal_law.specs.Log.{newest, blocks_of as group_blocks}
-use Rattle.wal_law.specs.Room.{IsRoom, with_group}
+use Rattle.wal_law.specs.Room.{IsRoom}
 use Rattle.wal_law.specs.Calls.{KeepsAgreement}
 use Rattle.wal_law.specs.Effects.{HasAppended}
 use Rattle.wal_law.specs.Grows.{GrowsBy}
@@ -17,6 +17,7 @@ use Rattle.txn_law.specs.CoreWindow.{SetsOnly}
 use Rattle.txn_law.specs.Fetch.{Fetch}
 use Rattle.txn_law.specs.Group.{blocks_of, IsLaid}
 use Rattle.txn_law.specs.Leaves.{Leaves, taken_by, is_fetching, in_memory, but_by}
+use Rattle.txn_law.specs.Steps.{StandsStill}
 use Rattle.txn_law.specs.Wishes.{IsOpen, IsOutside, IsBusy, IsLoading, IsHeld, IsFetched, IsTaken}
 use Rattle.txn.specs.declared.outcomes.Want.{Want}
 use Rattle.txn.specs.declared.outcomes.Want.TheVariants as want
@@ -75,18 +76,17 @@ pub record BringsGroup (old : CoreState) (plan : Planned) (new : CoreState) : Ty
   pub contents : All (IsLaid old.present old.log plan.written) group
   pub whole : All (λ change. length change.1 ≡ BLOCK_BYTES) group
   pub sizes : All (λ object. length object.bytes ≡ object.addr.len) plan.written
-  pub appended : new.log ≡ with_group old.log group
   pub seen : HasAppended old.log group new.log
   pub grown : GrowsBy old.log group new.log
 
 -- A commit took the next place, brought the log its group, was recorded, and ended its transaction. What is in
--- memory has what the log has.
+-- memory has what the log has. How the tail has the group isn't said: it may keep one change of each block.
 pub record TakesPlace (old : CoreState) (tx : ℕ) (plan : Planned) (place : ℕ) (new : CoreState) : Type 0 where
   pub tried : IsTried old tx plan room.Fits
   pub next : place ≡ old.log.places + 1
   pub group : BringsGroup old plan new
   pub places : new.log.places ≡ old.log.places + 1
-  pub blocks : new.log.blocks ≡ old.log.blocks
+  pub still : StandsStill old.log new.log
   pub only : new ≡ record old {
     log = new.log;
     out = without tx old.out;

@@ -49,6 +49,7 @@ returns-in-Appended g c =
       tried = search rules;
       next = search rules;
       group = search rules;
+      appended = search rules;
       places = search rules;
       blocks = search rules;
       core = committed_is c.args.self.now c.close.new.self c.args.tx plan log c.refresh.new.present.items records
