@@ -1,8 +1,8 @@
 -- What is told of a log moves as the log does.
 use Rattle.std.proofs.Common.{◌≡◌, ℕ, zero, suc, ◌+◌, ◌-◌, ◌<◌, ◌≤◌, ◌⊎◌, inl, inr, ap, sym, ◌∙◌, refl, subst, arith}
-use Rattle.std.proofs.Common.{Bool, true, false, if◌then◌else◌, ◌&&◌, List, [], ◌∷◌, ◌++◌, Some, None, length, take, drop}
-use Rattle.std.proofs.Common.{nat_eq, nat_lt, map, slice_get, Option, Result, is_ok, is_some, All}
-use Rattle.std.proofs.lemmas.List.{drop-append-le, take-append-le, length-append, length-drop, length-map}
+use Rattle.std.proofs.Common.{Bool, true, false, if◌then◌else◌, ◌&&◌, List, [], ◌∷◌, Some, length, take, drop}
+use Rattle.std.proofs.Common.{nat_eq, nat_lt, slice_get, Result, is_ok, is_some, All}
+use Rattle.std.proofs.lemmas.List.{length-drop}
 use Rattle.std.proofs.lemmas.List.{drop_all, length-take-le, take_rest}
 use Rattle.std.proofs.lemmas.Option.{get_or_from_slice_get, slice_get_within}
 use Rattle.std.proofs.lemmas.Bool.{cases_lt}
@@ -19,73 +19,116 @@ use Rattle.disk.specs.declared.block.Side.TheVariants.{Home}
 use Rattle.wal_law.specs.declared.calls.IoCall.TheVariants.{Write, Barrier}
 use Rattle.wal_law.specs.Installer.{IsNextInstCall, next_home, passed_over, with_inst_out, with_inst_back}
 use Rattle.wal_law.specs.Installer.{with_installed}
-use Rattle.wal_law.specs.Log.{IsHomeOn, IsLawful, Log, changes_of, newest_of, tail_count}
+use Rattle.wal_law.specs.Log.{IsCommitted, IsHomeOn, IsLawful, Log, newest_of, place_before, tail_count}
 use Rattle.wal_law.specs.Logger.{with_log_back, with_log_out}
-use Rattle.wal_law.specs.Room.{with_group}
-use Rattle.store_promise.specs.LogTold.{LogTold, first_with, idle, out, was_made, with_commit, with_log_given}
+use Rattle.wal_law.specs.Grows.{GrowsBy}
+use Rattle.txn_law.specs.Steps.{StandsStill}
+use Rattle.std.proofs.lemmas.List.{drop-drop, drop-take}
+use Rattle.std.proofs.lemmas.List.Elements.{All-drop, All-head}
+use Rattle.store_promise.specs.LogTold.{LogTold, idle, out, was_made, with_commit, with_log_given}
 use Rattle.store_promise.specs.LogTold.{with_inst_done, with_inst_given, with_inst_taken, with_log_taken}
 use Rattle.store_promise.specs.ToldOf.{call_told, first_of, log_told}
 
 -- ---- a commit
 
-some_more : (n : ℕ) → nat_lt 0 (suc n) ≡ true
-some_more n = grind (arith, nat_tests)
+module _ (position : ℕ) (old new : Log) (group : List (BlockNo × Content)) (blocks : ℕ) (lawful : IsLawful old)
+    (later : IsLawful new) (grown : GrowsBy old group new) (still : StandsStill old new)
+    (longer : tail_count new ≡ tail_count old + blocks) (few : blocks ≤ length group)
+    (from : position ≤ old.start + length old.changes) where
+  -- where the open tails begin
+  abbrev ahead : ℕ
+  ahead = old.logged + old.taken
 
-first_append : (xs ys : List LogChange)
-    → first_of (xs ++ ys) ≡ (if nat_lt 0 (length xs) then first_of xs else first_of ys)
-first_append [] ys = refl
-first_append (x ∷ xs) ys = λ i. if sym (some_more (length xs)) i then x.place else first_of ys
+  same_ahead : new.logged + new.taken ≡ ahead
+  same_ahead = let a = grown.logged in let b = grown.taken in omega (arith, a, b)
 
-first_group : (place : ℕ) (group : List (BlockNo × Content))
-    → first_of (changes_of place group) ≡ (if nat_lt 0 (length group) then place else 0)
-first_group place [] = refl
-first_group place (change ∷ later) = λ i. if sym (some_more (length later)) i then place else 0
+  appended_is : new.start + length new.changes - position ≡ old.start + length old.changes - position + blocks
+  appended_is =
+      let a = lawful.taken_within in
+      let b = later.taken_within in
+      let c = same_ahead in
+      let d = still.start in
+      omega (arith, a, b, c, d, longer, from)
 
-group_length : (place : ℕ) (group : List (BlockNo × Content)) → length (changes_of place group) ≡ length group
-group_length place group = length-map group _
+  -- the tails, by what commits made
+  made_old : All IsCommitted (drop ahead old.changes)
+  made_old = subst (All IsCommitted) (drop-drop old.taken old.logged old.changes)
+      (All-drop IsCommitted old.taken (drop old.logged old.changes) lawful.committed)
 
-module _ (position : ℕ) (log : Log) (group : List (BlockNo × Content)) (lawful : IsLawful log)
-    (from : position ≤ log.start + length log.changes) where
-  abbrev added : List LogChange
-  added = changes_of (log.places + 1) group
+  made_new : All IsCommitted (drop ahead new.changes)
+  made_new = subst (λ (n : ℕ). All IsCommitted (drop n new.changes)) same_ahead
+      (subst (All IsCommitted) (drop-drop new.taken new.logged new.changes)
+      (All-drop IsCommitted new.taken (drop new.logged new.changes) later.committed))
 
-  long : length (log.changes ++ added) ≡ length log.changes + length group
-  long = length-append log.changes added ∙ ap (λ n. length log.changes + n)
-      (group_length (log.places + 1) group)
+  sizes : (length (drop ahead old.changes) ≡ tail_count old) × (length (drop ahead new.changes) ≡ tail_count old + blocks)
+  sizes = (
+    length-drop ahead old.changes,
+    length-drop ahead new.changes ∙ ap (λ n. length new.changes - n) (sym same_ahead) ∙ longer,
+  )
 
-  tail_is : length (log.changes ++ added) - (log.logged + log.taken) ≡ tail_count log + length group
-  tail_is = let within = lawful.taken_within in omega (arith, long, within)
+  first_is : first_of (drop ahead new.changes)
+      ≡ (if nat_lt 0 (tail_count old) then first_of (drop ahead old.changes)
+      else if nat_lt 0 blocks then old.places + 1 else 0)
+  first_is = by_tails (drop ahead old.changes) (drop ahead new.changes) sizes.0 sizes.1 made_old made_new
+      (grown.place ahead (omega arith))
+    where
+      by_tails : (xs ys : List LogChange) → length xs ≡ tail_count old → length ys ≡ tail_count old + blocks
+          → All IsCommitted xs → All IsCommitted ys
+          → place_before ys new.places ≡ (if nat_eq (length xs) 0 && nat_eq (length group) 0 then old.places + 1
+          else place_before xs old.places)
+          → first_of ys ≡ (if nat_lt 0 (tail_count old) then first_of xs else if nat_lt 0 blocks
+          then old.places + 1 else 0)
+      by_tails [] [] one other made made' place =
+          let none : tail_count old ≡ 0 = sym one in
+          let nothing : blocks ≡ 0 = omega (arith, one, other) in
+          sym (ap (λ n. if nat_lt 0 n then 0 else if nat_lt 0 blocks then old.places + 1 else 0) none
+          ∙ ap (λ n. if nat_lt 0 n then old.places + 1 else 0) nothing)
+      by_tails [] (y ∷ ys) one other made made' place =
+          let none : tail_count old ≡ 0 = sym one in
+          let some : 0 < blocks = omega (arith, one, other) in
+          let nonempty : nat_eq (length group) 0 ≡ false = grind (arith, nat_tests) in
+          let before : y.place - 1 ≡ old.places = place
+          ∙ ap (λ (b : Bool). if b then old.places + 1 else old.places) nonempty in
+          let committed : 0 < y.place = All-head IsCommitted y ys made' in
+          let is : y.place ≡ old.places + 1 = omega (arith, before, committed) in
+          let has : nat_lt 0 blocks ≡ true = grind (arith, nat_tests) in
+          is ∙ sym (ap (λ n. if nat_lt 0 n then 0 else if nat_lt 0 blocks then old.places + 1 else 0) none
+          ∙ ap (λ (b : Bool). if b then old.places + 1 else 0) has)
+      by_tails (x ∷ xs) [] one other made made' place = absurd (omega (arith, one, other))
+      by_tails (x ∷ xs) (y ∷ ys) one other made made' place =
+          let some : 0 < tail_count old = omega (arith, one) in
+          let has : nat_lt 0 (tail_count old) ≡ true = grind (arith, nat_tests) in
+          let a : 0 < x.place = All-head IsCommitted x xs made in
+          let b : 0 < y.place = All-head IsCommitted y ys made' in
+          let more : nat_eq (suc (length xs)) 0 ≡ false = grind (arith, nat_tests) in
+          let before : y.place - 1 ≡ x.place - 1 = place
+          ∙ ap (λ (t : Bool). if t && nat_eq (length group) 0 then old.places + 1 else x.place - 1) more in
+          let is : y.place ≡ x.place = omega (arith, a, b, before) in
+          is ∙ sym (ap (λ (t : Bool). if t then x.place else if nat_lt 0 blocks then old.places + 1 else 0) has)
 
-  appended_is : log.start + length (log.changes ++ added) - position
-      ≡ log.start + length log.changes - position + length group
-  appended_is = omega (arith, long, from)
+  -- what the logger has taken lies ahead of them
+  taken_is : first_of (take old.taken (drop old.logged new.changes)) ≡ first_of (take old.taken (drop old.logged old.changes))
+  taken_is = ap first_of (sym (drop-take old.logged old.taken new.changes)
+      ∙ ap (drop old.logged) (grown.front ahead (omega arith)) ∙ drop-take old.logged old.taken old.changes)
 
-  first_is : first_of (drop (log.logged + log.taken) (log.changes ++ added))
-      ≡ (if nat_lt 0 (tail_count log) then first_of (drop (log.logged + log.taken) log.changes)
-      else if nat_lt 0 (length group) then log.places + 1 else 0)
-  first_is =
-      ap first_of (drop-append-le (log.logged + log.taken) log.changes added lawful.taken_within)
-      ∙ first_append (drop (log.logged + log.taken) log.changes) added
-      ∙ (λ i. if nat_lt 0 (length-drop (log.logged + log.taken) log.changes i)
-      then first_of (drop (log.logged + log.taken) log.changes) else first_group (log.places + 1) group i)
-
-  taken_is : first_of (take log.taken (drop log.logged (log.changes ++ added)))
-      ≡ first_of (take log.taken (drop log.logged log.changes))
-  taken_is =
-      let within = lawful.taken_within in
-      ap (λ (xs : List LogChange). first_of (take log.taken xs))
-      (drop-append-le log.logged log.changes added (omega (arith, within)))
-      ∙ ap first_of (take-append-le log.taken (drop log.logged log.changes) added
-      (omega (arith, within, length-drop log.logged log.changes)))
-
-  pub commit_told : (logging installing : Pending) → log_told position (with_group log group) logging installing
-      ≡ with_commit (log_told position log logging installing) (length group)
-  commit_told logging installing = λ i. record (log_told position log logging installing) {
-    places = log.places + 1;
+  pub commit_told : (logging installing : Pending) → log_told position new logging installing
+      ≡ with_commit (log_told position old logging installing) blocks
+  commit_told logging installing = λ i. record {
+    places = grown.places i;
     appended = appended_is i;
-    tail = tail_is i;
-    tail_first = first_is i;
-    taken_first = taken_is i;
+    tail = longer i;
+    tail_first = (ap (λ n. first_of (drop n new.changes)) same_ahead ∙ first_is) i;
+    taken = grown.taken i;
+    taken_first = (ap (λ (p : ℕ × ℕ). first_of (take p.0 (drop p.1 new.changes)))
+        (λ j. (grown.taken j, grown.logged j)) ∙ taken_is) i;
+    log_step = still.log_step i;
+    logged = grown.logged i;
+    installing = grown.installing i;
+    raised = (ap (λ (p : ℕ × ℕ). nat_lt 0 p.0 && nat_eq p.1 (p.0 + 2))
+        (λ j. (grown.installing j, still.inst_step j))) i;
+    broken = still.broken i;
+    log_call = call_told logging;
+    inst_call = call_told installing;
   }
 
 -- ---- the logger

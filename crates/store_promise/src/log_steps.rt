@@ -6,19 +6,23 @@ ghost use Rattle.disk.specs.declared.device.Failed.{Failed};
 ghost use Rattle.wal_law.specs.Calls.{Pending, idle, out, was_made};
 ghost use Rattle.wal_law.specs.Installer.{IsNextInstCall, with_inst_back, with_inst_out};
 ghost use Rattle.wal_law.specs.Io.{Io};
-ghost use Rattle.wal_law.specs.Log.{IsLawful, Log};
+ghost use Rattle.wal_law.specs.Grows.{GrowsBy};
+ghost use Rattle.wal_law.specs.Log.{IsLawful, Log, tail_count};
 ghost use Rattle.wal_law.specs.Logger.{with_log_back, with_log_out};
-ghost use Rattle.wal_law.specs.Room.{with_group};
+ghost use Rattle.txn_law.specs.Steps.{StandsStill};
 ghost use Rattle.store_promise.specs.LogTold.{call_made, with_commit, with_inst_given, with_inst_taken};
 ghost use Rattle.store_promise.specs.LogTold.{with_log_given, with_log_taken};
 ghost use Rattle.store_promise.specs.ToldOf.{log_told};
 
-/// A commit adds its blocks to what is told.
+/// A commit adds to what is told the blocks by which it makes the tail longer. How the tail has them isn't asked.
 pub fn a_commit_is_told()
-    ensures { (position : ℕ) (log : Log) (group : List (BlockNo × Content)) (logging installing : Pending)
-        → IsLawful log → position ≤ log.start + length log.changes
-        → log_told position (with_group log group) logging installing
-        ≡ with_commit (log_told position log logging installing) (length group) }
+    ensures { (position : ℕ) (old new : Log) (group : List (BlockNo × Content)) (blocks : ℕ)
+        (logging installing : Pending) → IsLawful old → IsLawful new
+        → GrowsBy old group new → StandsStill old new
+        → tail_count new ≡ tail_count old + blocks → blocks ≤ length group
+        → position ≤ old.start + length old.changes
+        → log_told position new logging installing
+        ≡ with_commit (log_told position old logging installing) blocks }
 {}
 
 /// So do the calls of the logger: taken, made and given back.

@@ -1,5 +1,5 @@
 -- Where no call is out and one is to be had, the step takes it.
-use Rattle.std.proofs.Common.{◌≡◌, Bool, true, false, None, refl}
+use Rattle.std.proofs.Common.{◌≡◌, Bool, true, false, None}
 use Rattle.store_promise.specs.LogTold.{CallTold, idle, out, was_made, LogTold, may_log_told}
 use Rattle.store_promise.specs.Schedule.{IsNextOfLog, IsStepOfLog, told_before}
 use Rattle.store_promise.proofs.promises.the_log_passes_over_no_event.Goals as goal
