@@ -20,13 +20,13 @@ use Rattle.layout.specs.declared.fault.LayoutFault.TheVariants.{Range}
 use Rattle.layout.specs.declared.geometry.Geometry.{Geometry}
 use Rattle.layout.specs.declared.inode.Inode.{Inode}
 use Rattle.layout.specs.Decode.{IsFile, node_with, file_of, inode_at}
-use Rattle.layout.specs.InodeForm.{Touch, touched, SoundTouch, FitsInode, inode_bytes, is_sound_inode}
+use Rattle.layout.specs.InodeForm.{Touch, touched, SoundTouch, FitsInode, SoundInode, inode_bytes, is_sound_inode}
 use Rattle.layout.specs.InodeForm.{is_sound_file}
 use Rattle.layout.specs.Owners.{IsMarked, owned, owned_by, is_used}
 use Rattle.layout.specs.Parts.{Parts, parts_of, put, table_of, content_in, with_bytes, with_inode}
 use Rattle.layout.specs.Geometry.{inode_block, inode_offset, data_at}
 use Rattle.layout.specs.Stands.{Stands, PartsStand, HasFiles}
-use Rattle.layout.proofs.Fits.{IsRead, read_fits, part-length}
+use Rattle.layout.proofs.Fits.{read_fits, part-length}
 use Rattle.layout.proofs.Frame.{ChangesOne, changed_files, same_owners, same_used, same_marks}
 use Rattle.layout.proofs.FreshFiles.{not_equal}
 use Rattle.layout.proofs.Retouched.{same_blocks, rules, body_is, file, shape, sound_file, sound_node}
@@ -120,7 +120,7 @@ module _ (g : Geometry) (blocks : Image) (tree : Tree) (n : ℕ) (inode : Inode)
   long : length (blocks (inode_block g.blocks g.inodes n)) ≡ BLOCK_BYTES
   long = (stands.bytes (inode_block g.blocks g.inodes n) on_disk).0
 
-  is_read : IsRead g.blocks g.inodes inode
+  is_read : SoundInode g.blocks g.inodes inode
   unfolding inode_at
   is_read = read_fits g.blocks g.inodes
       (take INODE_BYTES (drop (inode_offset n) (blocks (inode_block g.blocks g.inodes n)))) bytes_there

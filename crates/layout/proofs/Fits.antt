@@ -12,7 +12,7 @@ use Rattle.layout.specs.declared.fault.LayoutFault.TheVariants.{Range}
 use Rattle.layout.specs.declared.inode.Inode.{Inode}
 use Rattle.layout.specs.declared.inode.InodeKind.{InodeKind}
 use Rattle.layout.specs.Fields.{four_at, eight_at, numbers_at, is_zeros}
-use Rattle.layout.specs.InodeForm.{FitsInode, read_inode, inode_of_kind, fields_of, is_sound_inode}
+use Rattle.layout.specs.InodeForm.{FitsInode, SoundInode, read_inode, inode_of_kind, fields_of, is_sound_inode}
 use Rattle.layout.specs.InodeForm.{rest_is_zero, kind_of_number, verifier_at}
 use Rattle.layout.proofs.NumbersAt.{numbers-length}
 use Rattle.layout.proofs.WrittenBytes.{taken, dropped}
@@ -85,10 +85,6 @@ and_right : (a b : Bool) → (a && b) ≡ true → b ≡ true
 and_right true b e = e
 and_right false b e = cc
 
-pub record IsRead (blocks inodes : ℕ) (inode : Inode) : Type 0 where
-  pub fits : FitsInode inode
-  pub good : is_sound_inode blocks inodes inode ≡ true
-
 -- so many bytes from an offset on, where there are as many
 pub part-length : (count offset : ℕ) (bytes : List ℕ) → offset + count ≤ length bytes
     → length (take count (drop offset bytes)) ≡ count
@@ -98,7 +94,7 @@ part-length count offset bytes inside =
 module _ (blocks inodes : ℕ) (bytes : List ℕ) (are : AreBytes bytes) (long : length bytes ≡ INODE_BYTES)
     (inode : Inode) where
   of_kind : (kind : Option InodeKind) → inode_of_kind blocks inodes kind bytes ≡ Ok (Some inode)
-      → IsRead blocks inodes inode
+      → SoundInode blocks inodes inode
   of_kind None e = cc
   of_kind (Some kind) e =
       let is = chosen (rest_is_zero bytes && is_sound_inode blocks inodes (fields_of kind bytes))
@@ -112,10 +108,10 @@ module _ (blocks inodes : ℕ) (bytes : List ℕ) (are : AreBytes bytes) (long :
   used : (free : Bool)
       → cond free (Ok None) (inode_of_kind blocks inodes (kind_of_number (four_at 0 bytes)) bytes)
       ≡ Ok (Some inode)
-      → IsRead blocks inodes inode
+      → SoundInode blocks inodes inode
   used true e = cc
   used false e = of_kind (kind_of_number (four_at 0 bytes)) e
 
-  pub read_fits : read_inode blocks inodes bytes ≡ Ok (Some inode) → IsRead blocks inodes inode
+  pub read_fits : read_inode blocks inodes bytes ≡ Ok (Some inode) → SoundInode blocks inodes inode
   unfolding read_inode
   read_fits e = used (is_zeros bytes) e

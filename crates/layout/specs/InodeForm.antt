@@ -1,12 +1,12 @@
 -- The inode: what the disk has of a file in 128 bytes.
-use Rattle.std.specs.Prelude.{◌≡◌, ℕ, ◌+◌, ◌<◌, ◌≤◌, ◌^◌, ◌/◌, ◌%◌, length, IfSome, Bool, cond, not}
+use Rattle.std.specs.Prelude.{◌≡◌, ℕ, ◌+◌, ◌<◌, ◌≤◌, ◌^◌, ◌/◌, ◌%◌, length, IfSome, Bool, true, cond, not}
 use Rattle.std.specs.Prelude.{◌&&◌}
 use Rattle.std.specs.Prelude.{◌||◌, List, ◌++◌, nat_eq, nat_le, nat_lt, take, drop, min, Option, Some, None}
-use Rattle.std.specs.Prelude.{is_none}
+use Rattle.std.specs.Prelude.{is_none, replicate}
 use Rattle.std.specs.Prelude.{Result, Ok, Err}
 use Rattle.std.specs.List.{list_all, AllByRecursion}
 use Rattle.limits.specs.declared.TheConstants.{BLOCK_BYTES, DIRECT_INDEXES, LARGEST_FILE, MODE_BITS}
-use Rattle.limits.specs.declared.TheConstants.{MOST_LINKS, NANOSECONDS, TARGET_BYTES}
+use Rattle.limits.specs.declared.TheConstants.{INODE_BYTES, MOST_LINKS, NANOSECONDS, TARGET_BYTES}
 use Rattle.nfs_types.specs.declared.ctx.Moment.{Moment}
 use Rattle.nfs_types.specs.declared.verifier.TheConstants.{VERIFIER_BYTES}
 use Rattle.nfs_types.specs.declared.verifier.Verifier.{Verifier}
@@ -192,6 +192,21 @@ pub record FitsInode (inode : Inode) : Type 0 where
   pub count : length inode.direct ≡ DIRECT_INDEXES
   pub direct : AllByRecursion (λ number. number < 2 ^ 32) inode.direct
   pub indirect : inode.indirect < 2 ^ 32
+
+-- its fields have room, and it shows nothing wrong by itself in an image of these sizes
+pub record SoundInode (blocks inodes : ℕ) (inode : Inode) : Type 0 where
+  pub fits : FitsInode inode
+  pub good : is_sound_inode blocks inodes inode ≡ true
+
+-- these are the bytes of this inode
+pub record IsInode (blocks inodes : ℕ) (bytes : List ℕ) (inode : Inode) : Type 0 where
+  pub spelled : bytes ≡ inode_bytes inode
+  pub sound : SoundInode blocks inodes inode
+
+-- what 128 bytes of the table are: zeros where the inode is free, and else the bytes of a file's inode
+abbrev pub IsInTable : ℕ → ℕ → List ℕ → Option Inode → Type 0
+IsInTable blocks inodes bytes None = bytes ≡ replicate INODE_BYTES 0
+IsInTable blocks inodes bytes (Some inode) = IsInode blocks inodes bytes inode
 
 -- what of an inode is no matter of its blocks, its kind or its links, nor of how its file was made
 pub record Touch : Type 0 where

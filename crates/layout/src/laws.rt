@@ -1,5 +1,5 @@
 //! Laws on what blocks stand for.
-ghost use Rattle.std.specs.Prelude.{◌≡◌, ℕ, ◌≤◌, true, Some, Ok};
+ghost use Rattle.std.specs.Prelude.{◌≡◌, ℕ, ◌≤◌, Some, Ok};
 ghost use Rattle.disk.specs.Crash.{Image};
 ghost use Rattle.limits.specs.declared.TheConstants.{MODE_BITS};
 ghost use Rattle.nfs_types.specs.declared.ctx.Moment.{Moment};
@@ -9,18 +9,9 @@ ghost use Rattle.model.specs.Tree.{Tree, node_at, with_node};
 ghost use Rattle.layout.specs.declared.geometry.Geometry.{Geometry};
 ghost use Rattle.layout.specs.declared.inode.Inode.{Inode};
 ghost use Rattle.layout.specs.Decode.{inode_at, node_with};
-ghost use Rattle.layout.specs.InodeForm.{FitsInode, inode_bytes, is_sound_inode, read_inode};
 ghost use Rattle.layout.specs.InodeForm.{Touch, touched, SoundTouch};
 ghost use Rattle.layout.specs.Parts.{with_inode};
 ghost use Rattle.layout.specs.Stands.{Stands};
-
-/// The bytes that an inode gets are those of this inode, where its fields have room in them, and it shows nothing
-/// wrong by itself.
-pub fn an_inode_is_its_bytes()
-    ensures { (blocks inodes : ℕ) (inode : Inode) → FitsInode inode
-        → is_sound_inode blocks inodes inode ≡ true
-        → read_inode blocks inodes (inode_bytes inode) ≡ Ok (Some inode) }
-{}
 
 /// Two trees that the same blocks stand for are equal.
 pub fn blocks_stand_for_one_tree()

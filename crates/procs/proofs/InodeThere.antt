@@ -15,12 +15,12 @@ use Rattle.layout.specs.declared.inode.Inode.{Inode}
 use Rattle.layout.specs.declared.inode.InodeKind.{InodeKind}
 use Rattle.layout.specs.declared.inode.InodeKind.TheVariants.{Regular, Directory, Link}
 use Rattle.layout.specs.Decode.{IsFile, IsOfKind, inode_at}
-use Rattle.layout.specs.InodeForm.{is_sound_inode, is_sound_kind, is_sound_file, is_sound_map}
+use Rattle.layout.specs.InodeForm.{SoundInode, is_sound_inode, is_sound_kind, is_sound_file, is_sound_map}
 use Rattle.layout.specs.InodeForm.{is_sound_regular, is_sound_directory, is_sound_link, is_data_block_or_none}
 use Rattle.layout.specs.Geometry.{inode_block, inode_offset, is_data, data_at}
 use Rattle.layout.specs.Parts.{content_in}
 use Rattle.layout.specs.Stands.{Stands}
-use Rattle.layout.proofs.Fits.{IsRead, read_fits, part-length}
+use Rattle.layout.proofs.Fits.{read_fits, part-length}
 use Rattle.layout.proofs.WrittenBytes.{taken, dropped}
 use Rattle.procs.proofs.AllTests.{all_two, all_three, is_less, same_number}
 use Rattle.procs.proofs.UsedBlocks.{counted}
@@ -68,7 +68,7 @@ module _ (g : Geometry) (blocks : Image) (tree : Tree) (n : ℕ) (inode : Inode)
       part_bytes : (len from : ℕ) (bytes : List ℕ) → AreBytes bytes → AreBytes (take len (drop from bytes))
       part_bytes len from bytes are = (taken len (dropped from (record { are = are }))).are
 
-  pub is_read : IsRead g.blocks g.inodes inode
+  pub is_read : SoundInode g.blocks g.inodes inode
   unfolding inode_at
   is_read = read_fits g.blocks g.inodes
       (take INODE_BYTES (drop (inode_offset n) (blocks (inode_block g.blocks g.inodes n)))) bytes_there

@@ -7,7 +7,7 @@ returns-in-Ok-clause-there c = λ blocks saw.
     read_there c.args.snap.now.geometry blocks c.args.number c.inode_addr.result c.in_ok-bytes.bytes.now
     c.inode_addr.ensures.block c.inode_addr.ensures.offset c.inode_addr.ensures.len
     (c.in_ok-bytes.ensures.there blocks saw)
-    ∙ sym c.in-Ok.ensures
+    ∙ sym c.in-Ok.ensures.value
 
 pub returns-in-Err-clause-io : goal.returns-in-Err-clause-io
 returns-in-Err-clause-io c = λ blocks tree stands saw.
@@ -15,7 +15,7 @@ returns-in-Err-clause-io c = λ blocks tree stands saw.
     (read_there c.args.snap.now.geometry blocks c.args.number c.inode_addr.result c.in_ok-bytes.bytes.now
     c.inode_addr.ensures.block c.inode_addr.ensures.offset c.inode_addr.ensures.len
     (c.in_ok-bytes.ensures.there blocks saw)
-    ∙ sym c.in-Err.ensures)
+    ∙ sym c.in-Err.ensures.value)
 
 pub returns-in-Ok-clause-read : goal.returns-in-Ok-clause-read
 returns-in-Ok-clause-read c =
@@ -24,4 +24,4 @@ returns-in-Ok-clause-read c =
       block = c.inode_addr.ensures.block;
       offset = c.inode_addr.ensures.offset;
       len = c.inode_addr.ensures.len;
-    }) c.in_ok-bytes.bytes.now c.in_ok-bytes.ensures.read c.in-Ok.found (sym c.in-Ok.ensures)
+    }) c.in_ok-bytes.bytes.now c.in_ok-bytes.ensures.read c.in-Ok.found (sym c.in-Ok.ensures.value)
