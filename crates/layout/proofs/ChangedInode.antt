@@ -1,6 +1,6 @@
 -- The blocks with a touched inode stand for the tree with the touched file.
-use Rattle.std.proofs.Common.{◌≡◌, ℕ, ◌-◌, ◌%◌, ◌<◌, ◌≤◌, inl, inr, sym, ap, ◌∙◌, refl, subst, true, false}
-use Rattle.std.proofs.Common.{cond, List, [], ◌∷◌, length, take, drop, Some, None, Ok, Err, arith}
+use Rattle.std.proofs.Common.{◌≡◌, ℕ, ◌-◌, ◌%◌, ◌<◌, ◌≤◌, inl, inr, sym, ap, ◌∙◌, refl, subst, true}
+use Rattle.std.proofs.Common.{cond, List, [], ◌∷◌, length, take, drop, Some, Ok, Err, arith}
 use Rattle.std.specs.Cmp.{nat_cmp_total}
 use Rattle.std.specs.FinMap.{get-insert}
 use Rattle.std.specs.Ordering.{nat_cmp, eq_by_cmp}
@@ -19,17 +19,17 @@ use Rattle.model.proofs.Sets.{itself}
 use Rattle.layout.specs.declared.fault.LayoutFault.TheVariants.{Range}
 use Rattle.layout.specs.declared.geometry.Geometry.{Geometry}
 use Rattle.layout.specs.declared.inode.Inode.{Inode}
-use Rattle.layout.specs.Decode.{IsFile, node_with, file_of, file_of_kind, inode_at}
-use Rattle.layout.specs.InodeForm.{Touch, touched, SoundTouch, FitsInode, inode_bytes, is_sound_inode}
+use Rattle.layout.specs.Decode.{IsFile, node_with, file_of, inode_at}
+use Rattle.layout.specs.InodeForm.{Touch, touched, SoundTouch, FitsInode, SoundInode, inode_bytes, is_sound_inode}
 use Rattle.layout.specs.InodeForm.{is_sound_file}
-use Rattle.layout.specs.Owners.{IsMarked, owned, owned_by, is_used, is_free}
+use Rattle.layout.specs.Owners.{IsMarked, owned, owned_by, is_used}
 use Rattle.layout.specs.Parts.{Parts, parts_of, put, table_of, content_in, with_bytes, with_inode}
 use Rattle.layout.specs.Geometry.{inode_block, inode_offset, data_at}
 use Rattle.layout.specs.Stands.{Stands, PartsStand, HasFiles}
-use Rattle.layout.proofs.Fits.{IsRead, read_fits, part-length}
+use Rattle.layout.proofs.Fits.{read_fits, part-length}
 use Rattle.layout.proofs.Frame.{ChangesOne, changed_files, same_owners, same_used, same_marks}
 use Rattle.layout.proofs.FreshFiles.{not_equal}
-use Rattle.layout.proofs.Retouched.{same_blocks, rules, body_is, used, file, shape, sound_file, sound_node}
+use Rattle.layout.proofs.Retouched.{same_blocks, rules, body_is, file, shape, sound_file, sound_node}
 use Rattle.layout.proofs.Retouched.{touched_fits, touched_sound}
 use Rattle.layout.proofs.Spelled.{read_back, written-length}
 use Rattle.layout.proofs.Splices.{spliced-length}
@@ -42,13 +42,13 @@ nothing_else content (n ∷ numbers) = (refl, nothing_else content numbers)
 
 -- what the file of a number that is read has of its inode
 pub node_of : (g : Geometry) (blocks : Image) (tree : Tree) (n : ℕ) (inode : Inode) (node : Node)
-    → Stands g blocks tree → node_at tree n ≡ Some node → inode_at g blocks n ≡ Ok inode
+    → Stands g blocks tree → node_at tree n ≡ Some node → inode_at g blocks n ≡ Ok (Some inode)
     → node_with inode node.body ≡ node
 node_of g blocks tree n inode node stands was read =
     let inodes_are : tree.geometry.inodes ≡ g.inodes =
     ap (λ (one : model.Geometry). one.inodes) stands.parts.geometry in
     let below = (stands.parts.sound.files n node was).most in
-    let table_is : table_of g blocks n ≡ Ok inode =
+    let table_is : table_of g blocks n ≡ Ok (Some inode) =
     ap (λ b. cond b (inode_at g blocks n) (Err Range))
     (lt-ltb n g.inodes (omega (arith, below, inodes_are))) ∙ read in
     body_is g (content_in g blocks) inode (record {
@@ -58,11 +58,11 @@ node_of g blocks tree n inode node stands was read =
       atime = inode.atime;
       mtime = inode.mtime;
       ctime = inode.ctime;
-    }) g.inodes inode.kind node
+    }) g.inodes node
     (ap (file_of g.inodes (content_in g blocks)) (sym table_is) ∙ sym (stands.parts.has.files n) ∙ was)
 
 module _ (g : Geometry) (blocks : Image) (tree : Tree) (n : ℕ) (inode : Inode) (t : Touch) (node : Node)
-    (stands : Stands g blocks tree) (was : node_at tree n ≡ Some node) (read : inode_at g blocks n ≡ Ok inode)
+    (stands : Stands g blocks tree) (was : node_at tree n ≡ Some node) (read : inode_at g blocks n ≡ Ok (Some inode))
     (good : SoundTouch t) where
   abbrev old : Parts
   old = parts_of g blocks
@@ -71,7 +71,7 @@ module _ (g : Geometry) (blocks : Image) (tree : Tree) (n : ℕ) (inode : Inode)
   new_inode = touched inode t
 
   abbrev new : Parts
-  new = record old { table = put old.table n (Ok new_inode) }
+  new = record old { table = put old.table n (Ok (Some new_inode)) }
 
   abbrev new_node : Node
   new_node = node_with new_inode node.body
@@ -100,17 +100,14 @@ module _ (g : Geometry) (blocks : Image) (tree : Tree) (n : ℕ) (inode : Inode)
 
   -- ---- what is read there
 
-  table_is : old.table n ≡ Ok inode
+  table_is : old.table n ≡ Ok (Some inode)
   table_is = ap (λ b. cond b (inode_at g blocks n) (Err Range)) (lt-ltb n g.inodes less) ∙ read
 
-  file_is : file_of_kind g.inodes old.content inode.kind inode ≡ Some node
+  file_is : file_of g.inodes old.content (Ok (Some inode)) ≡ Some node
   file_is = ap (file_of g.inodes old.content) (sym table_is) ∙ sym (stands.parts.has.files n) ∙ was
 
-  in_use : is_free inode.kind ≡ false
-  in_use = used g old.content inode t g.inodes inode.kind node file_is
-
   node_is : node_with inode node.body ≡ node
-  node_is = body_is g old.content inode t g.inodes inode.kind node file_is
+  node_is = body_is g old.content inode t g.inodes node file_is
 
   bytes_there : AreBytes (take INODE_BYTES (drop (inode_offset n) (blocks (inode_block g.blocks g.inodes n))))
   bytes_there =
@@ -123,7 +120,7 @@ module _ (g : Geometry) (blocks : Image) (tree : Tree) (n : ℕ) (inode : Inode)
   long : length (blocks (inode_block g.blocks g.inodes n)) ≡ BLOCK_BYTES
   long = (stands.bytes (inode_block g.blocks g.inodes n) on_disk).0
 
-  is_read : IsRead g.blocks g.inodes inode
+  is_read : SoundInode g.blocks g.inodes inode
   unfolding inode_at
   is_read = read_fits g.blocks g.inodes
       (take INODE_BYTES (drop (inode_offset n) (blocks (inode_block g.blocks g.inodes n)))) bytes_there
@@ -135,19 +132,19 @@ module _ (g : Geometry) (blocks : Image) (tree : Tree) (n : ℕ) (inode : Inode)
 
   new_good : is_sound_inode g.blocks g.inodes new_inode ≡ true
   unfolding is_sound_inode
-  new_good = touched_sound g.blocks g.inodes inode.kind inode t good in_use is_read.good
+  new_good = touched_sound g.blocks g.inodes inode.kind inode t good is_read.good
 
   old_file : node_at tree n ≡ Some (node_with inode node.body)
   old_file = was ∙ ap (λ (one : Node). Some one) (sym node_is)
 
   -- ---- the parts
 
-  at_n : new.table n ≡ Ok new_inode
-  at_n = ap (λ b. cond b (Ok new_inode) (old.table n)) (eq-eqb n n refl)
+  at_n : new.table n ≡ Ok (Some new_inode)
+  at_n = ap (λ b. cond b (Ok (Some new_inode)) (old.table n)) (eq-eqb n n refl)
 
   one : ChangesOne old new n
   one = record {
-    table = λ m not. ap (λ b. cond b (Ok new_inode) (old.table m)) (not_same m n not);
+    table = λ m not. ap (λ b. cond b (Ok (Some new_inode)) (old.table m)) (not_same m n not);
     content = λ m not. nothing_else old.content (owned_by old.content (old.table m));
   }
 
@@ -165,7 +162,7 @@ module _ (g : Geometry) (blocks : Image) (tree : Tree) (n : ℕ) (inode : Inode)
       (rules g old.content inode t inode.kind
       (subst (IsFile g old.content) table_is (stands.parts.has.inodes n low))))
       (here_next ∙ sym (ap (file_of g.inodes old.content) at_n
-      ∙ file g old.content inode t g.inodes inode.kind node file_is))
+      ∙ file g old.content inode t g.inodes node file_is))
       there_next
 
   owners : owned g new ≡ owned g old
@@ -186,8 +183,8 @@ module _ (g : Geometry) (blocks : Image) (tree : Tree) (n : ℕ) (inode : Inode)
     where
       new_file_good : is_sound_file new_inode ≡ true
       new_file_good =
-          sound_file g.blocks g.inodes inode.kind new_inode in_use
-          (touched_sound g.blocks g.inodes inode.kind inode t good in_use is_read.good)
+          sound_file g.blocks g.inodes inode.kind new_inode
+          (touched_sound g.blocks g.inodes inode.kind inode t good is_read.good)
 
   parts_stand : PartsStand g new next
   parts_stand = record { geometry = stands.parts.geometry; sound = next_sound; has = has; marked = marked }
@@ -201,8 +198,8 @@ module _ (g : Geometry) (blocks : Image) (tree : Tree) (n : ℕ) (inode : Inode)
   size = written-length new_inode fits
 
   parts_are : parts_of g written ≡ new
-  parts_are = parts_written g blocks n (inode_bytes new_inode) new_inode whole less long size
-      (read_back new_inode fits g.blocks g.inodes in_use new_good)
+  parts_are = parts_written g blocks n (inode_bytes new_inode) (Some new_inode) whole less long size
+      (read_back new_inode fits g.blocks g.inodes new_good)
 
   abbrev IsBlock : List ℕ → Type 0
   IsBlock bytes = (length bytes ≡ BLOCK_BYTES) × AreBytes bytes
@@ -231,7 +228,7 @@ module _ (g : Geometry) (blocks : Image) (tree : Tree) (n : ℕ) (inode : Inode)
 
 module _ (g : Geometry) (blocks : Image) (tree : Tree) (n mode : ℕ) (inode : Inode) (node : Node)
     (moment : Moment)
-    (stands : Stands g blocks tree) (was : node_at tree n ≡ Some node) (read : inode_at g blocks n ≡ Ok inode)
+    (stands : Stands g blocks tree) (was : node_at tree n ≡ Some node) (read : inode_at g blocks n ≡ Ok (Some inode))
     (small : mode ≤ MODE_BITS) (now : SoundTime moment) where
   abbrev t : Touch
   t = record {

@@ -11,8 +11,8 @@ use Rattle.nfs_types.specs.Fits.{AreBytes, VerifierFits}
 use Rattle.layout.specs.declared.fault.LayoutFault.TheVariants.{Range}
 use Rattle.layout.specs.declared.inode.Inode.{Inode}
 use Rattle.layout.specs.declared.inode.InodeKind.{InodeKind}
-use Rattle.layout.specs.Fields.{four_at, eight_at, numbers_at}
-use Rattle.layout.specs.InodeForm.{FitsInode, read_inode, inode_of_kind, fields_of, is_sound_inode}
+use Rattle.layout.specs.Fields.{four_at, eight_at, numbers_at, is_zeros}
+use Rattle.layout.specs.InodeForm.{FitsInode, SoundInode, read_inode, inode_of_kind, fields_of, is_sound_inode}
 use Rattle.layout.specs.InodeForm.{rest_is_zero, kind_of_number, verifier_at}
 use Rattle.layout.proofs.NumbersAt.{numbers-length}
 use Rattle.layout.proofs.WrittenBytes.{taken, dropped}
@@ -77,17 +77,13 @@ module _ (bytes : List ℕ) (are : AreBytes bytes) where
     indirect = four 120;
   }
 
-chosen : (b : Bool) (x y : Inode) → cond b (Ok x) (Err Range) ≡ Ok y → (b ≡ true) × (x ≡ y)
+chosen : (b : Bool) (x y : Inode) → cond b (Ok (Some x)) (Err Range) ≡ Ok (Some y) → (b ≡ true) × (x ≡ y)
 chosen true x y e = (refl, cc)
 chosen false x y e = cc
 
 and_right : (a b : Bool) → (a && b) ≡ true → b ≡ true
 and_right true b e = e
 and_right false b e = cc
-
-pub record IsRead (blocks inodes : ℕ) (inode : Inode) : Type 0 where
-  pub fits : FitsInode inode
-  pub good : is_sound_inode blocks inodes inode ≡ true
 
 -- so many bytes from an offset on, where there are as many
 pub part-length : (count offset : ℕ) (bytes : List ℕ) → offset + count ≤ length bytes
@@ -97,18 +93,25 @@ part-length count offset bytes inside =
 
 module _ (blocks inodes : ℕ) (bytes : List ℕ) (are : AreBytes bytes) (long : length bytes ≡ INODE_BYTES)
     (inode : Inode) where
-  of_kind : (kind : Option InodeKind) → inode_of_kind blocks inodes kind bytes ≡ Ok inode
-      → IsRead blocks inodes inode
+  of_kind : (kind : Option InodeKind) → inode_of_kind blocks inodes kind bytes ≡ Ok (Some inode)
+      → SoundInode blocks inodes inode
   of_kind None e = cc
   of_kind (Some kind) e =
-      let is = chosen (rest_is_zero kind bytes && is_sound_inode blocks inodes (fields_of kind bytes))
+      let is = chosen (rest_is_zero bytes && is_sound_inode blocks inodes (fields_of kind bytes))
       (fields_of kind bytes) inode e in
       record {
         fits = subst FitsInode is.1 (fields_fit bytes are kind (omega (arith, long)));
         good = ap (is_sound_inode blocks inodes) (sym is.1)
-            ∙ and_right (rest_is_zero kind bytes) (is_sound_inode blocks inodes (fields_of kind bytes)) is.0;
+            ∙ and_right (rest_is_zero bytes) (is_sound_inode blocks inodes (fields_of kind bytes)) is.0;
       }
 
-  pub read_fits : read_inode blocks inodes bytes ≡ Ok inode → IsRead blocks inodes inode
+  used : (free : Bool)
+      → cond free (Ok None) (inode_of_kind blocks inodes (kind_of_number (four_at 0 bytes)) bytes)
+      ≡ Ok (Some inode)
+      → SoundInode blocks inodes inode
+  used true e = cc
+  used false e = of_kind (kind_of_number (four_at 0 bytes)) e
+
+  pub read_fits : read_inode blocks inodes bytes ≡ Ok (Some inode) → SoundInode blocks inodes inode
   unfolding read_inode
-  read_fits e = of_kind (kind_of_number (four_at 0 bytes)) e
+  read_fits e = used (is_zeros bytes) e

@@ -20,15 +20,13 @@ use Rattle.model.proofs.Sets.{eq_by_cmp-is}
 use Rattle.layout.specs.declared.fault.LayoutFault.TheVariants.{Range}
 use Rattle.layout.specs.declared.geometry.Geometry.{Geometry}
 use Rattle.layout.specs.Decode.{IsFile, IsDirectory, file_of, inode_at, numbers_of, named_in}
-use Rattle.layout.specs.Fields.{four_at, numbers_at}
 use Rattle.layout.specs.Fresh.{HasFreshHomes, root_inode, is_outside}
-use Rattle.layout.specs.InodeForm.{fields_of}
 use Rattle.layout.specs.Owners.{IsMarked, owned, owned_by, is_used, is_marked_block, is_marked_inode}
 use Rattle.layout.specs.Parts.{Parts, parts_of, table_of, content_in, bit_at}
 use Rattle.layout.specs.Geometry.{IsLawful, bitmap_blocks, inode_bitmap_at, data_at}
 use Rattle.layout.specs.Stands.{geometry_of, file_at}
 use Rattle.layout.proofs.FreshBits.{bit_is}
-use Rattle.layout.proofs.FreshInodes.{free_inode, free_at, root_at}
+use Rattle.layout.proofs.FreshInodes.{free_at, root_at}
 
 -- ---- the two inodes
 
@@ -42,28 +40,24 @@ module _ (g : Geometry) (image : Image) (moment : Moment) where
     once = len-empty (slice_cmp nat_cmp) DirectoryEntry;
   }
 
-  free_kept : IsFile g image (Ok free_inode)
-  unfolding fields_of
+  free_kept : IsFile g image (Ok None)
   free_kept = tt
 
-  root_file : file_of g.inodes image (Ok (root_inode moment)) ≡ Some (format_root moment)
+  root_file : file_of g.inodes image (Ok (Some (root_inode moment))) ≡ Some (format_root moment)
   unfolding named_in
   root_file = refl
 
-  no_file : file_of g.inodes image (Ok free_inode) ≡ None
-  unfolding fields_of
+  no_file : file_of g.inodes image (Ok None) ≡ None
   no_file = refl
 
-  root_owns : owned_by image (Ok (root_inode moment)) ≡ []
+  root_owns : owned_by image (Ok (Some (root_inode moment))) ≡ []
   unfolding numbers_of
   root_owns = refl
 
-  free_owns : owned_by image (Ok free_inode) ≡ []
-  unfolding numbers_of fields_of four_at numbers_at
+  free_owns : owned_by image (Ok None) ≡ []
   free_owns = refl
 
-  free_unused : is_used (Ok free_inode) ≡ false
-  unfolding fields_of
+  free_unused : is_used (Ok None) ≡ false
   free_unused = refl
 
 -- ---- lists and tests
@@ -117,13 +111,13 @@ module _ (g : Geometry) (moment : Moment) (image : Image) (lawful : IsLawful g.b
   table_below number less =
       ap (λ b. cond b (inode_at g image number) (Err Range)) (lt-ltb number g.inodes less)
 
-  root_is : table_of g image 1 ≡ Ok (root_inode moment)
+  root_is : table_of g image 1 ≡ Ok (Some (root_inode moment))
   root_is = table_below 1 one_below ∙ root_at g moment image lawful now fresh
 
-  free_is : (number : ℕ) → number < g.inodes → (number ≡ 1 → ⊥) → table_of g image number ≡ Ok free_inode
+  free_is : (number : ℕ) → number < g.inodes → (number ≡ 1 → ⊥) → table_of g image number ≡ Ok None
   free_is number less not = table_below number less ∙ free_at g moment image lawful now fresh number less not
 
-  root_there : (number : ℕ) → number ≡ 1 → table_of g image number ≡ Ok (root_inode moment)
+  root_there : (number : ℕ) → number ≡ 1 → table_of g image number ≡ Ok (Some (root_inode moment))
   root_there number is = ap (table_of g image) is ∙ root_is
 
   -- ---- files

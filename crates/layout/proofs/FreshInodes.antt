@@ -1,6 +1,6 @@
 -- What the inodes of a fresh table are read as.
 use Rattle.std.proofs.Common.{◌≡◌, ℕ, ◌+◌, ◌-◌, ◌*◌, ◌/◌, ◌%◌, ◌<◌, ◌≤◌, inl, inr, ◌++◌, true, List, length}
-use Rattle.std.proofs.Common.{take, drop, replicate, Some, Ok, refl, sym, ap, ◌∙◌, arith}
+use Rattle.std.proofs.Common.{take, drop, replicate, Some, None, false, Ok, refl, sym, ap, ◌∙◌, arith}
 use Rattle.std.specs.Int.{w32, from_le_bytes, to_le_bytes}
 use Rattle.std.proofs.Math.Seq.{drop-append-add}
 use Rattle.std.proofs.lemmas.Bool.{lt-ltb, cases_eq, cases_lt}
@@ -11,22 +11,18 @@ use Rattle.disk.specs.Crash.{Image}
 use Rattle.nfs_types.specs.declared.ctx.Moment.{Moment}
 use Rattle.model.specs.Sound.{SoundTime}
 use Rattle.layout.specs.declared.geometry.Geometry.{Geometry}
-use Rattle.layout.specs.declared.inode.Inode.{Inode}
-use Rattle.layout.specs.declared.inode.InodeKind.TheVariants.{Free, Directory}
+use Rattle.layout.specs.declared.inode.InodeKind.TheVariants.{Directory}
 use Rattle.layout.specs.Decode.{inode_at}
-use Rattle.layout.specs.Fields.{four_at, eight_at, numbers_at, four_bytes, eight_bytes}
+use Rattle.layout.specs.Fields.{four_at, eight_at, numbers_at, four_bytes, eight_bytes, is_zeros}
 use Rattle.layout.specs.Fresh.{HasFreshHomes, root_inode, root_block}
 use Rattle.layout.specs.InodeForm.{read_inode, fields_of, is_sound_inode, inode_bytes, head_bytes}
 use Rattle.layout.specs.InodeForm.{middle_bytes, tail_bytes, rest_is_zero, kind_of_number}
 use Rattle.layout.specs.Geometry.{IsLawful, inode_block, inode_offset, table_at}
 use Rattle.layout.proofs.ReadInode.{sound}
 
-abbrev pub free_inode : Inode
-free_inode = fields_of Free (replicate INODE_BYTES 0)
-
 -- zeros are a free inode
-pub free : (blocks inodes : ℕ) → read_inode blocks inodes (replicate INODE_BYTES 0) ≡ Ok free_inode
-unfolding read_inode is_sound_inode fields_of four_at eight_at numbers_at
+pub free : (blocks inodes : ℕ) → read_inode blocks inodes (replicate INODE_BYTES 0) ≡ Ok None
+unfolding read_inode
 free blocks inodes = refl
 
 module _ (moment : Moment) (now : SoundTime moment) where
@@ -54,7 +50,11 @@ module _ (moment : Moment) (now : SoundTime moment) where
   unfolding four_at eight_at head_bytes middle_bytes tail_bytes four_bytes eight_bytes
   kind = refl
 
-  rest : rest_is_zero Directory bytes ≡ true
+  some_bytes : is_zeros bytes ≡ false
+  unfolding head_bytes four_bytes
+  some_bytes = refl
+
+  rest : rest_is_zero bytes ≡ true
   unfolding four_at eight_at head_bytes middle_bytes tail_bytes four_bytes eight_bytes
   rest = refl
 
@@ -64,9 +64,9 @@ module _ (moment : Moment) (now : SoundTime moment) where
       rw (lt-ltb 1 inodes more, lt-ltb moment.nanoseconds NANOSECONDS now.nanoseconds) refl
 
   -- the root's bytes are the root
-  pub root : (blocks inodes : ℕ) → 1 < inodes → read_inode blocks inodes bytes ≡ Ok (root_inode moment)
+  pub root : (blocks inodes : ℕ) → 1 < inodes → read_inode blocks inodes bytes ≡ Ok (Some (root_inode moment))
   root blocks inodes more =
-      sym (sound blocks inodes bytes Directory (root_inode moment) kind (sym fields) rest
+      sym (sound blocks inodes bytes Directory (root_inode moment) some_bytes kind (sym fields) rest
       (is_sound blocks inodes more))
 
   -- ---- the parts of the table
@@ -145,7 +145,7 @@ module _ (g : Geometry) (moment : Moment) (image : Image) (lawful : IsLawful g.b
       let whole = lawful.1.2 in
       fresh.free (number / INODES_PER_BLOCK) (omega (arith, more)) (omega (arith, less, whole))
 
-  pub root_at : inode_at g image 1 ≡ Ok (root_inode moment)
+  pub root_at : inode_at g image 1 ≡ Ok (Some (root_inode moment))
   unfolding inode_at
   root_at =
       let few = lawful.1.0 in
@@ -170,7 +170,7 @@ module _ (g : Geometry) (moment : Moment) (image : Image) (lawful : IsLawful g.b
         ∙ part moment now (INODE_BYTES * (number % INODES_PER_BLOCK)) BLOCK_BYTES (omega arith)
   ]
 
-  pub free_at : (number : ℕ) → number < g.inodes → (number ≡ 1 → ⊥) → inode_at g image number ≡ Ok free_inode
+  pub free_at : (number : ℕ) → number < g.inodes → (number ≡ 1 → ⊥) → inode_at g image number ≡ Ok None
   unfolding inode_at
   free_at number less not = ap (read_inode g.blocks g.inodes) (zero_part number less not)
       ∙ free g.blocks g.inodes

@@ -20,3 +20,10 @@ pub mod OtherWrites
 pub mod Mapped
 pub mod Used
 pub mod FreshHomes
+pub mod Respelled
+pub mod ReadBytes
+pub mod Refused
+pub mod SlotBytes
+pub mod NumbersBytes
+pub mod SuperBytes
+pub mod OneGeometry

@@ -1,7 +1,7 @@
 -- A file's node and rules look at the file's own blocks alone.
 use Rattle.std.proofs.Common.{◌≡◌, ℕ, zero, suc, sym, ap, ◌∙◌, refl, subst, Bool, true, false, cond, not}
 use Rattle.std.proofs.Common.{◌||◌, List, [], ◌∷◌, ◌++◌, length, take, drop, nat_eq, replicate, filter, All}
-use Rattle.std.proofs.Common.{IsOk, Ok, Err, Result, Some, ◌*◌}
+use Rattle.std.proofs.Common.{IsOk, Ok, Err, Result, Option, Some, None, ◌*◌}
 use Rattle.std.specs.List.{AllByRecursion, filter_map, list_all, list_any}
 use Rattle.std.specs.Cmp.Lexicographic.{slice_cmp}
 use Rattle.std.specs.Ordering.{nat_cmp}
@@ -12,9 +12,9 @@ use Rattle.layout.specs.declared.fault.LayoutFault.{LayoutFault}
 use Rattle.layout.specs.declared.geometry.Geometry.{Geometry}
 use Rattle.layout.specs.declared.inode.Inode.{Inode}
 use Rattle.layout.specs.declared.inode.InodeKind.{InodeKind}
-use Rattle.layout.specs.declared.inode.InodeKind.TheVariants.{Free, Regular, Directory, Link}
+use Rattle.layout.specs.declared.inode.InodeKind.TheVariants.{Regular, Directory, Link}
 use Rattle.layout.specs.Decode.{numbers_of, content_of, bytes_of, mapped_of, span_of, SLOT_SIZE, slot_bytes}
-use Rattle.layout.specs.Decode.{slots_of, entry_in, named_in, node_with, file_of_kind, file_of, IsMapped}
+use Rattle.layout.specs.Decode.{slots_of, entry_in, named_in, node_with, body_of, file_of, IsMapped}
 use Rattle.layout.specs.Decode.{IsOfKind, IsFile}
 use Rattle.layout.specs.Fields.{numbers_at, is_zeros}
 use Rattle.layout.specs.InodeForm.{is_data_block_or_none, names_first}
@@ -69,7 +69,7 @@ module _ (a b : Image) where
   same_bytes [] same = refl
   same_bytes (n ∷ numbers) same = λ i. same.0 i ++ same_bytes numbers same.1 i
 
-  module _ (inode : Inode) (same : AreSame (owned_by a (Ok inode))) where
+  module _ (inode : Inode) (same : AreSame (owned_by a (Ok (Some inode)))) where
     both : (nat_eq inode.indirect 0 ≡ false → b inode.indirect ≡ a inode.indirect)
         × AreSame (some (numbers_of a inode))
     both = first IsSame (nat_eq inode.indirect 0) inode.indirect (some (numbers_of a inode)) same
@@ -119,7 +119,6 @@ module _ (a b : Image) where
     }
 
     of_kind : (g : Geometry) (kind : InodeKind) → IsOfKind g a kind inode → IsOfKind g b kind inode
-    of_kind g Free is = tt
     of_kind g Regular is = record {
       mapped = mapped g is.mapped;
       zeros = ap (λ bs. is_zeros (drop inode.size bs)) bytes ∙ is.zeros;
@@ -133,31 +132,31 @@ module _ (a b : Image) where
     }
     of_kind g Link is = record { zeros = ap (λ bs. is_zeros (drop inode.size bs)) target ∙ is.zeros }
 
-    file : (inodes : ℕ) (kind : InodeKind)
-        → file_of_kind inodes b kind inode ≡ file_of_kind inodes a kind inode
-    file inodes Free = refl
-    file inodes Regular =
-        λ i. Some (node_with inode (model.Regular (take inode.size (bytes i)) (mapped_of (numbers i))))
-    file inodes Directory =
-        λ i. Some (node_with inode
-        (model.Directory (map.from_entries (named inodes i)) (span_of inode) inode.parent))
-    file inodes Link = λ i. Some (node_with inode (model.Link (take inode.size (target i))))
+    body : (inodes : ℕ) (kind : InodeKind) → body_of inodes b kind inode ≡ body_of inodes a kind inode
+    body inodes Regular = λ i. model.Regular (take inode.size (bytes i)) (mapped_of (numbers i))
+    body inodes Directory =
+        λ i. model.Directory (map.from_entries (named inodes i)) (span_of inode) inode.parent
+    body inodes Link = λ i. model.Link (take inode.size (target i))
 
-    owned_same : owned_by b (Ok inode) ≡ owned_by a (Ok inode)
+    owned_same : owned_by b (Ok (Some inode)) ≡ owned_by a (Ok (Some inode))
     owned_same = ap (λ ns. some (inode.indirect ∷ ns)) numbers
 
   -- its rules, its node and its blocks, where its blocks are the same
-  pub same_rules : (g : Geometry) (read : Result Inode LayoutFault) → AreSame (owned_by a read)
+  pub same_rules : (g : Geometry) (read : Result (Option Inode) LayoutFault) → AreSame (owned_by a read)
       → IsFile g a read → IsFile g b read
-  same_rules g (Ok inode) same is = of_kind inode same g inode.kind is
+  same_rules g (Ok (Some inode)) same is = of_kind inode same g inode.kind is
+  same_rules g (Ok None) same is = is
   same_rules g (Err fault) same is = is
 
-  pub same_file : (inodes : ℕ) (read : Result Inode LayoutFault) → AreSame (owned_by a read)
+  pub same_file : (inodes : ℕ) (read : Result (Option Inode) LayoutFault) → AreSame (owned_by a read)
       → file_of inodes b read ≡ file_of inodes a read
-  same_file inodes (Ok inode) same = file inode same inodes inode.kind
+  same_file inodes (Ok (Some inode)) same =
+      ap (λ what. Some (node_with inode what)) (body inode same inodes inode.kind)
+  same_file inodes (Ok None) same = refl
   same_file inodes (Err fault) same = refl
 
-  pub same_owned : (read : Result Inode LayoutFault) → AreSame (owned_by a read)
+  pub same_owned : (read : Result (Option Inode) LayoutFault) → AreSame (owned_by a read)
       → owned_by b read ≡ owned_by a read
-  same_owned (Ok inode) same = owned_same inode same
+  same_owned (Ok (Some inode)) same = owned_same inode same
+  same_owned (Ok None) same = refl
   same_owned (Err fault) same = refl

@@ -13,25 +13,24 @@ use Rattle.model.proofs.Replaced.{SameShape}
 use Rattle.layout.specs.declared.geometry.Geometry.{Geometry}
 use Rattle.layout.specs.declared.inode.Inode.{Inode}
 use Rattle.layout.specs.declared.inode.InodeKind.{InodeKind}
-use Rattle.layout.specs.declared.inode.InodeKind.TheVariants.{Free, Regular, Directory, Link}
-use Rattle.layout.specs.Decode.{numbers_of, bytes_of, slot_bytes, named_in, regular_in, directory_in, link_in}
-use Rattle.layout.specs.Decode.{node_with, file_of_kind, IsOfKind}
+use Rattle.layout.specs.declared.inode.InodeKind.TheVariants.{Regular, Directory, Link}
+use Rattle.layout.specs.Decode.{numbers_of, bytes_of, slot_bytes, named_in}
+use Rattle.layout.specs.Decode.{node_with, body_of, file_of, IsOfKind}
 use Rattle.layout.specs.InodeForm.{Touch, touched, SoundTouch, FitsInode, is_sound_file, is_sound_kind}
 use Rattle.layout.specs.InodeForm.{is_sound_map, is_sound_regular, is_sound_directory, is_sound_link, is_time}
-use Rattle.layout.specs.Owners.{owned_by, is_free}
+use Rattle.layout.specs.Owners.{owned_by}
 
 module _ (g : Geometry) (content : Image) (inode : Inode) (t : Touch) where
   abbrev new : Inode
   new = touched inode t
 
   -- it owns the same blocks
-  pub same_blocks : owned_by content (Ok new) ≡ owned_by content (Ok inode)
+  pub same_blocks : owned_by content (Ok (Some new)) ≡ owned_by content (Ok (Some inode))
   unfolding numbers_of
   same_blocks = refl
 
   pub rules : (kind : InodeKind) → IsOfKind g content kind inode → IsOfKind g content kind new
   unfolding numbers_of bytes_of slot_bytes named_in
-  rules Free is = tt
   rules Regular is = record {
     mapped = record { numbers = is.mapped.numbers; used = is.mapped.used };
     zeros = is.zeros;
@@ -45,34 +44,25 @@ module _ (g : Geometry) (content : Image) (inode : Inode) (t : Touch) where
   rules Link is = record { zeros = is.zeros }
 
   -- a file's node is its inode with what is in it
-  pub body_is : (inodes : ℕ) (kind : InodeKind) (node : Node)
-      → file_of_kind inodes content kind inode ≡ Some node → node_with inode node.body ≡ node
-  body_is inodes Free node e = cc
-  body_is inodes Regular node e = let is : node_with inode (regular_in content inode) ≡ node = cc in
-      ap (λ (one : Node). node_with inode one.body) (sym is) ∙ is
-  body_is inodes Directory node e = let is : node_with inode (directory_in inodes content inode) ≡ node =
-      cc in ap (λ (one : Node). node_with inode one.body) (sym is) ∙ is
-  body_is inodes Link node e = let is : node_with inode (link_in content inode) ≡ node = cc in
+  pub body_is : (inodes : ℕ) (node : Node) → file_of inodes content (Ok (Some inode)) ≡ Some node
+      → node_with inode node.body ≡ node
+  body_is inodes node e =
+      let is : node_with inode (body_of inodes content inode.kind inode) ≡ node = cc in
       ap (λ (one : Node). node_with inode one.body) (sym is) ∙ is
 
-  pub used : (inodes : ℕ) (kind : InodeKind) (node : Node)
-      → file_of_kind inodes content kind inode ≡ Some node → is_free kind ≡ false
-  used inodes Free node e = cc
-  used inodes Regular node e = refl
-  used inodes Directory node e = refl
-  used inodes Link node e = refl
-
-  pub file : (inodes : ℕ) (kind : InodeKind) (node : Node)
-      → file_of_kind inodes content kind inode ≡ Some node
-      → file_of_kind inodes content kind new ≡ Some (node_with new node.body)
+  same_body : (inodes : ℕ) (kind : InodeKind)
+      → body_of inodes content kind new ≡ body_of inodes content kind inode
   unfolding numbers_of bytes_of slot_bytes named_in
-  file inodes Free node e = cc
-  file inodes Regular node e = let is : node_with inode (regular_in content inode) ≡ node = cc in
-      ap (λ (one : Node). Some (node_with new one.body)) is
-  file inodes Directory node e = let is : node_with inode (directory_in inodes content inode) ≡ node = cc in
-      ap (λ (one : Node). Some (node_with new one.body)) is
-  file inodes Link node e = let is : node_with inode (link_in content inode) ≡ node = cc in
-      ap (λ (one : Node). Some (node_with new one.body)) is
+  same_body inodes Regular = refl
+  same_body inodes Directory = refl
+  same_body inodes Link = refl
+
+  pub file : (inodes : ℕ) (node : Node) → file_of inodes content (Ok (Some inode)) ≡ Some node
+      → file_of inodes content (Ok (Some new)) ≡ Some (node_with new node.body)
+  file inodes node e =
+      let is : node_with inode (body_of inodes content inode.kind inode) ≡ node = cc in
+      ap (λ what. Some (node_with new what)) (same_body inodes inode.kind)
+      ∙ ap (λ (one : Node). Some (node_with new one.body)) is
 
   pub shape : (body : Body) → SameShape (node_with inode body) (node_with new body)
   shape body = record {
@@ -100,16 +90,15 @@ no_more a b e = grind (arith, nat_tests)
 time_below : (m : Moment) → is_time m ≡ true → m.nanoseconds < NANOSECONDS
 time_below m e = grind (arith, nat_tests)
 
-pub sound_file : (blocks inodes : ℕ) (kind : InodeKind) (i : Inode) → is_free kind ≡ false
+pub sound_file : (blocks inodes : ℕ) (kind : InodeKind) (i : Inode)
     → is_sound_kind blocks inodes kind i ≡ true → is_sound_file i ≡ true
-sound_file blocks inodes Free i used e = cc
-sound_file blocks inodes Regular i used e =
+sound_file blocks inodes Regular i e =
     left (is_sound_file i) (is_sound_map blocks inodes i)
     (left (is_sound_file i && is_sound_map blocks inodes i) (is_sound_regular i) e)
-sound_file blocks inodes Directory i used e =
+sound_file blocks inodes Directory i e =
     left (is_sound_file i) (is_sound_map blocks inodes i)
     (left (is_sound_file i && is_sound_map blocks inodes i) (is_sound_directory inodes i) e)
-sound_file blocks inodes Link i used e =
+sound_file blocks inodes Link i e =
     left (is_sound_file i) (is_sound_map blocks inodes i)
     (left (is_sound_file i && is_sound_map blocks inodes i) (is_sound_link i) e)
 
@@ -192,15 +181,14 @@ swap_first true b false d e all = cc
 swap_first false b c d e all = cc
 
 pub touched_sound : (blocks inodes : ℕ) (kind : InodeKind) (i : Inode) (t : Touch) → SoundTouch t
-    → is_free kind ≡ false → is_sound_kind blocks inodes kind i ≡ true
+    → is_sound_kind blocks inodes kind i ≡ true
     → is_sound_kind blocks inodes kind (touched i t) ≡ true
-touched_sound blocks inodes Free i t good used e = e
-touched_sound blocks inodes Regular i t good used e =
+touched_sound blocks inodes Regular i t good e =
     swap_first (is_sound_file i) (is_sound_file (touched i t)) (is_sound_map blocks inodes i)
-    (is_sound_regular i) (touched_file i t good (sound_file blocks inodes Regular i used e)) e
-touched_sound blocks inodes Directory i t good used e =
+    (is_sound_regular i) (touched_file i t good (sound_file blocks inodes Regular i e)) e
+touched_sound blocks inodes Directory i t good e =
     swap_first (is_sound_file i) (is_sound_file (touched i t)) (is_sound_map blocks inodes i)
-    (is_sound_directory inodes i) (touched_file i t good (sound_file blocks inodes Directory i used e)) e
-touched_sound blocks inodes Link i t good used e =
+    (is_sound_directory inodes i) (touched_file i t good (sound_file blocks inodes Directory i e)) e
+touched_sound blocks inodes Link i t good e =
     swap_first (is_sound_file i) (is_sound_file (touched i t)) (is_sound_map blocks inodes i)
-    (is_sound_link i) (touched_file i t good (sound_file blocks inodes Link i used e)) e
+    (is_sound_link i) (touched_file i t good (sound_file blocks inodes Link i e)) e

@@ -10,12 +10,11 @@ use Rattle.nfs_types.specs.declared.verifier.Verifier.{Verifier}
 use Rattle.nfs_types.specs.Fits.{VerifierFits}
 use Rattle.layout.specs.declared.inode.Inode.{Inode}
 use Rattle.layout.specs.declared.inode.InodeKind.{InodeKind}
-use Rattle.layout.specs.declared.inode.InodeKind.TheVariants.{Free, Regular, Directory, Link}
-use Rattle.layout.specs.Fields.{four_at, eight_at, numbers_at, four_bytes, eight_bytes}
+use Rattle.layout.specs.declared.inode.InodeKind.TheVariants.{Regular, Directory, Link}
+use Rattle.layout.specs.Fields.{four_at, eight_at, numbers_at, four_bytes, eight_bytes, is_zeros}
 use Rattle.layout.specs.InodeForm.{FitsInode, FitsMoment, read_inode, fields_of, is_sound_inode, inode_bytes}
 use Rattle.layout.specs.InodeForm.{head_bytes, middle_bytes, tail_bytes, rest_is_zero, kind_of_number}
 use Rattle.layout.specs.InodeForm.{number_of_kind}
-use Rattle.layout.specs.Owners.{is_free}
 use Rattle.layout.proofs.ReadInode.{sound}
 
 abbrev Fits : ℕ → Type 0
@@ -127,15 +126,15 @@ module _ (inode : Inode) (fits : FitsInode inode) where
   -- the fields that are no field's, and the flags
   zero_rest : (verifier : Option Verifier) → IfSome verifier VerifierFits → (direct : List ℕ)
       → length direct ≡ DIRECT_INDEXES
-      → rest_is_zero Regular (inode_bytes (with inode verifier direct)) ≡ true
+      → rest_is_zero (inode_bytes (with inode verifier direct)) ≡ true
   unfolding four_at eight_at head_bytes middle_bytes tail_bytes four_bytes eight_bytes
   zero_rest None v direct long =
-      eight_of (λ ds. rest_is_zero Regular (inode_bytes (with inode None ds)) ≡ true)
+      eight_of (λ ds. rest_is_zero (inode_bytes (with inode None ds)) ≡ true)
       (λ d0 d1 d2 d3 d4 d5 d6 d7. refl) direct long
   zero_rest (Some w) v direct long =
-      eight_of (λ bs. rest_is_zero Regular (inode_bytes (with inode (made bs) direct)) ≡ true)
+      eight_of (λ bs. rest_is_zero (inode_bytes (with inode (made bs) direct)) ≡ true)
       (λ b0 b1 b2 b3 b4 b5 b6 b7.
-      eight_of (λ ds. rest_is_zero Regular
+      eight_of (λ ds. rest_is_zero
       (inode_bytes (with inode (made (b0 ∷ b1 ∷ b2 ∷ b3 ∷ b4 ∷ b5 ∷ b6 ∷ b7 ∷ [])) ds)) ≡ true)
       (λ d0 d1 d2 d3 d4 d5 d6 d7. refl) direct long) w.bytes v.count
 
@@ -153,7 +152,6 @@ module _ (inode : Inode) (fits : FitsInode inode) where
 
   kind_back : (kind : InodeKind) → kind_of_number (four_at 0 (four_bytes (number_of_kind kind))) ≡ Some kind
   unfolding four_at four_bytes
-  kind_back Free = refl
   kind_back Regular = refl
   kind_back Directory = refl
   kind_back Link = refl
@@ -162,23 +160,19 @@ module _ (inode : Inode) (fits : FitsInode inode) where
   unfolding four_at head_bytes four_bytes
   kind_is = kind_back inode.kind
 
-  -- what no field has
-  rest : (kind : InodeKind) → is_free kind ≡ false → (verifier : Option Verifier)
-      → IfSome verifier VerifierFits → (direct : List ℕ) → length direct ≡ DIRECT_INDEXES → rest_is_zero kind (inode_bytes (with inode verifier direct)) ≡ true
-  rest Free used verifier v direct long = absurd (true_false used)
-    where
-      true_false : true ≡ false → ⊥
-      true_false e = cc
-  rest Regular used verifier v direct long = zero_rest verifier v direct long
-  rest Directory used verifier v direct long = zero_rest verifier v direct long
-  rest Link used verifier v direct long = zero_rest verifier v direct long
+  -- the number of a kind isn't zero
+  some_kind : (kind : InodeKind) → is_zeros (inode_bytes (record inode { kind = kind })) ≡ false
+  unfolding head_bytes four_bytes
+  some_kind Regular = refl
+  some_kind Directory = refl
+  some_kind Link = refl
 
   pub written-length : length (inode_bytes inode) ≡ INODE_BYTES
   written-length = bytes-length inode.verifier fits.verifier inode.direct fits.count
 
-  pub read_back : (blocks inodes : ℕ) → is_free inode.kind ≡ false → is_sound_inode blocks inodes inode ≡ true
-      → read_inode blocks inodes (inode_bytes inode) ≡ Ok inode
-  read_back blocks inodes used good =
-      sym (sound blocks inodes (inode_bytes inode) inode.kind inode kind_is
+  pub read_back : (blocks inodes : ℕ) → is_sound_inode blocks inodes inode ≡ true
+      → read_inode blocks inodes (inode_bytes inode) ≡ Ok (Some inode)
+  read_back blocks inodes good =
+      sym (sound blocks inodes (inode_bytes inode) inode.kind inode (some_kind inode.kind) kind_is
       (sym (fields inode.verifier fits.verifier inode.direct fits.count fits.direct))
-      (rest inode.kind used inode.verifier fits.verifier inode.direct fits.count) good)
+      (zero_rest inode.verifier fits.verifier inode.direct fits.count) good)

@@ -2,7 +2,7 @@
 -- changes.
 use Rattle.std.proofs.Common.{◌≡◌, ℕ, suc, ◌+◌, ◌*◌, ◌/◌, ◌%◌, ◌<◌, ◌≤◌, inl, inr, sym, ap, ◌∙◌, refl, subst}
 use Rattle.std.proofs.Common.{Bool, true, false, cond, ◌&&◌, if◌then◌else◌, nat_eq, nat_lt, List, length}
-use Rattle.std.proofs.Common.{take, drop, get_or, replicate, Ok, Err, ◌^◌, arith}
+use Rattle.std.proofs.Common.{take, drop, get_or, replicate, Option, Ok, Err, ◌^◌, arith}
 use Rattle.std.proofs.lemmas.Bool.{lt-ltb, eq-eqb, cases_eq, cases_lt}
 use Rattle.std.proofs.lemmas.Bool.Decides.{leb_tells, eqb_tells}
 use Rattle.limits.specs.declared.TheConstants.{BITS_PER_BLOCK, BLOCK_BYTES, FIRST_HOME_BLOCK}
@@ -69,11 +69,11 @@ module _ (blocks : Image) (at offset : ℕ) (bytes : List ℕ) where
 abbrev pub part_of : Image → ℕ → ℕ → List ℕ
 part_of blocks block number = take INODE_BYTES (drop (inode_offset number) (blocks block))
 
-module _ (g : Geometry) (blocks : Image) (n : ℕ) (bytes : List ℕ) (inode : Inode)
+module _ (g : Geometry) (blocks : Image) (n : ℕ) (bytes : List ℕ) (one : Option Inode)
     (whole : g.inodes % INODES_PER_BLOCK ≡ 0) (less : n < g.inodes)
     (long : length (blocks (inode_block g.blocks g.inodes n)) ≡ BLOCK_BYTES) (size : length bytes
     ≡ INODE_BYTES)
-    (reads : read_inode g.blocks g.inodes bytes ≡ Ok inode) where
+    (reads : read_inode g.blocks g.inodes bytes ≡ Ok one) where
   abbrev at : ℕ
   at = inode_block g.blocks g.inodes n
 
@@ -83,7 +83,7 @@ module _ (g : Geometry) (blocks : Image) (n : ℕ) (bytes : List ℕ) (inode : I
   room : inode_offset n + length bytes ≤ length (blocks at)
   room = omega (arith, long, size)
 
-  itself : inode_at g written n ≡ Ok inode
+  itself : inode_at g written n ≡ Ok one
   unfolding inode_at
   itself =
       ap (λ content. read_inode g.blocks g.inodes (take INODE_BYTES (drop (inode_offset n) content)))
@@ -128,15 +128,15 @@ module _ (g : Geometry) (blocks : Image) (n : ℕ) (bytes : List ℕ) (inode : I
         (elsewhere blocks at (inode_offset n) bytes (inode_block g.blocks g.inodes m) other)
   ]
 
-  table : (m : ℕ) → table_of g written m ≡ put (table_of g blocks) n (Ok inode) m
+  table : (m : ℕ) → table_of g written m ≡ put (table_of g blocks) n (Ok one) m
   table m = elim (cases_eq m n) [
     | inl is ↦
-        subst (λ k. table_of g written k ≡ put (table_of g blocks) n (Ok inode) k) (sym is)
+        subst (λ k. table_of g written k ≡ put (table_of g blocks) n (Ok one) k) (sym is)
         (ap (λ b. cond b (inode_at g written n) (Err Range)) (lt-ltb n g.inodes less) ∙ itself
-        ∙ sym (ap (λ b. cond b (Ok inode) (table_of g blocks n)) (eq-eqb n n refl)))
+        ∙ sym (ap (λ b. cond b (Ok one) (table_of g blocks n)) (eq-eqb n n refl)))
     | inr not ↦
         ap (λ read. cond (nat_lt m g.inodes) read (Err Range)) (others m not)
-        ∙ sym (ap (λ b. cond b (Ok inode) (table_of g blocks m)) (not_same m n not))
+        ∙ sym (ap (λ b. cond b (Ok one) (table_of g blocks m)) (not_same m n not))
   ]
 
   -- no data block is of the table
@@ -152,7 +152,7 @@ module _ (g : Geometry) (blocks : Image) (n : ℕ) (bytes : List ℕ) (inode : I
 
   -- the parts of the blocks with the inode written
   pub parts_written : parts_of g written
-      ≡ record (parts_of g blocks) { table = put (table_of g blocks) n (Ok inode) }
+      ≡ record (parts_of g blocks) { table = put (table_of g blocks) n (Ok one) }
   parts_written = λ i. record {
     table = λ m. table m i;
     content = λ block. one_block block (is_data g.blocks g.inodes block) refl i;

@@ -100,19 +100,20 @@ node_with inode body = record {
   body = body;
 }
 
--- the file of an inode: none where it is free
-abbrev pub file_of_kind : ℕ → Image → InodeKind → Inode → Option Node
-file_of_kind inodes blocks kinds.Free inode = None
-file_of_kind inodes blocks kinds.Regular inode = Some (node_with inode (regular_in blocks inode))
-file_of_kind inodes blocks kinds.Directory inode = Some (node_with inode (directory_in inodes blocks inode))
-file_of_kind inodes blocks kinds.Link inode = Some (node_with inode (link_in blocks inode))
+-- what is in the file of an inode of this kind
+abbrev pub body_of : ℕ → Image → InodeKind → Inode → Body
+body_of inodes blocks kinds.Regular inode = regular_in blocks inode
+body_of inodes blocks kinds.Directory inode = directory_in inodes blocks inode
+body_of inodes blocks kinds.Link inode = link_in blocks inode
 
-abbrev pub file_of : ℕ → Image → Result Inode LayoutFault → Option Node
-file_of inodes blocks (Ok inode) = file_of_kind inodes blocks inode.kind inode
+-- the file of an inode: none where it is free
+abbrev pub file_of : ℕ → Image → Result (Option Inode) LayoutFault → Option Node
+file_of inodes blocks (Ok (Some inode)) = Some (node_with inode (body_of inodes blocks inode.kind inode))
+file_of inodes blocks (Ok None) = None
 file_of inodes blocks (Err fault) = None
 
 -- the inode of a number
-unfoldable pub inode_at : Geometry → Image → ℕ → Result Inode LayoutFault
+unfoldable pub inode_at : Geometry → Image → ℕ → Result (Option Inode) LayoutFault
 inode_at g blocks number =
     read_inode g.blocks g.inodes
     (take INODE_BYTES (drop (inode_offset number) (blocks (inode_block g.blocks g.inodes number))))
@@ -142,12 +143,12 @@ pub record IsLink (blocks : Image) (inode : Inode) : Type 0 where
 
 -- an inode's blocks are as its kind has them
 abbrev pub IsOfKind : Geometry → Image → InodeKind → Inode → Type 0
-IsOfKind g blocks kinds.Free inode = Unit {0}
 IsOfKind g blocks kinds.Regular inode = IsRegular g blocks inode
 IsOfKind g blocks kinds.Directory inode = IsDirectory g blocks inode
 IsOfKind g blocks kinds.Link inode = IsLink blocks inode
 
--- it is an inode, and its blocks are as its kind has them
-abbrev pub IsFile : Geometry → Image → Result Inode LayoutFault → Type 0
-IsFile g blocks (Ok inode) = IsOfKind g blocks inode.kind inode
+-- it is a free inode, or one whose blocks are as its kind has them
+abbrev pub IsFile : Geometry → Image → Result (Option Inode) LayoutFault → Type 0
+IsFile g blocks (Ok (Some inode)) = IsOfKind g blocks inode.kind inode
+IsFile g blocks (Ok None) = Unit {0}
 IsFile g blocks (Err fault) = ⊥

@@ -2,11 +2,11 @@
 use Rattle.std.specs.Prelude.{◌≡◌, ℕ, ◌+◌, ◌<◌, ◌≤◌, ◌^◌, ◌/◌, ◌%◌, length, IfSome, Bool, true, cond, not}
 use Rattle.std.specs.Prelude.{◌&&◌}
 use Rattle.std.specs.Prelude.{◌||◌, List, ◌++◌, nat_eq, nat_le, nat_lt, take, drop, min, Option, Some, None}
-use Rattle.std.specs.Prelude.{is_none}
+use Rattle.std.specs.Prelude.{is_none, replicate}
 use Rattle.std.specs.Prelude.{Result, Ok, Err}
 use Rattle.std.specs.List.{list_all, AllByRecursion}
 use Rattle.limits.specs.declared.TheConstants.{BLOCK_BYTES, DIRECT_INDEXES, LARGEST_FILE, MODE_BITS}
-use Rattle.limits.specs.declared.TheConstants.{MOST_LINKS, NANOSECONDS, TARGET_BYTES}
+use Rattle.limits.specs.declared.TheConstants.{INODE_BYTES, MOST_LINKS, NANOSECONDS, TARGET_BYTES}
 use Rattle.nfs_types.specs.declared.ctx.Moment.{Moment}
 use Rattle.nfs_types.specs.declared.verifier.TheConstants.{VERIFIER_BYTES}
 use Rattle.nfs_types.specs.declared.verifier.Verifier.{Verifier}
@@ -16,7 +16,7 @@ use Rattle.layout.specs.declared.fault.LayoutFault.{LayoutFault}
 use Rattle.layout.specs.declared.fault.LayoutFault.TheVariants.{Range}
 use Rattle.layout.specs.declared.inode.Inode.{Inode}
 use Rattle.layout.specs.declared.inode.InodeKind.{InodeKind}
-use Rattle.layout.specs.declared.inode.InodeKind.TheVariants.{Free, Regular, Directory, Link}
+use Rattle.layout.specs.declared.inode.InodeKind.TheVariants.{Regular, Directory, Link}
 use Rattle.layout.specs.declared.inode_fields.TheConstants.{KIND_AT, MODE_AT, UID_AT, GID_AT, NLINK_AT}
 use Rattle.layout.specs.declared.inode_fields.TheConstants.{GAP_AT, SIZE_AT, ATIME_AT, MTIME_AT, CTIME_AT}
 use Rattle.layout.specs.declared.inode_fields.TheConstants.{BOOT_AT, TRANSACTION_AT, PARENT_AT, FLAGS_AT}
@@ -25,16 +25,14 @@ use Rattle.layout.specs.Fields.{four_at, eight_at, numbers_at, four_bytes, eight
 use Rattle.layout.specs.Fields.{is_zeros}
 use Rattle.layout.specs.Geometry.{is_data}
 
--- the kind of a number: those of RFC 1813, section 2.6, and 0 for an inode that no file has
+-- the kind of a number, as RFC 1813 numbers them in section 2.6
 abbrev pub kind_of_number : ℕ → Option InodeKind
 kind_of_number number =
-    cond (nat_eq number 0) (Some Free)
-    (cond (nat_eq number 1) (Some Regular)
+    cond (nat_eq number 1) (Some Regular)
     (cond (nat_eq number 2) (Some Directory)
-    (cond (nat_eq number 5) (Some Link) None)))
+    (cond (nat_eq number 5) (Some Link) None))
 
 abbrev pub number_of_kind : InodeKind → ℕ
-number_of_kind Free = 0
 number_of_kind Regular = 1
 number_of_kind Directory = 2
 number_of_kind Link = 5
@@ -70,10 +68,9 @@ fields_of kind bytes = record {
   indirect = four_at INDIRECT_AT bytes;
 }
 
--- what no field has is zero; a free inode is nothing but zeros
-abbrev pub rest_is_zero : InodeKind → List ℕ → Bool
-rest_is_zero Free bytes = is_zeros bytes
-rest_is_zero _ bytes =
+-- what no field has is zero
+abbrev pub rest_is_zero : List ℕ → Bool
+rest_is_zero bytes =
     nat_eq (four_at GAP_AT bytes) 0 && nat_eq (four_at END_GAP_AT bytes) 0
     && (nat_eq (four_at FLAGS_AT bytes) 1 || nat_eq (four_at FLAGS_AT bytes) 0
     && nat_eq (eight_at VERIFIER_AT bytes) 0)
@@ -125,7 +122,6 @@ is_sound_link inode =
 
 -- an inode of a kind that shows nothing wrong by itself
 abbrev pub is_sound_kind : ℕ → ℕ → InodeKind → Inode → Bool
-is_sound_kind blocks inodes Free inode = true
 is_sound_kind blocks inodes Regular inode = is_sound_file inode && is_sound_map blocks inodes inode
     && is_sound_regular inode
 is_sound_kind blocks inodes Directory inode =
@@ -136,15 +132,17 @@ is_sound_kind blocks inodes Link inode = is_sound_file inode && is_sound_map blo
 unfoldable pub is_sound_inode : ℕ → ℕ → Inode → Bool
 is_sound_inode blocks inodes inode = is_sound_kind blocks inodes inode.kind inode
 
-abbrev pub inode_of_kind : ℕ → ℕ → Option InodeKind → List ℕ → Result Inode LayoutFault
+abbrev pub inode_of_kind : ℕ → ℕ → Option InodeKind → List ℕ → Result (Option Inode) LayoutFault
 inode_of_kind blocks inodes None bytes = Err Range
 inode_of_kind blocks inodes (Some kind) bytes =
-    cond (rest_is_zero kind bytes && is_sound_inode blocks inodes (fields_of kind bytes))
-    (Ok (fields_of kind bytes)) (Err Range)
+    cond (rest_is_zero bytes && is_sound_inode blocks inodes (fields_of kind bytes))
+    (Ok (Some (fields_of kind bytes))) (Err Range)
 
--- the inode that 128 bytes are in an image of these sizes
-unfoldable pub read_inode : ℕ → ℕ → List ℕ → Result Inode LayoutFault
-read_inode blocks inodes bytes = inode_of_kind blocks inodes (kind_of_number (four_at KIND_AT bytes)) bytes
+-- the inode that 128 bytes are in an image of these sizes; a free one is nothing but zeros
+unfoldable pub read_inode : ℕ → ℕ → List ℕ → Result (Option Inode) LayoutFault
+read_inode blocks inodes bytes =
+    cond (is_zeros bytes) (Ok None)
+    (inode_of_kind blocks inodes (kind_of_number (four_at KIND_AT bytes)) bytes)
 
 abbrev pub time_bytes : Moment → List ℕ
 time_bytes time = four_bytes time.seconds ++ four_bytes time.nanoseconds
@@ -194,6 +192,21 @@ pub record FitsInode (inode : Inode) : Type 0 where
   pub count : length inode.direct ≡ DIRECT_INDEXES
   pub direct : AllByRecursion (λ number. number < 2 ^ 32) inode.direct
   pub indirect : inode.indirect < 2 ^ 32
+
+-- its fields have room, and it shows nothing wrong by itself in an image of these sizes
+pub record SoundInode (blocks inodes : ℕ) (inode : Inode) : Type 0 where
+  pub fits : FitsInode inode
+  pub good : is_sound_inode blocks inodes inode ≡ true
+
+-- these are the bytes of this inode
+pub record IsInode (blocks inodes : ℕ) (bytes : List ℕ) (inode : Inode) : Type 0 where
+  pub spelled : bytes ≡ inode_bytes inode
+  pub sound : SoundInode blocks inodes inode
+
+-- what 128 bytes of the table are: zeros where the inode is free, and else the bytes of a file's inode
+abbrev pub IsInTable : ℕ → ℕ → List ℕ → Option Inode → Type 0
+IsInTable blocks inodes bytes None = bytes ≡ replicate INODE_BYTES 0
+IsInTable blocks inodes bytes (Some inode) = IsInode blocks inodes bytes inode
 
 -- what of an inode is no matter of its blocks, its kind or its links, nor of how its file was made
 pub record Touch : Type 0 where

@@ -4,6 +4,7 @@ pub mod InodeForm
 pub mod Owners
 pub mod Parts
 pub mod Geometry
+pub mod NumbersForm
 pub mod SlotForm
 pub mod Stands
 pub mod SuperForm

@@ -1,37 +1,31 @@
 -- Which blocks and inodes are in use, and how the bitmaps mark them.
 use Rattle.std.specs.Prelude.{◌≡◌, ℕ, ◌*◌, ◌<◌, ◌≤◌, Bool, true, false, not, ◌||◌, List, [], ◌∷◌, nat_eq}
-use Rattle.std.specs.Prelude.{nat_le, nat_lt, filter, count_by, Result, Ok, Err}
+use Rattle.std.specs.Prelude.{nat_le, nat_lt, filter, count_by, Option, Some, None, Result, Ok, Err}
 use Rattle.std.specs.List.{flat_map, list_any, range_with_len}
 use Rattle.limits.specs.declared.TheConstants.{BITS_PER_BLOCK}
 use Rattle.disk.specs.Crash.{Image}
 use Rattle.layout.specs.declared.fault.LayoutFault.{LayoutFault}
 use Rattle.layout.specs.declared.geometry.Geometry.{Geometry}
 use Rattle.layout.specs.declared.inode.Inode.{Inode}
-use Rattle.layout.specs.declared.inode.InodeKind.{InodeKind}
-use Rattle.layout.specs.declared.inode.InodeKind.TheVariants.{Free, Regular, Directory, Link}
 use Rattle.layout.specs.Decode.{numbers_of}
 use Rattle.layout.specs.Parts.{Parts}
 use Rattle.layout.specs.Geometry.{bitmap_blocks, data_at}
 
 -- the blocks of an inode: those of its indexes, and the indirect block
-abbrev pub owned_by : Image → Result Inode LayoutFault → List ℕ
-owned_by blocks (Ok inode) =
+abbrev pub owned_by : Image → Result (Option Inode) LayoutFault → List ℕ
+owned_by blocks (Ok (Some inode)) =
     filter (λ number. not (nat_eq number 0)) (inode.indirect ∷ numbers_of blocks inode)
+owned_by blocks (Ok None) = []
 owned_by blocks (Err fault) = []
 
 -- the blocks of all inodes
 unfoldable pub owned : Geometry → Parts → List ℕ
 owned g parts = flat_map (λ number. owned_by parts.content (parts.table number)) (range_with_len 0 g.inodes)
 
-abbrev pub is_free : InodeKind → Bool
-is_free Free = true
-is_free Regular = false
-is_free Directory = false
-is_free Link = false
-
 -- a file has the inode
-abbrev pub is_used : Result Inode LayoutFault → Bool
-is_used (Ok inode) = not (is_free inode.kind)
+abbrev pub is_used : Result (Option Inode) LayoutFault → Bool
+is_used (Ok (Some inode)) = true
+is_used (Ok None) = false
 is_used (Err fault) = false
 
 -- the bit of a block is set where the block lies before the data, past the last, or is owned

@@ -1,7 +1,7 @@
 -- What is read of an image's blocks: the table of inodes, the data blocks and the bits of the bitmaps. Blocks
 -- stand for trees through these parts alone, so that a write is one change of one part.
 use Rattle.std.specs.Prelude.{ℕ, ◌+◌, ◌*◌, ◌/◌, ◌%◌, ◌^◌, Bool, cond, if◌then◌else◌, List}
-use Rattle.std.specs.Prelude.{◌&&◌, nat_eq, nat_lt, get_or, replicate, Result, Err}
+use Rattle.std.specs.Prelude.{◌&&◌, nat_eq, nat_lt, get_or, replicate, Option, Result, Err}
 use Rattle.limits.specs.declared.TheConstants.{BITS_PER_BLOCK, BLOCK_BYTES, FIRST_HOME_BLOCK}
 use Rattle.disk.specs.Crash.{Image}
 use Rattle.objects.specs.Spliced.{spliced}
@@ -18,9 +18,9 @@ unfoldable pub bit_at : Image → ℕ → ℕ → Bool
 bit_at blocks first bit =
     nat_eq (get_or (blocks (first + bit / BITS_PER_BLOCK)) (bit % BITS_PER_BLOCK / 8) 0 / 2 ^ (bit % 8) % 2) 1
 
--- what a number's inode is
+-- what the inode of a number is
 abbrev pub Table : Type 0
-Table = ℕ → Result Inode LayoutFault
+Table = ℕ → Result (Option Inode) LayoutFault
 
 pub record Parts : Type 0 where
   pub table : Table

@@ -1,12 +1,12 @@
 -- The slot of a directory: a name and the number of the file that it names.
-use Rattle.std.specs.Prelude.{ℕ, ◌+◌, Bool, cond, ◌&&◌, List, nat_eq, nat_le, nat_lt, take, drop, Option}
-use Rattle.std.specs.Prelude.{Some, None, Result, Ok, Err}
+use Rattle.std.specs.Prelude.{◌≡◌, ℕ, ◌+◌, ◌-◌, ◌^◌, ◌<◌, ◌≤◌, Bool, cond, ◌&&◌, List, ◌++◌, length, nat_eq, nat_le}
+use Rattle.std.specs.Prelude.{nat_lt, take, drop, replicate, Option, Some, None, Result, Ok, Err}
 use Rattle.limits.specs.declared.TheConstants.{NAME_BYTES}
 use Rattle.layout.specs.declared.fault.LayoutFault.{LayoutFault}
 use Rattle.layout.specs.declared.fault.LayoutFault.TheVariants.{Range}
 use Rattle.layout.specs.declared.slot.Slot.{Slot}
-use Rattle.layout.specs.declared.slot.TheConstants.{NUMBER_AT, COUNT_AT, NAME_AT}
-use Rattle.layout.specs.Fields.{four_at, is_zeros}
+use Rattle.layout.specs.declared.slot.TheConstants.{NUMBER_AT, COUNT_AT, NAME_AT, SLOT_BYTES}
+use Rattle.layout.specs.Fields.{four_at, four_bytes, is_zeros}
 
 -- the name and the number of a slot that is in use
 abbrev pub slot_of : List ℕ → Slot
@@ -30,3 +30,24 @@ read_slot inodes bytes =
     cond (nat_eq (four_at NUMBER_AT bytes) 0)
     (cond (is_zeros bytes) (Ok None) (Err Range))
     (cond (is_sound_slot inodes bytes) (Ok (Some (slot_of bytes))) (Err Range))
+
+-- the bytes that a slot in use gets: the number, the length of the name, the name, and zeros
+abbrev pub used_bytes : Slot → List ℕ
+used_bytes slot =
+    four_bytes slot.number ++ four_bytes (length slot.name) ++ slot.name
+    ++ replicate (SLOT_BYTES - NAME_AT - length slot.name) 0
+
+-- it names an inode of an image of so many, and its name has a lawful length
+pub record SoundSlot (inodes : ℕ) (slot : Slot) : Type 0 where
+  pub number : (0 < slot.number) × (slot.number < inodes) × (slot.number < 2 ^ 32)
+  pub name : (1 ≤ length slot.name) × (length slot.name ≤ NAME_BYTES)
+
+-- these are the bytes of this slot
+pub record IsSlot (inodes : ℕ) (bytes : List ℕ) (slot : Slot) : Type 0 where
+  pub spelled : bytes ≡ used_bytes slot
+  pub sound : SoundSlot inodes slot
+
+-- what 128 bytes of a directory are: zeros where the slot is free, and else the bytes of one in use
+abbrev pub IsInDirectory : ℕ → List ℕ → Option Slot → Type 0
+IsInDirectory inodes bytes None = bytes ≡ replicate SLOT_BYTES 0
+IsInDirectory inodes bytes (Some slot) = IsSlot inodes bytes slot

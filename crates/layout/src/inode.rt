@@ -1,7 +1,9 @@
 //! Inodes: what the disk has of a file in 128 bytes.
-ghost use Rattle.std.specs.Prelude.{◌≡◌, ◌≤◌, length, IfOk};
+ghost use Rattle.std.specs.Prelude.{◌≡◌, ◌≤◌, length, IfOk, IfErr, Option};
+ghost use Rattle.limits.specs.declared.TheConstants.{INODE_BYTES};
+ghost use Rattle.layout.specs.InodeForm.{read_inode, IsInTable};
 
-use crate::fields::four_at;
+use crate::fields::{four_at, is_zeros};
 use crate::inode_bytes::{put_head, put_middle, put_tail};
 use crate::inode_fields::{KIND_AT, fields_of, kind_of_number, rest_is_zero};
 use crate::numbers::count_mapped;
@@ -10,16 +12,15 @@ use limits::{DIRECT_INDEXES, INODE_BYTES};
 use nfs_types::{Moment, Stamp, Verifier};
 use std::alloc::{AllocError, Global};
 
-/// What an inode is of (RFC 1813, section 2.6); or that no file has it.
+/// What an inode is of (RFC 1813, section 2.6).
 #[derive(Clone, Copy, Debug, PartialEq, Eq)]
 pub enum InodeKind {
-    Free,
     Regular,
     Directory,
     Link,
 }
 
-/// An inode. Its numbers of blocks are 0 where the file has none.
+/// The inode of a file. Its numbers of blocks are 0 where the file has none.
 #[derive(Clone, Copy, Debug, PartialEq, Eq)]
 pub struct Inode {
     pub kind: InodeKind,
@@ -39,24 +40,21 @@ pub struct Inode {
 }
 
 impl Inode {
-    ghost use Rattle.limits.specs.declared.TheConstants.{INODE_BYTES, DIRECT_INDEXES};
-    ghost use Rattle.layout.specs.InodeForm.{read_inode, inode_bytes};
+    ghost use Rattle.limits.specs.declared.TheConstants.{DIRECT_INDEXES};
+    ghost use Rattle.layout.specs.InodeForm.{inode_bytes};
     ghost use Rattle.layout.specs.Fields.{count_of};
 
-    /// Reads an inode of an image of this geometry. It is refused by what it shows by itself.
-    pub fn read(geometry: &Geometry, bytes: &[u8]) -> Result<Inode, LayoutFault>
+    /// Reads an inode of an image of this geometry: None where it is free. It is refused (Range) exactly where no inode
+    /// has the bytes, and a free one neither.
+    pub fn read(geometry: &Geometry, bytes: &[u8]) -> Result<Option<Inode>, LayoutFault>
         requires { length bytes.now ≡ INODE_BYTES }
-        ensures { result ≡ read_inode geometry.now.blocks geometry.now.inodes bytes.now }
+        ensures value { result ≡ read_inode geometry.now.blocks geometry.now.inodes bytes.now }
+        ensures ok { IfOk result
+            (λ one. IsInTable geometry.now.blocks geometry.now.inodes bytes.now one) }
+        ensures err { IfErr result (λ fault. (fault ≡ LayoutFault.Range)
+            × ((one : Option Inode) → IsInTable geometry.now.blocks geometry.now.inodes bytes.now one → ⊥)) }
     {
-        let Some(kind) = kind_of_number(four_at(bytes, KIND_AT)) else {
-            return Err(LayoutFault::Range);
-        };
-        let inode = fields_of(kind, bytes);
-        if rest_is_zero(kind, bytes) && inode.is_sound(geometry) {
-            Ok(inode)
-        } else {
-            Err(LayoutFault::Range)
-        }
+        read_inode(geometry, bytes)
     }
 
     /// The bytes of the inode.
@@ -87,5 +85,24 @@ impl Inode {
         inode.mode = mode;
         inode.ctime = moment;
         inode
+    }
+}
+
+// Reads an inode of an image of this geometry: None where it is free.
+fn read_inode(geometry: &Geometry, bytes: &[u8]) -> Result<Option<Inode>, LayoutFault>
+    requires { length bytes.now ≡ INODE_BYTES }
+    ensures { result ≡ read_inode geometry.now.blocks geometry.now.inodes bytes.now }
+{
+    if is_zeros(bytes) {
+        return Ok(None);
+    }
+    let Some(kind) = kind_of_number(four_at(bytes, KIND_AT)) else {
+        return Err(LayoutFault::Range);
+    };
+    let inode = fields_of(kind, bytes);
+    if rest_is_zero(bytes) && inode.is_sound(geometry) {
+        Ok(Some(inode))
+    } else {
+        Err(LayoutFault::Range)
     }
 }

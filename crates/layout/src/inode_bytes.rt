@@ -13,7 +13,6 @@ fn number_of_kind(kind: InodeKind) -> u32
     ensures { result ≡ number_of_kind kind }
 {
     match kind {
-        InodeKind::Free => 0,
         InodeKind::Regular => 1,
         InodeKind::Directory => 2,
         InodeKind::Link => 5,

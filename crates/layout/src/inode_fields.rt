@@ -6,7 +6,7 @@ ghost use Rattle.layout.specs.InodeForm.{verifier_of};
 ghost use Rattle.layout.specs.Fields.{numbers_at};
 ghost use Rattle.layout.specs.declared.inode_fields.TheConstants.{DIRECT_AT};
 
-use crate::fields::{eight_at, four_at, is_zeros};
+use crate::fields::{eight_at, four_at};
 use crate::{Inode, InodeKind};
 use limits::DIRECT_INDEXES;
 use nfs_types::{Moment, Stamp, Verifier};
@@ -54,7 +54,6 @@ pub(crate) fn kind_of_number(number: u32) -> Option<InodeKind>
     ensures { result ≡ kind_of_number number }
 {
     match number {
-        0 => Some(InodeKind::Free),
         1 => Some(InodeKind::Regular),
         2 => Some(InodeKind::Directory),
         5 => Some(InodeKind::Link),
@@ -142,14 +141,11 @@ pub(crate) fn fields_of(kind: InodeKind, bytes: &[u8]) -> Inode
     }
 }
 
-/// Whether what no field has is zero, and all of a free inode.
-pub(crate) fn rest_is_zero(kind: InodeKind, bytes: &[u8]) -> bool
+/// Whether what no field has is zero.
+pub(crate) fn rest_is_zero(bytes: &[u8]) -> bool
     requires { length bytes.now ≡ INODE_BYTES }
-    ensures { result ≡ rest_is_zero kind bytes.now }
+    ensures { result ≡ rest_is_zero bytes.now }
 {
-    if kind == InodeKind::Free {
-        return is_zeros(bytes);
-    }
     let flags = four_at(bytes, FLAGS_AT);
     four_at(bytes, GAP_AT) == 0
         && four_at(bytes, END_GAP_AT) == 0

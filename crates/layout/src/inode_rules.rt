@@ -123,7 +123,6 @@ impl Inode {
         ensures { result ≡ is_sound_kind geometry.now.blocks geometry.now.inodes self.now.kind self.now }
     {
         match self.kind {
-            InodeKind::Free => true,
             InodeKind::Regular => {
                 self.is_sound_file() && self.is_sound_map(geometry) && self.is_sound_regular()
             }

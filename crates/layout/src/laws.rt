@@ -1,5 +1,5 @@
 //! Laws on what blocks stand for.
-ghost use Rattle.std.specs.Prelude.{◌≡◌, ◌≢◌, ℕ, ◌≤◌, true, Some, Ok};
+ghost use Rattle.std.specs.Prelude.{◌≡◌, ℕ, ◌≤◌, Some, Ok};
 ghost use Rattle.disk.specs.Crash.{Image};
 ghost use Rattle.limits.specs.declared.TheConstants.{MODE_BITS};
 ghost use Rattle.nfs_types.specs.declared.ctx.Moment.{Moment};
@@ -9,19 +9,9 @@ ghost use Rattle.model.specs.Tree.{Tree, node_at, with_node};
 ghost use Rattle.layout.specs.declared.geometry.Geometry.{Geometry};
 ghost use Rattle.layout.specs.declared.inode.Inode.{Inode};
 ghost use Rattle.layout.specs.Decode.{inode_at, node_with};
-ghost use Rattle.layout.specs.declared.inode.InodeKind.TheVariants.{Free};
-ghost use Rattle.layout.specs.InodeForm.{FitsInode, inode_bytes, is_sound_inode, read_inode};
 ghost use Rattle.layout.specs.InodeForm.{Touch, touched, SoundTouch};
 ghost use Rattle.layout.specs.Parts.{with_inode};
 ghost use Rattle.layout.specs.Stands.{Stands};
-
-/// The bytes that an inode gets are those of this inode, where it is a file's, its fields have room in them, and
-/// it shows nothing wrong by itself.
-pub fn an_inode_is_its_bytes()
-    ensures { (blocks inodes : ℕ) (inode : Inode) → FitsInode inode → inode.kind ≢ Free
-        → is_sound_inode blocks inodes inode ≡ true
-        → read_inode blocks inodes (inode_bytes inode) ≡ Ok inode }
-{}
 
 /// Two trees that the same blocks stand for are equal.
 pub fn blocks_stand_for_one_tree()
@@ -34,7 +24,7 @@ pub fn blocks_stand_for_one_tree()
 pub fn a_touched_inode_stands()
     ensures { (g : Geometry) (blocks : Image) (tree : Tree) (number : ℕ) (inode : Inode) (t : Touch)
         (node : Node)
-        → Stands g blocks tree → node_at tree number ≡ Some node → inode_at g blocks number ≡ Ok inode
+        → Stands g blocks tree → node_at tree number ≡ Some node → inode_at g blocks number ≡ Ok (Some inode)
         → SoundTouch t
         → Stands g (with_inode g blocks number (touched inode t))
         (with_node tree number (node_with (touched inode t) node.body)) }
@@ -44,7 +34,7 @@ pub fn a_touched_inode_stands()
 pub fn a_changed_mode_stands()
     ensures { (g : Geometry) (blocks : Image) (tree : Tree) (number mode : ℕ) (inode : Inode) (node : Node)
         (moment : Moment)
-        → Stands g blocks tree → node_at tree number ≡ Some node → inode_at g blocks number ≡ Ok inode
+        → Stands g blocks tree → node_at tree number ≡ Some node → inode_at g blocks number ≡ Ok (Some inode)
         → mode ≤ MODE_BITS → SoundTime moment
         → Stands g (with_inode g blocks number (record inode { mode = mode; ctime = moment }))
         (with_node tree number (record node { mode = mode; ctime = moment })) }

@@ -14,6 +14,7 @@ mod inode_rules;
 mod laws;
 mod numbers;
 mod slot;
+mod spellings;
 mod super_block;
 
 pub use fault::LayoutFault;
@@ -23,9 +24,12 @@ pub use fresh::{
 pub use fresh_image::FreshImage;
 pub use geometry::{Geometry, GeometryFault};
 pub use inode::{Inode, InodeKind};
-pub use laws::{
-    a_changed_mode_stands, a_touched_inode_stands, an_inode_is_its_bytes, blocks_stand_for_one_tree,
-};
+pub use laws::{a_changed_mode_stands, a_touched_inode_stands, blocks_stand_for_one_tree};
 pub use numbers::Numbers;
 pub use slot::{SLOT_BYTES, Slot};
+pub use spellings::{
+    a_slot_is_its_bytes, a_super_block_has_one_spelling, a_written_inode_is_read,
+    an_indirect_block_is_its_bytes, an_inode_is_its_bytes, counts_make_one_geometry,
+    other_bytes_are_no_indirect_block, other_bytes_are_no_inode, other_bytes_are_no_slot,
+};
 pub use super_block::Super;

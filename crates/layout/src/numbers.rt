@@ -30,8 +30,8 @@ impl Model for Numbers {
 }
 
 impl Numbers {
-    /// Reads an indirect block of an image of this geometry. It is refused where a number isn't that of a
-    /// data block.
+    /// Reads an indirect block of an image of this geometry. It is refused (Range) where a number is neither 0 nor that
+    /// of a data block.
     pub fn read(
         alloc: Global,
         geometry: &Geometry,
@@ -43,8 +43,9 @@ impl Numbers {
             (λ read. IfOk read (λ n. list_all (is_data_block_or_none geometry.now.blocks geometry.now.inodes)
             n ≡ true)) }
         ensures refused { IfOk result
-            (λ read. IfErr read (λ _. list_all (is_data_block_or_none geometry.now.blocks geometry.now.inodes)
-            (numbers_at INDIRECT_INDEXES 0 bytes.now) ≡ false)) }
+            (λ read. IfErr read (λ fault. (fault ≡ LayoutFault.Range)
+            × (list_all (is_data_block_or_none geometry.now.blocks geometry.now.inodes)
+            (numbers_at INDIRECT_INDEXES 0 bytes.now) ≡ false))) }
     {
         let mut numbers = Vec::with_capacity(alloc, INDIRECT_INDEXES)?;
         'indexes: for index in 0..INDIRECT_INDEXES {

@@ -1,6 +1,6 @@
 //! Slots: what the disk has of a name in a directory in 128 bytes.
-ghost use Rattle.std.specs.Prelude.{◌≡◌, ◌≤◌, length, IfOk};
-ghost use Rattle.layout.specs.SlotForm.{is_sound_slot};
+ghost use Rattle.std.specs.Prelude.{◌≡◌, ◌≤◌, length, IfOk, IfErr, Option};
+ghost use Rattle.layout.specs.SlotForm.{is_sound_slot, read_slot, IsInDirectory};
 
 use crate::LayoutFault;
 use crate::fields::{four_at, is_zeros};
@@ -27,35 +27,47 @@ pub struct Slot {
 }
 
 impl Slot {
-    ghost use Rattle.layout.specs.SlotForm.{read_slot};
-    ghost use Rattle.layout.specs.declared.slot.TheConstants.{SLOT_BYTES};
-
-    /// Reads a slot of an image of so many inodes: None where it is free. It is refused by what it shows by
-    /// itself, but for the characters of the name.
+    /// Reads a slot of an image of so many inodes: None where it is free. It is refused (Range) exactly where no slot has
+    /// the bytes, and a free one neither. The characters of a name aren't looked at.
     pub fn read(
         alloc: Global,
         inodes: u32,
         bytes: &[u8],
     ) -> Result<Result<Option<Slot>, LayoutFault>, AllocError>
         requires { length bytes.now ≡ SLOT_BYTES }
-        ensures { IfOk result (λ slot. slot ≡ read_slot inodes bytes.now) }
+        ensures value { IfOk result (λ slot. slot ≡ read_slot inodes bytes.now) }
+        ensures ok { IfOk result (λ slot. IfOk slot (λ one. IsInDirectory inodes bytes.now one)) }
+        ensures err { IfOk result (λ slot. IfErr slot (λ fault. (fault ≡ LayoutFault.Range)
+            × ((one : Option Slot) → IsInDirectory inodes bytes.now one → ⊥))) }
     {
-        let number = four_at(bytes, NUMBER_AT);
-        if number == 0 {
-            return Ok(if is_zeros(bytes) {
-                Ok(None)
-            } else {
-                Err(LayoutFault::Range)
-            });
-        }
-        if !is_sound_slot(inodes, bytes) {
-            return Ok(Err(LayoutFault::Range));
-        }
-        let (_, behind) = bytes.split_at(NAME_AT);
-        let (name, _) = behind.split_at(four_at(bytes, COUNT_AT) as usize);
-        let name = Octets::copied(alloc, name)?;
-        Ok(Ok(Some(Slot { number, name })))
+        read_slot(alloc, inodes, bytes)
     }
+}
+
+// Reads a slot of an image of so many inodes: None where it is free.
+fn read_slot(
+    alloc: Global,
+    inodes: u32,
+    bytes: &[u8],
+) -> Result<Result<Option<Slot>, LayoutFault>, AllocError>
+    requires { length bytes.now ≡ SLOT_BYTES }
+    ensures { IfOk result (λ slot. slot ≡ read_slot inodes bytes.now) }
+{
+    let number = four_at(bytes, NUMBER_AT);
+    if number == 0 {
+        return Ok(if is_zeros(bytes) {
+            Ok(None)
+        } else {
+            Err(LayoutFault::Range)
+        });
+    }
+    if !is_sound_slot(inodes, bytes) {
+        return Ok(Err(LayoutFault::Range));
+    }
+    let (_, behind) = bytes.split_at(NAME_AT);
+    let (name, _) = behind.split_at(four_at(bytes, COUNT_AT) as usize);
+    let name = Octets::copied(alloc, name)?;
+    Ok(Ok(Some(Slot { number, name })))
 }
 
 // Whether a slot that is in use shows nothing wrong by itself.

@@ -1,5 +1,5 @@
 -- What the plain decoder says of a file.
-use Rattle.std.specs.Prelude.{◌≡◌, ℕ, cond, not, nat_eq, count_by, Ok, List, [], ◌∷◌, map}
+use Rattle.std.specs.Prelude.{◌≡◌, ℕ, cond, not, nat_eq, count_by, Some, Ok, List, [], ◌∷◌, map}
 use Rattle.std.specs.List.{flat_map, range_with_len}
 use Rattle.disk.specs.Crash.{Image}
 use Rattle.model.specs.SetAttr.{resized}
@@ -36,7 +36,7 @@ pub record IsFileOf (inodes : ℕ) (blocks : Image) (number : ℕ) (inode : Inod
 
 -- it is the file that lies in the table under its number
 abbrev pub IsDecoded : Geometry → Image → PlainFile → Type 0
-IsDecoded g blocks file = (inode_at g blocks file.number ≡ Ok file.inode)
+IsDecoded g blocks file = (inode_at g blocks file.number ≡ Ok (Some file.inode))
     × IsFileOf g.inodes blocks file.number file.inode file
 
 -- the numbers of these files

@@ -1,5 +1,5 @@
 //! All files of an image.
-ghost use Rattle.std.specs.Prelude.{◌≡◌, ◌≢◌, ◌<◌, ◌++◌, IfOk, OnOk, All};
+ghost use Rattle.std.specs.Prelude.{◌≡◌, ◌<◌, ◌++◌, IfOk, OnOk, All};
 ghost use Rattle.limits.specs.declared.TheConstants.{SUPER_BLOCK};
 ghost use Rattle.disk.specs.Memory.{image_of};
 ghost use Rattle.layout.specs.SuperForm.{IsSuper};
@@ -50,7 +50,7 @@ impl PlainImage {
     }
 }
 
-// The file of an inode that isn't free.
+// The file of an inode.
 fn file_of(
     alloc: Global,
     disk: &MemDisk,
@@ -58,7 +58,6 @@ fn file_of(
     number: u32,
     inode: Inode,
 ) -> Result<PlainFile, ImageFault>
-    requires { inode.kind ≢ InodeKind.Free }
     ensures { IfOk result (λ file. IsFileOf geometry.now.inodes (image_of disk.now) number inode file) }
 {
     let numbers = numbers_of(alloc, disk, geometry, &inode)?;
@@ -66,7 +65,7 @@ fn file_of(
     let content = match inode.kind {
         InodeKind::Directory => PlainContent::Names(names_of(alloc, geometry.inodes, &bytes)?),
         InodeKind::Link => PlainContent::Target(Octets::new(bytes)),
-        InodeKind::Regular | InodeKind::Free => PlainContent::Bytes(Octets::new(bytes)),
+        InodeKind::Regular => PlainContent::Bytes(Octets::new(bytes)),
     };
     Ok(PlainFile {
         number,
@@ -90,8 +89,7 @@ fn push_file(
     ensures numbers { OnOk result (numbers_in files.new.items ≡ numbers_in files.old.items
         ++ if_used geometry.now (image_of disk.now) number) }
 {
-    let inode = inode_of(disk, geometry, number)?;
-    if inode.kind != InodeKind::Free {
+    if let Some(inode) = inode_of(disk, geometry, number)? {
         let file = file_of(alloc, disk, geometry, number, inode)?;
         files.push(file).map_err(AllocError::from)?;
     }

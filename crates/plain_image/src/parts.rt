@@ -36,20 +36,20 @@ pub(crate) fn block_of(disk: &MemDisk, number: u32) -> Result<&[u8], ImageFault>
     }
 }
 
-/// The inode of a number below the image's.
+/// The inode of a number below the image's: None where it is free.
 #[tactic(auto, using(crate::proofs::Decoded::inode_there))]
 pub(crate) fn inode_of(
     disk: &MemDisk,
     geometry: &Geometry,
     number: u32,
-) -> Result<Inode, ImageFault>
+) -> Result<Option<Inode>, ImageFault>
     requires { number < geometry.now.inodes }
-    ensures { IfOk result (λ inode. inode_at geometry.now (image_of disk.now) number ≡ Ok inode) }
+    ensures { IfOk result (λ found. inode_at geometry.now (image_of disk.now) number ≡ Ok found) }
 {
     let addr = geometry.inode_addr(number);
     let block = block_of(disk, addr.block.0)?;
-    let inode = Inode::read(geometry, &block[addr.offset..addr.offset + addr.len])?;
-    Ok(inode)
+    let found = Inode::read(geometry, &block[addr.offset..addr.offset + addr.len])?;
+    Ok(found)
 }
 
 // The numbers in an indirect block.

@@ -1,5 +1,5 @@
 -- What a plan stops for is what its call asks for, and lies among the homes of the image.
-use Rattle.std.proofs.Common.{◌≡◌, ◌≢◌, ℕ, ◌+◌, ◌*◌, ◌/◌, ◌%◌, ◌<◌, ◌≤◌, sym, ap, ◌∙◌, refl, subst, List, true, false}
+use Rattle.std.proofs.Common.{◌≡◌, ℕ, ◌<◌, sym, ap, ◌∙◌, refl, subst, List, true, false}
 use Rattle.std.proofs.Common.{arith, Ok, Err, Bool, cond, ◌&&◌, Option, Some, None, nat_eq, nat_le, nat_lt}
 use Rattle.std.specs.List.{list_all}
 use Rattle.std.proofs.lemmas.Bool.Decides.{nat_tests}
@@ -13,10 +13,10 @@ use Rattle.wal_law.specs.Log.{IsHomeOn}
 use Rattle.layout.specs.declared.fault.LayoutFault.TheVariants.{Range}
 use Rattle.layout.specs.declared.geometry.Geometry.{Geometry}
 use Rattle.layout.specs.declared.inode.InodeKind.{InodeKind}
-use Rattle.layout.specs.declared.inode.InodeKind.TheVariants.{Free}
 use Rattle.layout.specs.Geometry.{data_at, is_data}
 use Rattle.layout.specs.InodeForm.{fields_of, inode_of_kind, is_data_block_or_none, is_sound_inode}
-use Rattle.layout.specs.InodeForm.{read_inode, rest_is_zero}
+use Rattle.layout.specs.InodeForm.{kind_of_number, read_inode, rest_is_zero}
+use Rattle.layout.specs.Fields.{four_at, is_zeros}
 use Rattle.txn.specs.Object.{ObjectBytes}
 use Rattle.layout.specs.declared.inode.Inode.{Inode}
 use Rattle.procs.proofs.AllTests.{all_two, is_less, no_more}
@@ -35,44 +35,50 @@ module _ (snap : Snap) (handle : List ℕ) (number : ℕ) (stamp : Stamp)
   asks_inode NoMemory at = tt
 
   pub asks_indirect : (one : Inode) → WasReadInode snap.geometry snap.objects.items number one
-      → (one.kind ≡ Free → ⊥) → (why : Stop) → IsAskedWhole one.indirect why → IsAskedOfFile snap handle why
-  asks_indirect one read used (Need addr) at =
-      indirect number one at.0 (record { stamp = stamp; spelled = spelled; within = within }) read used at.1
+      → (why : Stop) → IsAskedWhole one.indirect why → IsAskedOfFile snap handle why
+  asks_indirect one read (Need addr) at =
+      indirect number one at.0 (record { stamp = stamp; spelled = spelled; within = within }) read at.1
       (λ none. at.2 (sym at.1 ∙ none)) at.3
-  asks_indirect one read used Io at = tt
-  asks_indirect one read used NoMemory at = tt
+  asks_indirect one read Io at = tt
+  asks_indirect one read NoMemory at = tt
 
 -- ---- an inode that was read names data blocks
 
 differs : (a b : ℕ) → (a ≡ b → ⊥) → nat_eq a b ≡ false
 differs a b e = grind (arith, nat_tests)
 
-chosen : (b : Bool) (x y : Inode) → cond b (Ok x) (Err Range) ≡ Ok y → (b ≡ true) × (x ≡ y)
+chosen : (b : Bool) (x y : Inode) → cond b (Ok (Some x)) (Err Range) ≡ Ok (Some y) → (b ≡ true) × (x ≡ y)
 chosen true x y e = (refl, cc)
 chosen false x y e = cc
 
 sound_of_kind : (blocks inodes : ℕ) (bytes : List ℕ) (one : Inode) (kind : Option InodeKind)
-    → inode_of_kind blocks inodes kind bytes ≡ Ok one → is_sound_inode blocks inodes one ≡ true
+    → inode_of_kind blocks inodes kind bytes ≡ Ok (Some one) → is_sound_inode blocks inodes one ≡ true
 sound_of_kind blocks inodes bytes one None e = cc
 sound_of_kind blocks inodes bytes one (Some kind) e =
-    let is = chosen (rest_is_zero kind bytes && is_sound_inode blocks inodes (fields_of kind bytes))
+    let is = chosen (rest_is_zero bytes && is_sound_inode blocks inodes (fields_of kind bytes))
     (fields_of kind bytes) one e in
     subst (λ i. is_sound_inode blocks inodes i ≡ true) is.1
-    (all_two (rest_is_zero kind bytes) (is_sound_inode blocks inodes (fields_of kind bytes)) is.0).1
+    (all_two (rest_is_zero bytes) (is_sound_inode blocks inodes (fields_of kind bytes)) is.0).1
 
-read_sound : (blocks inodes : ℕ) (bytes : List ℕ) (one : Inode) → read_inode blocks inodes bytes ≡ Ok one
+read_sound : (blocks inodes : ℕ) (bytes : List ℕ) (one : Inode) → read_inode blocks inodes bytes ≡ Ok (Some one)
     → is_sound_inode blocks inodes one ≡ true
 unfolding read_inode
-read_sound blocks inodes bytes one e =
-    sound_of_kind blocks inodes bytes one _ e
+read_sound blocks inodes bytes one e = used (is_zeros bytes) e
+  where
+    used : (free : Bool)
+        → cond free (Ok None) (inode_of_kind blocks inodes (kind_of_number (four_at 0 bytes)) bytes)
+        ≡ Ok (Some one)
+        → is_sound_inode blocks inodes one ≡ true
+    used true e = cc
+    used false e = sound_of_kind blocks inodes bytes one (kind_of_number (four_at 0 bytes)) e
 
 names_data : (blocks inodes : ℕ) (one : Inode) → is_sound_inode blocks inodes one ≡ true
-    → (one.kind ≡ Free → ⊥) → (one.indirect ≡ 0 → ⊥) → is_data blocks inodes one.indirect ≡ true
+    → (one.indirect ≡ 0 → ⊥) → is_data blocks inodes one.indirect ≡ true
 unfolding is_sound_inode
-names_data blocks inodes one good used some =
+names_data blocks inodes one good some =
     data_of (nat_eq one.indirect 0) (is_data blocks inodes one.indirect) (differs one.indirect 0 some)
     (all_two (list_all (is_data_block_or_none blocks inodes) one.direct)
-    (is_data_block_or_none blocks inodes one.indirect) (map_is blocks inodes one.kind one used good)).1
+    (is_data_block_or_none blocks inodes one.indirect) (map_is blocks inodes one.kind one good)).1
 
 -- ---- so what a call asks for is behind the log and within the image
 
@@ -81,9 +87,9 @@ module _ (g : Geometry) (handle : List ℕ) (objects : List ObjectBytes) (addr :
   of_file_is_home (inode number names at) =
       let rules = g.lawful.1 in
       (omega (arith, at.block), omega (arith, at.block, names.within, rules.2, rules.3))
-  of_file_is_home (indirect number one block names read used is some whole) =
+  of_file_is_home (indirect number one block names read is some whole) =
       let lies = names_data g.blocks g.inodes one
-      (read_sound g.blocks g.inodes read.bytes one read.is_inode) used (λ none. some (is ∙ none)) in
+      (read_sound g.blocks g.inodes read.bytes one read.is_inode) (λ none. some (is ∙ none)) in
       let both = all_two (nat_le (data_at g.blocks g.inodes) one.indirect) (nat_lt one.indirect g.blocks)
       lies in
       let from = no_more (data_at g.blocks g.inodes) one.indirect both.0 in

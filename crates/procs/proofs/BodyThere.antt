@@ -3,12 +3,11 @@ use Rattle.std.proofs.Common.{◌≡◌, ℕ, sym, ap, ◌∙◌, ◌%◌, ◌/�
 use Rattle.std.proofs.Common.{cond, not, min, true, is_none}
 use Rattle.limits.specs.declared.TheConstants.{BLOCK_BYTES, DIRECT_INDEXES, LARGEST_FILE, TARGET_BYTES}
 use Rattle.disk.specs.Crash.{Image}
-use Rattle.model.specs.Node.{Body}
 use Rattle.layout.specs.declared.geometry.Geometry.{Geometry}
 use Rattle.layout.specs.declared.inode.Inode.{Inode}
 use Rattle.layout.specs.declared.inode.InodeKind.{InodeKind}
-use Rattle.layout.specs.declared.inode.InodeKind.TheVariants.{Free, Regular, Directory, Link}
-use Rattle.layout.specs.Decode.{IsOfKind, regular_in, directory_in, link_in}
+use Rattle.layout.specs.declared.inode.InodeKind.TheVariants.{Regular, Directory, Link}
+use Rattle.layout.specs.Decode.{IsOfKind, body_of}
 use Rattle.layout.specs.InodeForm.{is_sound_kind, is_sound_file, is_sound_map, is_sound_regular}
 use Rattle.layout.specs.InodeForm.{is_sound_directory, is_sound_link, names_first}
 use Rattle.procs.specs.declared.attributes.FoundFile.{FoundFile}
@@ -16,20 +15,6 @@ use Rattle.procs.specs.FoundFile.{IsBodyOf, file_kind}
 use Rattle.procs.proofs.AllTests.{all_three, all_two, all_five, all_seven, no_more, same_number}
 use Rattle.procs.proofs.FileSizes.{regular_size, directory_size, link_size}
 use Rattle.procs.proofs.UsedBlocks.{counted, regular_counted, directory_counted, link_counted}
-
--- what each kind of file has in it is such
-abbrev pub BodyHas : (P : Body → Type 0) → ℕ → Image → Inode → InodeKind → Type 0
-BodyHas P inodes content inode Free = Unit {0}
-BodyHas P inodes content inode Regular = P (regular_in content inode)
-BodyHas P inodes content inode Directory = P (directory_in inodes content inode)
-BodyHas P inodes content inode Link = P (link_in content inode)
-
-pub anything : (inodes : ℕ) (content : Image) (inode : Inode) (kind : InodeKind)
-    → BodyHas (λ _. Unit {0}) inodes content inode kind
-anything inodes content inode Free = tt
-anything inodes content inode Regular = tt
-anything inodes content inode Directory = tt
-anything inodes content inode Link = tt
 
 module _ (g : Geometry) (content : Image) (found : FoundFile)
     (long : (number : ℕ) → length (content number) ≡ BLOCK_BYTES)
@@ -39,8 +24,7 @@ module _ (g : Geometry) (content : Image) (found : FoundFile)
   i = found.inode
 
   pub has_body : (kind : InodeKind) → i.kind ≡ kind → is_sound_kind g.blocks g.inodes kind i ≡ true
-      → IsOfKind g content kind i → BodyHas (IsBodyOf found) g.inodes content found.inode kind
-  has_body Free is good file = tt
+      → IsOfKind g content kind i → IsBodyOf found (body_of g.inodes content kind i)
   has_body Regular is good file =
       let three = all_three (is_sound_file i) (is_sound_map g.blocks g.inodes i) (is_sound_regular i) good in
       let small = all_two (nat_le i.size LARGEST_FILE) (nat_eq i.parent 0) three.2 in

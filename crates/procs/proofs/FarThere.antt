@@ -1,13 +1,13 @@
 -- An indirect block that names what is no data block is in no blocks that stand for a tree.
-use Rattle.std.proofs.Common.{◌≡◌, ℕ, ◌<◌, sym, ap, ◌∙◌, refl, Bool, true, false, cond, List, [], ◌∷◌}
-use Rattle.std.proofs.Common.{◌++◌, nat_eq, nat_le, replicate, Ok, is_none}
+use Rattle.std.proofs.Common.{◌≡◌, ℕ, ◌<◌, sym, ap, ◌∙◌, Bool, true, false, cond, List, [], ◌∷◌}
+use Rattle.std.proofs.Common.{◌++◌, nat_eq, nat_le, replicate, Some, Ok, is_none}
 use Rattle.std.specs.List.{list_all}
 use Rattle.limits.specs.declared.TheConstants.{INDIRECT_INDEXES, TARGET_BYTES}
 use Rattle.disk.specs.Crash.{Image}
 use Rattle.layout.specs.declared.geometry.Geometry.{Geometry}
 use Rattle.layout.specs.declared.inode.Inode.{Inode}
 use Rattle.layout.specs.declared.inode.InodeKind.{InodeKind}
-use Rattle.layout.specs.declared.inode.InodeKind.TheVariants.{Free, Regular, Directory, Link}
+use Rattle.layout.specs.declared.inode.InodeKind.TheVariants.{Regular, Directory, Link}
 use Rattle.layout.specs.Decode.{inode_at, numbers_of, IsMapped, IsOfKind}
 use Rattle.layout.specs.Fields.{numbers_at}
 use Rattle.layout.specs.InodeForm.{is_data_block_or_none, is_sound_kind, is_sound_file, is_sound_map}
@@ -39,12 +39,11 @@ module _ (g : Geometry) (content : Image) (inode : Inode) (some : nat_eq inode.i
       ∙ last_pass test inode.direct (cond (nat_eq inode.indirect 0) (replicate INDIRECT_INDEXES 0) far)
       mapped.numbers
 
-  pub far_pass : (kind : InodeKind) → (kind ≡ Free → ⊥) → is_sound_kind g.blocks g.inodes kind inode ≡ true
+  pub far_pass : (kind : InodeKind) → is_sound_kind g.blocks g.inodes kind inode ≡ true
       → IsOfKind g content kind inode → list_all test far ≡ true
-  far_pass Free used good file = absurd (used refl)
-  far_pass Regular used good file = mapped_far file.mapped
-  far_pass Directory used good file = mapped_far file.mapped
-  far_pass Link used good file =
+  far_pass Regular good file = mapped_far file.mapped
+  far_pass Directory good file = mapped_far file.mapped
+  far_pass Link good file =
       let three = all_three (is_sound_file inode) (is_sound_map g.blocks g.inodes inode) (is_sound_link inode)
       good in
       let rules = all_five (nat_le 1 inode.size) (nat_le inode.size TARGET_BYTES) (nat_eq inode.parent 0)
@@ -53,21 +52,21 @@ module _ (g : Geometry) (content : Image) (inode : Inode) (some : nat_eq inode.i
       let clash : true ≡ false = sym rules.4 ∙ some in cc
 
 pub none_name_others : (snap : Snap) (number : ℕ) (inode : Inode) (why : Stop)
-    → number < snap.geometry.inodes → (inode.kind ≡ Free → ⊥)
-    → ((blocks : Image) → Saw blocks snap → inode_at snap.geometry blocks number ≡ Ok inode)
+    → number < snap.geometry.inodes
+    → ((blocks : Image) → Saw blocks snap → inode_at snap.geometry blocks number ≡ Ok (Some inode))
     → NamesOthers snap inode.indirect why → NoneStand snap why
-none_name_others snap number inode (stop.Need addr) less used there names = tt
-none_name_others snap number inode stop.NoMemory less used there names = tt
-none_name_others snap number inode stop.Io less used there names = λ blocks tree stands saw.
-    let read : inode_at snap.geometry blocks number ≡ Ok inode = there blocks saw in
+none_name_others snap number inode (stop.Need addr) less there names = tt
+none_name_others snap number inode stop.NoMemory less there names = tt
+none_name_others snap number inode stop.Io less there names = λ blocks tree stands saw.
+    let read : inode_at snap.geometry blocks number ≡ Ok (Some inode) = there blocks saw in
     let told = names blocks saw
-    (indirect_long snap.geometry blocks tree number inode stands less read used) in
-    let passed = far_pass snap.geometry (content_in snap.geometry blocks) inode told.0 inode.kind used
+    (indirect_long snap.geometry blocks tree number inode stands less read) in
+    let passed = far_pass snap.geometry (content_in snap.geometry blocks) inode told.0 inode.kind
     (is_sound snap.geometry blocks tree number inode stands less read)
     (is_of_kind snap.geometry blocks tree number inode stands less read) in
     let same : list_all (is_data_block_or_none snap.geometry.blocks snap.geometry.inodes)
     (numbers_at INDIRECT_INDEXES 0 (blocks inode.indirect)) ≡ true =
     ap (λ block. list_all (is_data_block_or_none snap.geometry.blocks snap.geometry.inodes)
     (numbers_at INDIRECT_INDEXES 0 block))
-    (sym (indirect_is snap.geometry blocks tree number inode stands less read used told.0)) ∙ passed in
+    (sym (indirect_is snap.geometry blocks tree number inode stands less read told.0)) ∙ passed in
     let clash : true ≡ false = sym same ∙ told.1 in cc

@@ -1,6 +1,6 @@
 -- An inode that was read is the one of the blocks, and one that is refused lies in no blocks that stand for a
 -- tree.
-use Rattle.std.proofs.Common.{◌≡◌, ℕ, ◌<◌, sym, ap, ◌∙◌, subst, cond, List, take, drop, Err, ◌+◌, length}
+use Rattle.std.proofs.Common.{◌≡◌, ℕ, ◌<◌, sym, ap, ◌∙◌, subst, cond, List, take, drop, Option, Some, None, IfSome, Ok, Err, ◌+◌, length}
 use Rattle.std.proofs.Common.{nat_eq, false, arith}
 use Rattle.std.proofs.lemmas.Bool.{lt-ltb}
 use Rattle.limits.specs.declared.TheConstants.{BLOCK_BYTES, INDIRECT_INDEXES, INODE_BYTES}
@@ -17,7 +17,10 @@ use Rattle.layout.specs.InodeForm.{read_inode}
 use Rattle.layout.specs.Parts.{content_in}
 use Rattle.layout.specs.Geometry.{inode_block, inode_offset}
 use Rattle.layout.specs.Stands.{Stands}
+use Rattle.layout.specs.declared.inode.Inode.{Inode}
+use Rattle.txn.specs.Object.{ObjectBytes}
 use Rattle.txn.specs.Window.{object_at}
+use Rattle.procs.specs.Asks.{IsInodeAddr, WasRead, WasReadInode}
 
 pub read_there : (g : Geometry) (blocks : Image) (number : ℕ) (addr : Addr) (bytes : List ℕ)
     → addr.block.0 ≡ inode_block g.blocks g.inodes number → addr.offset ≡ inode_offset number
@@ -53,3 +56,17 @@ held_there blocks indirect mapped addr bytes numbers block offset len there long
     let same : bytes ≡ blocks indirect = whole_there blocks indirect addr bytes block offset len there long in
     ap (λ k. k + 1) (kept_is ∙ ap count_of (numbers_are ∙ ap (numbers_at INDIRECT_INDEXES 0) same))
     ∙ sym (ap (λ b. cond b 0 (count_of (numbers_at INDIRECT_INDEXES 0 (blocks indirect)) + 1)) some)
+
+-- an inode that was read, where it isn't free
+pub was_read : (g : Geometry) (objects : List ObjectBytes) (number : ℕ) (addr : Addr)
+    → IsInodeAddr g number addr → (bytes : List ℕ) → WasRead objects addr bytes → (found : Option Inode)
+    → read_inode g.blocks g.inodes bytes ≡ Ok found
+    → IfSome found (λ inode. WasReadInode g objects number inode)
+was_read g objects number addr at bytes read None is = tt
+was_read g objects number addr at bytes read (Some inode) is = record {
+  addr = addr;
+  at = at;
+  bytes = bytes;
+  read = read;
+  is_inode = is;
+}

@@ -81,7 +81,7 @@ module _ (g : Geometry) (blocks : Image) (tree : Tree) (ctx : Ctx) (object : Han
     (number : ℕ) (node : Node) (old new : Inode) (written : ObjectBytes)
     (stands : Stands g blocks tree) (now : SoundTime ctx.moment) (only : sets_only_mode wanted ≡ true)
     (found : find_file tree object.bytes ≡ Ok (number, node)) (passed : refusal ctx wanted guard node ≡ None)
-    (read : inode_at g blocks number ≡ Ok old)
+    (read : inode_at g blocks number ≡ Ok (Some old))
     (set : IsSetFrom ctx.moment wanted old new) (is : IsInodeObject g number new written) where
   was : node_at tree number ≡ Some node
   was = found-stands tree object.bytes (number, node) found

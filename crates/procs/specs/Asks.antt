@@ -1,5 +1,5 @@
 -- What a call may ask to read, and to claim, by what was read for it so far.
-use Rattle.std.specs.Prelude.{◌≡◌, ◌≢◌, ℕ, ◌<◌, true, false, ◌⊎◌, Contains, List, Ok}
+use Rattle.std.specs.Prelude.{◌≡◌, ◌≢◌, ℕ, ◌<◌, true, ◌⊎◌, Contains, List, Some, Ok}
 use Rattle.limits.specs.declared.TheConstants.{INODE_BYTES}
 use Rattle.nfs_types.specs.Handle.{handle_bytes}
 use Rattle.nfs_types.specs.declared.call.Call.{Call}
@@ -9,7 +9,6 @@ use Rattle.disk.specs.declared.block.BlockNo.{BlockNo}
 use Rattle.objects.specs.declared.addr.Addr.{Addr}
 use Rattle.layout.specs.declared.geometry.Geometry.{Geometry}
 use Rattle.layout.specs.declared.inode.Inode.{Inode}
-use Rattle.layout.specs.declared.inode.InodeKind.TheVariants.{Free}
 use Rattle.layout.specs.Geometry.{inode_block, inode_offset}
 use Rattle.layout.specs.InodeForm.{read_inode}
 use Rattle.txn.specs.Object.{ObjectBytes}
@@ -45,14 +44,14 @@ pub record WasReadInode (g : Geometry) (objects : List ObjectBytes) (number : �
     pub at : IsInodeAddr g number addr
     pub bytes : List ℕ
     pub read : WasRead objects addr bytes
-    pub is_inode : read_inode g.blocks g.inodes bytes ≡ Ok inode
+    pub is_inode : read_inode g.blocks g.inodes bytes ≡ Ok (Some inode)
 
 -- Of the file that a handle names, the inode is asked for, and then the indirect block that the inode names.
 pub data AsksOfFile (g : Geometry) (handle : List ℕ) (objects : List ObjectBytes) (addr : Addr) : Type 0 where
   inode : (number : ℕ) → NamesInode g handle number → IsInodeAddr g number addr
       → AsksOfFile g handle objects addr
   indirect : (number : ℕ) (inode : Inode) (block : BlockNo) → NamesInode g handle number
-      → WasReadInode g objects number inode → inode.kind ≢ Free
+      → WasReadInode g objects number inode
       → block.0 ≡ inode.indirect → block.0 ≢ 0 → IsWhole block addr → AsksOfFile g handle objects addr
 
 -- what a call may ask to read; one without rules asks for nothing

@@ -6,12 +6,11 @@ use Rattle.model.specs.Attributes.{kind_of, size_of}
 use Rattle.model.specs.Cost.{cost}
 use Rattle.model.specs.Node.{Body}
 use Rattle.layout.specs.declared.inode.InodeKind.{InodeKind}
-use Rattle.layout.specs.declared.inode.InodeKind.TheVariants.{Free, Regular, Directory, Link}
+use Rattle.layout.specs.declared.inode.InodeKind.TheVariants.{Regular, Directory, Link}
 use Rattle.procs.specs.declared.attributes.FoundFile.{FoundFile}
 
--- the kind that is told; a free inode is nobody's
+-- the kind that is told
 abbrev pub file_kind : InodeKind → FileKind
-file_kind Free = kinds.Regular
 file_kind Regular = kinds.Regular
 file_kind Directory = kinds.Directory
 file_kind Link = kinds.Link

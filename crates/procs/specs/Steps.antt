@@ -1,5 +1,5 @@
 -- What a plan writes.
-use Rattle.std.specs.Prelude.{◌≡◌, ℕ, Contains, List, Result, Ok, Err, false, nat_eq, length}
+use Rattle.std.specs.Prelude.{◌≡◌, ℕ, Contains, List, Some, Result, Ok, Err, false, nat_eq, length}
 use Rattle.std.specs.List.{list_all}
 use Rattle.limits.specs.declared.TheConstants.{BLOCK_BYTES, INDIRECT_INDEXES}
 use Rattle.nfs_types.specs.declared.attributes.Attributes.{Attributes}
@@ -68,7 +68,7 @@ NoneStand snap (stop.Need addr) = Unit {0}
 abbrev pub IsFoundIn : Geometry → Image → Tree → List ℕ → Result FoundFile Status → Type 0
 IsFoundIn g blocks tree handle (Ok found) =
     (node : Node) × (find_file tree handle ≡ Ok (found.number, node))
-    × (inode_at g blocks found.number ≡ Ok found.inode) × IsBodyOf found node.body
+    × (inode_at g blocks found.number ≡ Ok (Some found.inode)) × IsBodyOf found node.body
 IsFoundIn g blocks tree handle (Err status) = find_file tree handle ≡ Err status
 
 -- the plan failed as the indirect block of this number names what is no data block

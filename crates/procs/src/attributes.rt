@@ -21,7 +21,7 @@ fn file_kind(kind: InodeKind) -> FileKind
     ensures { result ≡ file_kind kind }
 {
     match kind {
-        InodeKind::Regular | InodeKind::Free => FileKind::Regular,
+        InodeKind::Regular => FileKind::Regular,
         InodeKind::Directory => FileKind::Directory,
         InodeKind::Link => FileKind::Link,
     }

@@ -1,5 +1,5 @@
 //! The file that a handle names.
-ghost use Rattle.std.specs.Prelude.{◌≡◌, ◌+◌, ◌<◌, ◌≤◌, length, cond, nat_eq, Ok, IfErr, IfOk};
+ghost use Rattle.std.specs.Prelude.{◌≡◌, ◌+◌, ◌<◌, ◌≤◌, length, cond, nat_eq, Ok, IfErr, IfOk, IfSome};
 ghost use Rattle.limits.specs.declared.TheConstants.{BLOCK_BYTES, INDIRECT_INDEXES};
 ghost use Rattle.layout.specs.Fields.{numbers_at, count_of};
 ghost use Rattle.disk.specs.Crash.{Image};
@@ -16,7 +16,7 @@ use crate::attributes::FoundFile;
 use crate::snap::Snap;
 use crate::stop::Stop;
 use disk::BlockNo;
-use layout::{Inode, InodeKind, Numbers};
+use layout::{Inode, Numbers};
 use nfs_types::{Handle, Status};
 use objects::Addr;
 use std::alloc::Global;
@@ -58,19 +58,20 @@ fn used_by(alloc: Global, snap: &Snap, indirect: u32) -> Result<u32, Stop>
     }
 }
 
-// The inode of a number, which is that of an inode of the image.
-fn inode_of(snap: &Snap, number: u32) -> Result<Inode, Stop>
+// The inode of a number, which is that of an inode of the image: None where it is free.
+fn inode_of(snap: &Snap, number: u32) -> Result<Option<Inode>, Stop>
     requires { number < snap.now.geometry.inodes }
-    ensures there { IfOk result (λ inode. (blocks : Image) → Saw blocks snap.now
-        → inode_at snap.now.geometry blocks number ≡ Ok inode) }
-    ensures read { IfOk result (λ inode. WasReadInode snap.now.geometry snap.now.objects.items number inode) }
+    ensures there { IfOk result (λ found. (blocks : Image) → Saw blocks snap.now
+        → inode_at snap.now.geometry blocks number ≡ Ok found) }
+    ensures read { IfOk result (λ found. IfSome found
+        (λ inode. WasReadInode snap.now.geometry snap.now.objects.items number inode)) }
     ensures asks { IfErr result (λ stop. IsAskedInode snap.now.geometry number stop) }
     ensures err { IfErr result (λ stop. IsNew snap.now stop) }
     ensures io { IfErr result (λ stop. NoneStand snap.now stop) }
 {
     let bytes = bytes_at(snap, snap.geometry.inode_addr(number))?;
     match Inode::read(&snap.geometry, bytes) {
-        Ok(inode) => Ok(inode),
+        Ok(found) => Ok(found),
         Err(_) => Err(Stop::Io),
     }
 }
@@ -98,8 +99,10 @@ pub(crate) fn find(
     if number == 0 || number >= snap.geometry.inodes {
         return Ok(Err(Status::BadHandle));
     }
-    let inode = inode_of(snap, number)?;
-    if inode.kind == InodeKind::Free || inode.stamp != stamp {
+    let Some(inode) = inode_of(snap, number)? else {
+        return Ok(Err(Status::Stale));
+    };
+    if inode.stamp != stamp {
         return Ok(Err(Status::Stale));
     }
     let used = inode.directly_used() + used_by(alloc, snap, inode.indirect)?;

@@ -31,7 +31,7 @@ pub fn a_written_mode_is_a_step()
         (number : ℕ) (node : Node) (old new : Inode) (written : ObjectBytes)
         → Stands g blocks tree → SoundTime ctx.moment → sets_only_mode wanted ≡ true
         → find_file tree object.bytes ≡ Ok (number, node) → refusal ctx wanted guard node ≡ None
-        → inode_at g blocks number ≡ Ok old
+        → inode_at g blocks number ≡ Ok (Some old)
         → IsSetFrom ctx.moment wanted old new → IsInodeObject g number new written
         → (next : Tree)
         × step tree ctx (call.SetAttr object wanted guard)

@@ -2,55 +2,47 @@ use Rattle.std.proofs.Common.{rules, ◌≡◌, sym, ◌∙◌, ◌+◌, arith, 
 use Rattle.procs.specs.Asks.{IsAskedOfFile}
 use Rattle.procs.specs.Steps.{NoneStand}
 use Rattle.procs.proofs.AskedFor.{asks_inode, asks_indirect}
-use Rattle.procs.proofs.FoundThere.{stale_free, stale_stamp, found, is_free, is_used, stamps_same}
+use Rattle.procs.proofs.FoundThere.{stale_free, stale_stamp, found, stamps_same}
 use Rattle.procs.proofs.FoundThere.{stamps_differ}
 use Rattle.procs.proofs.FarThere.{none_name_others}
 use Rattle.procs.proofs.InodeThere.{indirect_long}
-use Rattle.procs.proofs.find.find.Goals.{then-eq-via-then-eq, then-eq-via-else-eq+then-ne}
 use Rattle.procs.proofs.find.find.Goals as goal
 
-pub returns-then-eq-clause-tells : goal.returns-then-eq-clause-tells
-returns-then-eq-clause-tells c = λ blocks tree stands saw. elim c.then-eq.branch [
-  | then-eq-via-then-eq w ↦
-      stale_free c.args.snap.now.geometry blocks tree c.in-Some.number c.in_ok-inode.inode c.in-Some.stamp
-      c.args.handle.now.bytes stands
-      (c.in_ok-inode.ensures.there blocks saw) c.in-Some.ensures.some (search rules) (search rules)
-      (search rules)
-      (omega (arith, c.if-number-eq0.false)) (omega (arith, c.if-number-snap.false))
-      (is_free c.in_ok-inode.inode.kind (sym c.eq.ensures ∙ w.if-eq.true))
-  | then-eq-via-else-eq+then-ne w ↦
-      stale_stamp c.args.snap.now.geometry blocks tree c.in-Some.number c.in_ok-inode.inode c.in-Some.stamp
-      c.args.handle.now.bytes stands
-      (c.in_ok-inode.ensures.there blocks saw) c.in-Some.ensures.some (search rules) (search rules)
-      (search rules)
-      (omega (arith, c.if-number-eq0.false)) (omega (arith, c.if-number-snap.false))
-      (stamps_differ c.in_ok-inode.inode.stamp c.in-Some.stamp (sym w.ne.ensures ∙ w.if-ne.true))
-]
+pub returns-in_default-2-clause-tells : goal.returns-in_default-2-clause-tells
+returns-in_default-2-clause-tells c = λ blocks tree stands saw.
+    stale_free c.args.snap.now.geometry blocks tree c.in-Some.number c.in-Some.stamp
+    c.args.handle.now.bytes stands c.in-Some.ensures.some (search rules) (search rules) (search rules)
+    (omega (arith, c.if-number-eq0.false)) (omega (arith, c.if-number-snap.false))
+    (rw c.in_default-2.is at (c.in_ok-inode.ensures.there blocks saw))
+
+pub returns-then-ne-clause-tells : goal.returns-then-ne-clause-tells
+returns-then-ne-clause-tells c = λ blocks tree stands saw.
+    stale_stamp c.args.snap.now.geometry blocks tree c.in-Some.number c.in-Some.stamp
+    c.args.handle.now.bytes stands c.in-Some.ensures.some (search rules) (search rules) (search rules)
+    (omega (arith, c.if-number-eq0.false)) (omega (arith, c.if-number-snap.false)) c.in-Some-2.inode
+    (rw c.in-Some-2.is at (c.in_ok-inode.ensures.there blocks saw))
+    (stamps_differ c.in-Some-2.inode.stamp c.in-Some.stamp (sym c.ne.ensures ∙ c.if-ne.true))
 
 pub returns-clause-tells : goal.returns-clause-tells
 returns-clause-tells c = λ blocks tree stands saw.
-    found c.args.snap.now.geometry blocks tree c.in-Some.number c.in_ok-inode.inode c.in-Some.stamp
-    c.args.handle.now.bytes stands
-    (c.in_ok-inode.ensures.there blocks saw) c.in-Some.ensures.some (search rules) (search rules)
-    (search rules)
-    (omega (arith, c.if-number-eq0.false)) (omega (arith, c.if-number-snap.false))
-    (is_used c.in_ok-inode.inode.kind (sym c.eq.ensures ∙ c.if-eq.false))
-    (stamps_same c.in_ok-inode.inode.stamp c.in-Some.stamp (sym c.ne.ensures ∙ c.if-ne.false))
+    found c.args.snap.now.geometry blocks tree c.in-Some.number c.in-Some.stamp
+    c.args.handle.now.bytes stands c.in-Some.ensures.some (search rules) (search rules) (search rules)
+    (omega (arith, c.if-number-eq0.false)) (omega (arith, c.if-number-snap.false)) c.in-Some-2.inode
+    (rw c.in-Some-2.is at (c.in_ok-inode.ensures.there blocks saw))
+    (stamps_same c.in-Some-2.inode.stamp c.in-Some.stamp (sym c.ne.ensures ∙ c.if-ne.false))
     (c.directly_used.result + c.in_ok-used.field-0)
     (λ i. c.directly_used.ensures.count i
     + c.in_ok-used.ensures.used blocks saw (indirect_long c.args.snap.now.geometry blocks tree
-    c.in-Some.number c.in_ok-inode.inode stands (omega (arith, c.if-number-snap.false))
-    (c.in_ok-inode.ensures.there blocks saw)
-    (is_used c.in_ok-inode.inode.kind (sym c.eq.ensures ∙ c.if-eq.false))) i)
+    c.in-Some.number c.in-Some-2.inode stands (omega (arith, c.if-number-snap.false))
+    (rw c.in-Some-2.is at (c.in_ok-inode.ensures.there blocks saw))) i)
 
 pub returns-in_err-used-clause-io : goal.returns-in_err-used-clause-io
 returns-in_err-used-clause-io c =
     let same : c.from_residual-in_err-used.result ≡ Err c.in_err-used.field-0.0 = search rules in
     let none : NoneStand c.args.snap.now c.in_err-used.field-0.0 =
-    none_name_others c.args.snap.now c.in-Some.number c.in_ok-inode.inode c.in_err-used.field-0.0
-    (omega (arith, c.if-number-snap.false))
-    (is_used c.in_ok-inode.inode.kind (sym c.eq.ensures ∙ c.if-eq.false))
-    c.in_ok-inode.ensures.there c.in_err-used.ensures.io in
+    none_name_others c.args.snap.now c.in-Some.number c.in-Some-2.inode c.in_err-used.field-0.0
+    (omega (arith, c.if-number-snap.false)) (rw c.in-Some-2.is at c.in_ok-inode.ensures.there)
+    c.in_err-used.ensures.io in
     subst (λ r. IfErr r (λ why. NoneStand c.args.snap.now why)) (sym same) none
 
 pub returns-in_err-inode-clause-asks : goal.returns-in_err-inode-clause-asks
@@ -67,7 +59,7 @@ returns-in_err-used-clause-asks c =
     let same : c.from_residual-in_err-used.result ≡ Err c.in_err-used.field-0.0 = search rules in
     let asks : IsAskedOfFile c.args.snap.now c.args.handle.now.bytes c.in_err-used.field-0.0 =
     asks_indirect c.args.snap.now c.args.handle.now.bytes c.in-Some.number c.in-Some.stamp
-    c.in-Some.ensures.some (omega (arith, c.if-number-snap.false)) c.in_ok-inode.inode
-    c.in_ok-inode.ensures.read (is_used c.in_ok-inode.inode.kind (sym c.eq.ensures ∙ c.if-eq.false))
+    c.in-Some.ensures.some (omega (arith, c.if-number-snap.false)) c.in-Some-2.inode
+    (rw c.in-Some-2.is at c.in_ok-inode.ensures.read)
     c.in_err-used.field-0.0 c.in_err-used.ensures.asks in
     subst (λ r. IfErr r (λ why. IsAskedOfFile c.args.snap.now c.args.handle.now.bytes why)) (sym same) asks

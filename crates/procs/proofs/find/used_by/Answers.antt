@@ -23,5 +23,5 @@ returns-in-Err-clause-io c = λ blocks saw long. (
       (sym (whole_there blocks c.args.indirect c.whole.result c.in_ok-bytes.bytes.now
       (ap (λ (b : BlockNo). b.0) c.whole.ensures.value.0) c.whole.ensures.value.1 c.whole.ensures.value.2
       (c.in_ok-bytes.ensures.there blocks saw) long))
-      ∙ (rw c.in-Err.is at c.in_ok-numbers.ensures.refused),
+      ∙ (rw c.in-Err.is at c.in_ok-numbers.ensures.refused).1,
 )

@@ -1,18 +1,24 @@
-use Rattle.layout.proofs.ReadInode.{no_kind, sound, unsound, not_zero}
+use Rattle.std.proofs.Common.{arith}
+use Rattle.nfs_types.specs.Fits.{AreBytes}
+use Rattle.layout.specs.InodeForm.{read_inode, IsInTable}
+use Rattle.layout.proofs.ReadBytes.{read_is, is_read, fault_is}
+use Rattle.layout.proofs.Refused.{told_ok, told_err}
 use Rattle.layout.proofs.inode.Inode.read.Goals as goal
-use Rattle.layout.proofs.inode.Inode.read.Goals.{else-rest_is_zero-via-then-rest_is_zero+else-is_sound}
-use Rattle.layout.proofs.inode.Inode.read.Goals.{else-rest_is_zero-via-else-rest_is_zero}
 
-pub returns-in_default : goal.returns-in_default
-returns-in_default c = no_kind _ _ _ (cc)
+pub returns-clause-ok : goal.returns-clause-ok
+returns-clause-ok c =
+    let g = c.args.geometry.now in
+    let bytes = c.args.bytes.now in
+    let are : AreBytes bytes = λ i. omega (arith, c.type_inv.bytes i) in
+    told_ok (IsInTable g.blocks g.inodes bytes) (read_inode g.blocks g.inodes bytes)
+    (is_read g.blocks g.inodes bytes are c.requires) (read_is g.blocks g.inodes bytes are c.requires)
+    (fault_is g.blocks g.inodes bytes are c.requires) c.read_inode.result c.read_inode.ensures
 
-pub returns-then-is_sound : goal.returns-then-is_sound
-returns-then-is_sound c = sound _ _ _ c.in-Some.kind _ (cc) c.fields_of-inode.ensures (cc) (cc)
-
-pub returns-else-rest_is_zero : goal.returns-else-rest_is_zero
-returns-else-rest_is_zero c =
-    elim c.else-rest_is_zero.branch [
-      | else-rest_is_zero-via-then-rest_is_zero+else-is_sound w ↦ unsound _ _ _ c.in-Some.kind _ (cc)
-          c.fields_of-inode.ensures (cc) (cc)
-      | else-rest_is_zero-via-else-rest_is_zero w ↦ not_zero _ _ _ c.in-Some.kind (cc) (cc)
-    ]
+pub returns-clause-err : goal.returns-clause-err
+returns-clause-err c =
+    let g = c.args.geometry.now in
+    let bytes = c.args.bytes.now in
+    let are : AreBytes bytes = λ i. omega (arith, c.type_inv.bytes i) in
+    told_err (IsInTable g.blocks g.inodes bytes) (read_inode g.blocks g.inodes bytes)
+    (is_read g.blocks g.inodes bytes are c.requires) (read_is g.blocks g.inodes bytes are c.requires)
+    (fault_is g.blocks g.inodes bytes are c.requires) c.read_inode.result c.read_inode.ensures

@@ -1,16 +1,31 @@
-use Rattle.std.proofs.Common.{arith}
-use Rattle.std.proofs.lemmas.Grind.{common_steps}
-use Rattle.layout.specs.SlotForm.{read_slot}
+use Rattle.std.proofs.Common.{◌≡◌, Result, Option, IfOk, IfErr, arith}
+use Rattle.nfs_types.specs.Fits.{AreBytes}
+use Rattle.layout.specs.declared.fault.LayoutFault.{LayoutFault}
+use Rattle.layout.specs.declared.fault.LayoutFault.TheVariants.{Range}
+use Rattle.layout.specs.declared.slot.Slot.{Slot}
+use Rattle.layout.specs.SlotForm.{read_slot, IsInDirectory}
+use Rattle.layout.proofs.SlotBytes.{read_is, is_read, fault_is}
+use Rattle.layout.proofs.Refused.{told_ok, told_err, under}
 use Rattle.layout.proofs.slot.Slot.read.Goals as goal
 
-pub returns-then-number-eq0 : goal.returns-then-number-eq0
-unfolding read_slot
-returns-then-number-eq0 c = grind (arith, common_steps)
+pub returns-clause-ok : goal.returns-clause-ok
+returns-clause-ok c =
+    let inodes = c.args.inodes in
+    let bytes = c.args.bytes.now in
+    let are : AreBytes bytes = λ i. omega (arith, c.type_inv.bytes i) in
+    under (λ (found : Result (Option Slot) LayoutFault). found ≡ read_slot inodes bytes)
+    (λ found. IfOk found (λ one. IsInDirectory inodes bytes one))
+    (told_ok (IsInDirectory inodes bytes) (read_slot inodes bytes)
+    (is_read inodes bytes are c.requires) (read_is inodes bytes are c.requires)
+    (fault_is inodes bytes are c.requires)) c.read_slot.result c.read_slot.ensures
 
-pub returns-then-not-is_sound_slot : goal.returns-then-not-is_sound_slot
-unfolding read_slot
-returns-then-not-is_sound_slot c = grind (arith, common_steps)
-
-pub returns : goal.returns
-unfolding read_slot
-returns c = grind (arith, common_steps)
+pub returns-clause-err : goal.returns-clause-err
+returns-clause-err c =
+    let inodes = c.args.inodes in
+    let bytes = c.args.bytes.now in
+    let are : AreBytes bytes = λ i. omega (arith, c.type_inv.bytes i) in
+    under (λ (found : Result (Option Slot) LayoutFault). found ≡ read_slot inodes bytes)
+    (λ found. IfErr found (λ fault. (fault ≡ Range) × ((one : Option Slot) → IsInDirectory inodes bytes one → ⊥)))
+    (told_err (IsInDirectory inodes bytes) (read_slot inodes bytes)
+    (is_read inodes bytes are c.requires) (read_is inodes bytes are c.requires)
+    (fault_is inodes bytes are c.requires)) c.read_slot.result c.read_slot.ensures
