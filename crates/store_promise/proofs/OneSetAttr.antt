@@ -1,9 +1,12 @@
 -- The run of one SETATTR, event by event.
-use Rattle.std.proofs.Common.{◌≡◌, ℕ, ◌+◌, ◌<◌, ◌^◌, refl, Bool, true, false, arith}
+use Rattle.std.proofs.Common.{◌≡◌, ℕ, ◌+◌, ◌-◌, ◌<◌, ◌^◌, refl, ap, Bool, true, false, arith}
 use Rattle.std.proofs.Common.{[], Option, Ok}
 use Rattle.std.specs.List.{zip}
 use Rattle.model.specs.Calls.{sets_only_mode}
+use Rattle.layout.specs.declared.geometry.Geometry.{Geometry}
 use Rattle.procs.specs.Asks.{Asks}
+use Rattle.wal_law.specs.declared.calls.IoCall.TheVariants.{Write}
+use Rattle.wal_law.specs.Logger.{slot_block}
 use Rattle.store_promise.specs.declared.events.Event.{Event}
 use Rattle.store_promise.specs.declared.events.Step.{Step}
 use Rattle.store_promise.specs.declared.events.Step.TheVariants as step
@@ -27,10 +30,20 @@ is_taken : (o : Opening) (index : ℕ) (told : Told) (e : Event) (m : Option Ste
     → IsTaken o 1 told e m
 is_taken o index told e m may = record { own = λ _. may.1; others = λ no. absurd (no may.0) }
 
-module _ (o : Opening) (one : OneSetAttr) (room : o.position + 1 < 2 ^ 64)
-    (rules : sets_only_mode one.attributes ≡ true) (asks : Asks o.geometry (asked one) [] one.addr) where
+module _ (g : Geometry) (one : OneSetAttr) (room : one.position + 1 < 2 ^ 64)
+    (rules : sets_only_mode one.attributes ≡ true) (asks : Asks g (asked one) [] one.addr) where
+  abbrev o : Opening
+  o = record { geometry = g; position = one.position }
+
   less : 0 < 1
   less = omega arith
+
+  -- its block goes to the slot of the position
+  slot : Write (record { 0 = slot_block one.position })
+      ≡ Write (record { 0 = slot_block (one.position + (0 + 1) - (0 + (0 + 1)) + 0) })
+  slot =
+      let same : one.position ≡ one.position + (0 + 1) - (0 + (0 + 1)) + 0 = omega arith in
+      ap (λ n. Write (record { 0 = slot_block n })) same
 
   within : o.position + 0 + 1 < 2 ^ 64
   within = omega (arith, room)
@@ -47,8 +60,8 @@ module _ (o : Opening) (one : OneSetAttr) (room : o.position + 1 < 2 ^ 64)
         less,
         (omega arith, (refl, refl, record { place = omega arith; positions = within }, omega arith)),
       )
-      then (tt, tt) then (tt, tt) then (tt, refl) then (tt, tt) then (tt, tt) then (tt, refl)
-      then (tt, tt) then (tt, tt) then (tt, refl) then (tt, tt) then (tt, tt) then (tt, refl)
+      then (tt, slot) then (tt, tt) then (tt, refl) then (tt, refl) then (tt, tt) then (tt, refl)
+      then (tt, refl) then (tt, tt) then (tt, refl) then (tt, refl) then (tt, tt) then (tt, refl)
       then (less, (refl, refl))
       then tt
 

@@ -1,10 +1,9 @@
 -- What a stop leaves of an open store.
-use Rattle.std.proofs.Common.{◌≡◌, ℕ, zero, suc, ◌+◌, ◌-◌, ◌<◌, ◌≤◌, ◌⊎◌, inl, inr, ap, sym, ◌∙◌, refl, subst, arith}
-use Rattle.std.proofs.Common.{Bool, true, false, cond, if◌then◌else◌, ◌&&◌, List, [], ◌∷◌, Option, Some, None, length}
-use Rattle.std.proofs.Common.{take, drop, nat_eq, nat_le, nat_lt, replicate, slice_index_or, All, Contains}
-use Rattle.std.proofs.lemmas.Bool.{cases_lt}
+use Rattle.std.proofs.Common.{◌≡◌, ℕ, zero, suc, ◌+◌, ◌-◌, ◌<◌, ◌≤◌, ◌⊎◌, inl, inr, ap, sym, ◌∙◌, refl, arith}
+use Rattle.std.proofs.Common.{Bool, true, false, if◌then◌else◌, ◌&&◌, List, [], ◌∷◌, Some, None, length}
+use Rattle.std.proofs.Common.{take, drop, nat_eq, nat_le, nat_lt, All}
 use Rattle.std.proofs.lemmas.Bool.Decides.{nat_tests}
-use Rattle.limits.specs.declared.TheConstants.{BLOCK_BYTES, FIRST_HOME_BLOCK, LOG_HEADER_BLOCK, SUPER_BLOCK}
+use Rattle.limits.specs.declared.TheConstants.{FIRST_HOME_BLOCK}
 use Rattle.limits.specs.declared.TheConstants.{START_BLOCK}
 use Rattle.disk.specs.Crash.{Image}
 use Rattle.disk.specs.Device.{Content}
@@ -13,16 +12,16 @@ use Rattle.objects.specs.Spliced.{spliced}
 use Rattle.model.specs.After.{Entry, after}
 use Rattle.model.specs.Tree.{Tree}
 use Rattle.layout.specs.declared.geometry.Geometry.{Geometry}
-use Rattle.layout.specs.Homes.{homes_of, is_home}
+use Rattle.layout.specs.Homes.{is_home}
 use Rattle.layout.specs.Stands.{Stands}
 use Rattle.wal_law.specs.declared.change.LogChange.{LogChange}
 use Rattle.wal_law.specs.Effects.{newest_in}
 use Rattle.wal_law.specs.Law.{IsAfter, IsBoundary, IsOutside, pairs_of, with_changes}
-use Rattle.wal_law.specs.Log.{IsHomeOn, IsLawful, Log, installed_place, newest_of, or_else, place_before}
+use Rattle.wal_law.specs.Log.{IsHomeOn, IsLawful, Log, newest_of, or_else}
 use Rattle.wal_law.specs.Overlay.{content_or, logged_in, over}
 use Rattle.txn_law.specs.Object.{ObjectBytes}
-use Rattle.txn_law.specs.Window.{AreInLog, Footprint, IsInLog, IsWindowOver, after_commits, at_first, commits_among}
-use Rattle.txn_law.specs.Window.{opening, with_object, with_objects}
+use Rattle.txn_law.specs.Window.{AreInLog, Footprint, IsInLog, after_commits}
+use Rattle.txn_law.specs.Window.{with_object, with_objects}
 use Rattle.store_promise.specs.OpenStore.{IsChain}
 
 -- ---- a chain holds up to each of its commits

@@ -1,19 +1,18 @@
 -- What is told along the events, one after another.
-use Rattle.std.proofs.Common.{◌≡◌, ℕ, zero, suc, ◌+◌, ap, sym, ◌∙◌, refl, subst, Bool, true, false, if◌then◌else◌}
+use Rattle.std.proofs.Common.{◌≡◌, ℕ, zero, suc, ap, sym, ◌∙◌, refl, subst, Bool, true, false, if◌then◌else◌}
 use Rattle.std.proofs.Common.{◌<◌, ◌≤◌}
 use Rattle.std.proofs.lemmas.Bool.{cases_lt}
 use Rattle.std.proofs.Common.{List, [], ◌∷◌, ◌++◌, Option, Some, None, take, slice_get, nat_eq, arith, ◌⊎◌, inl, inr}
 use Rattle.std.specs.List.{zip}
 use Rattle.std.specs.Option.{option_map}
 use Rattle.std.proofs.lemmas.Bool.Decides.{nat_tests}
-use Rattle.model.specs.Calls.{is_answered_stable}
 use Rattle.store_promise.specs.declared.events.Event.{Event}
 use Rattle.store_promise.specs.declared.events.Event.TheVariants as event
 use Rattle.store_promise.specs.declared.events.Step.{Step}
-use Rattle.store_promise.specs.Progress.{Begun, Job, Progress, Idle, At, Stage, Called, Planning, going_on, progressed, stage_after}
+use Rattle.store_promise.specs.Progress.{Begun, Job, Progress, Idle, At, Stage, Called, Planning, going_on, progressed}
 use Rattle.store_promise.specs.Schedule.{Schedule, Opening, Told, at_first, told_after, told_along, told_before}
 use Rattle.store_promise.specs.Schedule.{AreTaken, IsOfOne, IsStepOfPlan, IsStepOfWork, IsTaken}
-use Rattle.store_promise.specs.Schedule.{progress_before, with_worker, worker_of, workers_after}
+use Rattle.store_promise.specs.Schedule.{progress_before, worker_of}
 use Rattle.store_promise.specs.Transcript.{Transcript, made, step_at}
 
 abbrev pub Pairs : Type 0

@@ -2,6 +2,7 @@ pub mod GoodImage
 pub mod Transcript
 pub mod Progress
 pub mod LogTold
+pub mod NextCall
 pub mod Openings
 pub mod Schedule
 pub mod History

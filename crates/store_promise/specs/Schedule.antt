@@ -1,5 +1,5 @@
 -- Which events apply, and what step each may make, told from the events and steps before it alone.
-use Rattle.std.specs.Prelude.{◌≡◌, ◌≢◌, ℕ, ◌+◌, ◌^◌, ◌<◌, ◌≤◌, ◌⊎◌, Bool, true, false, if◌then◌else◌, nat_eq}
+use Rattle.std.specs.Prelude.{◌≡◌, ◌≢◌, ℕ, ◌+◌, ◌^◌, ◌<◌, ◌≤◌, Bool, true, false, if◌then◌else◌, nat_eq}
 use Rattle.std.specs.Prelude.{nat_le, List, [], ◌∷◌, map, take, Option, Some, None, Ok, Err, length, slice_get}
 use Rattle.std.specs.List.{zip, list_any}
 use Rattle.limits.specs.declared.TheConstants.{BLOCK_BYTES, CHANGED_BLOCKS, LOG_SLOTS}
@@ -13,6 +13,7 @@ use Rattle.procs.specs.Asks.{Asks, Claims}
 use Rattle.procs.specs.Snap.{is_claimed, same_addr}
 use Rattle.txn.specs.Object.{ObjectBytes}
 use Rattle.txn.specs.declared.outcomes.BeginFault.TheVariants as fault
+use Rattle.wal_law.specs.declared.calls.IoCall.{IoCall}
 use Rattle.store_promise.specs.declared.events.Committing.{Committing}
 use Rattle.store_promise.specs.declared.events.Committing.TheVariants as committing
 use Rattle.store_promise.specs.declared.events.Ending.TheVariants as ending
@@ -24,6 +25,7 @@ use Rattle.store_promise.specs.declared.events.Wish.{Wish}
 use Rattle.store_promise.specs.declared.events.Wish.TheVariants as wish
 use Rattle.store_promise.specs.LogTold.{CallTold, idle, out, was_made, LogTold, empty_log, log_moved}
 use Rattle.store_promise.specs.LogTold.{may_log_told, may_install_told, settled_told}
+use Rattle.store_promise.specs.NextCall.{IsNextOfInstalling, next_log_call}
 use Rattle.store_promise.specs.Progress.{Begun, Progress, Idle, At, Stage, Called, Planning, Reading, Read}
 use Rattle.store_promise.specs.Progress.{Refused, Again, Waiting, progressed, has_taken, is_fetching}
 use Rattle.store_promise.specs.Progress.{is_loaded}
@@ -225,25 +227,26 @@ IsStepOfRead _ made = made ≡ None
 -- ---- what the log and the installer may do
 
 -- the call that was made is given back, and where none is out the next is taken, if one is to be had
-abbrev pub IsNextOfLog : Bool → Option Step → Type 0
-IsNextOfLog true (Some (step.LogNext call)) = Unit {0}
-IsNextOfLog true _ = ⊥
-IsNextOfLog false made = made ≡ None
+abbrev pub IsNextOfLog : Bool → IoCall → Option Step → Type 0
+IsNextOfLog true next (Some (step.LogNext call)) = call ≡ next
+IsNextOfLog true next _ = ⊥
+IsNextOfLog false next made = made ≡ None
 
-abbrev pub IsNextOfInstaller : Bool → Option Step → Type 0
-IsNextOfInstaller true (Some (step.InstNext call)) = Unit {0}
-IsNextOfInstaller true _ = ⊥
-IsNextOfInstaller false made = made ≡ None
+abbrev pub IsNextOfInstaller : Bool → (IoCall → Type 0) → Option Step → Type 0
+IsNextOfInstaller true IsNext (Some (step.InstNext call)) = IsNext call
+IsNextOfInstaller true IsNext _ = ⊥
+IsNextOfInstaller false IsNext made = made ≡ None
 
-abbrev pub IsStepOfLog : LogTold → CallTold → Option Step → Type 0
-IsStepOfLog log idle made = IsNextOfLog (may_log_told log) made
-IsStepOfLog log (out call) made = made ≡ None
-IsStepOfLog log (was_made call ok) made = made ≡ Some (step.LogDone ok)
+abbrev pub IsStepOfLog : Opening → LogTold → CallTold → Option Step → Type 0
+IsStepOfLog o log idle made = IsNextOfLog (may_log_told log) (next_log_call o.position log) made
+IsStepOfLog o log (out call) made = made ≡ None
+IsStepOfLog o log (was_made call ok) made = made ≡ Some (step.LogDone ok)
 
-abbrev pub IsStepOfInstaller : LogTold → CallTold → Option Step → Type 0
-IsStepOfInstaller log idle made = IsNextOfInstaller (may_install_told log) made
-IsStepOfInstaller log (out call) made = made ≡ None
-IsStepOfInstaller log (was_made call ok) made = made ≡ Some (step.InstDone ok)
+abbrev pub IsStepOfInstaller : Opening → LogTold → CallTold → Option Step → Type 0
+IsStepOfInstaller o log idle made =
+    IsNextOfInstaller (may_install_told log) (IsNextOfInstalling o.geometry.blocks log) made
+IsStepOfInstaller o log (out call) made = made ≡ None
+IsStepOfInstaller o log (was_made call ok) made = made ≡ Some (step.InstDone ok)
 
 -- the call that is out is made
 abbrev pub IsStepOfLogIo : CallTold → Option Step → Type 0
@@ -263,9 +266,9 @@ abbrev pub IsStepOf : Opening → Told → Event → Option Step → Type 0
 IsStepOf o told (event.Call worker credential moment call) made = IsStepOfCall (told.workers worker) made
 IsStepOf o told (event.Work worker) made = IsStepOfWork o told worker (told.workers worker) made
 IsStepOf o told (event.Read worker) made = IsStepOfRead (told.workers worker) made
-IsStepOf o told event.Log made = IsStepOfLog told.log told.log.log_call made
+IsStepOf o told event.Log made = IsStepOfLog o told.log told.log.log_call made
 IsStepOf o told event.LogIo made = IsStepOfLogIo told.log.log_call made
-IsStepOf o told event.Install made = IsStepOfInstaller told.log told.log.inst_call made
+IsStepOf o told event.Install made = IsStepOfInstaller o told.log told.log.inst_call made
 IsStepOf o told event.InstIo made = IsStepOfInstIo told.log.inst_call made
 
 -- ---- along a run

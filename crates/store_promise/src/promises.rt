@@ -1,15 +1,18 @@
 //! Laws on the promise of a run.
 ghost use Rattle.std.specs.Prelude.{◌≡◌, ◌≢◌, ◌+◌, ◌<◌, ◌≤◌, ℕ, List, [], ◌∷◌, slice_get, Some, None, true};
 ghost use Rattle.std.specs.Prelude.{Contains, count_by, length, take};
-ghost use Rattle.limits.specs.declared.TheConstants.{LOG_SLOTS};
+ghost use Rattle.limits.specs.declared.TheConstants.{LOG_SLOTS, START_BLOCK};
 ghost use Rattle.disk.specs.Crash.{Image, IsCrashImage};
 ghost use Rattle.disk.specs.Device.{Device};
+ghost use Rattle.disk.specs.declared.block.BlockNo.{BlockNo};
 ghost use Rattle.model.specs.After.{after};
 ghost use Rattle.model.specs.Tree.{Tree};
 ghost use Rattle.objects.specs.declared.addr.Addr.{Addr};
 ghost use Rattle.layout.specs.declared.geometry.Geometry.{Geometry};
 ghost use Rattle.procs.specs.Asks.{Asks};
 ghost use Rattle.txn.specs.Object.{ObjectBytes};
+ghost use Rattle.wal_law.specs.declared.calls.IoCall.{IoCall};
+ghost use Rattle.wal_law.specs.declared.calls.IoCall.TheVariants.{Write};
 ghost use Rattle.store_promise.specs.declared.events.Wish.{Wish};
 ghost use Rattle.store_promise.specs.declared.events.Wish.TheVariants as wish;
 ghost use Rattle.store_promise.specs.declared.events.Committing.TheVariants as committing;
@@ -21,6 +24,7 @@ ghost use Rattle.store_promise.specs.GoodImage.{IsGoodImage};
 ghost use Rattle.store_promise.specs.Headline.{KeepsPromise};
 ghost use Rattle.store_promise.specs.Openings.{IsOpened};
 ghost use Rattle.store_promise.specs.LogTold.{idle, may_log_told, settled_told};
+ghost use Rattle.store_promise.specs.NextCall.{next_log_call, taken_home};
 ghost use Rattle.store_promise.specs.Progress.{Begun, Job, At, Planning};
 ghost use Rattle.store_promise.specs.Schedule.{Schedule, progress_before, told_before};
 ghost use Rattle.store_promise.specs.Transcript.{Transcript, device_calls, entries_of, fails, step_at};
@@ -153,5 +157,25 @@ pub fn a_full_log_is_full()
         → slice_get t.steps index ≡ Some (Some (step.Commit blocks committing.Full))
         → progress_before events t.steps worker index ≡ At job (Planning begun)
         → (told_before events t.steps index).log.tail + blocks ≤ LOG_SLOTS
+        → KeepsPromise before later tree first workers events t → ⊥ }
+{}
+
+/// A log that takes another call than its next breaks the promise.
+pub fn the_log_takes_its_next_call()
+    ensures { (before later : Device) (tree : Tree) (first workers index : ℕ) (events : Schedule)
+        (t : Transcript) (call : IoCall)
+        → slice_get events index ≡ Some event.Log → slice_get t.steps index ≡ Some (Some (step.LogNext call))
+        → ((position : ℕ) → call ≢ next_log_call position (told_before events t.steps index).log)
+        → KeepsPromise before later tree first workers events t → ⊥ }
+{}
+
+/// An installer that goes on writing blocks home, when it has written as many as the positions that it took,
+/// breaks the promise.
+pub fn the_installer_comes_to_an_end()
+    ensures { (before later : Device) (tree : Tree) (first workers index : ℕ) (events : Schedule)
+        (t : Transcript) (block : BlockNo)
+        → slice_get events index ≡ Some event.Install
+        → slice_get t.steps index ≡ Some (Some (step.InstNext (Write block))) → block.0 ≢ START_BLOCK
+        → taken_home (told_before events t.steps index).log ≤ (told_before events t.steps index).log.homes
         → KeepsPromise before later tree first workers events t → ⊥ }
 {}

@@ -7,22 +7,22 @@ use Rattle.store_promise.proofs.OneSetAttrTold.{answers, history}
 use Rattle.store_promise.proofs.one_setattr.a_run_of_one_setattr_keeps_the_promise.Goals as goal
 
 pub returns : goal.returns
-returns c = λ before opened later g tree next first position one reply opens geometry room went trees rules
+returns c = λ before opened later g tree next first one reply opens geometry room went trees rules
     asks steps.
     record {
       opened = opened;
-      opening = record { geometry = g; position = position };
+      opening = record { geometry = g; position = one.position };
       opens = opens;
       geometry = subst (λ size. IsGeometryOf size tree g) (sym went.past.size) geometry;
       past = went.past;
       calls = went.clock;
       failures = omega (arith, went.failures);
-      left = left before opened later tree next first position one reply opens went trees steps;
-      stops = stops before opened later tree next first position one reply opens went trees steps;
+      left = left before opened later tree next first one.position one reply opens went trees steps;
+      stops = stops before opened later tree next first one.position one reply opens went trees steps;
       last = next;
       leads = (next, steps, refl);
       boot = refl;
       history = history (first + 1) one reply;
       answers = answers (first + 1) one reply;
-      taken = taken (record { geometry = g; position = position }) one room rules asks;
+      taken = taken g one room rules asks;
     }

@@ -1,8 +1,7 @@
 -- Its homes under the log are those after a beginning of the commits, its super block is the one at home.
-use Rattle.std.proofs.Common.{◌≡◌, ℕ, ◌+◌, ◌-◌, ◌<◌, ◌≤◌, ◌⊎◌, inl, inr, ap, sym, ◌∙◌, refl, subst, arith}
-use Rattle.std.proofs.Common.{Bool, true, false, cond, List, Some, None, length, take, drop, replicate, All, Contains}
-use Rattle.std.proofs.lemmas.Bool.{cases_lt}
-use Rattle.limits.specs.declared.TheConstants.{BLOCK_BYTES, FIRST_HOME_BLOCK, SUPER_BLOCK}
+use Rattle.std.proofs.Common.{◌≡◌, ℕ, ◌-◌, ◌≤◌, inl, ap, sym, ◌∙◌, refl, subst, arith}
+use Rattle.std.proofs.Common.{Bool, true, false, cond, List, None, length, take, drop, replicate, All}
+use Rattle.limits.specs.declared.TheConstants.{BLOCK_BYTES, SUPER_BLOCK}
 use Rattle.disk.specs.Crash.{Image}
 use Rattle.model.specs.After.{Entry, after}
 use Rattle.model.specs.Tree.{Tree}

@@ -1,6 +1,4 @@
-use Rattle.std.proofs.Common.{◌≡◌, ap, sym, ◌∙◌, Some, subst}
-use Rattle.nfs_types.specs.declared.call.Call.{Call}
-use Rattle.nfs_types.specs.declared.ctx.Ctx.{Ctx}
+use Rattle.std.proofs.Common.{◌≡◌, ap, sym, ◌∙◌, Some}
 use Rattle.store_promise.specs.declared.events.Event.{Event}
 use Rattle.store_promise.specs.declared.events.Event.TheVariants as event
 use Rattle.store_promise.proofs.Told.{was_handed, handed}

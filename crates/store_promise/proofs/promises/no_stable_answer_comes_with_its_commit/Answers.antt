@@ -15,7 +15,7 @@ use Rattle.store_promise.specs.Progress.{Begun, Job, Progress, At, Stage, Called
 use Rattle.store_promise.specs.Progress.{Again, Waiting, going_on, is_idle, progressed}
 use Rattle.store_promise.specs.Schedule.{Schedule, progress_before, told_before}
 use Rattle.store_promise.specs.Transcript.{Transcript, step_at, committed_at}
-use Rattle.store_promise.specs.Verdicts.{IsAnswer, IsStableAnswer, HasVerdict}
+use Rattle.store_promise.specs.Verdicts.{IsAnswer, HasVerdict}
 use Rattle.store_promise.proofs.Told.{own_next, step_is}
 use Rattle.store_promise.proofs.promises.no_stable_answer_comes_with_its_commit.Goals as goal
 

@@ -1,9 +1,8 @@
 -- The others have no call, and so have taken nothing.
-use Rattle.std.proofs.Common.{◌≡◌, ℕ, ◌<◌, ◌≤◌, ◌⊎◌, inl, inr, arith, Some, None, true, false, ap, sym, ◌∙◌}
+use Rattle.std.proofs.Common.{◌≡◌, ℕ, ◌<◌, ◌≤◌, inl, inr, arith, true, false, ap}
 use Rattle.std.proofs.lemmas.Bool.{cases_lt}
 use Rattle.disk.specs.declared.block.BlockNo.{BlockNo}
 use Rattle.store_promise.specs.Progress.{Progress, Idle, has_taken}
-use Rattle.store_promise.specs.Schedule.{IsSoOfAnother, Told}
 use Rattle.store_promise.proofs.Told.{planned_step, idle_beyond, only_of_some}
 use Rattle.store_promise.proofs.promises.one_worker_is_never_busy.Goals as goal
 
