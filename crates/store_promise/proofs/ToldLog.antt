@@ -23,7 +23,7 @@ use Rattle.wal_law.specs.Logger.{with_log_out}
 use Rattle.wal_law.specs.Room.{HasPlaces, with_group}
 use Rattle.store_promise.specs.LogTold.{LogTold, may_install_told, may_log_told, settled_told}
 use Rattle.store_promise.specs.NextCall.{IsNextOfInstalling, group_begins, group_told, next_log_call, taken_home}
-use Rattle.store_promise.specs.Schedule.{HasNumbers, Opening}
+use Rattle.store_promise.specs.Schedule.{HasNumbers, Setting}
 use Rattle.store_promise.specs.ToldOf.{StandsAtHome, first_of, log_told, newest_among}
 use Rattle.store_promise.proofs.ToldOf.{all_of, drop_more, home_within, newest_some, newest_within, none_yet}
 use Rattle.store_promise.proofs.ToldOf.{some_more, there}
@@ -356,7 +356,7 @@ stands_given_back log true lawful stands =
 
 -- ---- room
 
-pub numbers_are : (o : Opening) (log : Log) (logging installing : Pending) (blocks : List BlockNo) → IsLawful log
+pub numbers_are : (o : Setting) (log : Log) (logging installing : Pending) (blocks : List BlockNo) → IsLawful log
     → o.position ≤ log.start + length log.changes
     → HasNumbers o (log_told o.position log logging installing) (length blocks) ↔ HasPlaces log blocks
 numbers_are o log logging installing blocks lawful from =

@@ -1,17 +1,24 @@
 -- What a store promises of a whole run, on a device that keeps its model.
-use Rattle.std.specs.Prelude.{◌≡◌, ℕ, ◌+◌, ◌≤◌, take, length, count_by, Contains, Result, Ok, Err}
+use Rattle.std.specs.Prelude.{◌≡◌, ℕ, ◌+◌, ◌≤◌, List, map, take, length, count_by, slice_get, Some, Contains}
+use Rattle.std.specs.Prelude.{Result, Ok, Err}
 use Rattle.disk.specs.Crash.{Image, IsAtRest, IsCrashImage}
 use Rattle.disk.specs.Device.{Device}
 use Rattle.layout.specs.declared.geometry.Geometry.{Geometry}
-use Rattle.model.specs.After.{after}
+use Rattle.layout.specs.Stands.{Stands}
+use Rattle.model.specs.After.{Entry, after}
 use Rattle.model.specs.Tree.{Tree}
+use Rattle.procs.specs.Steps.{AreAsRead}
+use Rattle.objects.specs.declared.addr.Addr.{Addr}
+use Rattle.txn.specs.Object.{ObjectBytes}
+use Rattle.txn.specs.Window.{object_at}
 use Rattle.store_promise.specs.declared.fault.OpenFault.{OpenFault}
 use Rattle.store_promise.specs.declared.transcript.Answer.{Answer}
+use Rattle.store_promise.specs.declared.transcript.Committed.{Committed}
 use Rattle.store_promise.specs.GoodImage.{IsGoodImage}
 use Rattle.store_promise.specs.History.{IsHistory}
 use Rattle.store_promise.specs.LogTold.{settled_told}
 use Rattle.store_promise.specs.Openings.{AtEachStop, IsBootOf, IsLater, IsOpened, IsRefused, LeavesImages}
-use Rattle.store_promise.specs.Schedule.{Schedule, Opening, AreTaken, AreTimely, told_before}
+use Rattle.store_promise.specs.Schedule.{Schedule, Setting, AreTaken, AreTimely, told_before}
 use Rattle.store_promise.specs.Transcript.{Transcript, entries_of, device_calls, commits_by, fails}
 use Rattle.store_promise.specs.Verdicts.{IsStableAnswer, IsCoveredWrite, AreAnswers}
 
@@ -46,15 +53,28 @@ pub record IsGeometryOf (size : ℕ) (tree : Tree) (g : Geometry) : Type 0 where
   pub blocks : g.blocks ≡ size
   pub inodes : g.inodes ≡ tree.geometry.inodes
 
+-- What was read is what files were: there are blocks that stand for the tree which the entries lead to, and have it.
+pub record WasTrueOf (g : Geometry) (tree : Tree) (entries : List Entry) (read : List ObjectBytes) : Type 0
+  where
+    pub left : Tree
+    pub leads : after tree entries left
+    pub blocks : Image
+    pub stands : Stands g blocks left
+    pub as_read : AreAsRead blocks read
+
+-- what blocks have at these addresses
+abbrev pub objects_at : Image → List Addr → List ObjectBytes
+objects_at blocks addrs = map (λ addr. record { addr = addr; bytes = object_at blocks addr }) addrs
+
 -- The promise of a run with so many workers, which took events on a device whose image had this tree and this
 -- boot number, and left the device as it became:
 pub record KeepsPromise (before later : Device) (tree : Tree) (first workers : ℕ) (events : Schedule)
     (t : Transcript) : Type 0 where
   -- an opening comes first, and then the device calls that the steps tell, and no others
   pub opened : Device
-  pub opening : Opening
-  pub opens : IsOpened before opened tree first opening.position
-  pub geometry : IsGeometryOf later.size tree opening.geometry
+  pub setting : Setting
+  pub opens : IsOpened before opened tree first setting.position
+  pub geometry : IsGeometryOf later.size tree setting.geometry
   pub past : IsLater opened later
   pub calls : later.clock ≡ opened.clock + device_calls t (length t.steps)
   pub failures : later.failures ≡ opened.failures + count_by fails t.steps
@@ -69,7 +89,10 @@ pub record KeepsPromise (before later : Device) (tree : Tree) (first workers : �
   pub history : IsHistory events t
   pub answers : AreAnswers events t
   -- every event is taken
-  pub taken : AreTaken opening workers events t.steps
+  pub taken : AreTaken setting workers events t.steps
+  -- and what the transaction of a procedure had read is what the files were just before it
+  pub read : (index : ℕ) (c : Committed) → slice_get t.history index ≡ Some c
+      → WasTrueOf setting.geometry tree (take index (entries_of t)) (setting.reads c.ctx.transaction)
 
 -- What a run stands on: the device keeps its model, is at rest, and holds a good image with this tree and this
 -- boot number; and calls are handed over at moments below a second.

@@ -14,6 +14,7 @@ use Rattle.nfs_types.specs.declared.ctx.Ctx.{Ctx}
 use Rattle.nfs_types.specs.declared.ctx.Moment.{Moment}
 use Rattle.nfs_types.specs.declared.handle.Handle.{Handle}
 use Rattle.nfs_types.specs.declared.reply.Reply.{Reply}
+use Rattle.layout.specs.declared.geometry.Geometry.{Geometry}
 use Rattle.model.specs.Tree.{Tree}
 use Rattle.wal_law.specs.declared.calls.IoCall.{IoCall}
 use Rattle.wal_law.specs.declared.calls.IoCall.TheVariants.{Write, Barrier}
@@ -28,7 +29,8 @@ use Rattle.store_promise.specs.declared.transcript.Answer.{Answer}
 use Rattle.store_promise.specs.declared.transcript.Committed.{Committed}
 use Rattle.store_promise.specs.GoodImage.{IsGoodImage}
 use Rattle.store_promise.specs.Openings.{IsLater, LeavesImages}
-use Rattle.store_promise.specs.Schedule.{Schedule}
+use Rattle.store_promise.specs.Headline.{objects_at}
+use Rattle.store_promise.specs.Schedule.{Schedule, Setting}
 use Rattle.store_promise.specs.Transcript.{Transcript}
 
 -- what such a run is of: for whom and when its call is made, what that asks, where the inode of its file
@@ -139,6 +141,14 @@ told_of boot one reply = told_with boot one reply (answer_at reply 19 5)
 -- one that doesn't wait is answered by the event of its commit
 abbrev pub told_too_early : ℕ → OneSetAttr → Reply → Transcript
 told_too_early boot one reply = told_with boot one reply (answer_at reply 6 1)
+
+-- the blocks of the image have what it reads
+abbrev pub setting_of : Geometry → Image → OneSetAttr → Setting
+setting_of g blocks one = record {
+  geometry = g;
+  position = one.position;
+  reads = λ transaction. objects_at blocks (one.addr ∷ []);
+}
 
 -- ---- the device
 

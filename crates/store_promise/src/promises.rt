@@ -9,19 +9,22 @@ ghost use Rattle.model.specs.After.{after};
 ghost use Rattle.model.specs.Tree.{Tree};
 ghost use Rattle.objects.specs.declared.addr.Addr.{Addr};
 ghost use Rattle.layout.specs.declared.geometry.Geometry.{Geometry};
+ghost use Rattle.layout.specs.Stands.{Stands};
 ghost use Rattle.procs.specs.Asks.{Asks};
+ghost use Rattle.procs.specs.MostChanged.{most_changed};
 ghost use Rattle.txn.specs.Object.{ObjectBytes};
 ghost use Rattle.wal_law.specs.declared.calls.IoCall.{IoCall};
 ghost use Rattle.wal_law.specs.declared.calls.IoCall.TheVariants.{Write};
 ghost use Rattle.store_promise.specs.declared.events.Wish.{Wish};
 ghost use Rattle.store_promise.specs.declared.events.Wish.TheVariants as wish;
+ghost use Rattle.store_promise.specs.declared.events.Committing.{Committing};
 ghost use Rattle.store_promise.specs.declared.events.Committing.TheVariants as committing;
 ghost use Rattle.store_promise.specs.declared.events.Event.TheVariants as event;
 ghost use Rattle.store_promise.specs.declared.events.Step.TheVariants as step;
 ghost use Rattle.store_promise.specs.declared.transcript.Answer.{Answer};
 ghost use Rattle.store_promise.specs.declared.transcript.Committed.{Committed};
 ghost use Rattle.store_promise.specs.GoodImage.{IsGoodImage};
-ghost use Rattle.store_promise.specs.Headline.{KeepsPromise};
+ghost use Rattle.store_promise.specs.Headline.{KeepsPromise, objects_at};
 ghost use Rattle.store_promise.specs.Openings.{IsOpened};
 ghost use Rattle.store_promise.specs.LogTold.{idle, may_log_told, settled_told};
 ghost use Rattle.store_promise.specs.NextCall.{next_log_call, taken_home};
@@ -177,5 +180,30 @@ pub fn the_installer_comes_to_an_end()
         → slice_get events index ≡ Some event.Install
         → slice_get t.steps index ≡ Some (Some (step.InstNext (Write block))) → block.0 ≢ START_BLOCK
         → taken_home (told_before events t.steps index).log ≤ (told_before events t.steps index).log.homes
+        → KeepsPromise before later tree first workers events t → ⊥ }
+{}
+
+/// A call for which something is asked that its files don't lead to, as they were just before it, breaks the
+/// promise.
+pub fn what_is_asked_for_goes_by_the_files()
+    ensures { (before later : Device) (tree : Tree) (first workers place index worker : ℕ) (events : Schedule)
+        (t : Transcript) (c : Committed) (job : Job) (begun : Begun) (addr : Addr) (answer : Wish)
+        → slice_get t.history place ≡ Some c → begun.number ≡ c.ctx.transaction
+        → slice_get events index ≡ Some (event.Work worker) → worker < workers
+        → slice_get t.steps index ≡ Some (Some (step.Wanted addr answer))
+        → progress_before events t.steps worker index ≡ At job (Planning begun)
+        → ((g : Geometry) (blocks : Image) (left : Tree) → after tree (take place (entries_of t)) left
+        → Stands g blocks left → Asks g job.call (objects_at blocks begun.held) addr → ⊥)
+        → KeepsPromise before later tree first workers events t → ⊥ }
+{}
+
+/// A commit that is told to change more blocks than its call does breaks the promise.
+pub fn a_call_changes_no_more_than_it_may()
+    ensures { (before later : Device) (tree : Tree) (first workers index worker blocks : ℕ) (events : Schedule)
+        (t : Transcript) (job : Job) (begun : Begun) (answer : Committing)
+        → slice_get events index ≡ Some (event.Work worker) → worker < workers
+        → slice_get t.steps index ≡ Some (Some (step.Commit blocks answer))
+        → progress_before events t.steps worker index ≡ At job (Planning begun)
+        → most_changed job.call < blocks
         → KeepsPromise before later tree first workers events t → ⊥ }
 {}

@@ -10,7 +10,7 @@ ghost use Rattle.wal_law.specs.Logger.{IsNextLogCall, has_group, may_log, with_l
 ghost use Rattle.wal_law.specs.Room.{HasPlaces, with_group};
 ghost use Rattle.store_promise.specs.LogTold.{may_install_told, may_log_told, settled_told};
 ghost use Rattle.store_promise.specs.NextCall.{IsNextOfInstalling, next_log_call};
-ghost use Rattle.store_promise.specs.Schedule.{HasNumbers, Opening};
+ghost use Rattle.store_promise.specs.Schedule.{HasNumbers, Setting};
 ghost use Rattle.store_promise.specs.ToldOf.{StandsAtHome, log_told};
 
 /// What is told as settled is settled.
@@ -53,7 +53,7 @@ pub fn the_installer_stands_at_a_home()
 
 /// Whether a place and log positions are left for a group, and how many blocks the tail then holds.
 pub fn the_room_is_told()
-    ensures numbers { (o : Opening) (log : Log) (logging installing : Pending) (blocks : List BlockNo)
+    ensures numbers { (o : Setting) (log : Log) (logging installing : Pending) (blocks : List BlockNo)
         → IsLawful log → o.position ≤ log.start + length log.changes
         → HasNumbers o (log_told o.position log logging installing) (length blocks) ↔ HasPlaces log blocks }
     ensures tail { (position : ℕ) (log : Log) (logging installing : Pending) (blocks : List BlockNo)

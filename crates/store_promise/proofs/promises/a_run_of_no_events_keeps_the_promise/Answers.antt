@@ -93,7 +93,11 @@ geometry_of_image size boot tree image good = record {
 pub returns : goal.returns
 returns c = λ before later tree first position workers opened. record {
   opened = later;
-  opening = record { geometry = opened.last.2.super.geometry; position = position };
+  setting = record {
+    geometry = opened.last.2.super.geometry;
+    position = position;
+    reads = λ transaction. [];
+  };
   opens = opened;
   geometry = geometry_of_image later.size first tree opened.last.0 opened.last.2;
   past = itself later;
@@ -121,4 +125,5 @@ returns c = λ before later tree first position workers opened. record {
     fewer = omega arith;
     each = λ index event made same _. absurd (no-some event same);
   };
+  read = λ index c same. absurd (no-some c same);
 }

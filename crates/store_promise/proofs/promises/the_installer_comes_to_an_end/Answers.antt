@@ -6,7 +6,7 @@ use Rattle.wal_law.specs.declared.calls.IoCall.TheVariants.{Write}
 use Rattle.store_promise.specs.declared.events.Step.TheVariants as step
 use Rattle.store_promise.specs.LogTold.{CallTold, idle, out, was_made, LogTold, may_install_told}
 use Rattle.store_promise.specs.NextCall.{IsNextOfInstalling, taken_home}
-use Rattle.store_promise.specs.Schedule.{IsNextOfInstaller, IsStepOfInstaller, Opening, told_before}
+use Rattle.store_promise.specs.Schedule.{IsNextOfInstaller, IsStepOfInstaller, Setting, told_before}
 use Rattle.store_promise.proofs.promises.the_installer_comes_to_an_end.Goals as goal
 
 next : (may : Bool) (IsNext : IoCall → Type 0) (asked : IoCall)
@@ -14,7 +14,7 @@ next : (may : Bool) (IsNext : IoCall → Type 0) (asked : IoCall)
 next true IsNext asked is = is
 next false IsNext asked is = cc
 
-takes : (o : Opening) (log : LogTold) (call : CallTold) (asked : IoCall)
+takes : (o : Setting) (log : LogTold) (call : CallTold) (asked : IoCall)
     → IsStepOfInstaller o log call (Some (step.InstNext asked))
     → IsNextOfInstalling o.geometry.blocks log asked
 takes o log idle asked made =
@@ -31,6 +31,6 @@ none blocks log block other all (inr start) = other start.start
 pub returns : goal.returns
 returns c = λ before later tree first workers index events t block is_event is_made other all kept.
     let told = told_before events t.steps index in
-    none kept.opening.geometry.blocks told.log block other all
-    (takes kept.opening told.log told.log.inst_call (Write block)
+    none kept.setting.geometry.blocks told.log block other all
+    (takes kept.setting told.log told.log.inst_call (Write block)
     ((kept.taken.each index _ _ is_event is_made).own tt))
