@@ -1,6 +1,6 @@
 use Rattle.std.proofs.Common.{arith}
 use Rattle.store_promise.proofs.Told.{planned_step}
-use Rattle.store_promise.proofs.promises.a_full_log_is_full.Goals as goal
+use Rattle.store_promise.proofs.steps_made.a_full_log_is_full.Goals as goal
 
 pub returns : goal.returns
 returns c = λ before later tree first workers index worker blocks events t job begun is_event less is_step planning

@@ -9,7 +9,7 @@ use Rattle.store_promise.specs.Headline.{objects_at}
 use Rattle.store_promise.specs.Progress.{Begun}
 use Rattle.store_promise.specs.Schedule.{AreHeld, Setting, read_of}
 use Rattle.store_promise.proofs.Told.{planned_step}
-use Rattle.store_promise.proofs.promises.what_is_asked_for_goes_by_the_files.Goals as goal
+use Rattle.store_promise.proofs.steps_made.what_is_asked_for_goes_by_the_files.Goals as goal
 
 abbrev addrs_of : List ObjectBytes → List Addr
 addrs_of objects = map (λ (object : ObjectBytes). object.addr) objects

@@ -1,6 +1,6 @@
 use Rattle.store_promise.specs.Schedule.{read_of}
 use Rattle.store_promise.proofs.Told.{planned_step}
-use Rattle.store_promise.proofs.promises.a_worker_goes_by_its_plan.Goals as goal
+use Rattle.store_promise.proofs.steps_made.a_worker_goes_by_its_plan.Goals as goal
 
 pub returns : goal.returns
 returns c = λ before later tree first workers index worker events t job begun addr answer is_event less is_step

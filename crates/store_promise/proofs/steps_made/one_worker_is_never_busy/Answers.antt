@@ -4,7 +4,7 @@ use Rattle.std.proofs.lemmas.Bool.{cases_lt}
 use Rattle.disk.specs.declared.block.BlockNo.{BlockNo}
 use Rattle.store_promise.specs.Progress.{Progress, Idle, has_taken}
 use Rattle.store_promise.proofs.Told.{planned_step, idle_beyond, only_of_some}
-use Rattle.store_promise.proofs.promises.one_worker_is_never_busy.Goals as goal
+use Rattle.store_promise.proofs.steps_made.one_worker_is_never_busy.Goals as goal
 
 takes_nothing : (block : BlockNo) (offset len : ℕ) (progress : Progress) → progress ≡ Idle
     → has_taken block offset len progress ≡ true → ⊥

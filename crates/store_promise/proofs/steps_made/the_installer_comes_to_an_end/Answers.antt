@@ -7,7 +7,7 @@ use Rattle.store_promise.specs.declared.events.Step.TheVariants as step
 use Rattle.store_promise.specs.LogTold.{CallTold, idle, out, was_made, LogTold, may_install_told}
 use Rattle.store_promise.specs.NextCall.{IsNextOfInstalling, taken_home}
 use Rattle.store_promise.specs.Schedule.{IsNextOfInstaller, IsStepOfInstaller, Setting, told_before}
-use Rattle.store_promise.proofs.promises.the_installer_comes_to_an_end.Goals as goal
+use Rattle.store_promise.proofs.steps_made.the_installer_comes_to_an_end.Goals as goal
 
 next : (may : Bool) (IsNext : IoCall → Type 0) (asked : IoCall)
     → IsNextOfInstaller may IsNext (Some (step.InstNext asked)) → IsNext asked

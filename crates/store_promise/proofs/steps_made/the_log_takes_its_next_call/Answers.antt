@@ -4,7 +4,7 @@ use Rattle.store_promise.specs.declared.events.Step.TheVariants as step
 use Rattle.store_promise.specs.LogTold.{CallTold, idle, out, was_made, LogTold, may_log_told}
 use Rattle.store_promise.specs.NextCall.{next_log_call}
 use Rattle.store_promise.specs.Schedule.{IsNextOfLog, IsStepOfLog, Setting, told_before}
-use Rattle.store_promise.proofs.promises.the_log_takes_its_next_call.Goals as goal
+use Rattle.store_promise.proofs.steps_made.the_log_takes_its_next_call.Goals as goal
 
 next : (may : Bool) (call asked : IoCall) → IsNextOfLog may call (Some (step.LogNext asked)) → asked ≡ call
 next true call asked is = is
