@@ -18,35 +18,32 @@ use Rattle.store_promise.specs.GoodImage.{IsGoodImage}
 use Rattle.store_promise.specs.History.{IsHistory}
 use Rattle.store_promise.specs.LogTold.{settled_told}
 use Rattle.store_promise.specs.Openings.{AtEachStop, IsBootOf, IsLater, IsOpened, IsRefused, LeavesImages}
+use Rattle.store_promise.specs.Prefix.{HasPrefix}
 use Rattle.store_promise.specs.Schedule.{Schedule, Setting, AreTaken, AreTimely, told_before}
 use Rattle.store_promise.specs.Transcript.{Transcript, entries_of, device_calls, commits_by, fails}
 use Rattle.store_promise.specs.Verdicts.{IsStableAnswer, IsCoveredWrite, AreAnswers}
 
--- What was promised to last by a clock, of a run whose events began at another, is among so many procedures:
--- those that were answered as stable by then, the writes that an answer to a COMMIT covers, and the places that
--- the steps told as settled.
-pub record HoldsPromised (events : Schedule) (start : ℕ) (t : Transcript) (clock count : ℕ) : Type 0 where
-  pub stable : (a : Answer) (place : ℕ) → Contains t.answers a → start + a.clock ≤ clock
-      → IsStableAnswer t a place → place ≤ count
-  pub covered : (a : Answer) (place : ℕ) → Contains t.answers a → start + a.clock ≤ clock
-      → IsCoveredWrite t a place → place ≤ count
-  pub settled : (index : ℕ) → index ≤ length t.steps → start + device_calls t index ≤ clock
-      → settled_told (told_before events t.steps index).log ≤ count
+-- The procedure of a place was promised to last by a clock, of a run whose events began at another: it was
+-- answered as stable by then, or is a write that an answer to a COMMIT covers, or the steps told it as settled.
+pub data WasPromised (events : Schedule) (start : ℕ) (t : Transcript) (clock place : ℕ) : Type 0 where
+  by_answer : (a : Answer) → Contains t.answers a → start + a.clock ≤ clock → IsStableAnswer t a place
+      → WasPromised events start t clock place
+  by_commit : (a : Answer) → Contains t.answers a → start + a.clock ≤ clock → IsCoveredWrite t a place
+      → WasPromised events start t clock place
+  by_steps : (index : ℕ) → index ≤ length t.steps → start + device_calls t index ≤ clock
+      → place ≤ settled_told (told_before events t.steps index).log → WasPromised events start t clock place
 
--- An image that a stop at a clock left is good, with the tree after the first so many procedures of the
--- history, which were committed by then, and among which is what was promised to last. Its boot number is the
--- opening's once that has ended.
-pub record HasPrefix (size first : ℕ) (tree : Tree) (events : Schedule) (start : ℕ)
-    (t : Transcript) (clock : ℕ) (image : Image) : Type 0 where
-  pub boot : ℕ
-  pub boot_is : IsBootOf first boot
+-- the boot number is that before the opening, or that of it, and the latter once the opening has ended
+pub record IsBootBy (first start clock boot : ℕ) : Type 0 where
+  pub either : IsBootOf first boot
   pub raised : start ≤ clock → boot ≡ first + 1
-  pub left : Tree
-  pub good : IsGoodImage size image left boot
-  pub count : ℕ
-  pub committed : count ≤ commits_by start t clock
-  pub prefix : after tree (take count (entries_of t)) left
-  pub holds : HoldsPromised events start t clock count
+
+-- What a stop at a clock leaves has a prefix of the history, committed by then, that holds what was promised to
+-- last.
+abbrev pub LeavesPrefix : ℕ → ℕ → Tree → Schedule → ℕ → Transcript → ℕ → Image → Type 0
+LeavesPrefix size first tree events start t clock image =
+    HasPrefix size (IsBootBy first start clock) tree (entries_of t) (commits_by start t clock)
+    (WasPromised events start t clock) image
 
 -- the geometry of an image of so many blocks that has this tree
 pub record IsGeometryOf (size : ℕ) (tree : Tree) (g : Geometry) : Type 0 where
@@ -81,7 +78,7 @@ pub record KeepsPromise (before later : Device) (tree : Tree) (first workers : �
   -- a stop leaves some image, and whatever it leaves has the tree of a prefix, which holds what was promised to
   -- last
   pub left : LeavesImages before later
-  pub stops : AtEachStop before later (HasPrefix later.size first tree events opened.clock t)
+  pub stops : AtEachStop before later (LeavesPrefix later.size first tree events opened.clock t)
   -- the replies are the sequential server's
   pub last : Tree
   pub leads : after tree (entries_of t) last

@@ -7,6 +7,7 @@ pub mod Openings
 pub mod Schedule
 pub mod History
 pub mod Verdicts
+pub mod Prefix
 pub mod Headline
 pub mod Room
 pub mod OneSetAttr

@@ -6,4 +6,4 @@ pub returns : goal.returns
 returns c = λ before later tree first workers clock events t image from to crash behind none kept.
     let found = kept.stops clock image from to crash in
     none found.left (subst (IsGoodImage later.size image found.left)
-    (found.raised (omega (arith, behind, kept.calls))) found.good)
+    (found.boot_is.raised (omega (arith, behind, kept.calls))) found.good)
