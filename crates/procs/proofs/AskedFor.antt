@@ -1,5 +1,5 @@
 -- What a plan stops for is what its call asks for, and lies among the homes of the image.
-use Rattle.std.proofs.Common.{◌≡◌, ℕ, ◌<◌, sym, ap, ◌∙◌, refl, subst, List, true, false}
+use Rattle.std.proofs.Common.{◌≡◌, ℕ, ◌<◌, ◌≤◌, sym, ap, ◌∙◌, refl, subst, List, true, false}
 use Rattle.std.proofs.Common.{arith, Ok, Err, Bool, cond, ◌&&◌, Option, Some, None, nat_eq, nat_le, nat_lt}
 use Rattle.std.specs.List.{list_all}
 use Rattle.std.proofs.lemmas.Bool.Decides.{nat_tests}
@@ -18,6 +18,7 @@ use Rattle.layout.specs.InodeForm.{fields_of, inode_of_kind, is_data_block_or_no
 use Rattle.layout.specs.InodeForm.{kind_of_number, read_inode, rest_is_zero}
 use Rattle.layout.specs.Fields.{four_at, is_zeros}
 use Rattle.txn.specs.Object.{ObjectBytes}
+use Rattle.txn.specs.Wishes.{IsWhole}
 use Rattle.layout.specs.declared.inode.Inode.{Inode}
 use Rattle.procs.proofs.AllTests.{all_two, is_less, no_more}
 use Rattle.procs.proofs.InodeThere.{data_of, map_is}
@@ -83,11 +84,11 @@ names_data blocks inodes one good some =
 -- ---- so what a call asks for is behind the log and within the image
 
 module _ (g : Geometry) (handle : List ℕ) (objects : List ObjectBytes) (addr : Addr) where
-  pub of_file_is_home : AsksOfFile g handle objects addr → IsHomeOn g.blocks addr.block
-  of_file_is_home (inode number names at) =
-      let rules = g.lawful.1 in
-      (omega (arith, at.block), omega (arith, at.block, names.within, rules.2, rules.3))
-  of_file_is_home (indirect number one block names read is some whole) =
+  -- an indirect block is one of data
+  pub is_data_block : (number : ℕ) (one : Inode) (block : BlockNo) → WasReadInode g objects number one
+      → block.0 ≡ one.indirect → (block.0 ≡ 0 → ⊥) → IsWhole block addr
+      → (data_at g.blocks g.inodes ≤ addr.block.0) × (addr.block.0 < g.blocks)
+  is_data_block number one block read is some whole =
       let lies = names_data g.blocks g.inodes one
       (read_sound g.blocks g.inodes read.bytes one read.is_inode) (λ none. some (is ∙ none)) in
       let both = all_two (nat_le (data_at g.blocks g.inodes) one.indirect) (nat_lt one.indirect g.blocks)
@@ -96,6 +97,15 @@ module _ (g : Geometry) (handle : List ℕ) (objects : List ObjectBytes) (addr :
       let below = is_less one.indirect g.blocks both.1 in
       let same : addr.block.0 ≡ one.indirect = ap (λ (b : BlockNo). b.0) whole.0 ∙ is in
       (omega (arith, same, from), omega (arith, same, below))
+
+  pub of_file_is_home : AsksOfFile g handle objects addr → IsHomeOn g.blocks addr.block
+  of_file_is_home (inode number names at) =
+      let rules = g.lawful.1 in
+      (omega (arith, at.block), omega (arith, at.block, names.within, rules.2, rules.3))
+  of_file_is_home (indirect number one block names read is some whole) =
+      let lies = is_data_block number one block read is some whole in
+      let from = lies.0 in
+      (omega (arith, from), lies.1)
 
 pub is_home : (g : Geometry) (asked : Call) (objects : List ObjectBytes) (addr : Addr)
     → Asks g asked objects addr → IsHomeOn g.blocks addr.block

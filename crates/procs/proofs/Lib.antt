@@ -10,3 +10,4 @@ pub mod ReadThere
 pub mod FoundThere
 pub mod FarThere
 pub mod StepsOf
+pub mod Apart

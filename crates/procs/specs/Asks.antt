@@ -1,5 +1,5 @@
 -- What a call may ask to read, and to claim, by what was read for it so far.
-use Rattle.std.specs.Prelude.{◌≡◌, ◌≢◌, ℕ, ◌<◌, true, ◌⊎◌, Contains, List, Some, Ok}
+use Rattle.std.specs.Prelude.{◌≡◌, ◌≢◌, ℕ, ◌<◌, true, ◌⊎◌, Contains, List, Some, Ok, slice_get, take}
 use Rattle.limits.specs.declared.TheConstants.{INODE_BYTES}
 use Rattle.nfs_types.specs.Handle.{handle_bytes}
 use Rattle.nfs_types.specs.declared.call.Call.{Call}
@@ -78,6 +78,11 @@ Asks g (call.FsStat object) objects addr = ⊥
 Asks g (call.FsInfo object) objects addr = ⊥
 Asks g (call.PathConf object) objects addr = ⊥
 Asks g (call.Commit file offset count) objects addr = ⊥
+
+-- each of these objects was asked for by those before it
+abbrev pub WereAsked : Geometry → Call → List ObjectBytes → Type 0
+WereAsked g call objects = (index : ℕ) (object : ObjectBytes) → slice_get objects index ≡ Some object
+    → Asks g call (take index objects) object.addr
 
 -- what a call may ask to claim: no call with rules claims a block yet
 abbrev pub Claims : Geometry → Call → List ObjectBytes → BlockNo → Type 0

@@ -2,4 +2,5 @@ pub mod Snap
 pub mod FoundFile
 pub mod Steps
 pub mod Asks
+pub mod MostChanged
 pub mod Planned

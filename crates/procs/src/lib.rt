@@ -14,7 +14,7 @@ mod steps;
 mod stop;
 mod work;
 
-pub use asks::what_is_asked_for_is_home;
+pub use asks::{what_is_asked_for_is_home, what_is_asked_for_lies_apart};
 pub use done::Done;
 pub use next::Plan;
 pub use refused::refused_reply;

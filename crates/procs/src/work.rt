@@ -11,7 +11,8 @@ ghost use Rattle.procs.specs.FoundFile.{IsBodyOf};
 ghost use Rattle.procs.specs.Steps.{IsTold, IsStepOf, IsStepPlan, IsInodeObject, NoneStand};
 ghost use Rattle.model.specs.Calls.{has_rules, sets_only_mode};
 ghost use Rattle.procs.specs.Asks.{IsAsked, IsAskedOfFile, IsWritable, WasReadInode};
-ghost use Rattle.procs.specs.Planned.{EndsFrom, IsPlanFor};
+ghost use Rattle.procs.specs.MostChanged.{most_changed};
+ghost use Rattle.procs.specs.Planned.{ChangesFew, EndsFrom, IsPlanFor};
 ghost use Rattle.procs.specs.Snap.{IsNew, IsDoneFor};
 
 use crate::attributes::FoundFile;
@@ -50,6 +51,7 @@ fn outcome_of(found: Result<FoundFile, Status>) -> Result<Attributes, Status>
 // GETATTR (RFC 1813, section 3.3.1).
 fn get_attr(alloc: Global, snap: &Snap, object: &Handle) -> Result<Done, Stop>
     ensures ok { IfOk result (λ done. EndsFrom snap.now done) }
+    ensures few { IfOk result (ChangesFew 0) }
     ensures step { IfOk result (λ done. (ctx : Ctx)
         → IsStepOf snap.now.geometry ctx (call.GetAttr object.now) done) }
     ensures err { IfErr result (λ stop. IsNew snap.now stop) }
@@ -111,6 +113,7 @@ fn set_attr(
 ) -> Result<Done, Stop>
     requires { sets_only_mode wanted.now ≡ true }
     ensures ok { IfOk result (λ done. EndsFrom snap.now done) }
+    ensures few { IfOk result (ChangesFew 1) }
     ensures step { IfOk result (λ done. IsStepOf snap.now.geometry ctx.now
         (call.SetAttr object.now wanted.now guard.now) done) }
     ensures err { IfErr result (λ stop. IsNew snap.now stop) }
@@ -140,6 +143,7 @@ fn set_attr(
 fn work(alloc: Global, ctx: &Ctx, call: &Call, snap: &Snap) -> Result<Done, Stop>
     requires { has_rules call.now ≡ true }
     ensures ok { IfOk result (λ done. EndsFrom snap.now done) }
+    ensures few { IfOk result (ChangesFew (most_changed call.now)) }
     ensures step { IfOk result (λ done. IsStepOf snap.now.geometry ctx.now call.now done) }
     ensures err { IfErr result (λ stop. IsNew snap.now stop) }
     ensures asks { IfErr result (λ stop. IsAsked snap.now call.now stop) }

@@ -6,3 +6,4 @@ pub mod OneSetAttrTold
 pub mod OneSetAttrStops
 pub mod OneSetAttrOnly
 pub mod ToldOf
+pub mod ToldLog

@@ -1,16 +1,28 @@
 -- The run of one SETATTR, event by event.
-use Rattle.std.proofs.Common.{◌≡◌, ℕ, ◌+◌, ◌<◌, ◌^◌, refl, Bool, true, false, arith}
+use Rattle.std.proofs.Common.{◌≡◌, ℕ, zero, suc, ◌∷◌, Some, slice_get, subst, take, ◌+◌, ◌-◌, ◌<◌, ◌^◌, refl, ap, Bool, true, false, arith}
 use Rattle.std.proofs.Common.{[], Option, Ok}
 use Rattle.std.specs.List.{zip}
+use Rattle.disk.specs.Crash.{Image}
 use Rattle.model.specs.Calls.{sets_only_mode}
+use Rattle.layout.specs.declared.geometry.Geometry.{Geometry}
 use Rattle.procs.specs.Asks.{Asks}
+use Rattle.wal_law.specs.declared.calls.IoCall.TheVariants.{Write}
+use Rattle.wal_law.specs.Logger.{slot_block}
 use Rattle.store_promise.specs.declared.events.Event.{Event}
 use Rattle.store_promise.specs.declared.events.Step.{Step}
 use Rattle.store_promise.specs.declared.events.Step.TheVariants as step
-use Rattle.store_promise.specs.OneSetAttr.{OneSetAttr, asked, events_of, steps_of}
+use Rattle.nfs_types.specs.declared.reply.Reply.{Reply}
+use Rattle.layout.specs.Stands.{Stands}
+use Rattle.model.specs.Tree.{Tree}
+use Rattle.txn.specs.Window.{IsAsRead}
+use Rattle.store_promise.specs.declared.transcript.Committed.{Committed}
+use Rattle.store_promise.specs.Headline.{WasTrueOf, objects_at}
+use Rattle.store_promise.specs.OneSetAttr.{OneSetAttr, asked, events_of, setting_of, steps_of, told_of}
 use Rattle.store_promise.specs.Schedule.{AreTaken, IsOfOne, IsStepOf, IsStepOfCalled, IsTaken}
-use Rattle.store_promise.specs.Schedule.{Opening, Told, at_first, told_before, worker_of}
-use Rattle.store_promise.proofs.OneSetAttrAlong.{Along, each, ◌then◌}
+use Rattle.store_promise.specs.Schedule.{Setting, Told, at_first, told_before, worker_of}
+use Rattle.store_promise.specs.Transcript.{entries_of}
+use Rattle.store_promise.proofs.OneSetAttrAlong.{Along, each, no-one, ◌then◌}
+use Rattle.store_promise.proofs.OneSetAttrTold.{only_contained}
 
 -- ---- each step is one that may be made
 
@@ -20,17 +32,27 @@ begins told true has whole next = (whole, next)
 begins told false has whole next = cc
 
 -- the event is of the one worker, or of none, and makes a step that it may make
-abbrev MayMake : Opening → ℕ → Told → Event → Option Step → Type 0
+abbrev MayMake : Setting → ℕ → Told → Event → Option Step → Type 0
 MayMake o index told e m = IsOfOne 1 (worker_of e) × IsStepOf o told e m
 
-is_taken : (o : Opening) (index : ℕ) (told : Told) (e : Event) (m : Option Step) → MayMake o index told e m
+is_taken : (o : Setting) (index : ℕ) (told : Told) (e : Event) (m : Option Step) → MayMake o index told e m
     → IsTaken o 1 told e m
 is_taken o index told e m may = record { own = λ _. may.1; others = λ no. absurd (no may.0) }
 
-module _ (o : Opening) (one : OneSetAttr) (room : o.position + 1 < 2 ^ 64)
-    (rules : sets_only_mode one.attributes ≡ true) (asks : Asks o.geometry (asked one) [] one.addr) where
+module _ (g : Geometry) (blocks : Image) (one : OneSetAttr) (room : one.position + 1 < 2 ^ 64)
+    (rules : sets_only_mode one.attributes ≡ true) (asks : Asks g (asked one) [] one.addr) where
+  abbrev o : Setting
+  o = setting_of g blocks one
+
   less : 0 < 1
   less = omega arith
+
+  -- its block goes to the slot of the position
+  slot : Write (record { 0 = slot_block one.position })
+      ≡ Write (record { 0 = slot_block (one.position + (0 + 1) - (0 + (0 + 1)) + 0) })
+  slot =
+      let same : one.position ≡ one.position + (0 + 1) - (0 + (0 + 1)) + 0 = omega arith in
+      ap (λ n. Write (record { 0 = slot_block n })) same
 
   within : o.position + 0 + 1 < 2 ^ 64
   within = omega (arith, room)
@@ -39,16 +61,22 @@ module _ (o : Opening) (one : OneSetAttr) (room : o.position + 1 < 2 ^ 64)
   along =
       (less, refl)
       then (less, begins (told_before (events_of one) (steps_of one) 1) _ rules refl refl)
-      then (less, (record { unheld = refl; objects = []; held = refl; asks = asks }, refl))
+      then (less, record { held = refl; by_plan = (record { unheld = refl; asks = asks }, refl) })
       then (less, refl)
       then (less, refl)
-      then (less, (record { unheld = refl; objects = []; held = refl; asks = asks }, tt))
+      then (less, record { held = refl; by_plan = (record { unheld = refl; asks = asks }, tt) })
       then (
         less,
-        (omega arith, (refl, refl, record { place = omega arith; positions = within }, omega arith)),
+        record {
+          held = refl;
+          by_plan = (
+            omega arith,
+            (refl, refl, record { place = omega arith; positions = within }, omega arith),
+          );
+        },
       )
-      then (tt, tt) then (tt, tt) then (tt, refl) then (tt, tt) then (tt, tt) then (tt, refl)
-      then (tt, tt) then (tt, tt) then (tt, refl) then (tt, tt) then (tt, tt) then (tt, refl)
+      then (tt, slot) then (tt, tt) then (tt, refl) then (tt, refl) then (tt, tt) then (tt, refl)
+      then (tt, refl) then (tt, tt) then (tt, refl) then (tt, refl) then (tt, tt) then (tt, refl)
       then (less, (refl, refl))
       then tt
 
@@ -59,3 +87,17 @@ module _ (o : Opening) (one : OneSetAttr) (room : o.position + 1 < 2 ^ 64)
         is_taken o index _ e m
         (each (MayMake o) at_first (events_of one) (steps_of one) along index e m is_event is_step);
   }
+
+-- its object was read as it is in the blocks that stand for the tree, before anything was committed
+pub read_before : (g : Geometry) (blocks : Image) (tree : Tree) (boot : ℕ) (one : OneSetAttr) (reply : Reply)
+    → Stands g blocks tree → (index : ℕ) (c : Committed)
+    → slice_get (told_of boot one reply).history index ≡ Some c
+    → WasTrueOf g tree (take index (entries_of (told_of boot one reply))) (objects_at blocks (one.addr ∷ []))
+read_before g blocks tree boot one reply stands zero c is = record {
+  left = tree;
+  leads = refl;
+  blocks = blocks;
+  stands = stands;
+  as_read = λ object there. subst (IsAsRead blocks) (only_contained _ object there) refl;
+}
+read_before g blocks tree boot one reply stands (suc index) c is = absurd (no-one c is)

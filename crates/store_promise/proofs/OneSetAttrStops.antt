@@ -12,7 +12,7 @@ use Rattle.model.specs.Tree.{Tree}
 use Rattle.store_promise.specs.declared.transcript.Answer.{Answer}
 use Rattle.store_promise.specs.declared.transcript.Committed.{Committed}
 use Rattle.store_promise.specs.GoodImage.{IsGoodImage}
-use Rattle.store_promise.specs.Headline.{HasPrefix, HoldsPromised}
+use Rattle.store_promise.specs.Headline.{LeavesPrefix, WasPromised, by_answer, by_commit, by_steps}
 use Rattle.store_promise.specs.OneSetAttr.{OneSetAttr, LeavesTrees, WentOnByFive, answer_at, asked}
 use Rattle.store_promise.specs.OneSetAttr.{ctx_in, entry_in, events_of, told_of}
 use Rattle.store_promise.specs.Openings.{AtEachStop, IsLater, IsOpened, LeavesImages}
@@ -42,25 +42,25 @@ module _ (boot : ℕ) (one : OneSetAttr) (reply : Reply) (start clock : ℕ) whe
   at_most_one false settled bound = bound
 
   -- before the last device call nothing was
-  pub holds_none : clock < start + 5 → HoldsPromised (events_of one) start (told_of boot one reply) clock 0
-  holds_none less = record {
-    stable = λ a place given by stable.
-        let five = is_last a given in absurd (omega (arith, five, by, less));
-    covered = λ a place given by covered.
-        let five = is_last a given in absurd (omega (arith, five, by, less));
-    settled = λ index within by. below_five _ _ by less (settled boot one reply index within);
-  }
+  pub lasts_none : clock < start + 5 → (place : ℕ)
+      → WasPromised (events_of one) start (told_of boot one reply) clock place → place ≤ 0
+  lasts_none less place (by_answer a given by stable) =
+      let five = is_last a given in absurd (omega (arith, five, by, less))
+  lasts_none less place (by_commit a given by covered) =
+      let five = is_last a given in absurd (omega (arith, five, by, less))
+  lasts_none less place (by_steps index within by told) =
+      let none = below_five _ _ by less (settled boot one reply index within) in omega (arith, told, none)
 
   -- and then place 1
-  pub holds_one : HoldsPromised (events_of one) start (told_of boot one reply) clock 1
-  holds_one = record {
-    stable = λ a place given by stable.
-        let first = (entry_is boot one reply place stable.entry stable.is_entry).0 in omega (arith, first);
-    covered = λ a place given by covered.
-        absurd (never_written place covered.write
-        (entry_is boot one reply place covered.write covered.is_entry).1 covered.writes);
-    settled = λ index within by. at_most_one _ _ (settled boot one reply index within);
-  }
+  pub lasts_one : (place : ℕ) → WasPromised (events_of one) start (told_of boot one reply) clock place
+      → place ≤ 1
+  lasts_one place (by_answer a given by stable) =
+      let first = (entry_is boot one reply place stable.entry stable.is_entry).0 in omega (arith, first)
+  lasts_one place (by_commit a given by covered) =
+      absurd (never_written place covered.write
+      (entry_is boot one reply place covered.write covered.is_entry).1 covered.writes)
+  lasts_one place (by_steps index within by told) =
+      let first = at_most_one _ _ (settled boot one reply index within) in omega (arith, told, first)
 
   -- the procedure is committed after one device call
   pub committed : start + 1 ≤ clock → 1 ≤ commits_by start (told_of boot one reply) clock
@@ -88,7 +88,7 @@ module _ (before opened later : Device) (tree next : Tree) (first position : ℕ
     (trees : LeavesTrees opened later (first + 1) tree next)
     (steps : step tree (ctx_in (first + 1) one) (asked one) reply next) where
   abbrev Holds : ℕ → Image → Type 0
-  Holds = HasPrefix later.size first tree (events_of one) opened.clock (told_of (first + 1) one reply)
+  Holds = LeavesPrefix later.size first tree (events_of one) opened.clock (told_of (first + 1) one reply)
 
   -- before the opening's end
   while_opening : (clock : ℕ) (image : Image) → before.clock ≤ clock → clock < opened.clock
@@ -98,14 +98,16 @@ module _ (before opened later : Device) (tree next : Tree) (first position : ℕ
       (same_crash opened later clock image went.past (omega (arith, less)) crash) in
       record {
         boot = found.boot;
-        boot_is = found.boot_is;
-        raised = λ reached. absurd (omega (arith, reached, less));
+        boot_is = record {
+          either = found.boot_is;
+          raised = λ reached. absurd (omega (arith, reached, less));
+        };
         left = tree;
         good = subst (λ size. IsGoodImage size image tree found.boot) (sym went.past.size) found.good;
         count = 0;
-        committed = omega arith;
+        few = omega arith;
         prefix = refl;
-        holds = holds_none (first + 1) one reply opened.clock clock (omega (arith, less));
+        lasts = lasts_none (first + 1) one reply opened.clock clock (omega (arith, less));
       }
 
   -- with the old tree
@@ -113,14 +115,13 @@ module _ (before opened later : Device) (tree next : Tree) (first position : ℕ
       → IsGoodImage later.size image tree (first + 1) → Holds clock image
   with_old clock image less good = record {
     boot = first + 1;
-    boot_is = inr refl;
-    raised = λ reached. refl;
+    boot_is = record { either = inr refl; raised = λ reached. refl };
     left = tree;
     good = good;
     count = 0;
-    committed = omega arith;
+    few = omega arith;
     prefix = refl;
-    holds = holds_none (first + 1) one reply opened.clock clock less;
+    lasts = lasts_none (first + 1) one reply opened.clock clock less;
   }
 
   -- with the new one
@@ -128,14 +129,13 @@ module _ (before opened later : Device) (tree next : Tree) (first position : ℕ
       → IsGoodImage later.size image next (first + 1) → Holds clock image
   with_new clock image by good = record {
     boot = first + 1;
-    boot_is = inr refl;
-    raised = λ reached. refl;
+    boot_is = record { either = inr refl; raised = λ reached. refl };
     left = next;
     good = good;
     count = 1;
-    committed = committed (first + 1) one reply opened.clock clock by;
+    few = committed (first + 1) one reply opened.clock clock by;
     prefix = (next, steps, refl);
-    holds = holds_one (first + 1) one reply opened.clock clock;
+    lasts = lasts_one (first + 1) one reply opened.clock clock;
   }
 
   by_header : (image : Image) → IsCrashImage later (opened.clock + 4) image

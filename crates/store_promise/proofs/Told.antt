@@ -10,7 +10,7 @@ use Rattle.store_promise.specs.declared.events.Event.{Event}
 use Rattle.store_promise.specs.declared.events.Event.TheVariants as event
 use Rattle.store_promise.specs.declared.events.Step.{Step}
 use Rattle.store_promise.specs.Progress.{Begun, Job, Progress, Idle, At, Stage, Called, Planning, going_on, progressed}
-use Rattle.store_promise.specs.Schedule.{Schedule, Opening, Told, at_first, told_after, told_along, told_before}
+use Rattle.store_promise.specs.Schedule.{Schedule, Setting, Told, at_first, told_after, told_along, told_before}
 use Rattle.store_promise.specs.Schedule.{AreTaken, IsOfOne, IsStepOfPlan, IsStepOfWork, IsTaken}
 use Rattle.store_promise.specs.Schedule.{progress_before, worker_of}
 use Rattle.store_promise.specs.Transcript.{Transcript, made, step_at}
@@ -200,7 +200,7 @@ no_step (one ∷ events) (step ∷ steps) (suc index) is =
 
 -- ---- what is taken is what may be
 
-module _ (o : Opening) (workers : ℕ) (events : Schedule) (steps : List (Option Step))
+module _ (o : Setting) (workers : ℕ) (events : Schedule) (steps : List (Option Step))
     (taken : AreTaken o workers events steps) where
   -- a step of a worker that plans is one of its plan
   pub planned_step : (index worker : ℕ) (job : Job) (begun : Begun) (one : Step)

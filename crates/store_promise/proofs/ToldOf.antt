@@ -26,10 +26,13 @@ use Rattle.txn_law.specs.Steps.{StandsStill}
 use Rattle.std.proofs.lemmas.List.{drop-drop, drop-take}
 use Rattle.std.proofs.lemmas.List.Elements.{All-drop, All-head}
 use Rattle.store_promise.specs.LogTold.{LogTold, idle, out, was_made, with_commit, with_log_given}
-use Rattle.store_promise.specs.LogTold.{with_inst_done, with_inst_given, with_inst_taken, with_log_taken}
-use Rattle.store_promise.specs.ToldOf.{call_told, first_of, log_told}
+use Rattle.store_promise.specs.LogTold.{with_inst_behind, with_inst_done, with_inst_given, with_inst_taken, with_log_taken}
+use Rattle.store_promise.specs.ToldOf.{StandsAtHome, call_told, first_of, log_told, newest_among}
 
 -- ---- a commit
+
+pub some_more : (n : ℕ) → nat_lt 0 (suc n) ≡ true
+some_more n = grind (arith, nat_tests)
 
 module _ (position : ℕ) (old new : Log) (group : List (BlockNo × Content)) (blocks : ℕ) (lawful : IsLawful old)
     (later : IsLawful new) (grown : GrowsBy old group new) (still : StandsStill old new)
@@ -111,6 +114,15 @@ module _ (position : ℕ) (old new : Log) (group : List (BlockNo × Content)) (b
   taken_is = ap first_of (sym (drop-take old.logged old.taken new.changes)
       ∙ ap (drop old.logged) (grown.front ahead (omega arith)) ∙ drop-take old.logged old.taken old.changes)
 
+  -- what the installer has taken is the same
+  homes_are : newest_among (take new.installing new.changes) new.inst_step
+      ≡ newest_among (take old.installing old.changes) old.inst_step
+  homes_are =
+      let few = lawful.installing in
+      (λ j. newest_among (take (grown.installing j) new.changes) (still.inst_step j))
+      ∙ ap (λ (xs : List LogChange). newest_among xs old.inst_step)
+      (grown.front old.installing (omega (arith, few)))
+
   pub commit_told : (logging installing : Pending) → log_told position new logging installing
       ≡ with_commit (log_told position old logging installing) blocks
   commit_told logging installing = λ i. record {
@@ -124,8 +136,8 @@ module _ (position : ℕ) (old new : Log) (group : List (BlockNo × Content)) (b
     log_step = still.log_step i;
     logged = grown.logged i;
     installing = grown.installing i;
-    raised = (ap (λ (p : ℕ × ℕ). nat_lt 0 p.0 && nat_eq p.1 (p.0 + 2))
-        (λ j. (grown.installing j, still.inst_step j))) i;
+    homes = homes_are i;
+    behind = still.inst_step i - grown.installing i;
     broken = still.broken i;
     log_call = call_told logging;
     inst_call = call_told installing;
@@ -215,7 +227,7 @@ passed_less (change ∷ later) = by_test (is_some (newest_of later change.block.
     by_test true less = omega (arith, less)
     by_test false less = omega arith
 
-home_within : (changes : List LogChange) (count index : ℕ) → count ≤ length changes → index ≤ count
+pub home_within : (changes : List LogChange) (count index : ℕ) → count ≤ length changes → index ≤ count
     → next_home changes count index ≤ count
 home_within changes count index fits less =
     let rest : length (drop index (take count changes)) ≡ count - index =
@@ -223,7 +235,7 @@ home_within changes count index fits less =
     let few = passed_less (drop index (take count changes)) in
     omega (arith, rest, few, less)
 
-there : (xs : List LogChange) (k : ℕ) → k < length xs → (x : LogChange) × (slice_get xs k ≡ Some x)
+pub there : (xs : List LogChange) (k : ℕ) → k < length xs → (x : LogChange) × (slice_get xs k ≡ Some x)
 there [] k less = absurd (omega (arith, less))
 there (x ∷ xs) zero less = (x, refl)
 there (x ∷ xs) (suc k) less = there xs k (omega (arith, less))
@@ -236,7 +248,7 @@ and_false : (a b : Bool) → b ≡ false → (a && b) ≡ false
 and_false true b is = is
 and_false false b is = refl
 
-all_of : (xs : List LogChange) (k : ℕ) (x : LogChange) (blocks : ℕ) → slice_get xs k ≡ Some x
+pub all_of : (xs : List LogChange) (k : ℕ) (x : LogChange) (blocks : ℕ) → slice_get xs k ≡ Some x
     → All (λ (change : LogChange). IsHomeOn blocks change.block) xs → IsHomeOn blocks x.block
 all_of xs k x blocks is all =
     subst (λ (change : LogChange). IsHomeOn blocks change.block) (get_or_from_slice_get xs k x x is)
@@ -255,7 +267,7 @@ none_left : (n : ℕ) → drop {A = LogChange} n [] ≡ []
 none_left zero = refl
 none_left (suc n) = refl
 
-drop_more : (xs : List LogChange) (n m : ℕ) → drop m (drop n xs) ≡ drop (n + m) xs
+pub drop_more : (xs : List LogChange) (n m : ℕ) → drop m (drop n xs) ≡ drop (n + m) xs
 drop_more [] n m = ap (drop m) (none_left n) ∙ none_left m ∙ sym (none_left (n + m))
 drop_more (x ∷ xs) zero m =
     let same : m ≡ 0 + m = omega arith in
@@ -264,6 +276,84 @@ drop_more (x ∷ xs) (suc n) m =
     let same : suc (n + m) ≡ suc n + m = omega arith in
     drop_more xs n m ∙ ap (λ n. drop n (x ∷ xs)) same
 
+-- ---- how many of the changes are the newest of their block
+
+passes : (xs : List LogChange) → newest_among xs (passed_over xs) ≡ 0
+passes [] = refl
+passes (x ∷ xs) = by_test (is_some (newest_of xs x.block.0)) refl (passes xs)
+  where
+    by_test : (b : Bool) → is_some (newest_of xs x.block.0) ≡ b → newest_among xs (passed_over xs) ≡ 0
+        → newest_among (x ∷ xs) (if b then 1 + passed_over xs else 0) ≡ 0
+    by_test true is none =
+        let one : 1 + passed_over xs ≡ suc (passed_over xs) = omega arith in
+        ap (newest_among (x ∷ xs)) one
+        ∙ (λ i. if is i then newest_among xs (passed_over xs) else 1 + newest_among xs (passed_over xs))
+        ∙ none
+    by_test false is none = refl
+
+-- those that are passed over aren't
+passed_counts : (xs : List LogChange) (k : ℕ) → newest_among xs (k + passed_over (drop k xs)) ≡ newest_among xs k
+passed_counts xs zero =
+    let same : 0 + passed_over xs ≡ passed_over xs = omega arith in
+    ap (newest_among xs) same ∙ passes xs
+passed_counts [] (suc k) =
+    let same : suc k + 0 ≡ suc k = omega arith in
+    ap (newest_among []) same
+passed_counts (x ∷ xs) (suc k) =
+    let same : suc k + passed_over (drop k xs) ≡ suc (k + passed_over (drop k xs)) = omega arith in
+    ap (newest_among (x ∷ xs)) same
+    ∙ (λ i. if is_some (newest_of xs x.block.0) then passed_counts xs k i else 1 + passed_counts xs k i)
+
+-- one where none is passed over is
+newest_counts : (xs : List LogChange) (k : ℕ) → k < length xs → passed_over (drop k xs) ≡ 0
+    → newest_among xs (suc k) ≡ newest_among xs k + 1
+newest_counts [] k less is = absurd (omega (arith, less))
+newest_counts (x ∷ xs) zero less is = by_test (is_some (newest_of xs x.block.0)) refl is
+  where
+    by_test : (b : Bool) → is_some (newest_of xs x.block.0) ≡ b → (if b then 1 + passed_over xs else 0) ≡ 0
+        → (if b then newest_among xs 0 else 1 + newest_among xs 0) ≡ 1
+    by_test true so none = absurd (omega (arith, none))
+    by_test false so none = refl
+newest_counts (x ∷ xs) (suc k) less is =
+    by_test (is_some (newest_of xs x.block.0)) (newest_counts xs k (omega (arith, less)) is)
+  where
+    by_test : (b : Bool) → newest_among xs (suc k) ≡ newest_among xs k + 1
+        → (if b then newest_among xs (suc k) else 1 + newest_among xs (suc k))
+        ≡ (if b then newest_among xs k else 1 + newest_among xs k) + 1
+    by_test true same = same
+    by_test false same = omega (arith, same)
+
+-- past the last there is none
+past_last : (xs : List LogChange) (k : ℕ) → length xs ≤ k → newest_among xs (suc k) ≡ newest_among xs k
+past_last [] zero past = refl
+past_last [] (suc k) past = refl
+past_last (x ∷ xs) zero past = absurd (omega (arith, past))
+past_last (x ∷ xs) (suc k) past =
+    λ i. if is_some (newest_of xs x.block.0) then past_last xs k (omega (arith, past)) i
+    else 1 + past_last xs k (omega (arith, past)) i
+
+pub newest_within : (xs : List LogChange) (k : ℕ) → newest_among xs k ≤ k
+newest_within xs zero = omega arith
+newest_within [] (suc k) = omega arith
+newest_within (x ∷ xs) (suc k) = by_test (is_some (newest_of xs x.block.0)) (newest_within xs k)
+  where
+    by_test : (b : Bool) → newest_among xs k ≤ k
+        → (if b then newest_among xs k else 1 + newest_among xs k) ≤ suc k
+    by_test true less = omega (arith, less)
+    by_test false less = omega (arith, less)
+
+-- and where there are changes, the last is
+pub newest_some : (xs : List LogChange) → 0 < length xs → 0 < newest_among xs (length xs)
+newest_some [] some = absurd (omega (arith, some))
+newest_some (x ∷ []) some = omega arith
+newest_some (x ∷ y ∷ xs) some =
+    by_test (is_some (newest_of (y ∷ xs) x.block.0)) (newest_some (y ∷ xs) (omega arith))
+  where
+    by_test : (b : Bool) → 0 < newest_among (y ∷ xs) (length (y ∷ xs))
+        → 0 < (if b then newest_among (y ∷ xs) (length (y ∷ xs)) else 1 + newest_among (y ∷ xs) (length (y ∷ xs)))
+    by_test true more = more
+    by_test false more = omega arith
+
 module _ (position : ℕ) (log : Log) (io : Io) (logging : Pending) (lawful : IsLawful log) where
   abbrev before : LogTold
   before = log_told position log logging pending.idle
@@ -271,10 +361,13 @@ module _ (position : ℕ) (log : Log) (io : Io) (logging : Pending) (lawful : Is
   fits : log.logged ≤ length log.changes
   fits = let within = lawful.taken_within in omega (arith, within)
 
-  not_raised : (some : Bool) → (some && nat_eq (next_home log.changes log.logged 0) (log.logged + 2)) ≡ false
-  not_raised some = and_false some (nat_eq (next_home log.changes log.logged 0) (log.logged + 2))
-      (differs (next_home log.changes log.logged 0) (log.logged + 2)
-      (inl (let few = home_within log.changes log.logged 0 fits (omega arith) in omega (arith, few))))
+  -- the first that it takes is the first that it brings home
+  pub none_yet : log.installing ≡ 0 → newest_among (take log.logged log.changes) (next_home log.changes log.logged 0)
+      ≡ newest_among (take log.installing log.changes) log.inst_step
+  none_yet none =
+      let idle = (lawful.inst_idle none).0 in
+      passed_counts (take log.logged log.changes) 0
+      ∙ ap (newest_among (take log.installing log.changes)) (sym idle)
 
   by_installing : (has : Bool) → nat_lt 0 log.installing ≡ has
       → log_told position (if has then record log { inst_out = true } else record log {
@@ -285,19 +378,26 @@ module _ (position : ℕ) (log : Log) (io : Io) (logging : Pending) (lawful : Is
       ≡ (if has then record before { inst_call = out io.call }
       else record before { installing = before.logged; inst_call = out io.call })
   by_installing true is = refl
-  by_installing false is = λ i. record before {
-    installing = log.logged;
-    raised = (not_raised (nat_lt 0 log.logged)
-        ∙ ap (λ b. b && nat_eq log.inst_step (log.installing + 2)) (sym is)) i;
-    inst_call = out io.call;
-  }
+  by_installing false is =
+      let none : log.installing ≡ 0 = grind (arith, nat_tests) in
+      let idle = (lawful.inst_idle none).0 in
+      let few = home_within log.changes log.logged 0 fits (omega arith) in
+      let same : next_home log.changes log.logged 0 - log.logged ≡ log.inst_step - log.installing =
+      omega (arith, idle, few) in
+      λ i. record before {
+        installing = log.logged;
+        homes = none_yet none i;
+        behind = same i;
+        inst_call = out io.call;
+      }
 
   pub inst_taken_told : log_told position (with_inst_out log) logging (pending.out io)
       ≡ with_inst_taken before io.call
   inst_taken_told = by_installing (nat_lt 0 log.installing) refl
 
 module _ (position : ℕ) (log : Log) (io : Io) (answer : Result Unit Failed) (logging : Pending)
-    (lawful : IsLawful log) (is_out : log.inst_out ≡ true) (next : IsNextInstCall log io) where
+    (lawful : IsLawful log) (stands : StandsAtHome log) (is_out : log.inst_out ≡ true)
+    (next : IsNextInstCall log io) where
   abbrev given : LogTold
   given = log_told position log logging (pending.was_made io answer)
 
@@ -317,26 +417,13 @@ module _ (position : ℕ) (log : Log) (io : Io) (answer : Result Unit Failed) (l
   within_changes : log.installing ≤ length log.changes
   within_changes = let a = lawful.installing in let b = lawful.taken_within in omega (arith, a, b)
 
-  raised_at : (step : ℕ) → (step < log.installing + 2)
-      → (nat_lt 0 log.installing && nat_eq step (log.installing + 2)) ≡ false
-  raised_at step less = and_false (nat_lt 0 log.installing) (nat_eq step (log.installing + 2))
-      (differs step (log.installing + 2) (inl less))
+  abbrev taken_changes : List LogChange
+  taken_changes = take log.installing log.changes
 
-  raised_last : (step : ℕ) → step ≡ log.installing + 2
-      → (nat_lt 0 log.installing && nat_eq step (log.installing + 2)) ≡ true
-  raised_last step is =
-      (λ i. has_some i && same i)
-    where
-      same : nat_eq step (log.installing + 2) ≡ true
-      same = grind (arith, nat_tests)
+  long_taken : length taken_changes ≡ log.installing
+  long_taken = length-take-le log.installing log.changes within_changes
 
-  -- a block was brought home, which isn't the log's start
-  not_start : (change : LogChange) → slice_get log.changes log.inst_step ≡ Some change
-      → nat_eq change.block.0 START_BLOCK ≡ false
-  not_start change is =
-      let home = (all_of log.changes log.inst_step change log.blocks is lawful.homes).0 in
-      differs change.block.0 START_BLOCK (inr (omega (arith, home)))
-
+  -- a block was brought home
   at_home : log.inst_step < log.installing
       → log_told position (record log {
         inst_step = next_home log.changes log.installing (log.inst_step + 1);
@@ -347,12 +434,51 @@ module _ (position : ℕ) (log : Log) (io : Io) (answer : Result Unit Failed) (l
       let found = there log.changes log.inst_step (let within = within_changes in omega (arith, less, within)) in
       let call : io.call ≡ Write found.0.block = (next.home less found.0 found.1).0 in
       let few = home_within log.changes log.installing (log.inst_step + 1) within_changes (omega (arith, less)) in
+      let none : next_home log.changes log.installing (log.inst_step + 1) - log.installing
+      ≡ log.inst_step - log.installing = omega (arith, few, less) in
+      let first : nat_eq (log.inst_step - log.installing) 0 ≡ true = not_behind less in
+      (λ i. record given { homes = one_more less i; behind = none i; inst_call = idle })
+      ∙ (λ i. if sym first i then record given { homes = given.homes + 1; inst_call = idle }
+      else with_inst_behind given)
+      ∙ ap (λ one. with_inst_done given (was_made one (is_ok answer))) (sym call)
+    where
+      not_behind : log.inst_step < log.installing → nat_eq (log.inst_step - log.installing) 0 ≡ true
+      not_behind less =
+          let none : log.inst_step - log.installing ≡ 0 = omega (arith, less) in grind (arith, nat_tests)
+
+      one_more : log.inst_step < log.installing
+          → newest_among taken_changes (next_home log.changes log.installing (log.inst_step + 1))
+          ≡ newest_among taken_changes log.inst_step + 1
+      one_more less =
+          let long = long_taken in
+          let stays : log.inst_step + passed_over (drop log.inst_step taken_changes) ≡ log.inst_step = stands in
+          let same : log.inst_step + 1 ≡ suc log.inst_step = omega arith in
+          passed_counts taken_changes (log.inst_step + 1) ∙ ap (newest_among taken_changes) same
+          ∙ newest_counts taken_changes log.inst_step (omega (arith, long, less)) (omega (arith, stays))
+
+  -- one of the calls behind them was made, and not the last
+  one_behind : log.installing ≤ log.inst_step → log.inst_step < log.installing + 2
+      → log_told position (record log { inst_step = log.inst_step + 1; inst_out = false }) logging pending.idle
+      ≡ with_inst_behind given
+  one_behind past before_last =
+      let long = long_taken in
+      let same : log.inst_step + 1 ≡ suc log.inst_step = omega arith in
+      let next : log.inst_step + 1 - log.installing ≡ log.inst_step - log.installing + 1 = omega (arith, past) in
+      let not_last : nat_eq (log.inst_step - log.installing) 2 ≡ false =
+      differs (log.inst_step - log.installing) 2 (inl (omega (arith, past, before_last))) in
       (λ i. record given {
-        raised = (raised_at (next_home log.changes log.installing (log.inst_step + 1)) (omega (arith, few))
-            ∙ sym (not_start found.0 found.1)) i;
+        homes = (ap (newest_among taken_changes) same
+            ∙ past_last taken_changes log.inst_step (omega (arith, long, past))) i;
+        behind = next i;
         inst_call = idle;
       })
-      ∙ ap (λ one. with_inst_done given (was_made one (is_ok answer))) (sym call)
+      ∙ (λ i. if sym not_last i then record given {
+        logged = given.logged - given.installing;
+        installing = 0;
+        homes = 0;
+        behind = 0;
+        inst_call = idle;
+      } else record given { behind = given.behind + 1; inst_call = idle })
 
   -- the barrier behind them
   at_barrier : log.inst_step ≡ log.installing
@@ -360,14 +486,7 @@ module _ (position : ℕ) (log : Log) (io : Io) (answer : Result Unit Failed) (l
       ≡ with_inst_done given (was_made io.call (is_ok answer))
   at_barrier is =
       let call : io.call ≡ Barrier Home = next.home_barrier is in
-      (λ i. record given {
-        raised = (raised_at (log.inst_step + 1) (omega (arith, is))
-            ∙ sym (raised_at log.inst_step (omega (arith, is)))) i;
-        inst_call = idle;
-      })
-      ∙ (λ i. if sym (raised_at log.inst_step (omega (arith, is))) i
-      then record given { logged = log.logged - log.installing; installing = 0; raised = false; inst_call = idle }
-      else record given { inst_call = idle })
+      one_behind (omega (arith, is)) (omega (arith, is))
       ∙ ap (λ one. with_inst_done given (was_made one (is_ok answer))) (sym call)
 
   -- the raised start was written
@@ -376,7 +495,11 @@ module _ (position : ℕ) (log : Log) (io : Io) (answer : Result Unit Failed) (l
       ≡ with_inst_done given (was_made io.call (is_ok answer))
   at_start is =
       let call : io.call ≡ Write (record { 0 = START_BLOCK }) = (next.start is).0 in
-      (λ i. record given { raised = raised_last (log.inst_step + 1) (omega (arith, is)) i; inst_call = idle })
+      let behind : nat_eq (log.inst_step - log.installing) 0 ≡ false =
+      differs (log.inst_step - log.installing) 0 (inr (omega (arith, is))) in
+      one_behind (omega (arith, is)) (omega (arith, is))
+      ∙ (λ i. if sym behind i then record given { homes = given.homes + 1; inst_call = idle }
+      else with_inst_behind given)
       ∙ ap (λ one. with_inst_done given (was_made one (is_ok answer))) (sym call)
 
   -- and settled: what was brought home leaves the log
@@ -404,13 +527,22 @@ module _ (position : ℕ) (log : Log) (io : Io) (answer : Result Unit Failed) (l
             ∙ ap (λ n. first_of (take log.taken (drop n log.changes))) settled) i;
         logged = log.logged - log.installing;
         installing = 0;
-        raised = false;
+        homes = 0;
+        behind = 0;
         inst_call = idle;
       })
-      ∙ (λ i. if sym (raised_last log.inst_step is) i
-      then record given { logged = log.logged - log.installing; installing = 0; raised = false; inst_call = idle }
-      else record given { inst_call = idle })
+      ∙ (λ i. if sym last i then record given {
+        logged = given.logged - given.installing;
+        installing = 0;
+        homes = 0;
+        behind = 0;
+        inst_call = idle;
+      } else record given { behind = given.behind + 1; inst_call = idle })
       ∙ ap (λ one. with_inst_done given (was_made one (is_ok answer))) (sym call)
+    where
+      last : nat_eq (log.inst_step - log.installing) 2 ≡ true
+      last =
+          let two : log.inst_step - log.installing ≡ 2 = omega (arith, is) in grind (arith, nat_tests)
 
   by_stage : (home : Bool) → nat_lt log.inst_step log.installing ≡ home
       → (before_end : Bool) → nat_lt log.inst_step (log.installing + 2) ≡ before_end

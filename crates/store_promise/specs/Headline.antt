@@ -1,50 +1,67 @@
 -- What a store promises of a whole run, on a device that keeps its model.
-use Rattle.std.specs.Prelude.{◌≡◌, ℕ, ◌+◌, ◌≤◌, take, length, count_by, Contains, Result, Ok, Err}
+use Rattle.std.specs.Prelude.{◌≡◌, ℕ, ◌+◌, ◌≤◌, List, map, take, length, count_by, slice_get, Some, Contains}
+use Rattle.std.specs.Prelude.{Result, Ok, Err}
 use Rattle.disk.specs.Crash.{Image, IsAtRest, IsCrashImage}
 use Rattle.disk.specs.Device.{Device}
 use Rattle.layout.specs.declared.geometry.Geometry.{Geometry}
-use Rattle.model.specs.After.{after}
+use Rattle.layout.specs.Stands.{Stands}
+use Rattle.model.specs.After.{Entry, after}
 use Rattle.model.specs.Tree.{Tree}
+use Rattle.procs.specs.Steps.{AreAsRead}
+use Rattle.objects.specs.declared.addr.Addr.{Addr}
+use Rattle.txn.specs.Object.{ObjectBytes}
+use Rattle.txn.specs.Window.{object_at}
 use Rattle.store_promise.specs.declared.fault.OpenFault.{OpenFault}
 use Rattle.store_promise.specs.declared.transcript.Answer.{Answer}
+use Rattle.store_promise.specs.declared.transcript.Committed.{Committed}
 use Rattle.store_promise.specs.GoodImage.{IsGoodImage}
 use Rattle.store_promise.specs.History.{IsHistory}
 use Rattle.store_promise.specs.LogTold.{settled_told}
 use Rattle.store_promise.specs.Openings.{AtEachStop, IsBootOf, IsLater, IsOpened, IsRefused, LeavesImages}
-use Rattle.store_promise.specs.Schedule.{Schedule, Opening, AreTaken, AreTimely, told_before}
+use Rattle.store_promise.specs.Prefix.{HasPrefix}
+use Rattle.store_promise.specs.Schedule.{Schedule, Setting, AreTaken, AreTimely, told_before}
 use Rattle.store_promise.specs.Transcript.{Transcript, entries_of, device_calls, commits_by, fails}
 use Rattle.store_promise.specs.Verdicts.{IsStableAnswer, IsCoveredWrite, AreAnswers}
 
--- What was promised to last by a clock, of a run whose events began at another, is among so many procedures:
--- those that were answered as stable by then, the writes that an answer to a COMMIT covers, and the places that
--- the steps told as settled.
-pub record HoldsPromised (events : Schedule) (start : ℕ) (t : Transcript) (clock count : ℕ) : Type 0 where
-  pub stable : (a : Answer) (place : ℕ) → Contains t.answers a → start + a.clock ≤ clock
-      → IsStableAnswer t a place → place ≤ count
-  pub covered : (a : Answer) (place : ℕ) → Contains t.answers a → start + a.clock ≤ clock
-      → IsCoveredWrite t a place → place ≤ count
-  pub settled : (index : ℕ) → index ≤ length t.steps → start + device_calls t index ≤ clock
-      → settled_told (told_before events t.steps index).log ≤ count
+-- The procedure of a place was promised to last by a clock, of a run whose events began at another: it was
+-- answered as stable by then, or is a write that an answer to a COMMIT covers, or the steps told it as settled.
+pub data WasPromised (events : Schedule) (start : ℕ) (t : Transcript) (clock place : ℕ) : Type 0 where
+  by_answer : (a : Answer) → Contains t.answers a → start + a.clock ≤ clock → IsStableAnswer t a place
+      → WasPromised events start t clock place
+  by_commit : (a : Answer) → Contains t.answers a → start + a.clock ≤ clock → IsCoveredWrite t a place
+      → WasPromised events start t clock place
+  by_steps : (index : ℕ) → index ≤ length t.steps → start + device_calls t index ≤ clock
+      → place ≤ settled_told (told_before events t.steps index).log → WasPromised events start t clock place
 
--- An image that a stop at a clock left is good, with the tree after the first so many procedures of the
--- history, which were committed by then, and among which is what was promised to last. Its boot number is the
--- opening's once that has ended.
-pub record HasPrefix (size first : ℕ) (tree : Tree) (events : Schedule) (start : ℕ)
-    (t : Transcript) (clock : ℕ) (image : Image) : Type 0 where
-  pub boot : ℕ
-  pub boot_is : IsBootOf first boot
+-- the boot number is that before the opening, or that of it, and the latter once the opening has ended
+pub record IsBootBy (first start clock boot : ℕ) : Type 0 where
+  pub either : IsBootOf first boot
   pub raised : start ≤ clock → boot ≡ first + 1
-  pub left : Tree
-  pub good : IsGoodImage size image left boot
-  pub count : ℕ
-  pub committed : count ≤ commits_by start t clock
-  pub prefix : after tree (take count (entries_of t)) left
-  pub holds : HoldsPromised events start t clock count
+
+-- What a stop at a clock leaves has a prefix of the history, committed by then, that holds what was promised to
+-- last.
+abbrev pub LeavesPrefix : ℕ → ℕ → Tree → Schedule → ℕ → Transcript → ℕ → Image → Type 0
+LeavesPrefix size first tree events start t clock image =
+    HasPrefix size (IsBootBy first start clock) tree (entries_of t) (commits_by start t clock)
+    (WasPromised events start t clock) image
 
 -- the geometry of an image of so many blocks that has this tree
 pub record IsGeometryOf (size : ℕ) (tree : Tree) (g : Geometry) : Type 0 where
   pub blocks : g.blocks ≡ size
   pub inodes : g.inodes ≡ tree.geometry.inodes
+
+-- What was read is what files were: there are blocks that stand for the tree which the entries lead to, and have it.
+pub record WasTrueOf (g : Geometry) (tree : Tree) (entries : List Entry) (read : List ObjectBytes) : Type 0
+  where
+    pub left : Tree
+    pub leads : after tree entries left
+    pub blocks : Image
+    pub stands : Stands g blocks left
+    pub as_read : AreAsRead blocks read
+
+-- what blocks have at these addresses
+abbrev pub objects_at : Image → List Addr → List ObjectBytes
+objects_at blocks addrs = map (λ addr. record { addr = addr; bytes = object_at blocks addr }) addrs
 
 -- The promise of a run with so many workers, which took events on a device whose image had this tree and this
 -- boot number, and left the device as it became:
@@ -52,16 +69,16 @@ pub record KeepsPromise (before later : Device) (tree : Tree) (first workers : �
     (t : Transcript) : Type 0 where
   -- an opening comes first, and then the device calls that the steps tell, and no others
   pub opened : Device
-  pub opening : Opening
-  pub opens : IsOpened before opened tree first opening.position
-  pub geometry : IsGeometryOf later.size tree opening.geometry
+  pub setting : Setting
+  pub opens : IsOpened before opened tree first setting.position
+  pub geometry : IsGeometryOf later.size tree setting.geometry
   pub past : IsLater opened later
   pub calls : later.clock ≡ opened.clock + device_calls t (length t.steps)
   pub failures : later.failures ≡ opened.failures + count_by fails t.steps
   -- a stop leaves some image, and whatever it leaves has the tree of a prefix, which holds what was promised to
   -- last
   pub left : LeavesImages before later
-  pub stops : AtEachStop before later (HasPrefix later.size first tree events opened.clock t)
+  pub stops : AtEachStop before later (LeavesPrefix later.size first tree events opened.clock t)
   -- the replies are the sequential server's
   pub last : Tree
   pub leads : after tree (entries_of t) last
@@ -69,7 +86,10 @@ pub record KeepsPromise (before later : Device) (tree : Tree) (first workers : �
   pub history : IsHistory events t
   pub answers : AreAnswers events t
   -- every event is taken
-  pub taken : AreTaken opening workers events t.steps
+  pub taken : AreTaken setting workers events t.steps
+  -- and what the transaction of a procedure had read is what the files were just before it
+  pub read : (index : ℕ) (c : Committed) → slice_get t.history index ≡ Some c
+      → WasTrueOf setting.geometry tree (take index (entries_of t)) (setting.reads c.ctx.transaction)
 
 -- What a run stands on: the device keeps its model, is at rest, and holds a good image with this tree and this
 -- boot number; and calls are handed over at moments below a second.

@@ -2,10 +2,12 @@ pub mod GoodImage
 pub mod Transcript
 pub mod Progress
 pub mod LogTold
+pub mod NextCall
 pub mod Openings
 pub mod Schedule
 pub mod History
 pub mod Verdicts
+pub mod Prefix
 pub mod Headline
 pub mod Room
 pub mod OneSetAttr

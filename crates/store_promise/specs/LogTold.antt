@@ -2,7 +2,7 @@
 -- have in the memory log.
 use Rattle.std.specs.Prelude.{ℕ, ◌+◌, ◌-◌, Bool, true, false, not, ◌&&◌, ◌||◌, if◌then◌else◌, nat_eq, nat_lt}
 use Rattle.std.specs.Prelude.{nat_le}
-use Rattle.limits.specs.declared.TheConstants.{LOG_SLOTS, START_BLOCK}
+use Rattle.limits.specs.declared.TheConstants.{LOG_SLOTS}
 use Rattle.wal_law.specs.declared.calls.IoCall.{IoCall}
 use Rattle.wal_law.specs.declared.calls.IoCall.TheVariants.{Write, Barrier}
 use Rattle.store_promise.specs.declared.events.Committing.TheVariants as committing
@@ -30,10 +30,11 @@ pub record LogTold : Type 0 where
   pub taken_first : ℕ
   pub log_step : ℕ
   -- the positions that are logged and not brought home, how many of these the installer has taken, 0 where it
-  -- has none, and whether it has written the raised start
+  -- has none, how many blocks it has written home, and how many of its calls behind these were given back
   pub logged : ℕ
   pub installing : ℕ
-  pub raised : Bool
+  pub homes : ℕ
+  pub behind : ℕ
   -- a write or a barrier failed
   pub broken : Bool
   pub log_call : CallTold
@@ -51,7 +52,8 @@ empty_log = record {
   log_step = 0;
   logged = 0;
   installing = 0;
-  raised = false;
+  homes = 0;
+  behind = 0;
   broken = false;
   log_call = idle;
   inst_call = idle;
@@ -120,16 +122,26 @@ with_inst_taken log call =
     then record log { inst_call = out call }
     else record log { installing = log.logged; inst_call = out call }
 
--- a call of the installer is given back, made well: the barrier behind the raised start ends the installation
+-- a call of the installer is given back, made well: the third of those behind what it writes home, the barrier
+-- behind the raised start, ends the installation
+abbrev pub with_inst_behind : LogTold → LogTold
+with_inst_behind log =
+    if nat_eq log.behind 2
+    then record log {
+      logged = log.logged - log.installing;
+      installing = 0;
+      homes = 0;
+      behind = 0;
+      inst_call = idle;
+    }
+    else record log { behind = log.behind + 1; inst_call = idle }
+
 abbrev pub with_inst_done : LogTold → CallTold → LogTold
-with_inst_done log (was_made (Write block) ok) = record log {
-  raised = nat_eq block.0 START_BLOCK;
-  inst_call = idle;
-}
-with_inst_done log (was_made (Barrier side) ok) =
-    if log.raised
-    then record log { logged = log.logged - log.installing; installing = 0; raised = false; inst_call = idle }
-    else record log { inst_call = idle }
+with_inst_done log (was_made (Write block) ok) =
+    if nat_eq log.behind 0
+    then record log { homes = log.homes + 1; inst_call = idle }
+    else with_inst_behind log
+with_inst_done log (was_made (Barrier side) ok) = with_inst_behind log
 with_inst_done log idle = log
 with_inst_done log (out call) = log
 

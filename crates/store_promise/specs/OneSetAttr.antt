@@ -1,9 +1,9 @@
 -- A run of one worker and one SETATTR of the mode, taken to its stable answer: what comes, what is told, and
 -- what the device and its images are to be.
 use Rattle.std.specs.Prelude.{◌≡◌, ℕ, ◌+◌, ◌≤◌, ◌⊎◌, true, List, [], ◌∷◌, ◌++◌, map, Option, Some, Ok}
+use Rattle.limits.specs.declared.TheConstants.{LOG_HEADER_BLOCK}
 use Rattle.disk.specs.Crash.{Image, IsCrashImage}
 use Rattle.disk.specs.Device.{Device}
-use Rattle.disk.specs.declared.block.BlockNo.{BlockNo}
 use Rattle.disk.specs.declared.block.Side.TheVariants as side
 use Rattle.objects.specs.declared.addr.Addr.{Addr}
 use Rattle.nfs_types.specs.declared.attributes.NewAttributes.{NewAttributes}
@@ -14,9 +14,11 @@ use Rattle.nfs_types.specs.declared.ctx.Ctx.{Ctx}
 use Rattle.nfs_types.specs.declared.ctx.Moment.{Moment}
 use Rattle.nfs_types.specs.declared.handle.Handle.{Handle}
 use Rattle.nfs_types.specs.declared.reply.Reply.{Reply}
+use Rattle.layout.specs.declared.geometry.Geometry.{Geometry}
 use Rattle.model.specs.Tree.{Tree}
 use Rattle.wal_law.specs.declared.calls.IoCall.{IoCall}
 use Rattle.wal_law.specs.declared.calls.IoCall.TheVariants.{Write, Barrier}
+use Rattle.wal_law.specs.Logger.{slot_block}
 use Rattle.store_promise.specs.declared.answers.Verdict.TheVariants as verdict
 use Rattle.store_promise.specs.declared.events.Committing.TheVariants as committing
 use Rattle.store_promise.specs.declared.events.Event.TheVariants as event
@@ -27,11 +29,12 @@ use Rattle.store_promise.specs.declared.transcript.Answer.{Answer}
 use Rattle.store_promise.specs.declared.transcript.Committed.{Committed}
 use Rattle.store_promise.specs.GoodImage.{IsGoodImage}
 use Rattle.store_promise.specs.Openings.{IsLater, LeavesImages}
-use Rattle.store_promise.specs.Schedule.{Schedule}
+use Rattle.store_promise.specs.Headline.{objects_at}
+use Rattle.store_promise.specs.Schedule.{Schedule, Setting}
 use Rattle.store_promise.specs.Transcript.{Transcript}
 
 -- what such a run is of: for whom and when its call is made, what that asks, where the inode of its file
--- lies, the log slot that its block goes to, and the block of the log's header
+-- lies, and the log position at which the opening left the log, whose slot its block goes to
 pub record OneSetAttr : Type 0 where
   pub credential : Credential
   pub moment : Moment
@@ -39,8 +42,7 @@ pub record OneSetAttr : Type 0 where
   pub attributes : NewAttributes
   pub guard : Option Moment
   pub addr : Addr
-  pub slot : BlockNo
-  pub header : BlockNo
+  pub position : ℕ
 
 abbrev pub asked : OneSetAttr → Call
 asked one = call.SetAttr one.object one.attributes one.guard
@@ -82,8 +84,8 @@ events_of_log = log_call_events ++ log_call_events ++ log_call_events ++ log_cal
 
 abbrev pub steps_of_log : OneSetAttr → List Step
 steps_of_log one =
-    log_call_steps (Write one.slot) ++ log_call_steps (Barrier side.Log) ++ log_call_steps (Write one.header)
-    ++ log_call_steps (Barrier side.Log)
+    log_call_steps (Write (record { 0 = slot_block one.position })) ++ log_call_steps (Barrier side.Log)
+    ++ log_call_steps (Write (record { 0 = LOG_HEADER_BLOCK })) ++ log_call_steps (Barrier side.Log)
 
 -- and last the worker finds its place settled, and answers
 abbrev pub events_of : OneSetAttr → Schedule
@@ -139,6 +141,14 @@ told_of boot one reply = told_with boot one reply (answer_at reply 19 5)
 -- one that doesn't wait is answered by the event of its commit
 abbrev pub told_too_early : ℕ → OneSetAttr → Reply → Transcript
 told_too_early boot one reply = told_with boot one reply (answer_at reply 6 1)
+
+-- the blocks of the image have what it reads
+abbrev pub setting_of : Geometry → Image → OneSetAttr → Setting
+setting_of g blocks one = record {
+  geometry = g;
+  position = one.position;
+  reads = λ transaction. objects_at blocks (one.addr ∷ []);
+}
 
 -- ---- the device
 

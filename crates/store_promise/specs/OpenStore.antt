@@ -1,5 +1,5 @@
 -- What holds of an open store at each moment: its device, its core, and the files that these are.
-use Rattle.std.specs.Prelude.{◌≡◌, ℕ, ◌≤◌, List, [], ◌∷◌, Some, take}
+use Rattle.std.specs.Prelude.{◌≡◌, ℕ, ◌-◌, ◌≤◌, List, [], ◌∷◌, Some, take}
 use Rattle.limits.specs.declared.TheConstants.{SUPER_BLOCK}
 use Rattle.disk.specs.Crash.{Image}
 use Rattle.disk.specs.Device.{Device}
@@ -13,7 +13,7 @@ use Rattle.layout.specs.Homes.{homes_of}
 use Rattle.layout.specs.Stands.{Stands}
 use Rattle.layout.specs.SuperForm.{IsSuper}
 use Rattle.wal_law.specs.Calls.{AgreesBeside, Pending}
-use Rattle.wal_law.specs.Log.{IsLawful}
+use Rattle.wal_law.specs.Log.{IsLawful, Log, installed_place, settled_place}
 use Rattle.txn_law.specs.Core.{CoreState}
 use Rattle.txn_law.specs.CoreWindow.{IsCoreWindow}
 use Rattle.txn_law.specs.HomeRead.{IsReadable}
@@ -62,3 +62,11 @@ pub record IsOpenOver (base : Image) (d : Device) (core : CoreState) (logging in
 abbrev pub IsOpenStore : Device → CoreState → Pending → Pending → ℕ → Tree → List Entry → Tree → Type 0
 IsOpenStore d core logging installing boot tree entries last = (base : Image)
     × IsOpenOver base d core logging installing boot tree entries last
+
+-- the boot number is this
+abbrev pub IsBoot : ℕ → ℕ → Type 0
+IsBoot boot found = found ≡ boot
+
+-- the entry of a place since the tree is settled, where those that are home aren't counted
+abbrev pub IsSettledOf : Log → ℕ → Type 0
+IsSettledOf log place = place ≤ settled_place log - installed_place log

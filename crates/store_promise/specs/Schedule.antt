@@ -2,7 +2,7 @@
 use Rattle.std.specs.Prelude.{◌≡◌, ◌≢◌, ℕ, ◌+◌, ◌^◌, ◌<◌, ◌≤◌, Bool, true, false, if◌then◌else◌, nat_eq}
 use Rattle.std.specs.Prelude.{nat_le, List, [], ◌∷◌, map, take, Option, Some, None, Ok, Err, length, slice_get}
 use Rattle.std.specs.List.{zip, list_any}
-use Rattle.limits.specs.declared.TheConstants.{BLOCK_BYTES, CHANGED_BLOCKS, LOG_SLOTS}
+use Rattle.limits.specs.declared.TheConstants.{BLOCK_BYTES, LOG_SLOTS}
 use Rattle.disk.specs.declared.block.BlockNo.{BlockNo}
 use Rattle.objects.specs.declared.addr.Addr.{Addr}
 use Rattle.nfs_types.specs.declared.call.Call.{Call}
@@ -10,9 +10,11 @@ use Rattle.layout.specs.declared.geometry.Geometry.{Geometry}
 use Rattle.model.specs.Calls.{has_rules}
 use Rattle.model.specs.Sound.{SoundTime}
 use Rattle.procs.specs.Asks.{Asks, Claims}
+use Rattle.procs.specs.MostChanged.{most_changed}
 use Rattle.procs.specs.Snap.{is_claimed, same_addr}
 use Rattle.txn.specs.Object.{ObjectBytes}
 use Rattle.txn.specs.declared.outcomes.BeginFault.TheVariants as fault
+use Rattle.wal_law.specs.declared.calls.IoCall.{IoCall}
 use Rattle.store_promise.specs.declared.events.Committing.{Committing}
 use Rattle.store_promise.specs.declared.events.Committing.TheVariants as committing
 use Rattle.store_promise.specs.declared.events.Ending.TheVariants as ending
@@ -24,6 +26,7 @@ use Rattle.store_promise.specs.declared.events.Wish.{Wish}
 use Rattle.store_promise.specs.declared.events.Wish.TheVariants as wish
 use Rattle.store_promise.specs.LogTold.{CallTold, idle, out, was_made, LogTold, empty_log, log_moved}
 use Rattle.store_promise.specs.LogTold.{may_log_told, may_install_told, settled_told}
+use Rattle.store_promise.specs.NextCall.{IsNextOfInstalling, next_log_call}
 use Rattle.store_promise.specs.Progress.{Begun, Progress, Idle, At, Stage, Called, Planning, Reading, Read}
 use Rattle.store_promise.specs.Progress.{Refused, Again, Waiting, progressed, has_taken, is_fetching}
 use Rattle.store_promise.specs.Progress.{is_loaded}
@@ -110,27 +113,34 @@ abbrev pub IsStepOfCalled : Told → Bool → Step → Type 0
 IsStepOfCalled told true made = IsBeginning told made
 IsStepOfCalled told false made = made ≡ step.Replied
 
+-- What the steps of a run go by beside the steps themselves: where the parts of its image lie, the log position
+-- at which the opening left the log, and what each transaction read, by its number, in the order of its steps.
+pub record Setting : Type 0 where
+  pub geometry : Geometry
+  pub position : ℕ
+  pub reads : ℕ → List ObjectBytes
+
 -- an object is among these
 abbrev pub is_held : Addr → List Addr → Bool
 is_held addr held = list_any (λ other. same_addr addr other) held
 
--- these objects are those that the transaction holds
-abbrev pub AreHeld : Begun → List ObjectBytes → Type 0
-AreHeld begun objects = map (λ (object : ObjectBytes). object.addr) objects ≡ begun.held
+-- the objects that a transaction holds, as it read them
+abbrev pub read_of : Setting → Begun → List ObjectBytes
+read_of o begun = take (length begun.held) (o.reads begun.number)
 
--- the call asks for the object, by what its transaction holds and hasn't got
-pub record IsAskedFor (g : Geometry) (call : Call) (begun : Begun) (addr : Addr) : Type 0 where
+-- they are those that it was told
+abbrev pub AreHeld : Setting → Begun → Type 0
+AreHeld o begun = map (λ (object : ObjectBytes). object.addr) (read_of o begun) ≡ begun.held
+
+-- the call asks for the object, by what its transaction read, and hasn't got it
+pub record IsAskedFor (o : Setting) (call : Call) (begun : Begun) (addr : Addr) : Type 0 where
   pub unheld : is_held addr begun.held ≡ false
-  pub objects : List ObjectBytes
-  pub held : AreHeld begun objects
-  pub asks : Asks g call objects addr
+  pub asks : Asks o.geometry call (read_of o begun) addr
 
 -- it asks to claim the block
-pub record IsClaimAskedFor (g : Geometry) (call : Call) (begun : Begun) (block : BlockNo) : Type 0 where
+pub record IsClaimAskedFor (o : Setting) (call : Call) (begun : Begun) (block : BlockNo) : Type 0 where
   pub unclaimed : is_claimed block begun.claimed ≡ false
-  pub objects : List ObjectBytes
-  pub held : AreHeld begun objects
-  pub claims : Claims g call objects block
+  pub claims : Claims o.geometry call (read_of o begun) block
 
 -- another worker is so
 pub record IsSoOfAnother (told : Told) (worker : ℕ) (is : Progress → Bool) : Type 0 where
@@ -154,19 +164,14 @@ abbrev pub IsClaimWish : Told → ℕ → Begun → BlockNo → Wish → Type 0
 IsClaimWish told worker begun block wish.Fetch = ⊥
 IsClaimWish told worker begun block other = IsWish told worker begun block 0 BLOCK_BYTES other
 
--- where an image's parts lie, and the log position at which an opening left the log
-pub record Opening : Type 0 where
-  pub geometry : Geometry
-  pub position : ℕ
-
 -- a place is left, and enough log positions for so many blocks
-pub record HasNumbers (o : Opening) (log : LogTold) (blocks : ℕ) : Type 0 where
+pub record HasNumbers (o : Setting) (log : LogTold) (blocks : ℕ) : Type 0 where
   pub place : log.places + 1 < 2 ^ 64
   pub positions : o.position + log.appended + blocks < 2 ^ 64
 
 -- What a commit may be answered that brings the tail so many blocks: the next place; or why it is refused. What
 -- was read stays as it was while it is held, so that no change is foreign.
-abbrev pub IsCommitting : Opening → LogTold → ℕ → Committing → Type 0
+abbrev pub IsCommitting : Setting → LogTold → ℕ → Committing → Type 0
 IsCommitting o log blocks (committing.Committed place) =
     (log.broken ≡ false) × (place.0 ≡ log.places + 1) × HasNumbers o log blocks
     × (log.tail + blocks ≤ LOG_SLOTS)
@@ -178,17 +183,23 @@ IsCommitting o log blocks committing.Full =
 IsCommitting o log blocks committing.NoMemory =
     (log.broken ≡ false) × HasNumbers o log blocks × (log.tail + blocks ≤ LOG_SLOTS)
 
--- A worker with a transaction goes by the plan of its call: it asks for what that asks for, or commits, or
--- finds no memory.
-abbrev pub IsStepOfPlan : Opening → Told → ℕ → Call → Begun → Step → Type 0
-IsStepOfPlan o told worker call begun (step.Wanted addr answer) =
-    IsAskedFor o.geometry call begun addr × IsWish told worker begun addr.block addr.offset addr.len answer
-IsStepOfPlan o told worker call begun (step.Claimed block answer) =
-    IsClaimAskedFor o.geometry call begun block × IsClaimWish told worker begun block answer
-IsStepOfPlan o told worker call begun (step.Commit blocks answer) =
-    (blocks ≤ CHANGED_BLOCKS) × IsCommitting o told.log blocks answer
-IsStepOfPlan o told worker call begun (step.Ended ending.NoMemory) = Unit {0}
-IsStepOfPlan o told worker call begun _ = ⊥
+-- A worker with a transaction goes by the plan of its call: it asks for what that asks for, or commits a change of
+-- no more blocks than the call changes, or finds no memory.
+abbrev pub IsStepByPlan : Setting → Told → ℕ → Call → Begun → Step → Type 0
+IsStepByPlan o told worker call begun (step.Wanted addr answer) =
+    IsAskedFor o call begun addr × IsWish told worker begun addr.block addr.offset addr.len answer
+IsStepByPlan o told worker call begun (step.Claimed block answer) =
+    IsClaimAskedFor o call begun block × IsClaimWish told worker begun block answer
+IsStepByPlan o told worker call begun (step.Commit blocks answer) =
+    (blocks ≤ most_changed call) × IsCommitting o told.log blocks answer
+IsStepByPlan o told worker call begun (step.Ended ending.NoMemory) = Unit {0}
+IsStepByPlan o told worker call begun _ = ⊥
+
+-- it does so by what it read
+pub record IsStepOfPlan (o : Setting) (told : Told) (worker : ℕ) (call : Call) (begun : Begun)
+    (made : Step) : Type 0 where
+  pub held : AreHeld o begun
+  pub by_plan : IsStepByPlan o told worker call begun made
 
 -- the place is found settled where it is
 abbrev pub IsStepOfWaiting : LogTold → ℕ → Step → Type 0
@@ -197,7 +208,7 @@ IsStepOfWaiting log place (step.Stable seq settled) = (seq.0 ≡ place)
 IsStepOfWaiting log place _ = ⊥
 
 -- a worker with a call, of which no read is due, goes on with it
-abbrev pub IsStepWith : Opening → Told → ℕ → Call → Stage → Step → Type 0
+abbrev pub IsStepWith : Setting → Told → ℕ → Call → Stage → Step → Type 0
 IsStepWith o told worker call Called made = IsStepOfCalled told (has_rules call) made
 IsStepWith o told worker call (Planning begun) made = IsStepOfPlan o told worker call begun made
 IsStepWith o told worker call (Reading begun addr) made = ⊥
@@ -207,7 +218,7 @@ IsStepWith o told worker call (Refused begun why) made = made ≡ step.Ended end
 IsStepWith o told worker call (Again begun) made = made ≡ step.Ended ending.Again
 IsStepWith o told worker call (Waiting place) made = IsStepOfWaiting told.log place made
 
-abbrev pub IsStepOfWork : Opening → Told → ℕ → Progress → Option Step → Type 0
+abbrev pub IsStepOfWork : Setting → Told → ℕ → Progress → Option Step → Type 0
 IsStepOfWork o told worker Idle made = made ≡ None
 IsStepOfWork o told worker (At job (Reading begun addr)) made = made ≡ None
 IsStepOfWork o told worker (At job stage) (Some made) = IsStepWith o told worker job.call stage made
@@ -225,25 +236,26 @@ IsStepOfRead _ made = made ≡ None
 -- ---- what the log and the installer may do
 
 -- the call that was made is given back, and where none is out the next is taken, if one is to be had
-abbrev pub IsNextOfLog : Bool → Option Step → Type 0
-IsNextOfLog true (Some (step.LogNext call)) = Unit {0}
-IsNextOfLog true _ = ⊥
-IsNextOfLog false made = made ≡ None
+abbrev pub IsNextOfLog : Bool → IoCall → Option Step → Type 0
+IsNextOfLog true next (Some (step.LogNext call)) = call ≡ next
+IsNextOfLog true next _ = ⊥
+IsNextOfLog false next made = made ≡ None
 
-abbrev pub IsNextOfInstaller : Bool → Option Step → Type 0
-IsNextOfInstaller true (Some (step.InstNext call)) = Unit {0}
-IsNextOfInstaller true _ = ⊥
-IsNextOfInstaller false made = made ≡ None
+abbrev pub IsNextOfInstaller : Bool → (IoCall → Type 0) → Option Step → Type 0
+IsNextOfInstaller true IsNext (Some (step.InstNext call)) = IsNext call
+IsNextOfInstaller true IsNext _ = ⊥
+IsNextOfInstaller false IsNext made = made ≡ None
 
-abbrev pub IsStepOfLog : LogTold → CallTold → Option Step → Type 0
-IsStepOfLog log idle made = IsNextOfLog (may_log_told log) made
-IsStepOfLog log (out call) made = made ≡ None
-IsStepOfLog log (was_made call ok) made = made ≡ Some (step.LogDone ok)
+abbrev pub IsStepOfLog : Setting → LogTold → CallTold → Option Step → Type 0
+IsStepOfLog o log idle made = IsNextOfLog (may_log_told log) (next_log_call o.position log) made
+IsStepOfLog o log (out call) made = made ≡ None
+IsStepOfLog o log (was_made call ok) made = made ≡ Some (step.LogDone ok)
 
-abbrev pub IsStepOfInstaller : LogTold → CallTold → Option Step → Type 0
-IsStepOfInstaller log idle made = IsNextOfInstaller (may_install_told log) made
-IsStepOfInstaller log (out call) made = made ≡ None
-IsStepOfInstaller log (was_made call ok) made = made ≡ Some (step.InstDone ok)
+abbrev pub IsStepOfInstaller : Setting → LogTold → CallTold → Option Step → Type 0
+IsStepOfInstaller o log idle made =
+    IsNextOfInstaller (may_install_told log) (IsNextOfInstalling o.geometry.blocks log) made
+IsStepOfInstaller o log (out call) made = made ≡ None
+IsStepOfInstaller o log (was_made call ok) made = made ≡ Some (step.InstDone ok)
 
 -- the call that is out is made
 abbrev pub IsStepOfLogIo : CallTold → Option Step → Type 0
@@ -259,13 +271,13 @@ IsStepOfInstIo idle made = made ≡ None
 IsStepOfInstIo (was_made call ok) made = made ≡ None
 
 -- An event that applies makes a step of its kind, and one that doesn't makes none.
-abbrev pub IsStepOf : Opening → Told → Event → Option Step → Type 0
+abbrev pub IsStepOf : Setting → Told → Event → Option Step → Type 0
 IsStepOf o told (event.Call worker credential moment call) made = IsStepOfCall (told.workers worker) made
 IsStepOf o told (event.Work worker) made = IsStepOfWork o told worker (told.workers worker) made
 IsStepOf o told (event.Read worker) made = IsStepOfRead (told.workers worker) made
-IsStepOf o told event.Log made = IsStepOfLog told.log told.log.log_call made
+IsStepOf o told event.Log made = IsStepOfLog o told.log told.log.log_call made
 IsStepOf o told event.LogIo made = IsStepOfLogIo told.log.log_call made
-IsStepOf o told event.Install made = IsStepOfInstaller told.log told.log.inst_call made
+IsStepOf o told event.Install made = IsStepOfInstaller o told.log told.log.inst_call made
 IsStepOf o told event.InstIo made = IsStepOfInstIo told.log.inst_call made
 
 -- ---- along a run
@@ -295,14 +307,14 @@ IsOfOne workers (Some worker) = worker < workers
 
 -- what the event of an index makes: the step that it may make, and none where it is of a worker that isn't
 -- there
-pub record IsTaken (o : Opening) (workers : ℕ) (told : Told) (event : Event) (made : Option Step) : Type 0
+pub record IsTaken (o : Setting) (workers : ℕ) (told : Told) (event : Event) (made : Option Step) : Type 0
   where
     pub own : IsOfOne workers (worker_of event) → IsStepOf o told event made
     pub others : (IsOfOne workers (worker_of event) → ⊥) → made ≡ None
 
 -- The events are taken from the first on, of so many workers, each once, after an opening: all, or fewer, which
 -- only want of memory to tell of the next may cause (tests show that).
-pub record AreTaken (o : Opening) (workers : ℕ) (events : Schedule) (steps : List (Option Step)) : Type 0
+pub record AreTaken (o : Setting) (workers : ℕ) (events : Schedule) (steps : List (Option Step)) : Type 0
   where
     pub fewer : length steps ≤ length events
     pub each : (index : ℕ) (event : Event) (made : Option Step) → slice_get events index ≡ Some event

@@ -1,10 +1,11 @@
 -- What is told of a log, as a function of the memory log and of the device calls that are out.
-use Rattle.std.specs.Prelude.{ℕ, ◌+◌, ◌-◌, ◌&&◌, List, [], ◌∷◌, is_ok, length, nat_eq, nat_lt}
-use Rattle.std.specs.Prelude.{take, drop}
+use Rattle.std.specs.Prelude.{◌≡◌, ℕ, zero, suc, ◌+◌, ◌-◌, List, [], ◌∷◌, if◌then◌else◌, is_ok, is_some}
+use Rattle.std.specs.Prelude.{length, take, drop}
 use Rattle.wal_law.specs.declared.change.LogChange.{LogChange}
 use Rattle.wal_law.specs.Calls.{Pending}
 use Rattle.wal_law.specs.Calls as pending
-use Rattle.wal_law.specs.Log.{Log, tail_count}
+use Rattle.wal_law.specs.Installer.{next_home}
+use Rattle.wal_law.specs.Log.{Log, newest_of, tail_count}
 use Rattle.store_promise.specs.LogTold.{CallTold, LogTold, idle, out, was_made}
 
 abbrev pub call_told : Pending → CallTold
@@ -16,6 +17,13 @@ call_told (pending.was_made io answer) = was_made io.call (is_ok answer)
 abbrev pub first_of : List LogChange → ℕ
 first_of [] = 0
 first_of (change ∷ later) = change.place
+
+-- of the first so many of these changes, how many are the newest of their block
+abbrev pub newest_among : List LogChange → ℕ → ℕ
+newest_among changes zero = 0
+newest_among [] (suc count) = 0
+newest_among (change ∷ later) (suc count) =
+    if is_some (newest_of later change.block.0) then newest_among later count else 1 + newest_among later count
 
 -- a log that was opened at a position
 abbrev pub log_told : ℕ → Log → Pending → Pending → LogTold
@@ -29,8 +37,13 @@ log_told position log logging installing = record {
   log_step = log.log_step;
   logged = log.logged;
   installing = log.installing;
-  raised = nat_lt 0 log.installing && nat_eq log.inst_step (log.installing + 2);
+  homes = newest_among (take log.installing log.changes) log.inst_step;
+  behind = log.inst_step - log.installing;
   broken = log.broken;
   log_call = call_told logging;
   inst_call = call_told installing;
 }
+
+-- the installer stands at a change that is the newest of its block, or past the last
+abbrev pub StandsAtHome : Log → Type 0
+StandsAtHome log = next_home log.changes log.installing log.inst_step ≡ log.inst_step

@@ -10,6 +10,8 @@ mod log_steps;
 mod one_setattr;
 mod open_store;
 mod promises;
+mod steps_made;
+mod told_log;
 mod transcript;
 
 pub use answers::{CallAnswer, Entry, Verdict};
@@ -24,10 +26,20 @@ pub use one_setattr::{
 };
 pub use open_store::{a_stop_leaves_a_good_image, whole_groups_are_a_good_image};
 pub use promises::{
-    a_failure_that_is_told_was_counted, a_full_log_is_full, a_run_of_no_events_keeps_the_promise,
-    a_stop_leaves_an_image, a_worker_goes_by_its_plan, an_entry_was_called,
-    half_a_group_breaks_the_promise, no_stable_answer_bears_place_0,
-    no_stable_answer_comes_with_its_commit, one_worker_is_never_busy, the_log_passes_over_no_event,
+    a_failure_that_is_told_was_counted, a_run_of_no_events_keeps_the_promise,
+    a_stop_leaves_an_image, an_entry_was_called, half_a_group_breaks_the_promise,
+    no_stable_answer_bears_place_0, no_stable_answer_comes_with_its_commit,
+    the_boot_number_stays_raised, the_history_is_in_order, what_a_commit_covers_is_kept,
     what_is_stable_is_kept, what_is_told_as_settled_is_kept,
+};
+pub use steps_made::{
+    a_call_changes_no_more_than_it_may, a_call_that_is_out_is_made, a_full_log_is_full,
+    a_worker_goes_by_its_plan, a_worker_passes_over_no_event, nothing_is_asked_for_twice,
+    one_worker_is_never_busy, the_installer_comes_to_an_end, the_log_passes_over_no_event,
+    the_log_takes_its_next_call, what_is_asked_for_goes_by_the_files,
+};
+pub use told_log::{
+    the_installer_stands_at_a_home, the_installers_next_call_is_told,
+    the_loggers_next_call_is_told, the_room_is_told, what_is_settled_is_told,
 };
 pub use transcript::{Answer, Committed, Run};

@@ -12,7 +12,7 @@ ghost use Rattle.wal_law.specs.Logger.{with_log_back, with_log_out};
 ghost use Rattle.txn_law.specs.Steps.{StandsStill};
 ghost use Rattle.store_promise.specs.LogTold.{call_made, with_commit, with_inst_given, with_inst_taken};
 ghost use Rattle.store_promise.specs.LogTold.{with_log_given, with_log_taken};
-ghost use Rattle.store_promise.specs.ToldOf.{log_told};
+ghost use Rattle.store_promise.specs.ToldOf.{StandsAtHome, log_told};
 
 /// A commit adds to what is told the blocks by which it makes the tail longer. How the tail has them isn't asked.
 pub fn a_commit_is_told()
@@ -52,7 +52,8 @@ pub fn the_installer_is_told()
           inst_call = call_made (log_told position log logging (out io)).inst_call (is_ok answer);
         } }
     ensures given_back { (position : ℕ) (log : Log) (io : Io) (answer : Result Unit Failed)
-        (logging : Pending) (ok : Bool) → IsLawful log → log.inst_out ≡ true → IsNextInstCall log io
+        (logging : Pending) (ok : Bool) → IsLawful log → StandsAtHome log → log.inst_out ≡ true
+        → IsNextInstCall log io
         → log_told position (with_inst_back log ok) logging idle
         ≡ with_inst_given (log_told position log logging (was_made io answer)) ok }
 {}

@@ -7,6 +7,7 @@ ghost use Rattle.model.specs.Step.{step};
 ghost use Rattle.model.specs.Tree.{Tree};
 ghost use Rattle.nfs_types.specs.declared.reply.Reply.{Reply};
 ghost use Rattle.layout.specs.declared.geometry.Geometry.{Geometry};
+ghost use Rattle.layout.specs.Stands.{Stands};
 ghost use Rattle.procs.specs.Asks.{Asks};
 ghost use Rattle.store_promise.specs.GoodImage.{IsGoodImage};
 ghost use Rattle.store_promise.specs.Headline.{IsGeometryOf, KeepsPromise};
@@ -21,10 +22,11 @@ use crate::promises::{no_stable_answer_comes_with_its_commit, what_is_stable_is_
 /// A run of one SETATTR of the mode keeps the promise, where the device calls are made well: what a stop
 /// between the header's write and the barrier behind it leaves may have the old tree or the new one.
 pub fn a_run_of_one_setattr_keeps_the_promise()
-    ensures { (before opened later : Device) (g : Geometry) (tree next : Tree) (first position : ℕ)
+    ensures { (before opened later : Device) (g : Geometry) (blocks : Image) (tree next : Tree) (first : ℕ)
         (one : OneSetAttr) (reply : Reply)
-        → IsOpened before opened tree first position → IsGeometryOf opened.size tree g
-        → position + 1 < 2 ^ 64 → WentOnByFive opened later → LeavesTrees opened later (first + 1) tree next
+        → IsOpened before opened tree first one.position → IsGeometryOf opened.size tree g
+        → Stands g blocks tree
+        → one.position + 1 < 2 ^ 64 → WentOnByFive opened later → LeavesTrees opened later (first + 1) tree next
         → sets_only_mode one.attributes ≡ true → Asks g (asked one) [] one.addr
         → step tree (ctx_in (first + 1) one) (asked one) reply next
         → KeepsPromise before later tree first 1 (events_of one) (told_of (first + 1) one reply) }

@@ -1,17 +1,10 @@
 //! Laws on the promise of a run.
-ghost use Rattle.std.specs.Prelude.{◌≡◌, ◌≢◌, ◌+◌, ◌<◌, ◌≤◌, ℕ, List, [], ◌∷◌, slice_get, Some, None, true};
-ghost use Rattle.std.specs.Prelude.{Contains, count_by, length, take};
-ghost use Rattle.limits.specs.declared.TheConstants.{LOG_SLOTS};
+ghost use Rattle.std.specs.Prelude.{◌≡◌, ◌≢◌, ◌+◌, ◌<◌, ◌≤◌, ℕ, [], slice_get, Some, Contains};
+ghost use Rattle.std.specs.Prelude.{count_by, length, take};
 ghost use Rattle.disk.specs.Crash.{Image, IsCrashImage};
 ghost use Rattle.disk.specs.Device.{Device};
 ghost use Rattle.model.specs.After.{after};
 ghost use Rattle.model.specs.Tree.{Tree};
-ghost use Rattle.objects.specs.declared.addr.Addr.{Addr};
-ghost use Rattle.layout.specs.declared.geometry.Geometry.{Geometry};
-ghost use Rattle.procs.specs.Asks.{Asks};
-ghost use Rattle.txn.specs.Object.{ObjectBytes};
-ghost use Rattle.store_promise.specs.declared.events.Wish.{Wish};
-ghost use Rattle.store_promise.specs.declared.events.Wish.TheVariants as wish;
 ghost use Rattle.store_promise.specs.declared.events.Committing.TheVariants as committing;
 ghost use Rattle.store_promise.specs.declared.events.Event.TheVariants as event;
 ghost use Rattle.store_promise.specs.declared.events.Step.TheVariants as step;
@@ -20,11 +13,10 @@ ghost use Rattle.store_promise.specs.declared.transcript.Committed.{Committed};
 ghost use Rattle.store_promise.specs.GoodImage.{IsGoodImage};
 ghost use Rattle.store_promise.specs.Headline.{KeepsPromise};
 ghost use Rattle.store_promise.specs.Openings.{IsOpened};
-ghost use Rattle.store_promise.specs.LogTold.{idle, may_log_told, settled_told};
-ghost use Rattle.store_promise.specs.Progress.{Begun, Job, At, Planning};
-ghost use Rattle.store_promise.specs.Schedule.{Schedule, progress_before, told_before};
+ghost use Rattle.store_promise.specs.LogTold.{settled_told};
+ghost use Rattle.store_promise.specs.Schedule.{Schedule, told_before};
 ghost use Rattle.store_promise.specs.Transcript.{Transcript, device_calls, entries_of, fails, step_at};
-ghost use Rattle.store_promise.specs.Verdicts.{IsStableAnswer};
+ghost use Rattle.store_promise.specs.Verdicts.{IsCoveredWrite, IsStableAnswer};
 
 /// A run of no events keeps the promise, where its opening is one.
 pub fn a_run_of_no_events_keeps_the_promise()
@@ -92,16 +84,6 @@ pub fn a_failure_that_is_told_was_counted()
         → KeepsPromise before later tree first workers events t → ⊥ }
 {}
 
-/// A log that passes over an event which applies breaks the promise.
-pub fn the_log_passes_over_no_event()
-    ensures { (before later : Device) (tree : Tree) (first workers index : ℕ) (events : Schedule)
-        (t : Transcript)
-        → slice_get events index ≡ Some event.Log → slice_get t.steps index ≡ Some None
-        → may_log_told (told_before events t.steps index).log ≡ true
-        → (told_before events t.steps index).log.log_call ≡ idle
-        → KeepsPromise before later tree first workers events t → ⊥ }
-{}
-
 /// A place that the steps told as settled, and that some stop after it loses, breaks the promise.
 pub fn what_is_told_as_settled_is_kept()
     ensures { (before later : Device) (tree : Tree) (first workers clock place index : ℕ) (events : Schedule)
@@ -124,34 +106,33 @@ pub fn a_stop_leaves_an_image()
         → KeepsPromise before later tree first workers events t → ⊥ }
 {}
 
-/// A worker that asks for what the plan of its call doesn't ask for breaks the promise.
-pub fn a_worker_goes_by_its_plan()
-    ensures { (before later : Device) (tree : Tree) (first workers index worker : ℕ) (events : Schedule)
-        (t : Transcript) (job : Job) (begun : Begun) (addr : Addr) (answer : Wish)
-        → slice_get events index ≡ Some (event.Work worker) → worker < workers
-        → slice_get t.steps index ≡ Some (Some (step.Wanted addr answer))
-        → progress_before events t.steps worker index ≡ At job (Planning begun)
-        → ((g : Geometry) (objects : List ObjectBytes) → Asks g job.call objects addr → ⊥)
+/// A stop after the opening that doesn't leave the opening's boot number breaks the promise.
+pub fn the_boot_number_stays_raised()
+    ensures { (before later : Device) (tree : Tree) (first workers clock : ℕ) (events : Schedule)
+        (t : Transcript) (image : Image)
+        → before.clock ≤ clock → clock ≤ later.clock → IsCrashImage later clock image
+        → later.clock ≤ clock + device_calls t (length t.steps)
+        → ((left : Tree) → IsGoodImage later.size image left (first + 1) → ⊥)
         → KeepsPromise before later tree first workers events t → ⊥ }
 {}
 
-/// One worker alone that is told Busy, of which it could wait for ever, breaks the promise.
-pub fn one_worker_is_never_busy()
-    ensures { (before later : Device) (tree : Tree) (first index worker : ℕ) (events : Schedule)
-        (t : Transcript) (job : Job) (begun : Begun) (addr : Addr)
-        → slice_get events index ≡ Some (event.Work worker)
-        → slice_get t.steps index ≡ Some (Some (step.Wanted addr wish.Busy))
-        → progress_before events t.steps worker index ≡ At job (Planning begun)
-        → KeepsPromise before later tree first 1 events t → ⊥ }
+/// A write that an answer to a COMMIT covers, and that some stop after the answer loses, breaks the promise.
+pub fn what_a_commit_covers_is_kept()
+    ensures { (before later : Device) (tree : Tree) (first workers clock place : ℕ) (events : Schedule)
+        (t : Transcript) (a : Answer) (image : Image)
+        → before.clock ≤ clock → clock ≤ later.clock → IsCrashImage later clock image
+        → Contains t.answers a → later.clock + a.clock ≤ clock + device_calls t (length t.steps)
+        → IsCoveredWrite t a place
+        → ((count boot : ℕ) (left : Tree) → place ≤ count → after tree (take count (entries_of t)) left
+        → IsGoodImage later.size image left boot → ⊥)
+        → KeepsPromise before later tree first workers events t → ⊥ }
 {}
 
-/// A commit that is told Full where the tail and the change together find room breaks the promise.
-pub fn a_full_log_is_full()
-    ensures { (before later : Device) (tree : Tree) (first workers index worker blocks : ℕ) (events : Schedule)
-        (t : Transcript) (job : Job) (begun : Begun)
-        → slice_get events index ≡ Some (event.Work worker) → worker < workers
-        → slice_get t.steps index ≡ Some (Some (step.Commit blocks committing.Full))
-        → progress_before events t.steps worker index ≡ At job (Planning begun)
-        → (told_before events t.steps index).log.tail + blocks ≤ LOG_SLOTS
+/// A history whose later place was committed by an earlier event breaks the promise.
+pub fn the_history_is_in_order()
+    ensures { (before later : Device) (tree : Tree) (first workers one other : ℕ) (events : Schedule)
+        (t : Transcript) (a b : Committed)
+        → slice_get t.history one ≡ Some a → slice_get t.history other ≡ Some b → one < other
+        → b.event ≤ a.event
         → KeepsPromise before later tree first workers events t → ⊥ }
 {}

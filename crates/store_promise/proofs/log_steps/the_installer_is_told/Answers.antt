@@ -9,5 +9,5 @@ pub returns-clause-made : goal.returns-clause-made
 returns-clause-made c = λ position log io answer logging. refl
 
 pub returns-clause-given_back : goal.returns-clause-given_back
-returns-clause-given_back c = λ position log io answer logging ok lawful is_out next.
-    inst_given_told position log io answer logging lawful is_out next ok
+returns-clause-given_back c = λ position log io answer logging ok lawful stands is_out next.
+    inst_given_told position log io answer logging lawful stands is_out next ok

@@ -1,28 +1,30 @@
 -- Of the one entry and the one answer each clause computes; what a stop leaves goes by the clock.
 use Rattle.std.proofs.Common.{◌+◌, arith, refl, sym, subst}
 use Rattle.store_promise.specs.Headline.{IsGeometryOf}
-use Rattle.store_promise.proofs.OneSetAttr.{taken}
+use Rattle.store_promise.specs.OneSetAttr.{setting_of}
+use Rattle.store_promise.proofs.OneSetAttr.{read_before, taken}
 use Rattle.store_promise.proofs.OneSetAttrStops.{left, stops}
 use Rattle.store_promise.proofs.OneSetAttrTold.{answers, history}
 use Rattle.store_promise.proofs.one_setattr.a_run_of_one_setattr_keeps_the_promise.Goals as goal
 
 pub returns : goal.returns
-returns c = λ before opened later g tree next first position one reply opens geometry room went trees rules
+returns c = λ before opened later g blocks tree next first one reply opens geometry stands room went trees rules
     asks steps.
     record {
       opened = opened;
-      opening = record { geometry = g; position = position };
+      setting = setting_of g blocks one;
       opens = opens;
       geometry = subst (λ size. IsGeometryOf size tree g) (sym went.past.size) geometry;
       past = went.past;
       calls = went.clock;
       failures = omega (arith, went.failures);
-      left = left before opened later tree next first position one reply opens went trees steps;
-      stops = stops before opened later tree next first position one reply opens went trees steps;
+      left = left before opened later tree next first one.position one reply opens went trees steps;
+      stops = stops before opened later tree next first one.position one reply opens went trees steps;
       last = next;
       leads = (next, steps, refl);
       boot = refl;
       history = history (first + 1) one reply;
       answers = answers (first + 1) one reply;
-      taken = taken (record { geometry = g; position = position }) one room rules asks;
+      taken = taken g blocks one room rules asks;
+      read = read_before g blocks tree (first + 1) one reply stands;
     }

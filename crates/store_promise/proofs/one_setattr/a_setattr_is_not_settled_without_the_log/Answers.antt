@@ -9,7 +9,7 @@ never same = cc
 
 pub returns : goal.returns
 returns c = λ before later tree first one t same kept.
-    let taken = subst (λ steps. AreTaken kept.opening 1 (events_without_log one) steps) same kept.taken in
+    let taken = subst (λ steps. AreTaken kept.setting 1 (events_without_log one) steps) same kept.taken in
     let less : 0 < 1 = omega arith in
     let waits = (taken.each 7 _ _ refl refl).own less in
     never waits.1

@@ -21,7 +21,7 @@ pub returns : goal.returns
 returns c = λ before later tree first clock one reply image from early crash not_old kept.
     let found = kept.stops clock image from (omega (arith, early)) crash in
     let before_all : clock ≤ kept.opened.clock = omega (arith, early, kept.calls) in
-    let none = none_by kept.opened.clock clock found.count before_all found.committed in
+    let none = none_by kept.opened.clock clock found.count before_all found.few in
     not_old found.boot
     (subst (λ left. IsGoodImage later.size image left found.boot)
     (same_tree found.count tree found.left _ none found.prefix) found.good)

@@ -16,7 +16,8 @@ use Rattle.txn_law.specs.Core.{CoreState}
 use Rattle.txn_law.specs.CoreWindow.{held_of}
 use Rattle.txn_law.specs.Window.{AreInLog, after_commits, at_first, opening}
 use Rattle.store_promise.specs.GoodImage.{IsGoodImage}
-use Rattle.store_promise.specs.OpenStore.{HasFilesOver}
+use Rattle.store_promise.specs.OpenStore.{HasFilesOver, IsBoot, IsSettledOf}
+use Rattle.store_promise.specs.Prefix.{HasPrefix}
 use Rattle.store_promise.proofs.Stopped.{after_same, as_at_home, chain_long, chain_to, commits_aside, no_change}
 use Rattle.store_promise.proofs.Stopped.{not_home, outside_of, take_len}
 use Rattle.store_promise.proofs.open_store.whole_groups_are_a_good_image.Goals as goal
@@ -90,12 +91,20 @@ module _ (base : Image) (core : CoreState) (boot : ℕ) (tree last : Tree) (entr
       stamps = files.stamps k found.0 found.1;
     }
 
-    pub left : (count : ℕ) × (tree_left : Tree) × (settled_place core.log - installed_place core.log ≤ count)
-        × (count ≤ length entries) × after tree (take count entries) tree_left
-        × IsGoodImage size image tree_left boot
+    pub left : HasPrefix size (IsBoot boot) tree entries (length entries) (IsSettledOf core.log) image
     left =
         let long = chain_long files.super.geometry (homes_of size (opening base core.log)) tree core.records
-        entries last files.chain in (k, found.0, settled, omega (arith, few, long), found.1, good)
+        entries last files.chain in
+        record {
+          boot = boot;
+          boot_is = refl;
+          left = found.0;
+          good = good;
+          count = k;
+          few = omega (arith, few, long);
+          prefix = found.1;
+          lasts = λ place held. omega (arith, held, settled);
+        }
 
 pub returns : goal.returns
 returns c = λ base core boot tree last entries image lawful files boundary.

@@ -5,7 +5,7 @@ use Rattle.disk.specs.Crash.{Image, IsCrashImage}
 use Rattle.disk.specs.Device.{Device}
 use Rattle.model.specs.Tree.{Tree}
 use Rattle.model.specs.Tree as model
-use Rattle.store_promise.specs.Headline.{HasPrefix, HoldsPromised, IsGeometryOf}
+use Rattle.store_promise.specs.Headline.{IsGeometryOf, LeavesPrefix, WasPromised, by_answer, by_commit, by_steps}
 use Rattle.store_promise.specs.GoodImage.{IsGoodImage}
 use Rattle.store_promise.specs.Openings.{IsOpened, IsLater}
 use Rattle.store_promise.specs.LogTold.{settled_told}
@@ -26,58 +26,57 @@ itself : (device : Device) → IsLater device device
 itself device = record { size = refl; clock = omega arith; past = λ clock block _. refl }
 
 -- nothing was promised to last, and the empty log tells place 0 alone as settled
-holds : (start clock first : ℕ) → HoldsPromised [] start (nothing first) clock 0
-holds start clock first = record {
-  stable = λ a place given by told. absurd (no-less given.0 given.1);
-  covered = λ a place given by told. absurd (no-less given.0 given.1);
-  settled = λ index from by. none_told index from;
-}
+lasts : (start clock first place : ℕ) → WasPromised [] start (nothing first) clock place → place ≤ 0
+lasts start clock first place (by_answer a given by told) = absurd (no-less given.0 given.1)
+lasts start clock first place (by_commit a given by told) = absurd (no-less given.0 given.1)
+lasts start clock first place (by_steps index from by told) = none_told index from told
   where
-    none_told : (index : ℕ) → index ≤ 0 → settled_told (told_before [] [] index).log ≤ 0
-    none_told zero from = omega arith
-    none_told (suc index) from = absurd (no-less index (omega (arith, from)))
+    none_told : (index : ℕ) → index ≤ 0 → place ≤ settled_told (told_before [] [] index).log → place ≤ 0
+    none_told zero from told = told
+    none_told (suc index) from told = absurd (no-less index (omega (arith, from)))
 
 -- a stop before the opening's end
 before_end : (before later : Device) (tree : Tree) (first position clock : ℕ) (image : Image)
     → IsOpened before later tree first position
     → before.clock ≤ clock → clock < later.clock → IsCrashImage later clock image
-    → HasPrefix later.size first tree [] later.clock (nothing first) clock image
+    → LeavesPrefix later.size first tree [] later.clock (nothing first) clock image
 before_end before later tree first position clock image opened from less crash =
     let found = opened.keeps clock image from (omega (arith, less)) crash in
     record {
       boot = found.boot;
-      boot_is = found.boot_is;
-      raised = λ reached. absurd (no-less 0 (omega (arith, reached, less)));
+      boot_is = record {
+        either = found.boot_is;
+        raised = λ reached. absurd (no-less 0 (omega (arith, reached, less)));
+      };
       left = tree;
       good = found.good;
       count = 0;
-      committed = omega arith;
+      few = omega arith;
       prefix = refl;
-      holds = holds later.clock clock first;
+      lasts = lasts later.clock clock first;
     }
 
 -- a stop at its end
 at_end : (before later : Device) (tree : Tree) (first position clock : ℕ) (image : Image)
     → IsOpened before later tree first position
     → clock ≡ later.clock → IsCrashImage later clock image
-    → HasPrefix later.size first tree [] later.clock (nothing first) clock image
+    → LeavesPrefix later.size first tree [] later.clock (nothing first) clock image
 at_end before later tree first position clock image opened same crash = record {
   boot = first + 1;
-  boot_is = inr refl;
-  raised = λ _. refl;
+  boot_is = record { either = inr refl; raised = λ _. refl };
   left = tree;
   good = opened.settled image (subst (λ m. IsCrashImage later m image) same crash);
   count = 0;
-  committed = omega arith;
+  few = omega arith;
   prefix = refl;
-  holds = holds later.clock clock first;
+  lasts = lasts later.clock clock first;
 }
 
 either : (before later : Device) (tree : Tree) (first position clock : ℕ) (image : Image)
     → IsOpened before later tree first position
     → before.clock ≤ clock → clock ≤ later.clock → IsCrashImage later clock image → (clock < later.clock)
     ⊎ (later.clock ≤ clock)
-    → HasPrefix later.size first tree [] later.clock (nothing first) clock image
+    → LeavesPrefix later.size first tree [] later.clock (nothing first) clock image
 either before later tree first position clock image opened from to crash (inl less) =
     before_end before later tree first position clock image opened from less crash
 either before later tree first position clock image opened from to crash (inr reached) =
@@ -93,7 +92,11 @@ geometry_of_image size boot tree image good = record {
 pub returns : goal.returns
 returns c = λ before later tree first position workers opened. record {
   opened = later;
-  opening = record { geometry = opened.last.2.super.geometry; position = position };
+  setting = record {
+    geometry = opened.last.2.super.geometry;
+    position = position;
+    reads = λ transaction. [];
+  };
   opens = opened;
   geometry = geometry_of_image later.size first tree opened.last.0 opened.last.2;
   past = itself later;
@@ -121,4 +124,5 @@ returns c = λ before later tree first position workers opened. record {
     fewer = omega arith;
     each = λ index event made same _. absurd (no-some event same);
   };
+  read = λ index c same. absurd (no-some c same);
 }

@@ -1,0 +1,41 @@
+-- Where no call is out and one is to be had, the step takes it.
+use Rattle.std.proofs.Common.{◌≡◌, Bool, true, false, None}
+use Rattle.wal_law.specs.declared.calls.IoCall.{IoCall}
+use Rattle.store_promise.specs.LogTold.{CallTold, idle, out, was_made, LogTold, may_install_told, may_log_told}
+use Rattle.store_promise.specs.NextCall.{IsNextOfInstalling, next_log_call}
+use Rattle.store_promise.specs.Schedule.{IsNextOfInstaller, IsNextOfLog, IsStepOfInstaller, IsStepOfLog}
+use Rattle.store_promise.specs.Schedule.{Setting, told_before}
+use Rattle.store_promise.proofs.steps_made.the_log_passes_over_no_event.Goals as goal
+
+next : (may : Bool) (call : IoCall) → may ≡ true → IsNextOfLog may call None → ⊥
+next true call is taken = taken
+next false call is taken = cc
+
+passes : (o : Setting) (log : LogTold) (call : CallTold) → call ≡ idle → may_log_told log ≡ true
+    → IsStepOfLog o log call None → ⊥
+passes o log idle free may made = next (may_log_told log) (next_log_call o.position log) may made
+passes o log (out call) free may made = cc
+passes o log (was_made call ok) free may made = cc
+
+next_home : (may : Bool) (IsNext : IoCall → Type 0) → may ≡ true → IsNextOfInstaller may IsNext None → ⊥
+next_home true IsNext is taken = taken
+next_home false IsNext is taken = cc
+
+passes_home : (o : Setting) (log : LogTold) (call : CallTold) → call ≡ idle → may_install_told log ≡ true
+    → IsStepOfInstaller o log call None → ⊥
+passes_home o log idle free may made =
+    next_home (may_install_told log) (IsNextOfInstalling o.geometry.blocks log) may made
+passes_home o log (out call) free may made = cc
+passes_home o log (was_made call ok) free may made = cc
+
+pub returns-clause-logging : goal.returns-clause-logging
+returns-clause-logging c = λ before later tree first workers index events t is_event is_made may free kept.
+    let told = told_before events t.steps index in
+    passes kept.setting told.log told.log.log_call free may
+    ((kept.taken.each index _ None is_event is_made).own tt)
+
+pub returns-clause-installing : goal.returns-clause-installing
+returns-clause-installing c = λ before later tree first workers index events t is_event is_made may free kept.
+    let told = told_before events t.steps index in
+    passes_home kept.setting told.log told.log.inst_call free may
+    ((kept.taken.each index _ None is_event is_made).own tt)

@@ -1,0 +1,169 @@
+//! Laws on the steps that events make, which the promise of a run pins.
+ghost use Rattle.std.specs.Prelude.{◌≡◌, ◌≢◌, ◌+◌, ◌<◌, ◌≤◌, ℕ, Bool, List, Option, slice_get, Some, None, true};
+ghost use Rattle.std.specs.Prelude.{take};
+ghost use Rattle.limits.specs.declared.TheConstants.{LOG_SLOTS, START_BLOCK};
+ghost use Rattle.disk.specs.Crash.{Image};
+ghost use Rattle.disk.specs.Device.{Device};
+ghost use Rattle.disk.specs.declared.block.BlockNo.{BlockNo};
+ghost use Rattle.model.specs.After.{after};
+ghost use Rattle.model.specs.Tree.{Tree};
+ghost use Rattle.objects.specs.declared.addr.Addr.{Addr};
+ghost use Rattle.layout.specs.declared.geometry.Geometry.{Geometry};
+ghost use Rattle.layout.specs.Stands.{Stands};
+ghost use Rattle.procs.specs.Asks.{Asks};
+ghost use Rattle.procs.specs.MostChanged.{most_changed};
+ghost use Rattle.txn.specs.Object.{ObjectBytes};
+ghost use Rattle.wal_law.specs.declared.calls.IoCall.{IoCall};
+ghost use Rattle.wal_law.specs.declared.calls.IoCall.TheVariants.{Write};
+ghost use Rattle.store_promise.specs.declared.events.Committing.{Committing};
+ghost use Rattle.store_promise.specs.declared.events.Committing.TheVariants as committing;
+ghost use Rattle.store_promise.specs.declared.events.Event.TheVariants as event;
+ghost use Rattle.store_promise.specs.declared.events.Step.{Step};
+ghost use Rattle.store_promise.specs.declared.events.Step.TheVariants as step;
+ghost use Rattle.store_promise.specs.declared.events.Wish.{Wish};
+ghost use Rattle.store_promise.specs.declared.events.Wish.TheVariants as wish;
+ghost use Rattle.store_promise.specs.declared.transcript.Committed.{Committed};
+ghost use Rattle.store_promise.specs.Headline.{KeepsPromise, objects_at};
+ghost use Rattle.store_promise.specs.LogTold.{idle, may_install_told, may_log_told, out};
+ghost use Rattle.store_promise.specs.NextCall.{next_log_call, taken_home};
+ghost use Rattle.store_promise.specs.Progress.{Begun, Job, At, Planning, Reading, Stage};
+ghost use Rattle.store_promise.specs.Schedule.{Schedule, is_held, progress_before, told_before};
+ghost use Rattle.store_promise.specs.Transcript.{Transcript, entries_of};
+
+/// A log, or an installer, that passes over an event which applies breaks the promise.
+pub fn the_log_passes_over_no_event()
+    ensures logging { (before later : Device) (tree : Tree) (first workers index : ℕ) (events : Schedule)
+        (t : Transcript)
+        → slice_get events index ≡ Some event.Log → slice_get t.steps index ≡ Some None
+        → may_log_told (told_before events t.steps index).log ≡ true
+        → (told_before events t.steps index).log.log_call ≡ idle
+        → KeepsPromise before later tree first workers events t → ⊥ }
+    ensures installing { (before later : Device) (tree : Tree) (first workers index : ℕ) (events : Schedule)
+        (t : Transcript)
+        → slice_get events index ≡ Some event.Install → slice_get t.steps index ≡ Some None
+        → may_install_told (told_before events t.steps index).log ≡ true
+        → (told_before events t.steps index).log.inst_call ≡ idle
+        → KeepsPromise before later tree first workers events t → ⊥ }
+{}
+
+/// A log that takes another call than its next breaks the promise.
+pub fn the_log_takes_its_next_call()
+    ensures { (before later : Device) (tree : Tree) (first workers index : ℕ) (events : Schedule)
+        (t : Transcript) (call : IoCall)
+        → slice_get events index ≡ Some event.Log → slice_get t.steps index ≡ Some (Some (step.LogNext call))
+        → ((position : ℕ) → call ≢ next_log_call position (told_before events t.steps index).log)
+        → KeepsPromise before later tree first workers events t → ⊥ }
+{}
+
+/// An installer that goes on writing blocks home, when it has written as many as the positions that it took,
+/// breaks the promise.
+pub fn the_installer_comes_to_an_end()
+    ensures { (before later : Device) (tree : Tree) (first workers index : ℕ) (events : Schedule)
+        (t : Transcript) (block : BlockNo)
+        → slice_get events index ≡ Some event.Install
+        → slice_get t.steps index ≡ Some (Some (step.InstNext (Write block))) → block.0 ≢ START_BLOCK
+        → taken_home (told_before events t.steps index).log ≤ (told_before events t.steps index).log.homes
+        → KeepsPromise before later tree first workers events t → ⊥ }
+{}
+
+/// A device call that is out, and whose event doesn't make it, breaks the promise.
+pub fn a_call_that_is_out_is_made()
+    ensures logging { (before later : Device) (tree : Tree) (first workers index : ℕ) (events : Schedule)
+        (t : Transcript) (call : IoCall) (made : Option Step)
+        → slice_get events index ≡ Some event.LogIo → slice_get t.steps index ≡ Some made
+        → (told_before events t.steps index).log.log_call ≡ out call
+        → ((ok : Bool) → made ≢ Some (step.LogIo ok))
+        → KeepsPromise before later tree first workers events t → ⊥ }
+    ensures installing { (before later : Device) (tree : Tree) (first workers index : ℕ) (events : Schedule)
+        (t : Transcript) (call : IoCall) (made : Option Step)
+        → slice_get events index ≡ Some event.InstIo → slice_get t.steps index ≡ Some made
+        → (told_before events t.steps index).log.inst_call ≡ out call
+        → ((ok : Bool) → made ≢ Some (step.InstIo ok))
+        → KeepsPromise before later tree first workers events t → ⊥ }
+{}
+
+/// A worker with a call that passes over an event of its own breaks the promise: one of work where no read is
+/// due, and one of a read where one is.
+pub fn a_worker_passes_over_no_event()
+    ensures work { (before later : Device) (tree : Tree) (first workers index worker : ℕ) (events : Schedule)
+        (t : Transcript) (job : Job) (stage : Stage)
+        → slice_get events index ≡ Some (event.Work worker) → worker < workers
+        → slice_get t.steps index ≡ Some None
+        → progress_before events t.steps worker index ≡ At job stage
+        → ((begun : Begun) (addr : Addr) → stage ≢ Reading begun addr)
+        → KeepsPromise before later tree first workers events t → ⊥ }
+    ensures reading { (before later : Device) (tree : Tree) (first workers index worker : ℕ) (events : Schedule)
+        (t : Transcript) (job : Job) (begun : Begun) (addr : Addr)
+        → slice_get events index ≡ Some (event.Read worker) → worker < workers
+        → slice_get t.steps index ≡ Some None
+        → progress_before events t.steps worker index ≡ At job (Reading begun addr)
+        → KeepsPromise before later tree first workers events t → ⊥ }
+{}
+
+/// A worker that asks for what the plan of its call doesn't ask for breaks the promise.
+pub fn a_worker_goes_by_its_plan()
+    ensures { (before later : Device) (tree : Tree) (first workers index worker : ℕ) (events : Schedule)
+        (t : Transcript) (job : Job) (begun : Begun) (addr : Addr) (answer : Wish)
+        → slice_get events index ≡ Some (event.Work worker) → worker < workers
+        → slice_get t.steps index ≡ Some (Some (step.Wanted addr answer))
+        → progress_before events t.steps worker index ≡ At job (Planning begun)
+        → ((g : Geometry) (objects : List ObjectBytes) → Asks g job.call objects addr → ⊥)
+        → KeepsPromise before later tree first workers events t → ⊥ }
+{}
+
+/// A call for which something is asked that its files don't lead to, as they were just before it, breaks the
+/// promise.
+pub fn what_is_asked_for_goes_by_the_files()
+    ensures { (before later : Device) (tree : Tree) (first workers place index worker : ℕ) (events : Schedule)
+        (t : Transcript) (c : Committed) (job : Job) (begun : Begun) (addr : Addr) (answer : Wish)
+        → slice_get t.history place ≡ Some c → begun.number ≡ c.ctx.transaction
+        → slice_get events index ≡ Some (event.Work worker) → worker < workers
+        → slice_get t.steps index ≡ Some (Some (step.Wanted addr answer))
+        → progress_before events t.steps worker index ≡ At job (Planning begun)
+        → ((g : Geometry) (blocks : Image) (left : Tree) → after tree (take place (entries_of t)) left
+        → Stands g blocks left → Asks g job.call (objects_at blocks begun.held) addr → ⊥)
+        → KeepsPromise before later tree first workers events t → ⊥ }
+{}
+
+/// A worker that asks for an object which it holds breaks the promise.
+pub fn nothing_is_asked_for_twice()
+    ensures { (before later : Device) (tree : Tree) (first workers index worker : ℕ) (events : Schedule)
+        (t : Transcript) (job : Job) (begun : Begun) (addr : Addr) (answer : Wish)
+        → slice_get events index ≡ Some (event.Work worker) → worker < workers
+        → slice_get t.steps index ≡ Some (Some (step.Wanted addr answer))
+        → progress_before events t.steps worker index ≡ At job (Planning begun)
+        → is_held addr begun.held ≡ true
+        → KeepsPromise before later tree first workers events t → ⊥ }
+{}
+
+/// One worker alone that is told Busy, of which it could wait for ever, breaks the promise.
+pub fn one_worker_is_never_busy()
+    ensures { (before later : Device) (tree : Tree) (first index worker : ℕ) (events : Schedule)
+        (t : Transcript) (job : Job) (begun : Begun) (addr : Addr)
+        → slice_get events index ≡ Some (event.Work worker)
+        → slice_get t.steps index ≡ Some (Some (step.Wanted addr wish.Busy))
+        → progress_before events t.steps worker index ≡ At job (Planning begun)
+        → KeepsPromise before later tree first 1 events t → ⊥ }
+{}
+
+/// A commit that is told Full where the tail and the change together find room breaks the promise.
+pub fn a_full_log_is_full()
+    ensures { (before later : Device) (tree : Tree) (first workers index worker blocks : ℕ) (events : Schedule)
+        (t : Transcript) (job : Job) (begun : Begun)
+        → slice_get events index ≡ Some (event.Work worker) → worker < workers
+        → slice_get t.steps index ≡ Some (Some (step.Commit blocks committing.Full))
+        → progress_before events t.steps worker index ≡ At job (Planning begun)
+        → (told_before events t.steps index).log.tail + blocks ≤ LOG_SLOTS
+        → KeepsPromise before later tree first workers events t → ⊥ }
+{}
+
+/// A commit that is told to change more blocks than its call does breaks the promise.
+pub fn a_call_changes_no_more_than_it_may()
+    ensures { (before later : Device) (tree : Tree) (first workers index worker blocks : ℕ) (events : Schedule)
+        (t : Transcript) (job : Job) (begun : Begun) (answer : Committing)
+        → slice_get events index ≡ Some (event.Work worker) → worker < workers
+        → slice_get t.steps index ≡ Some (Some (step.Commit blocks answer))
+        → progress_before events t.steps worker index ≡ At job (Planning begun)
+        → most_changed job.call < blocks
+        → KeepsPromise before later tree first workers events t → ⊥ }
+{}

@@ -1,0 +1,63 @@
+//! Laws on what is told of a log: it is what the memory log has.
+ghost use Rattle.std.specs.Prelude.{◌≡◌, ◌↔◌, ℕ, ◌+◌, ◌≤◌, List, Bool, false, length, true};
+ghost use Rattle.disk.specs.Device.{Content};
+ghost use Rattle.disk.specs.declared.block.BlockNo.{BlockNo};
+ghost use Rattle.wal_law.specs.Calls.{Pending, idle};
+ghost use Rattle.wal_law.specs.Installer.{IsNextInstCall, may_install, with_inst_back, with_inst_out};
+ghost use Rattle.wal_law.specs.Io.{Io};
+ghost use Rattle.wal_law.specs.Log.{IsLawful, Log, opened, settled_place, tail_after};
+ghost use Rattle.wal_law.specs.Logger.{IsNextLogCall, has_group, may_log, with_log_back, with_log_out};
+ghost use Rattle.wal_law.specs.Room.{HasPlaces};
+ghost use Rattle.wal_law.specs.Grows.{GrowsBy};
+ghost use Rattle.txn_law.specs.Steps.{StandsStill};
+ghost use Rattle.store_promise.specs.LogTold.{may_install_told, may_log_told, settled_told};
+ghost use Rattle.store_promise.specs.NextCall.{IsNextOfInstalling, next_log_call};
+ghost use Rattle.store_promise.specs.Schedule.{HasNumbers, Setting};
+ghost use Rattle.store_promise.specs.ToldOf.{StandsAtHome, log_told};
+
+/// What is told as settled is settled.
+pub fn what_is_settled_is_told()
+    ensures { (position : ℕ) (log : Log) (logging installing : Pending) → IsLawful log
+        → settled_told (log_told position log logging installing) ≡ settled_place log }
+{}
+
+/// Whether the logger has a call, and which.
+pub fn the_loggers_next_call_is_told()
+    ensures may { (position : ℕ) (log : Log) (installing : Pending) → IsLawful log → log.log_out ≡ false
+        → may_log_told (log_told position log idle installing) ≡ may_log log }
+    ensures call { (position : ℕ) (log : Log) (io : Io) (installing : Pending) → IsLawful log
+        → position ≤ log.start + length log.changes → has_group log ≡ true
+        → IsNextLogCall (with_log_out log) io
+        → io.call ≡ next_log_call position (log_told position log idle installing) }
+{}
+
+/// The same of the installer.
+pub fn the_installers_next_call_is_told()
+    ensures may { (position : ℕ) (log : Log) (logging : Pending) → log.inst_out ≡ false
+        → may_install_told (log_told position log logging idle) ≡ may_install log }
+    ensures call { (position : ℕ) (log : Log) (io : Io) (logging : Pending) → IsLawful log
+        → may_install log ≡ true → IsNextInstCall (with_inst_out log) io
+        → IsNextOfInstalling log.blocks (log_told position log logging idle) io.call }
+{}
+
+/// The installer stands at the newest change of a block, or past the last, from an opening on.
+pub fn the_installer_stands_at_a_home()
+    ensures first { (blocks start : ℕ) (logged : List (BlockNo × Content))
+        → StandsAtHome (opened blocks start logged) }
+    ensures commit { (old new : Log) (group : List (BlockNo × Content)) → IsLawful old
+        → GrowsBy old group new → StandsStill old new → StandsAtHome old → StandsAtHome new }
+    ensures logging { (log : Log) (ok : Bool) → StandsAtHome log
+        → StandsAtHome (with_log_out log) × StandsAtHome (with_log_back log ok) }
+    ensures taken { (log : Log) → StandsAtHome log → StandsAtHome (with_inst_out log) }
+    ensures given_back { (log : Log) (ok : Bool) → IsLawful log → StandsAtHome log
+        → StandsAtHome (with_inst_back log ok) }
+{}
+
+/// Whether a place and log positions are left for a group, and how many blocks the tail then holds.
+pub fn the_room_is_told()
+    ensures numbers { (o : Setting) (log : Log) (logging installing : Pending) (blocks : List BlockNo)
+        → IsLawful log → o.position ≤ log.start + length log.changes
+        → HasNumbers o (log_told o.position log logging installing) (length blocks) ↔ HasPlaces log blocks }
+    ensures tail { (position : ℕ) (log : Log) (logging installing : Pending) (blocks : List BlockNo)
+        → (log_told position log logging installing).tail + length blocks ≡ tail_after log blocks }
+{}
