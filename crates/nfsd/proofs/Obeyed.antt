@@ -3,7 +3,7 @@ use Rattle.std.proofs.Common.{◌≡◌, ◌∙◌, ℕ, ◌-◌, ◌⊎◌, ap,
 use Rattle.std.specs.Prelude.{IfErr, OnOk}
 use Rattle.std.specs.Io.KnownBytes.{Appends}
 use Rattle.clap.specs.Words.{Text}
-use Rattle.disk.specs.Crash.{IsAtRest}
+use Rattle.disk.specs.declared.file.FirstContents.{FirstContents}
 use Rattle.disk.specs.Device.{Device}
 use Rattle.nfsd_words.specs.declared.Args.{Args}
 use Rattle.nfsd_words.specs.declared.Args.TheVariants.{Format, Once}
@@ -13,20 +13,24 @@ use Rattle.store.specs.Formatting.{HasFormatted}
 use Rattle.session.specs.Serving.{Client}
 use Rattle.nfsd.specs.declared.fault.Fault.{Fault}
 use Rattle.nfsd.specs.declared.fault.Fault.TheVariants as fault
-use Rattle.nfsd.specs.Done.{Answers, DoesCommand, FormatsDevice, IsWithoutMemory, Obeys, Outcome, ServesDevice, TellsOutcome}
-use Rattle.nfsd.specs.Done.{Told, formatted_line, moment_at}
+use Rattle.nfsd.specs.Done.{Answers, DoesCommand, FormatsDevice, IsWithoutMemory, Obeys, Outcome}
+use Rattle.nfsd.specs.Done.{ServesDevice, TellsOutcome, Told, device_of, formatted_line, moment_at}
 use Rattle.nfsd.specs.Faults.{status_of_outcome}
 
 -- the command that was asked for was done, so the arguments were obeyed
-pub obeys_command : (words : List Text) (args : Args) (client : Client) (outcome : Outcome) (later : Client)
-    → WordsAsk words args → DoesCommand args client outcome later → Obeys words client outcome later
-obeys_command words (Format image blocks inodes time) client (Err fault.NotText) later asks does = absurd does.5
-obeys_command words (Once image time) client (Err fault.NotText) later asks does = absurd does.3
-obeys_command words (Format image blocks inodes time) client (Err fault.Memory) later asks does = absurd does.5
-obeys_command words (Once image time) client (Err fault.Memory) later asks does = absurd does.3
-obeys_command words (Format image blocks inodes time) client (Err (fault.Words e)) later asks does = absurd does.5
-obeys_command words (Once image time) client (Err (fault.Words e)) later asks does = absurd does.3
-obeys_command words args client outcome later asks does = (args, asks, does)
+pub obeys_command : (first : FirstContents) (words : List Text) (args : Args) (client : Client)
+    (outcome : Outcome) (later : Client) → WordsAsk words args → DoesCommand first args client outcome later
+    → Obeys first words client outcome later
+obeys_command first words (Format image blocks inodes time) client (Err fault.NotText) later asks does =
+    absurd does.2
+obeys_command first words (Once image time) client (Err fault.NotText) later asks does = absurd does.2
+obeys_command first words (Format image blocks inodes time) client (Err fault.Memory) later asks does =
+    absurd does.2
+obeys_command first words (Once image time) client (Err fault.Memory) later asks does = absurd does.2
+obeys_command first words (Format image blocks inodes time) client (Err (fault.Words e)) later asks does =
+    absurd does.2
+obeys_command first words (Once image time) client (Err (fault.Words e)) later asks does = absurd does.2
+obeys_command first words args client outcome later asks does = (args, asks, does)
 
 -- a device was made an image, and the line of its counts was printed or wasn't
 pub prints : (old new : Device) (inodes time count : ℕ) (written written' : Option (List ℕ)) (outcome : Outcome)
@@ -47,46 +51,47 @@ prints old new inodes time count written written' outcome formatted printed prin
         subst (λ (f : Fault). FormatsDevice old inodes time written (Err f) new written') (sym print) whole
 
 -- the device of the image's file was formatted, so the command was done
-pub formats_command : (image : _) (blocks inodes time : ℕ) (old new : Device) (client : Client)
-    (outcome : Outcome) (later : Client)
-    → FormatsDevice old inodes time client.written outcome new later.written
-    → IsAtRest old → old.size ≡ blocks → later.unread ≡ client.unread
-    → DoesCommand (Format image blocks inodes time) client outcome later
-formats_command image blocks inodes time old new client (Err fault.File) later formats rest size unread = absurd formats
-formats_command image blocks inodes time old new client outcome later formats rest size unread =
-    (old, new, rest, size, unread, formats)
+pub formats_command : (first : FirstContents) (image : _) (blocks inodes time : ℕ) (new : Device)
+    (client : Client) (outcome : Outcome) (later : Client) → later.unread ≡ client.unread
+    → FormatsDevice (device_of first blocks) inodes time client.written outcome new later.written
+    → DoesCommand first (Format image blocks inodes time) client outcome later
+formats_command first image blocks inodes time new client (Err fault.File) later unread formats = absurd formats
+formats_command first image blocks inodes time new client outcome later unread formats = (new, unread, formats)
 
 -- the device of the image's file was served from, so the command was done
-pub serves_command : (image : _) (time : ℕ) (old new : Device) (client : Client) (outcome : Outcome)
-    (later : Client) → ServesDevice old time client outcome new later → IsAtRest old
-    → DoesCommand (Once image time) client outcome later
-serves_command image time old new client (Err fault.File) later serves rest = absurd serves
-serves_command image time old new client outcome later serves rest = (old, new, rest, serves)
+pub serves_command : (first : FirstContents) (image : _) (size time : ℕ) (new : Device) (client : Client)
+    (outcome : Outcome) (later : Client) → ServesDevice (device_of first size) time client outcome new later
+    → DoesCommand first (Once image time) client outcome later
+serves_command first image size time new client (Err fault.File) later serves = absurd serves
+serves_command first image size time new client outcome later serves = (size, new, serves)
 
 -- with status 2 the arguments have no meaning
-obeys_two : (words : List Text) (client : Client) (outcome : Outcome) (later : Client)
-    → Obeys words client outcome later → status_of_outcome outcome ≡ 2 → ¬ HasMeaning words
-obeys_two words client (Err fault.NotText) later obeys status = absurd obeys
-obeys_two words client (Err (fault.Words e)) later obeys status = obeys.0
-obeys_two words client outcome later obeys status = absurd (omega arith)
+obeys_two : (first : FirstContents) (words : List Text) (client : Client) (outcome : Outcome)
+    (later : Client) → Obeys first words client outcome later → status_of_outcome outcome ≡ 2
+    → ¬ HasMeaning words
+obeys_two first words client (Err fault.NotText) later obeys status = absurd obeys
+obeys_two first words client (Err (fault.Words e)) later obeys status = obeys.0
+obeys_two first words client outcome later obeys status = absurd (omega arith)
 
 -- arguments without a meaning end with status 2, or there was no memory to read them
-obeys_none : (words : List Text) (client : Client) (outcome : Outcome) (later : Client)
-    → Obeys words client outcome later → ¬ HasMeaning words
+obeys_none : (first : FirstContents) (words : List Text) (client : Client) (outcome : Outcome)
+    (later : Client) → Obeys first words client outcome later → ¬ HasMeaning words
     → (status_of_outcome outcome ≡ 2) ⊎ (outcome ≡ Err fault.Memory)
-obeys_none words client (Err fault.NotText) later obeys none = absurd obeys
-obeys_none words client (Err fault.Memory) later obeys none = inr refl
-obeys_none words client (Err (fault.Words e)) later obeys none = inl refl
-obeys_none words client outcome later obeys none = absurd (none (obeys.0, obeys.1))
+obeys_none first words client (Err fault.NotText) later obeys none = absurd obeys
+obeys_none first words client (Err fault.Memory) later obeys none = inr refl
+obeys_none first words client (Err (fault.Words e)) later obeys none = inl refl
+obeys_none first words client outcome later obeys none = absurd (none (obeys.0, obeys.1))
 
-module _ {words : List Text} {client : Client} {told : Told} {written : Option (List ℕ)} {status : ℕ}
-    {later : Client} {told' : Told} {written' : Option (List ℕ)} where
-  pub refused : Answers words client told written status later told' written' → status ≡ 2 → ¬ HasMeaning words
-  refused answers two = obeys_two words client answers.outcome later answers.obeys (sym answers.ends ∙ two)
+module _ {first : FirstContents} {words : List Text} {client : Client} {told : Told}
+    {written : Option (List ℕ)} {status : ℕ} {later : Client} {told' : Told} {written' : Option (List ℕ)} where
+  pub refused : Answers first words client told written status later told' written' → status ≡ 2
+      → ¬ HasMeaning words
+  refused answers two =
+      obeys_two first words client answers.outcome later answers.obeys (sym answers.ends ∙ two)
 
-  pub refuses : Answers words client told written status later told' written' → ¬ HasMeaning words
+  pub refuses : Answers first words client told written status later told' written' → ¬ HasMeaning words
       → (status ≡ 2) ⊎ IsWithoutMemory told written status told' written'
-  refuses answers none = elim (obeys_none words client answers.outcome later answers.obeys none) [
+  refuses answers none = elim (obeys_none first words client answers.outcome later answers.obeys none) [
     | inl two ↦ inl (answers.ends ∙ two)
     | inr memory ↦ inr (record {
       ends = answers.ends ∙ ap status_of_outcome memory;

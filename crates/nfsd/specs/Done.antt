@@ -4,8 +4,9 @@ use Rattle.std.specs.Fmt.{decimal}
 use Rattle.std.specs.Io.KnownBytes.{Appends}
 use Rattle.std.specs.declared.io.Error.{Error}
 use Rattle.clap.specs.Words.{Text}
-use Rattle.disk.specs.Crash.{IsAtRest}
+use Rattle.disk.specs.declared.file.FirstContents.{FirstContents}
 use Rattle.disk.specs.Device.{Device}
+use Rattle.disk.specs.File.{file_device, first_in}
 use Rattle.nfs_types.specs.declared.ctx.Moment.{Moment}
 use Rattle.nfsd_words.specs.declared.Args.{Args}
 use Rattle.nfsd_words.specs.declared.Args.TheVariants.{Format, Once}
@@ -55,23 +56,28 @@ ServesDevice old time client (Err (fault.Session why)) new later = (opened : Ope
 ServesDevice old time client (Err (fault.Open why)) new later = HasOpened old (Err (new, why)) × (later ≡ client)
 ServesDevice old time client (Err other) new later = ⊥
 
--- The command that is asked for was done to a device that was at rest, that of the image's file, and this came
--- of it; or there is no device, and the fault is that of the file.
-abbrev pub DoesCommand : Args → Client → Outcome → Client → Type 0
-DoesCommand args client (Err fault.File) later = later ≡ client
-DoesCommand (Format image blocks inodes time) client outcome later = (old : Device) × (new : Device)
-    × IsAtRest old × (old.size ≡ blocks) × (later.unread ≡ client.unread)
-    × FormatsDevice old inodes time client.written outcome new later.written
-DoesCommand (Once image time) client outcome later = (old : Device) × (new : Device)
-    × IsAtRest old × ServesDevice old time client outcome new later
+-- the device of so many blocks of a file that held this when it was opened, before any call of it
+abbrev pub device_of : FirstContents → ℕ → Device
+device_of first size = file_device (first_in first.blocks.items) size []
 
--- The arguments were obeyed: the command that they ask for was done, or they have no meaning, or there was no
--- memory to read them.
-abbrev pub Obeys : List Text → Client → Outcome → Client → Type 0
-Obeys words client (Err fault.NotText) later = ⊥
-Obeys words client (Err fault.Memory) later = later ≡ client
-Obeys words client (Err (fault.Words error)) later = (¬ HasMeaning words) × (later ≡ client)
-Obeys words client outcome later = (args : Args) × WordsAsk words args × DoesCommand args client outcome later
+-- The command that is asked for was done to the device of a file that held this, and this came of it; or there
+-- is no device, and the fault is that of the file.
+abbrev pub DoesCommand : FirstContents → Args → Client → Outcome → Client → Type 0
+DoesCommand first args client (Err fault.File) later = later ≡ client
+DoesCommand first (Format image blocks inodes time) client outcome later = (new : Device)
+    × (later.unread ≡ client.unread)
+    × FormatsDevice (device_of first blocks) inodes time client.written outcome new later.written
+DoesCommand first (Once image time) client outcome later = (size : ℕ) × (new : Device)
+    × ServesDevice (device_of first size) time client outcome new later
+
+-- The arguments were obeyed: the command that they ask for was done to a file that held this, or they have no
+-- meaning, or there was no memory to read them.
+abbrev pub Obeys : FirstContents → List Text → Client → Outcome → Client → Type 0
+Obeys first words client (Err fault.NotText) later = ⊥
+Obeys first words client (Err fault.Memory) later = later ≡ client
+Obeys first words client (Err (fault.Words error)) later = (¬ HasMeaning words) × (later ≡ client)
+Obeys first words client outcome later = (args : Args) × WordsAsk words args
+    × DoesCommand first args client outcome later
 
 -- the faults that were told on a stream, each with the stream's answer
 abbrev pub Told : Type 0
@@ -88,11 +94,13 @@ abbrev pub TellsOutcome : Told → Option (List ℕ) → Outcome → Told → Op
 TellsOutcome told written (Ok done) told' written' = (told' ≡ told) × (written' ≡ written)
 TellsOutcome told written (Err why) told' written' = TellsFault told written why told' written'
 
--- what the program answers its arguments: it obeyed them, told what came of it, and ended with its status
-pub record Answers (words : List Text) (client : Client) (told : Told) (written : Option (List ℕ)) (status : ℕ)
-    (later : Client) (told' : Told) (written' : Option (List ℕ)) : Type 0 where
+-- what the program answers its arguments, where the image's file held this: it obeyed them, told what came of
+-- it, and ended with its status
+pub record Answers (first : FirstContents) (words : List Text) (client : Client) (told : Told)
+    (written : Option (List ℕ)) (status : ℕ) (later : Client) (told' : Told) (written' : Option (List ℕ))
+    : Type 0 where
   pub outcome : Outcome
-  pub obeys : Obeys words client outcome later
+  pub obeys : Obeys first words client outcome later
   pub ends : status ≡ status_of_outcome outcome
   pub tells : TellsOutcome told written outcome told' written'
 

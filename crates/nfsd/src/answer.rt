@@ -9,7 +9,7 @@ use crate::device::{format_device, serve_device};
 use crate::fault::Fault;
 use crate::fault_stream::FaultStream;
 use crate::streams::{Streams, fill};
-use disk::{BlockFile, FileDisk};
+use disk::{BlockFile, FileDisk, FirstContents};
 use nfsd_words::{Args, words};
 use std::fs::Files;
 use std::io::{Read, Write};
@@ -28,10 +28,12 @@ pub fn conclude<E: Write>(faults: &mut FaultStream<E>, outcome: &Result<(), Faul
 }
 
 /// Does what the arguments ask for, of which the first is the program's name, tells a fault on `faults`, and
-/// gives the exit status: 0 where it is done, 2 where the arguments have no meaning, and else 1.
+/// gives the exit status: 0 where it is done, 2 where the arguments have no meaning, and else 1. `first` is
+/// what the image's file holds when it is opened: no code reads it, and the clauses hold of each.
 pub fn answer<R, I, O, E>(
     rt: &R,
     line: &[&str],
+    first: FirstContents,
     reader: &mut I,
     writer: &mut O,
     faults: &mut FaultStream<E>,
@@ -42,7 +44,7 @@ where
     I: Read,
     O: Write,
     E: Write,
-    ensures answers { Answers (map (λ word. word.now) line.now)
+    ensures answers { Answers first (map (λ word. word.now) line.now)
         (client_of (I.remaining reader.old) (O.contents writer.old))
         faults.old.told.items (E.contents faults.old.stream) result
         (client_of (I.remaining reader.new) (O.contents writer.new))
@@ -52,35 +54,47 @@ where
         ⊎ IsWithoutMemory faults.old.told.items (E.contents faults.old.stream) result
         faults.new.told.items (E.contents faults.new.stream) }
 {
-    let outcome = obey(rt, line, reader, writer);
+    let outcome = obey(rt, line, first, reader, writer);
     conclude(faults, &outcome)
 }
 
 // Does what the arguments ask for. No image is opened before each standard stream's descriptor is taken.
 #[tactic(auto, using(crate::proofs::Obeyed::obeys_command))]
-fn obey<R, I, O>(rt: &R, line: &[&str], reader: &mut I, writer: &mut O) -> Result<(), Fault>
+fn obey<R, I, O>(
+    rt: &R,
+    line: &[&str],
+    first: FirstContents,
+    reader: &mut I,
+    writer: &mut O,
+) -> Result<(), Fault>
 where
     R: Files + Streams + AllocGlobal,
     R::File: BlockFile,
     I: Read,
     O: Write,
-    ensures { Obeys (map (λ word. word.now) line.now)
+    ensures { Obeys first (map (λ word. word.now) line.now)
         (client_of (I.remaining reader.old) (O.contents writer.old)) result
         (client_of (I.remaining reader.new) (O.contents writer.new)) }
 {
     let args = words(rt.alloc(), line).map_err(Fault::of_words)?;
     let _fillers = fill(rt).or(Err(Fault::File))?;
-    command(rt, args, reader, writer)
+    command(rt, args, first, reader, writer)
 }
 
 // Does a command to the device of the image's file. A refusal to format leaves the file with its new length.
-fn command<R, I, O>(rt: &R, args: Args<'_>, reader: &mut I, writer: &mut O) -> Result<(), Fault>
+fn command<R, I, O>(
+    rt: &R,
+    args: Args<'_>,
+    first: FirstContents,
+    reader: &mut I,
+    writer: &mut O,
+) -> Result<(), Fault>
 where
     R: Files + AllocGlobal,
     R::File: BlockFile,
     I: Read,
     O: Write,
-    ensures { DoesCommand args.entry
+    ensures { DoesCommand first args.entry
         (client_of (I.remaining reader.old) (O.contents writer.old)) result
         (client_of (I.remaining reader.new) (O.contents writer.new)) }
 {
@@ -91,11 +105,13 @@ where
             inodes,
             time,
         } => {
-            let mut disk = FileDisk::create(rt, image, blocks).or(Err(Fault::File))?;
+            let made = FileDisk::create(rt, image, blocks).or(Err(Fault::File))?;
+            let mut disk = made.beginning_with(first);
             format_device(rt.alloc(), &mut disk, inodes, time, writer)
         }
         Args::Once { image, time } => {
-            let disk = FileDisk::open(rt, image).or(Err(Fault::File))?;
+            let opened = FileDisk::open(rt, image).or(Err(Fault::File))?;
+            let disk = opened.beginning_with(first);
             let (_disk, outcome) = serve_device(rt.alloc(), disk, time, reader, writer);
             outcome
         }

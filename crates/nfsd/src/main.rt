@@ -15,6 +15,7 @@ use crate::answer::{answer, conclude};
 use crate::arguments::arguments;
 use crate::fault::Fault;
 use crate::fault_stream::FaultStream;
+use disk::FirstContents;
 use std::alloc::AllocError;
 use std::process::ExitCode;
 
@@ -37,6 +38,7 @@ fn attend(rt: &HostRuntime) -> u8 {
         Ok(line) => answer(
             rt,
             line.as_slice(),
+            FirstContents::whatever(),
             &mut rt.reader(),
             &mut rt.stdout(),
             &mut faults,

@@ -3,7 +3,7 @@ ghost use Rattle.std.specs.Prelude.{◌≡◌, ◌<◌, ◌≤◌, ◌↔◌, Is
 ghost use Rattle.std.specs.Io.KnownBytes.{IsAtEnd};
 ghost use Rattle.nfs_types.specs.declared.program.ProgramReply.TheVariants as replies;
 ghost use Rattle.store.specs.Opening.{store_of};
-ghost use Rattle.session.specs.Serving.{HasServed, client_of};
+ghost use Rattle.session.specs.Serving.{HasServed, client_of, reply_for};
 ghost use Rattle.session_wire.specs.Replies.{IsSpellable, body_of};
 ghost use Rattle.session_wire.specs.Results.{HasSpelling};
 
@@ -205,10 +205,11 @@ fn serve_call<D: CrashDisk, W: Write>(
     }
 }
 
-/// What a call is answered by what came of its procedure: its reply, or that an allocation failed.
+/// What a call is answered by what came of its procedure: its reply, or a system error where an allocation
+/// failed or where the reply has no spelling yet.
 pub fn reply_to(verdict: &Verdict) -> RpcReply<'_>
+    ensures reply { body_of result ≡ reply_for verdict.now }
     ensures spellable { IsSpellable (body_of result) }
-    ensures no_memory { verdict.now ≡ Verdict.NoMemory → result ≡ RpcReply.Refused Refusal.SystemError }
 {
     match verdict {
         Verdict::Reply(reply) if has_spelling(reply) => RpcReply::Nfs(reply),

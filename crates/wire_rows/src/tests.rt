@@ -1,8 +1,10 @@
 //! Tests of the wire. The page README.md says which file asks which question.
 
+mod copies;
 mod items;
 mod judged;
 mod plain_reader;
 mod records;
 mod replies;
+mod room;
 mod setattr;

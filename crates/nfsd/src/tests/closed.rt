@@ -4,6 +4,7 @@ use crate::answer::answer;
 use crate::fault_stream::FaultStream;
 use crate::streams::{Stream, Streams};
 use crate::tests::outcome::{Host, fresh, remove};
+use disk::FirstContents;
 use std::alloc::{Allocator, Global};
 use std::cell::RefCell;
 use std::fs::{File, Files, Metadata, OpenOptions};
@@ -121,7 +122,14 @@ fn assert_opens(
         };
         let mut faults = FaultStream::new(Vec::new(rt.alloc()));
         let mut output = Vec::new(rt.alloc());
-        let ended = answer(&shell, line, &mut &[][..], &mut output, &mut faults);
+        let ended = answer(
+            &shell,
+            line,
+            FirstContents::whatever(),
+            &mut &[][..],
+            &mut output,
+            &mut faults,
+        );
         assert_eq!(rt; ended, status);
         assert!(rt; faults.into_stream().as_slice() == fault);
         assert!(rt; shell.opened.into_inner().as_slice() == opened);

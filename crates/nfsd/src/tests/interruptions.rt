@@ -3,6 +3,7 @@
 use crate::answer::answer;
 use crate::fault_stream::FaultStream;
 use crate::tests::outcome::{Host, Outcome, assert_fault, fresh, remove};
+use disk::FirstContents;
 use std::io;
 use std::io::{Error, ErrorKind, Read, Write};
 use std::test::Fail;
@@ -59,7 +60,14 @@ fn served(rt: &impl Host, image: &str, input: &[u8]) -> Outcome {
     };
     let mut faults = FaultStream::new(Vec::new(rt.alloc()));
     let line = ["nfsd", "once", image, "--time", "2000"];
-    let status = answer(rt, &line, &mut reader, &mut writer, &mut faults);
+    let status = answer(
+        rt,
+        &line,
+        FirstContents::whatever(),
+        &mut reader,
+        &mut writer,
+        &mut faults,
+    );
     Outcome {
         status,
         output: writer.inner,

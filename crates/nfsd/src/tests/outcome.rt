@@ -3,6 +3,7 @@
 use crate::answer::answer;
 use crate::fault_stream::FaultStream;
 use crate::streams::Streams;
+use disk::FirstContents;
 use std::fs::{File, Files, remove_file};
 use std::process::Abort;
 use std::test::Fail;
@@ -26,7 +27,14 @@ pub fn run(rt: &impl Host, line: &[&str], input: &[u8]) -> Outcome {
     let mut reader = input;
     let mut output = Vec::new(rt.alloc());
     let mut faults = FaultStream::new(Vec::new(rt.alloc()));
-    let status = answer(rt, line, &mut reader, &mut output, &mut faults);
+    let status = answer(
+        rt,
+        line,
+        FirstContents::whatever(),
+        &mut reader,
+        &mut output,
+        &mut faults,
+    );
     Outcome {
         status,
         output,

@@ -4,6 +4,7 @@
 use crate::answer::answer;
 use crate::fault_stream::FaultStream;
 use crate::tests::outcome::{Host, Outcome, assert_fault, assert_served, fresh, once, remove};
+use disk::FirstContents;
 use std::io;
 use std::io::{Error, ErrorKind, Read, Write};
 use std::test::Fail;
@@ -53,7 +54,14 @@ fn served<I: Read>(rt: &impl Host, image: &str, reader: &mut I, room: usize) -> 
     };
     let mut faults = FaultStream::new(Vec::new(rt.alloc()));
     let line = ["nfsd", "once", image, "--time", "2000"];
-    let status = answer(rt, &line, reader, &mut output, &mut faults);
+    let status = answer(
+        rt,
+        &line,
+        FirstContents::whatever(),
+        reader,
+        &mut output,
+        &mut faults,
+    );
     Outcome {
         status,
         output: output.bytes,
@@ -114,7 +122,14 @@ fn a_line_that_cannot_be_printed(rt: HostRuntime) -> Result<(), Fail> {
         bytes: Vec::new(rt.alloc()),
     };
     let mut faults = FaultStream::new(Vec::new(rt.alloc()));
-    let status = answer(&rt, &line, &mut &[][..], &mut output, &mut faults);
+    let status = answer(
+        &rt,
+        &line,
+        FirstContents::whatever(),
+        &mut &[][..],
+        &mut output,
+        &mut faults,
+    );
     assert_eq!(rt; status, 1);
     assert!(rt; faults.into_stream().as_slice() == b"nfsd: output\n".as_slice());
     remove(&rt, &["line.img"])
