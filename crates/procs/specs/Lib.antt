@@ -1,5 +1,7 @@
+pub mod Outcome
 pub mod Snap
 pub mod FoundFile
 pub mod Steps
 pub mod Asks
 pub mod Planned
+pub mod Finished
