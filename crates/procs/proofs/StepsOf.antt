@@ -33,14 +33,14 @@ use Rattle.layout.proofs.ChangedInode.{node_of}
 use Rattle.txn.specs.Object.{ObjectBytes}
 use Rattle.txn.specs.Window.{with_objects}
 use Rattle.procs.specs.declared.attributes.FoundFile.{FoundFile}
-use Rattle.procs.specs.declared.done.Done.{Done}
+use Rattle.procs.specs.Outcome.{Outcome}
 use Rattle.procs.specs.FoundFile.{IsBodyOf, file_kind}
 use Rattle.procs.specs.Steps.{AreAsRead, IsFoundIn, IsInodeObject, IsSetFrom, IsStepOf, IsTold}
 use Rattle.procs.proofs.WrittenMode.{is_step}
 
 -- a step that writes nothing leads to the same tree
-pub unwritten : (g : Geometry) (ctx : Ctx) (c : Call) (done : Done) (items : List ObjectBytes) (told : Reply)
-    → done.read.items ≡ items → done.reply ≡ told → done.written.items ≡ []
+pub unwritten : (g : Geometry) (ctx : Ctx) (c : Call) (done : Outcome) (items : List ObjectBytes) (told : Reply)
+    → done.read ≡ items → done.reply ≡ told → done.written ≡ []
     → ((blocks : Image) (tree : Tree) → Stands g blocks tree → AreAsRead blocks items
     → step tree ctx c told tree)
     → IsStepOf g ctx c done
@@ -137,15 +137,15 @@ module _ (g : Geometry) (blocks : Image) (tree : Tree) (ctx : Ctx) (object : Han
 
 -- the changed inode is written, and the change told
 pub stepped : (g : Geometry) (ctx : Ctx) (object : Handle) (wanted : NewAttributes) (guard : Option Moment)
-    (f new : FoundFile) (done : Done) (items : List ObjectBytes)
-    → done.read.items ≡ items → sets_only_mode wanted ≡ true
+    (f new : FoundFile) (done : Outcome) (items : List ObjectBytes)
+    → done.read ≡ items → sets_only_mode wanted ≡ true
     → ((blocks : Image) (tree : Tree) → Stands g blocks tree → AreAsRead blocks items
     → IsFoundIn g blocks tree object.bytes (Ok f))
     → ((body : Body) → None ≡ refusal ctx wanted guard (node_with f.inode body))
     → ((body : Body) → IsBodyOf f body → IsBodyOf new body → done.reply
     ≡ reply.SetAttr (Ok tt) (change_of f.number (node_with f.inode body) (node_with new.inode body)))
     → new.number ≡ f.number → new.used ≡ f.used → IsSetFrom ctx.moment wanted f.inode new.inode
-    → ((object_is : ObjectBytes) × (done.written.items ≡ object_is ∷ [])
+    → ((object_is : ObjectBytes) × (done.written ≡ object_is ∷ [])
     × IsInodeObject g new.number new.inode object_is)
     → IsStepOf g ctx (call.SetAttr object wanted guard) done
 stepped g ctx object wanted guard f new done items read_is only found passed tells number_is used_is set
@@ -160,16 +160,16 @@ stepped g ctx object wanted guard f new done items read_is only found passed tel
 
 -- an inode's object alone is written
 pub one_written : (g : Geometry) (number : ℕ) (inode : Inode) (object : ObjectBytes)
-    (items : List ObjectBytes) (result : Result Done AllocError)
-    → IfOk result (λ done. done.written.items ≡ items) → items ≡ object ∷ []
+    (items : List ObjectBytes) (result : Result Outcome AllocError)
+    → IfOk result (λ done. done.written ≡ items) → items ≡ object ∷ []
     → IsInodeObject g number inode object
-    → IfOk result (λ done. (one : ObjectBytes) × (done.written.items ≡ one ∷ [])
+    → IfOk result (λ done. (one : ObjectBytes) × (done.written ≡ one ∷ [])
     × IsInodeObject g number inode one)
 one_written g number inode object items (Ok done) are is laid = (object, are ∙ is, laid)
 one_written g number inode object items (Err e) are is laid = tt
 
 -- what is a step whatever the caller, is one for this caller
-pub for_caller : (g : Geometry) (ctx : Ctx) (c : Call) (result : Result Done Stop)
+pub for_caller : (g : Geometry) (ctx : Ctx) (c : Call) (result : Result Outcome Stop)
     → IfOk result (λ done. (any : Ctx) → IsStepOf g any c done) → IfOk result (λ done. IsStepOf g ctx c done)
 for_caller g ctx c (Ok done) is = is ctx
 for_caller g ctx c (Err why) is = tt

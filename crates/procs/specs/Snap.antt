@@ -4,7 +4,7 @@ use Rattle.std.specs.List.{list_any}
 use Rattle.objects.specs.declared.addr.Addr.{Addr}
 use Rattle.disk.specs.declared.block.BlockNo.{BlockNo}
 use Rattle.txn.specs.Object.{ObjectBytes}
-use Rattle.procs.specs.declared.done.Done.{Done}
+use Rattle.procs.specs.Outcome.{Outcome}
 use Rattle.procs.specs.declared.snap.Snap.{Snap}
 use Rattle.procs.specs.declared.stop.Stop.{Stop}
 use Rattle.procs.specs.declared.stop.Stop.TheVariants as stop
@@ -33,7 +33,7 @@ IsNew snap stop.Io = Unit {0}
 IsNew snap stop.NoMemory = Unit {0}
 
 -- what is done names all that was read, and the image's counts
-pub record IsDoneFor (snap : Snap) (done : Done) : Type 0 where
-  pub read : done.read.items ≡ snap.objects.items
+pub record IsDoneFor (snap : Snap) (done : Outcome) : Type 0 where
+  pub read : done.read ≡ snap.objects.items
   pub blocks : done.blocks ≡ snap.geometry.blocks
   pub inodes : done.inodes ≡ snap.geometry.inodes

@@ -26,9 +26,7 @@ use Rattle.model.specs.Tree.{Tree}
 use Rattle.txn.specs.Object.{ObjectBytes}
 use Rattle.txn.specs.Window.{IsAsRead, with_objects}
 use Rattle.procs.specs.declared.attributes.FoundFile.{FoundFile}
-use Rattle.procs.specs.declared.done.Done.{Done}
-use Rattle.procs.specs.declared.next.Plan.{Plan}
-use Rattle.procs.specs.declared.next.Plan.TheVariants as plan
+use Rattle.procs.specs.Outcome.{Outcome}
 use Rattle.procs.specs.declared.snap.Snap.{Snap}
 use Rattle.procs.specs.declared.stop.Stop.{Stop}
 use Rattle.procs.specs.declared.stop.Stop.TheVariants as stop
@@ -92,15 +90,8 @@ IsTold (Err status) (Ok attributes) = ⊥
 -- What comes of a call is a step of the sequential server: wherever blocks have what was read and stand for a
 -- tree, the reply is one that the call may get there, and the blocks with what is written stand for the tree
 -- that it then leads to.
-abbrev pub IsStepOf : Geometry → Ctx → Call → Done → Type 0
+abbrev pub IsStepOf : Geometry → Ctx → Call → Outcome → Type 0
 IsStepOf g ctx call done = (blocks : Image) (tree : Tree) → SoundTime ctx.moment → Stands g blocks tree
-    → AreAsRead blocks done.read.items
+    → AreAsRead blocks done.read
     → (next : Tree) × step tree ctx call done.reply next
-    × Stands g (with_objects blocks done.written.items) next
-
--- a plan is done only with what is a step
-abbrev pub IsStepPlan : Geometry → Ctx → Call → Plan → Type 0
-IsStepPlan g ctx call (plan.Done done) = IsStepOf g ctx call done
-IsStepPlan g ctx call (plan.Need addr) = Unit {0}
-IsStepPlan g ctx call (plan.Claim block) = Unit {0}
-IsStepPlan g ctx call plan.NoMemory = Unit {0}
+    × Stands g (with_objects blocks done.written) next

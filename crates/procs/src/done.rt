@@ -1,87 +1,91 @@
-//! What comes of a call.
-ghost use Rattle.std.specs.Prelude.{◌≡◌, ◌≤◌, length, IfOk};
+//! What comes of a call, for good.
+ghost use Rattle.std.specs.Prelude.{◌≡◌, ◌≤◌, length};
 ghost use Rattle.limits.specs.declared.TheConstants.{CHANGED_BLOCKS};
 ghost use Rattle.txn.specs.Group.{blocks_of};
+ghost use Rattle.procs.specs.Finished.{HasPlan, IsFinished};
 
-use crate::Snap;
+use crate::draft::Draft;
 use nfs_types::Reply;
-use std::alloc::AllocError;
+use std::marker::Model;
 use txn::{Change, Object};
 
 /// A finished plan: the reply, the objects that were read for it, those that it writes, and the counts of the
-/// image that it was worked out for. It writes no more blocks than a transaction changes.
+/// image that it was worked out for. Its type keeps that these are what the plan of some call ended in.
 #[derive(Drop)]
 pub struct Done {
-    reply: Reply,
-    read: Vec<Object>,
-    written: Vec<Object>,
-    blocks: u32,
-    inodes: u32,
-    ghost few: { length (blocks_of written.items) ≤ CHANGED_BLOCKS },
+    draft: Draft,
+}
+
+impl Model for Done {
+    ghost use Rattle.procs.specs.Outcome.{Outcome};
+    ghost use Rattle.procs.specs.Finished.{IsFinished};
+
+    ghost Value = { Outcome };
+
+    ghost view = { λ done. done.draft };
+
+    ghost invariant = { λ done. IsFinished done.draft };
 }
 
 impl Done {
-    ghost use Rattle.procs.specs.Snap.{IsDoneFor};
-
-    /// What comes of a call, worked out from all that was read.
-    pub(crate) fn new(snap: &Snap, reply: Reply, written: Vec<Object>) -> Result<Done, AllocError>
-        requires { length (blocks_of written.items) ≤ CHANGED_BLOCKS }
-        ensures snap { IfOk result (λ done. IsDoneFor snap.now done) }
-        ensures reply { IfOk result (λ done. done.reply ≡ reply) }
-        ensures written { IfOk result (λ done. done.written.items ≡ written.items) }
+    /// What a plan ended in.
+    pub(crate) fn new(draft: Draft) -> Done
+        requires { IsFinished draft }
+        ensures { result ≡ draft }
     {
-        Ok(Done {
-            reply,
-            read: snap.objects.clone()?,
-            written,
-            blocks: snap.geometry.blocks,
-            inodes: snap.geometry.inodes,
-        })
+        Done { draft }
+    }
+
+    /// It is what the plan of some call ended in.
+    pub fn finished(&self)
+        ensures { IsFinished self.now }
+    {
+        let _ = &self.draft;
     }
 
     /// The reply.
     pub fn reply(&self) -> &Reply
         ensures { result.now ≡ self.now.reply }
     {
-        &self.reply
+        &self.draft.reply
     }
 
     /// The reply, for good.
     pub fn into_reply(self) -> Reply
         ensures { result ≡ self.reply }
     {
-        self.reply
+        self.draft.reply
     }
 }
 
 impl Change for Done {
-    ghost objects_read = { λ done. done.read.items };
+    ghost objects_read = { λ done. done.read };
 
-    ghost objects_written = { λ done. done.written.items };
+    ghost objects_written = { λ done. done.written };
 
     ghost planned_blocks = { λ done. done.blocks };
 
     ghost planned_inodes = { λ done. done.inodes };
 
-    ghost is_plan = { λ blocks inodes read written. length (blocks_of written) ≤ CHANGED_BLOCKS };
+    ghost is_plan = { HasPlan };
 
     fn read(&self) -> &[Object] {
-        &self.read
+        &self.draft.read
     }
 
     fn written(&self) -> &[Object] {
-        &self.written
+        &self.draft.written
     }
 
     fn blocks(&self) -> u32 {
-        self.blocks
+        self.draft.blocks
     }
 
     fn inodes(&self) -> u32 {
-        self.inodes
+        self.draft.inodes
     }
 
     fn is_planned(&self) {
-        let _ = &self.written;
+        self.finished();
     }
 }

@@ -4,6 +4,7 @@
 mod asks;
 mod attributes;
 mod done;
+mod draft;
 mod find;
 mod next;
 mod refused;

@@ -8,15 +8,17 @@ ghost use Rattle.model.specs.Attributes.{change_of};
 ghost use Rattle.model.specs.Node.{Body};
 ghost use Rattle.txn.specs.Object.{ObjectBytes};
 ghost use Rattle.procs.specs.FoundFile.{IsBodyOf};
-ghost use Rattle.procs.specs.Steps.{IsTold, IsStepOf, IsStepPlan, IsInodeObject, NoneStand};
+ghost use Rattle.procs.specs.Steps.{IsTold, IsStepOf, IsInodeObject, NoneStand};
 ghost use Rattle.model.specs.Calls.{has_rules, sets_only_mode};
 ghost use Rattle.procs.specs.Asks.{IsAsked, IsAskedOfFile, IsWritable, WasReadInode};
+ghost use Rattle.procs.specs.Finished.{ChangesFew, EndsFrom};
 ghost use Rattle.procs.specs.MostChanged.{most_changed};
-ghost use Rattle.procs.specs.Planned.{ChangesFew, EndsFrom, IsPlanFor};
+ghost use Rattle.procs.specs.Planned.{IsPlanFor, IsStepPlan};
 ghost use Rattle.procs.specs.Snap.{IsNew, IsDoneFor};
 
 use crate::attributes::FoundFile;
 use crate::done::Done;
+use crate::draft::Draft;
 use crate::find::find;
 use crate::next::Plan;
 use crate::refused::refused_reply;
@@ -30,12 +32,12 @@ use std::alloc::{AllocError, Global};
 use txn::Object;
 
 // What is done without a write.
-fn told(alloc: Global, snap: &Snap, reply: Reply) -> Result<Done, AllocError>
+fn told(alloc: Global, snap: &Snap, reply: Reply) -> Result<Draft, AllocError>
     ensures done { IfOk result (λ done. IsDoneFor snap.now done) }
     ensures reply { IfOk result (λ done. done.reply ≡ reply) }
-    ensures written { IfOk result (λ done. done.written.items ≡ []) }
+    ensures written { IfOk result (λ done. done.written ≡ []) }
 {
-    Done::new(snap, reply, Vec::new(alloc))
+    Draft::new(snap, reply, Vec::new(alloc))
 }
 
 // The attributes of what was found.
@@ -49,7 +51,7 @@ fn outcome_of(found: Result<FoundFile, Status>) -> Result<Attributes, Status>
 }
 
 // GETATTR (RFC 1813, section 3.3.1).
-fn get_attr(alloc: Global, snap: &Snap, object: &Handle) -> Result<Done, Stop>
+fn get_attr(alloc: Global, snap: &Snap, object: &Handle) -> Result<Draft, Stop>
     ensures ok { IfOk result (λ done. EndsFrom snap.now done) }
     ensures few { IfOk result (ChangesFew 0) }
     ensures step { IfOk result (λ done. (ctx : Ctx)
@@ -69,26 +71,31 @@ fn left(
     snap: &Snap,
     status: Status,
     object: WeakCacheData,
-) -> Result<Done, AllocError>
+) -> Result<Draft, AllocError>
     ensures done { IfOk result (λ done. IsDoneFor snap.now done) }
     ensures reply { IfOk result (λ done. done.reply ≡ reply.SetAttr (Err status) object) }
-    ensures written { IfOk result (λ done. done.written.items ≡ []) }
+    ensures written { IfOk result (λ done. done.written ≡ []) }
 {
     let outcome = Err(status);
     told(alloc, snap, Reply::SetAttr { outcome, object })
 }
 
 // The change of an inode, with its reply.
-fn changed(alloc: Global, snap: &Snap, old: &FoundFile, new: &FoundFile) -> Result<Done, AllocError>
+fn changed(
+    alloc: Global,
+    snap: &Snap,
+    old: &FoundFile,
+    new: &FoundFile,
+) -> Result<Draft, AllocError>
     requires number { new.now.number < snap.now.geometry.inodes }
     requires same { new.now.number ≡ old.now.number }
     requires read { WasReadInode snap.now.geometry snap.now.objects.items old.now.number old.now.inode }
-    ensures writable { IfOk result (λ done. All (IsWritable snap.now) done.written.items) }
+    ensures writable { IfOk result (λ done. All (IsWritable snap.now) done.written) }
     ensures done { IfOk result (λ done. IsDoneFor snap.now done) }
     ensures reply { IfOk result (λ done. (body : Body) → IsBodyOf old.now body → IsBodyOf new.now body
         → done.reply ≡ reply.SetAttr (Ok tt) (change_of old.now.number (node_with old.now.inode body)
         (node_with new.now.inode body))) }
-    ensures written { IfOk result (λ done. (object : ObjectBytes) × (done.written.items ≡ object ∷ [])
+    ensures written { IfOk result (λ done. (object : ObjectBytes) × (done.written ≡ object ∷ [])
         × IsInodeObject snap.now.geometry new.now.number new.now.inode object) }
 {
     let addr = snap.geometry.inode_addr(new.number);
@@ -99,7 +106,7 @@ fn changed(alloc: Global, snap: &Snap, old: &FoundFile, new: &FoundFile) -> Resu
         outcome: Ok(()),
         object: old.change_to(new),
     };
-    Done::new(snap, reply, written)
+    Draft::new(snap, reply, written)
 }
 
 // SETATTR of the mode (RFC 1813, section 3.3.2).
@@ -110,7 +117,7 @@ fn set_attr(
     object: &Handle,
     wanted: &NewAttributes,
     guard: &Option<Moment>,
-) -> Result<Done, Stop>
+) -> Result<Draft, Stop>
     requires { sets_only_mode wanted.now ≡ true }
     ensures ok { IfOk result (λ done. EndsFrom snap.now done) }
     ensures few { IfOk result (ChangesFew 1) }
@@ -140,7 +147,7 @@ fn set_attr(
 }
 
 // What comes of a call that is served, or what stands in its way.
-fn work(alloc: Global, ctx: &Ctx, call: &Call, snap: &Snap) -> Result<Done, Stop>
+fn work(alloc: Global, ctx: &Ctx, call: &Call, snap: &Snap) -> Result<Draft, Stop>
     requires { has_rules call.now ≡ true }
     ensures ok { IfOk result (λ done. EndsFrom snap.now done) }
     ensures few { IfOk result (ChangesFew (most_changed call.now)) }
@@ -179,6 +186,19 @@ fn work(alloc: Global, ctx: &Ctx, call: &Call, snap: &Snap) -> Result<Done, Stop
     }
 }
 
+// A call is done.
+fn finish(ctx: &Ctx, call: &Call, snap: &Snap, draft: Draft) -> Plan
+    requires served { has_rules call.now ≡ true }
+    requires ends { EndsFrom snap.now draft }
+    requires few { ChangesFew (most_changed call.now) draft }
+    requires step { IsStepOf snap.now.geometry ctx.now call.now draft }
+    ensures plan { IsPlanFor call.now snap.now result }
+    ensures step { IsStepPlan snap.now.geometry ctx.now call.now result }
+{
+    draft.few();
+    Plan::Done(Done::new(draft))
+}
+
 /// What a call needs next, or what comes of it, by what was read so far. It asks for one object at a time,
 /// and begins anew each time. An object that the layout refuses makes it IO, with nothing told and nothing
 /// written. Where blocks stand for a tree what comes of the call is a step of the sequential server, so that
@@ -189,11 +209,11 @@ pub fn plan(alloc: Global, ctx: &Ctx, call: &Call, snap: &Snap) -> Plan
     ensures step { IsStepPlan snap.now.geometry ctx.now call.now result }
 {
     match work(alloc, ctx, call, snap) {
-        Ok(done) => Plan::Done(done),
+        Ok(done) => finish(ctx, call, snap, done),
         Err(Stop::Need(addr)) => Plan::Need(addr),
         Err(Stop::NoMemory) => Plan::NoMemory,
         Err(Stop::Io) => match told(alloc, snap, refused_reply(call, Status::Io)) {
-            Ok(done) => Plan::Done(done),
+            Ok(done) => finish(ctx, call, snap, done),
             Err(_) => Plan::NoMemory,
         },
     }

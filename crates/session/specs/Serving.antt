@@ -1,5 +1,5 @@
 -- What comes of serving a stream.
-use Rattle.std.specs.Prelude.{◌≡◌, ⊤, ℕ, if◌then◌else◌, List, [], Option, Result, Ok, Err}
+use Rattle.std.specs.Prelude.{◌≡◌, ⊤, ℕ, if◌then◌else◌, List, Option, Result, Ok, Err}
 use Rattle.std.specs.Io.KnownBytes.{IsAtEnd}
 use Rattle.nfs_types.specs.declared.ctx.Moment.{Moment}
 use Rattle.nfs_types.specs.declared.program.ProgramReply.TheVariants as replies
@@ -10,6 +10,7 @@ use Rattle.session_wire.specs.Procedures.{is_decoded, replied_to}
 use Rattle.store_promise.specs.declared.answers.Verdict.{Verdict}
 use Rattle.store_promise.specs.declared.answers.Verdict.TheVariants as verdicts
 use Rattle.store.specs.Opening.{IsSettled, Opened}
+use Rattle.store.specs.Settling.{IsIdle}
 use Rattle.session.specs.declared.serving.SessionFault.{SessionFault}
 
 -- a client's stream: the bytes of the input that aren't read yet, and those of the output, each where they
@@ -35,7 +36,7 @@ IsEnded (Err fault) store client = ⊤
 
 -- what is known of a store and a client that were served with this answer
 pub record IsServing (result : Result ℕ SessionFault) (store : Opened) (client : Client) : Type 0 where
-  pub idle : store.core.out ≡ []
+  pub idle : IsIdle store.core
   pub ended : IsEnded result store client
 
 -- A store and a client were to be served, each call at the moment, which was answered so, and left them so. As

@@ -1,8 +1,9 @@
 //! Serving a stream: the calls of its records, one after the other, and their replies.
-ghost use Rattle.std.specs.Prelude.{◌≡◌, ◌<◌, ◌≤◌, ◌↔◌, IsTrue, IsSome, IfOk, IfSome, OnOk, None, length, []};
+ghost use Rattle.std.specs.Prelude.{◌≡◌, ◌<◌, ◌≤◌, ◌↔◌, IsTrue, IsSome, IfOk, IfSome, OnOk, None, length};
 ghost use Rattle.std.specs.Io.KnownBytes.{IsAtEnd};
 ghost use Rattle.nfs_types.specs.declared.program.ProgramReply.TheVariants as replies;
 ghost use Rattle.store.specs.Opening.{store_of};
+ghost use Rattle.store.specs.Settling.{IsIdle};
 ghost use Rattle.session.specs.Serving.{HasServed, client_of, reply_for};
 ghost use Rattle.session_wire.specs.Replies.{IsSpellable, body_of};
 ghost use Rattle.session_wire.specs.Results.{HasSpelling};
@@ -52,8 +53,8 @@ pub fn serve<D: CrashDisk, R: Read, W: Write>(
     writer: &mut W,
     moment: Moment,
 ) -> Result<u64, SessionFault>
-    requires { store.old.core.out ≡ [] }
-    ensures idle { store.new.core.out ≡ [] }
+    requires { IsIdle store.old.core }
+    ensures idle { IsIdle store.new.core }
     ensures served { HasServed
         (store_of (D.device store.old.disk) store.old.core store.old.boot)
         (client_of (R.remaining reader.old) (W.contents writer.old)) moment result
@@ -83,8 +84,8 @@ fn serve_all<D: CrashDisk, R: Read, W: Write>(
     writer: &mut W,
     moment: Moment,
 ) -> Result<u64, SessionFault>
-    requires { store.old.core.out ≡ [] }
-    ensures idle { store.new.core.out ≡ [] }
+    requires { IsIdle store.old.core }
+    ensures idle { IsIdle store.new.core }
     ensures end { OnOk result (IsAtEnd (R.remaining reader.new)) }
 {
     let mut records = Records::new(alloc);
@@ -131,8 +132,8 @@ fn serve_records<D: CrashDisk, W: Write>(
     moment: Moment,
     count: u64,
 ) -> Result<u64, SessionFault>
-    requires { store.old.core.out ≡ [] }
-    ensures { store.new.core.out ≡ [] }
+    requires { IsIdle store.old.core }
+    ensures { IsIdle store.new.core }
 {
     let mut replies = count;
     'records: while let Some(record) = next_record(alloc, records)? {
@@ -161,8 +162,8 @@ fn serve_record<D: CrashDisk, W: Write>(
     writer: &mut W,
     moment: Moment,
 ) -> Result<(), SessionFault>
-    requires { store.old.core.out ≡ [] }
-    ensures { store.new.core.out ≡ [] }
+    requires { IsIdle store.old.core }
+    ensures { IsIdle store.new.core }
 {
     match judge(alloc, record) {
         Err(_) => Err(SessionFault::NoMemory),
@@ -188,8 +189,8 @@ fn serve_call<D: CrashDisk, W: Write>(
     writer: &mut W,
     moment: Moment,
 ) -> Result<(), SessionFault>
-    requires { store.old.core.out ≡ [] }
-    ensures { store.new.core.out ≡ [] }
+    requires { IsIdle store.old.core }
+    ensures { IsIdle store.new.core }
 {
     match call {
         ProgramCall::Nfs(call) => {

@@ -1,2 +1,3 @@
+pub mod CallsLeft
 pub mod Formatted
 pub mod Made

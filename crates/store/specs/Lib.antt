@@ -3,3 +3,4 @@ pub mod Formatting
 pub mod Opening
 pub mod Running
 pub mod Worker
+pub mod Settling

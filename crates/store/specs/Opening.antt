@@ -1,10 +1,11 @@
 -- What comes of opening a store.
-use Rattle.std.specs.Prelude.{◌≡◌, ℕ, ◌≤◌, [], false, length, Result, Ok, Err}
+use Rattle.std.specs.Prelude.{◌≡◌, ℕ, ◌≤◌, false, length, Result, Ok, Err}
 use Rattle.limits.specs.declared.TheConstants.{MOST_KEPT_COMMITS}
 use Rattle.disk.specs.Device.{Device}
 use Rattle.wal.specs.Log.{settled_place}
 use Rattle.txn.specs.Core.{CoreState}
 use Rattle.layout.specs.Geometry.{IsLawful}
+use Rattle.store.specs.Settling.{IsIdle}
 use Rattle.store_promise.specs.declared.fault.OpenFault.{OpenFault}
 
 -- an open store: its device, its core and its boot number
@@ -28,7 +29,7 @@ Opening = Result Opened (Device × OpenFault)
 
 -- what is known of a store that was opened
 abbrev pub IsOpening : Opening → Type 0
-IsOpening (Ok store) = (store.core.out ≡ []) × (store.device.size ≡ store.core.log.blocks)
+IsOpening (Ok store) = IsIdle store.core × (store.device.size ≡ store.core.log.blocks)
     × IsLawful store.core.log.blocks store.core.inodes
 IsOpening (Err refused) = Unit {0}
 

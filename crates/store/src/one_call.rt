@@ -1,5 +1,5 @@
 //! One call to its answer, by one thread.
-ghost use Rattle.std.specs.Prelude.{◌≡◌, None, []};
+ghost use Rattle.store.specs.Settling.{IsIdle, IsQuiet};
 ghost use Rattle.store.specs.Worker.{Fits};
 
 use crate::opened::{Store, keeps_too_many, settle};
@@ -19,8 +19,8 @@ pub fn procedure<D: CrashDisk>(
     moment: Moment,
     call: Call,
 ) -> Verdict
-    requires { store.old.core.out ≡ [] }
-    ensures { store.new.core.out ≡ [] }
+    requires { IsIdle store.old.core }
+    ensures { IsIdle store.new.core }
 {
     let mut worker = Worker::new(store.boot);
     worker.hand(credential, moment, call);
@@ -34,8 +34,10 @@ pub fn procedure<D: CrashDisk>(
 
 // Drives a worker to the answer of its call.
 fn answer<D: CrashDisk>(alloc: Global, store: &mut Store<D>, worker: &mut Worker) -> Verdict
-    requires { Fits worker.old store.old.core }
-    ensures { Fits worker.new store.new.core }
+    requires fits { Fits worker.old store.old.core }
+    requires quiet { IsQuiet store.old.core.log }
+    ensures fits { Fits worker.new store.new.core }
+    ensures quiet { IsQuiet store.new.core.log }
 {
     'steps: for _ in 0..u64::MAX {
         go_on(alloc, store, worker);
@@ -48,8 +50,10 @@ fn answer<D: CrashDisk>(alloc: Global, store: &mut Store<D>, worker: &mut Worker
 
 // The read that is due, or the next step. Where it waits for the log, everything is settled.
 fn go_on<D: CrashDisk>(alloc: Global, store: &mut Store<D>, worker: &mut Worker)
-    requires { Fits worker.old store.old.core }
-    ensures { Fits worker.new store.new.core }
+    requires fits { Fits worker.old store.old.core }
+    requires quiet { IsQuiet store.old.core.log }
+    ensures fits { Fits worker.new store.new.core }
+    ensures quiet { IsQuiet store.new.core.log }
 {
     let _ = worker.read(&mut store.disk);
     match worker.step(alloc, &mut store.core) {

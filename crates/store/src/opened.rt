@@ -1,9 +1,12 @@
 //! An open store: a disk with the core over it.
-ghost use Rattle.std.specs.Prelude.{◌≡◌, ◌<◌, ◌↔◌, IsTrue, OnOk, length};
+ghost use Rattle.std.specs.Prelude.{◌≡◌, ◌<◌, ◌↔◌, IsTrue, IsFalse, OnOk, OnErr, length, true};
 ghost use Rattle.limits.specs.declared.TheConstants.{MOST_KEPT_COMMITS};
 ghost use Rattle.layout.specs.Geometry.{IsLawful};
 ghost use Rattle.store.specs.Counts.{SameCounts};
 ghost use Rattle.store.specs.Opening.{IsSettled};
+ghost use Rattle.store.specs.Settling.{HasCalled, HasFailed, IsQuiet};
+ghost use Rattle.wal_law.specs.Installer.{may_install};
+ghost use Rattle.wal_law.specs.Logger.{may_log};
 
 use disk::{CrashDisk, Failed};
 use limits::MOST_KEPT_COMMITS;
@@ -52,22 +55,25 @@ pub fn close<D: CrashDisk>(store: Store<D>) -> D
 /// what is left, the next opening brings home. It fails only where a device call fails in it, or where a
 /// write or a barrier failed since the opening.
 pub fn settle<D: CrashDisk>(store: &mut Store<D>) -> Result<(), Failed>
+    requires { IsQuiet store.old.core.log }
     ensures out { store.new.core.out ≡ store.old.core.out }
     ensures counts { SameCounts store.old.core store.new.core }
     ensures settled { OnOk result (IsSettled store.new.core) }
+    ensures failed { OnErr result (HasFailed store.old.core.log (D.device store.old.disk) (D.device store.new.disk)) }
+    ensures broken { OnErr result (store.new.core.log.broken ≡ true) }
 {
-    'calls: for _ in 0..u64::MAX {
+    'calls: loop {
         if store.core.broken() {
             return Err(Failed);
         }
         if store.core.is_settled() && !keeps_too_many(store) {
             return Ok(());
         }
+        store.core.lawful();
         if !log_one(store) && !install_one(store) {
-            return Err(Failed);
+            unreachable!();
         }
     }
-    Err(Failed)
 }
 
 /// Whether more commits are kept than a store keeps once it has settled.
@@ -78,28 +84,44 @@ pub(crate) fn keeps_too_many<D: CrashDisk>(store: &Store<D>) -> bool
 }
 
 // Makes the next device call of the log, if there is one.
-#[tactic(auto, using(crate::proofs::Made::made_size))]
+#[tactic(auto, using(crate::proofs::Made::made_size, crate::proofs::CallsLeft::log_called))]
 fn log_one<D: CrashDisk>(store: &mut Store<D>) -> bool
+    requires { IsQuiet store.old.core.log }
     ensures out { store.new.core.out ≡ store.old.core.out }
     ensures counts { SameCounts store.old.core store.new.core }
+    ensures may { result ≡ may_log store.old.core.log }
+    ensures called { IsTrue result
+        → HasCalled store.old.core.log (D.device store.old.disk) store.new.core.log (D.device store.new.disk) }
+    ensures none { IsFalse result
+        → (store.new.core ≡ store.old.core) × (D.device store.new.disk ≡ D.device store.old.disk) }
 {
+    store.core.lawful();
     let Some(io) = store.core.log_next() else {
         return false;
     };
+    store.core.lawful();
     let ok = io.perform(&mut store.disk).is_ok();
     store.core.log_done(io, ok);
     true
 }
 
 // Makes the next device call of the installer, if there is one.
-#[tactic(auto, using(crate::proofs::Made::made_size))]
+#[tactic(auto, using(crate::proofs::Made::made_size, crate::proofs::CallsLeft::inst_called))]
 fn install_one<D: CrashDisk>(store: &mut Store<D>) -> bool
+    requires { IsQuiet store.old.core.log }
     ensures out { store.new.core.out ≡ store.old.core.out }
     ensures counts { SameCounts store.old.core store.new.core }
+    ensures may { result ≡ may_install store.old.core.log }
+    ensures called { IsTrue result
+        → HasCalled store.old.core.log (D.device store.old.disk) store.new.core.log (D.device store.new.disk) }
+    ensures none { IsFalse result
+        → (store.new.core ≡ store.old.core) × (D.device store.new.disk ≡ D.device store.old.disk) }
 {
+    store.core.lawful();
     let Some(io) = store.core.inst_next() else {
         return false;
     };
+    store.core.lawful();
     let ok = io.perform(&mut store.disk).is_ok();
     store.core.inst_done(io, ok);
     true

@@ -1,8 +1,10 @@
 //! Opening a store: what a crash left in the log is brought home, and the boot number rises.
-ghost use Rattle.std.specs.Prelude.{◌≡◌, ◌+◌, ◌^◌, ◌<◌, IfOk, MatchResult, None, Ok, Err, []};
+ghost use Rattle.std.specs.Prelude.{◌≡◌, ◌+◌, ◌^◌, ◌<◌, IfOk, MatchResult, None, Ok, Err, true, false};
 ghost use Rattle.wal.specs.Io.{IsCallWithin};
 ghost use Rattle.layout.specs.Geometry.{IsLawful};
 ghost use Rattle.store.specs.Opening.{HasOpened, store_of};
+ghost use Rattle.store.specs.Settling.{IsIdle, IsQuiet};
+ghost use Rattle.wal.specs.Installer.{is_inst_out};
 ghost use Rattle.txn.specs.CoreLaw.{IsFresh};
 
 use crate::opened::Store;
@@ -23,7 +25,7 @@ use wal::{InstIo, Wal};
 /// hands the disk back.
 #[tactic(auto, using(crate::specs::Opening::has_opened))]
 pub fn open<D: CrashDisk>(alloc: Global, disk: D) -> Result<Store<D>, (D, OpenFault)>
-    ensures idle { IfOk result (λ store. store.core.out ≡ []) }
+    ensures idle { IfOk result (λ store. IsIdle store.core) }
     ensures opened { MatchResult result
         (λ store. HasOpened (D.device disk) (Ok (store_of (D.device store.disk) store.core store.boot)))
         (λ refused. HasOpened (D.device disk) (Err (D.device refused.0, refused.1))) }
@@ -39,7 +41,7 @@ pub fn open<D: CrashDisk>(alloc: Global, disk: D) -> Result<Store<D>, (D, OpenFa
 fn recover<D: CrashDisk>(alloc: Global, disk: &mut D) -> Result<(Core<Done>, u64), OpenFault>
     ensures size { IfOk result (λ opened. (D.device disk.new).size ≡ opened.0.log.blocks) }
     ensures lawful { IfOk result (λ opened. IsLawful opened.0.log.blocks opened.0.inodes) }
-    ensures idle { IfOk result (λ opened. opened.0.out ≡ []) }
+    ensures idle { IfOk result (λ opened. IsIdle opened.0) }
 {
     let mut block = Block::zeros(alloc).map_err(|_| OpenFault::NoMemory)?;
     let found = read_super(disk, &mut block)?;
@@ -76,6 +78,8 @@ fn read_super<D: CrashDisk>(disk: &mut D, block: &mut Block) -> Result<Super, Op
 fn install<D: CrashDisk>(disk: &mut D, wal: &mut Wal) -> Result<(), OpenFault>
     requires size { (D.device disk.old).size ≡ wal.old.blocks }
     requires fresh { IsFresh wal.old }
+    requires quiet { IsQuiet wal.old }
+    ensures quiet { IsQuiet wal.new }
     ensures size { (D.device disk.new).size ≡ (D.device disk.old).size }
     ensures blocks { wal.new.blocks ≡ wal.old.blocks }
     ensures fresh { IsFresh wal.new }
@@ -94,7 +98,10 @@ fn install<D: CrashDisk>(disk: &mut D, wal: &mut Wal) -> Result<(), OpenFault>
 // Makes a call of the installer, gives it back, and tells whether it was answered Ok.
 #[tactic(auto, using(crate::proofs::Made::made_size))]
 fn install_one<D: CrashDisk>(disk: &mut D, wal: &mut Wal, io: InstIo) -> bool
-    requires { IsCallWithin (D.device disk.old).size io.call }
+    requires within { IsCallWithin (D.device disk.old).size io.call }
+    requires out { is_inst_out wal.old io ≡ true }
+    requires quiet { wal.old.log_out ≡ false }
+    ensures quiet { IsQuiet wal.new }
     ensures size { (D.device disk.new).size ≡ (D.device disk.old).size }
     ensures blocks { wal.new.blocks ≡ wal.old.blocks }
     ensures fresh { IsFresh wal.old → IsFresh wal.new }

@@ -6,8 +6,8 @@ ghost use Rattle.std.specs.Prelude.{IfOk, ◌∷◌, true, false, is_some, if◌
 ghost use Rattle.wal_law.specs.Log.{settled_place, installed_place, tail_count, IsHomeOn, IsLawful};
 ghost use Rattle.wal_law.specs.Calls.{LogCallGoesOut, LogCallComesBack, InstCallGoesOut, InstCallComesBack};
 ghost use Rattle.wal_law.specs.Io.{IsCallWithin};
-ghost use Rattle.wal_law.specs.Logger.{may_log, with_log_out, is_log_out, with_log_back};
-ghost use Rattle.wal_law.specs.Installer.{may_install, with_inst_out, is_inst_out, with_inst_back};
+ghost use Rattle.wal_law.specs.Logger.{IsNextLogCall, may_log, with_log_out, is_log_out, with_log_back};
+ghost use Rattle.wal_law.specs.Installer.{IsNextInstCall, may_install, with_inst_out, is_inst_out, with_inst_back};
 ghost use Rattle.txn_law.specs.Core.{without, ended, past, installed};
 ghost use Rattle.txn_law.specs.Records.{swept};
 
@@ -204,6 +204,7 @@ impl<C: Change> State<C> {
         ensures some { IsSome result → self.new ≡ record self.old { log = with_log_out self.old.log } }
         ensures none { IsNone result → self.new ≡ self.old }
         ensures within { IfSome result (λ io. IsCallWithin self.new.log.blocks io.call) }
+        ensures call { IfSome result (IsNextLogCall self.new.log) }
         ensures law { IfSome result (λ io. LogCallGoesOut self.old.log io self.new.log) }
     {
         self.log.log_next()
@@ -226,6 +227,7 @@ impl<C: Change> State<C> {
         ensures some { IsSome result → self.new ≡ record self.old { log = with_inst_out self.old.log } }
         ensures none { IsNone result → self.new ≡ self.old }
         ensures within { IfSome result (λ io. IsCallWithin self.new.log.blocks io.call) }
+        ensures call { IfSome result (IsNextInstCall self.new.log) }
         ensures law { IfSome result (λ io. InstCallGoesOut self.old.log io self.new.log) }
     {
         self.log.inst_next()

@@ -9,8 +9,8 @@ ghost use Rattle.wal_law.specs.Calls.{AgreesBeside, Pending, home_after};
 ghost use Rattle.disk.specs.Device.{Device, current, newest as newest_content};
 ghost use Rattle.disk.specs.Crash.{Image};
 ghost use Rattle.wal_law.specs.Io.{IsCallWithin};
-ghost use Rattle.wal_law.specs.Logger.{may_log, with_log_out, is_log_out, with_log_back};
-ghost use Rattle.wal_law.specs.Installer.{may_install, with_inst_out, is_inst_out, with_inst_back};
+ghost use Rattle.wal_law.specs.Logger.{IsNextLogCall, may_log, with_log_out, is_log_out, with_log_back};
+ghost use Rattle.wal_law.specs.Installer.{IsNextInstCall, may_install, with_inst_out, is_inst_out, with_inst_back};
 ghost use Rattle.txn_law.specs.Core.{IsOut, without, past};
 ghost use Rattle.txn_law.specs.CoreLaw.{IsFresh, IsLawfulCore};
 ghost use Rattle.txn_law.specs.CoreWindow.{IsHomeOf, KeepsHome, KeepsReads, IsPending};
@@ -240,6 +240,7 @@ impl<C: Change> Core<C> {
         ensures some { IsSome result → self.new ≡ record self.old { log = with_log_out self.old.log } }
         ensures none { IsNone result → self.new ≡ self.old }
         ensures within { IfSome result (λ io. IsCallWithin self.new.log.blocks io.call) }
+        ensures call { IfSome result (IsNextLogCall self.new.log) }
         ensures law { IfSome result (λ io. LogCallGoesOut self.old.log io self.new.log) }
         ensures stays { (other : ℕ) → KeepsReads self.old self.new other }
         ensures keeps { KeepsHome self.old self.new }
@@ -269,6 +270,7 @@ impl<C: Change> Core<C> {
         ensures some { IsSome result → self.new ≡ record self.old { log = with_inst_out self.old.log } }
         ensures none { IsNone result → self.new ≡ self.old }
         ensures within { IfSome result (λ io. IsCallWithin self.new.log.blocks io.call) }
+        ensures call { IfSome result (IsNextInstCall self.new.log) }
         ensures law { IfSome result (λ io. InstCallGoesOut self.old.log io self.new.log) }
         ensures stays { (other : ℕ) → KeepsReads self.old self.new other }
         ensures keeps { KeepsHome self.old self.new }

@@ -1,7 +1,8 @@
 //! The events of a run.
-ghost use Rattle.std.specs.Prelude.{◌≡◌, None, []};
+ghost use Rattle.std.specs.Prelude.{◌≡◌, None};
 ghost use Rattle.store_promise.specs.Room.{HasRoom};
 ghost use Rattle.store.specs.Running.{RunsWell};
+ghost use Rattle.store.specs.Settling.{IsIdle};
 
 use crate::opened::Store;
 use crate::options::put;
@@ -27,7 +28,7 @@ pub(super) struct Running<D: CrashDisk> {
 impl<D: CrashDisk> Running<D> {
     /// A run of an opened store in which nothing has happened yet.
     pub(super) fn new(store: Store<D>) -> Running<D>
-        requires { store.core.out ≡ [] }
+        requires { IsIdle store.core }
         ensures { RunsWell result.worker result.store.core result.log result.inst }
     {
         let boot = store.boot();

@@ -166,6 +166,7 @@ impl Worker {
             return self.lack(core, tx);
         };
         let blocks = added_blocks(done.written());
+        done.finished();
         let answer = match core.commit(alloc, tx, done) {
             Commit::Committed(place) => {
                 self.committed(place, told, kept);

@@ -1,6 +1,6 @@
--- no transaction is out
-use Rattle.std.proofs.Common.{◌≡◌, []}
+-- nothing is out
+use Rattle.store.specs.Settling.{IsIdle}
 use Rattle.session.proofs.serving.serve_all.Given as goal
 
 abbrev pub invariant-reads : goal.invariant-reads
-invariant-reads g l = l.store.core.out ≡ []
+invariant-reads g l = IsIdle l.store.core

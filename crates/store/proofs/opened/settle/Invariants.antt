@@ -1,7 +1,15 @@
--- no transaction begins or ends, and the image's counts stay
-use Rattle.std.proofs.Common.{◌≡◌}
+-- no transaction begins or ends, the image's counts stay, no device call is out, and what has failed was counted
+use Rattle.std.proofs.Common.{◌≡◌, ◌≤◌, ◌+◌, ℕ, true, if◌then◌else◌}
 use Rattle.store.specs.Counts.{SameCounts}
+use Rattle.store.specs.Settling.{HasFailed, calls_left}
 use Rattle.store.proofs.opened.settle.Given as goal
 
 abbrev pub invariant-calls : goal.invariant-calls
-invariant-calls g l = (l.store.core.out ≡ l.fn.store.core.out) × SameCounts l.fn.store.core l.store.core
+invariant-calls g l = (l.store.core.out ≡ l.fn.store.core.out)
+    × SameCounts l.fn.store.core l.store.core
+    × ((g.D.CrashDisk.device l.fn.store.disk).failures ≤ (g.D.CrashDisk.device l.store.disk).failures)
+    × (l.store.core.log.broken ≡ true
+    → HasFailed l.fn.store.core.log (g.D.CrashDisk.device l.fn.store.disk) (g.D.CrashDisk.device l.store.disk))
+
+abbrev pub decreases-calls : goal.decreases-calls
+decreases-calls g l = if l.store.core.log.broken then 0 else calls_left l.store.core.log + 1

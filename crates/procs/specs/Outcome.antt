@@ -1,0 +1,13 @@
+-- A reply with what was read and is written for it.
+use Rattle.std.specs.Prelude.{ℕ, List}
+use Rattle.nfs_types.specs.declared.reply.Reply.{Reply}
+use Rattle.txn.specs.Object.{ObjectBytes}
+
+-- What comes of a call: a reply, the objects that were read for it, those that are written with it, and the
+-- counts of the image that it was worked out for.
+pub record Outcome : Type 0 where
+  pub reply : Reply
+  pub read : List ObjectBytes
+  pub written : List ObjectBytes
+  pub blocks : ℕ
+  pub inodes : ℕ

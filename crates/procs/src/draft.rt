@@ -1,0 +1,67 @@
+//! What was worked out for a call.
+ghost use Rattle.std.specs.Prelude.{◌≡◌, ◌≤◌, length, IfOk};
+ghost use Rattle.limits.specs.declared.TheConstants.{CHANGED_BLOCKS};
+ghost use Rattle.txn.specs.Group.{blocks_of};
+
+use crate::Snap;
+use nfs_types::Reply;
+use std::alloc::AllocError;
+use std::marker::Model;
+use txn::Object;
+
+/// What was worked out for a call, before it is known whose call it was. It writes no more blocks than a
+/// transaction changes.
+#[derive(Drop)]
+pub(crate) struct Draft {
+    pub(crate) reply: Reply,
+    pub(crate) read: Vec<Object>,
+    pub(crate) written: Vec<Object>,
+    pub(crate) blocks: u32,
+    pub(crate) inodes: u32,
+}
+
+impl Model for Draft {
+    ghost use Rattle.std.specs.Prelude.{◌≤◌, length};
+    ghost use Rattle.limits.specs.declared.TheConstants.{CHANGED_BLOCKS};
+    ghost use Rattle.txn.specs.Group.{blocks_of};
+    ghost use Rattle.procs.specs.Outcome.{Outcome};
+
+    ghost Value = { Outcome };
+
+    ghost view = { λ draft. record {
+      reply = draft.reply;
+      read = draft.read.items;
+      written = draft.written.items;
+      blocks = draft.blocks;
+      inodes = draft.inodes;
+    } };
+
+    ghost invariant = { λ draft. length (blocks_of draft.written.items) ≤ CHANGED_BLOCKS };
+}
+
+impl Draft {
+    ghost use Rattle.procs.specs.Snap.{IsDoneFor};
+
+    /// What comes of a call, worked out from all that was read.
+    pub(crate) fn new(snap: &Snap, reply: Reply, written: Vec<Object>) -> Result<Draft, AllocError>
+        requires { length (blocks_of written.items) ≤ CHANGED_BLOCKS }
+        ensures snap { IfOk result (λ done. IsDoneFor snap.now done) }
+        ensures reply { IfOk result (λ done. done.reply ≡ reply) }
+        ensures written { IfOk result (λ done. done.written ≡ written.items) }
+    {
+        Ok(Draft {
+            reply,
+            read: snap.objects.clone()?,
+            written,
+            blocks: snap.geometry.blocks,
+            inodes: snap.geometry.inodes,
+        })
+    }
+
+    /// It writes few blocks.
+    pub(crate) fn few(&self)
+        ensures { length (blocks_of self.now.written) ≤ CHANGED_BLOCKS }
+    {
+        let _ = &self.written;
+    }
+}
