@@ -27,3 +27,4 @@ pub mod SlotBytes
 pub mod NumbersBytes
 pub mod SuperBytes
 pub mod OneGeometry
+pub mod AllNumbers

@@ -5,7 +5,7 @@ use Rattle.std.specs.Prelude.{◌||◌, List, ◌++◌, nat_eq, nat_le, nat_lt, 
 use Rattle.std.specs.Prelude.{is_none, replicate}
 use Rattle.std.specs.Prelude.{Result, Ok, Err}
 use Rattle.std.specs.List.{list_all, AllByRecursion}
-use Rattle.limits.specs.declared.TheConstants.{BLOCK_BYTES, DIRECT_INDEXES, LARGEST_FILE, MODE_BITS}
+use Rattle.limits.specs.declared.TheConstants.{BLOCK_BYTES, DIRECT_INDEXES, LARGEST_DIRECTORY, LARGEST_FILE, MODE_BITS}
 use Rattle.limits.specs.declared.TheConstants.{INODE_BYTES, MOST_LINKS, NANOSECONDS, TARGET_BYTES}
 use Rattle.nfs_types.specs.declared.ctx.Moment.{Moment}
 use Rattle.nfs_types.specs.declared.verifier.TheConstants.{VERIFIER_BYTES}
@@ -107,7 +107,7 @@ is_sound_regular inode = nat_le inode.size LARGEST_FILE && nat_eq inode.parent 0
 -- a directory has two links at least, each block that it spans and no other, and no create verifier
 abbrev pub is_sound_directory : ℕ → Inode → Bool
 is_sound_directory inodes inode =
-    nat_le 2 inode.nlink && nat_le inode.size LARGEST_FILE && nat_eq (inode.size % BLOCK_BYTES) 0
+    nat_le 2 inode.nlink && nat_le inode.size LARGEST_DIRECTORY && nat_eq (inode.size % BLOCK_BYTES) 0
     && nat_lt 0 inode.parent && nat_lt inode.parent inodes
     && names_first (min (inode.size / BLOCK_BYTES) DIRECT_INDEXES) inode.direct
     && (cond (nat_lt DIRECT_INDEXES (inode.size / BLOCK_BYTES)) (not (nat_eq inode.indirect 0))

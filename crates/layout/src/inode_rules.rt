@@ -7,7 +7,8 @@ ghost use Rattle.layout.specs.InodeForm.{is_sound_kind, is_sound_inode};
 
 use crate::{Geometry, Inode, InodeKind};
 use limits::{
-    BLOCK_BYTES, DIRECT_INDEXES, LARGEST_FILE, MODE_BITS, MOST_LINKS, NANOSECONDS, TARGET_BYTES,
+    BLOCK_BYTES, DIRECT_INDEXES, LARGEST_DIRECTORY, LARGEST_FILE, MODE_BITS, MOST_LINKS,
+    NANOSECONDS, TARGET_BYTES,
 };
 use nfs_types::Moment;
 
@@ -88,7 +89,7 @@ impl Inode {
     {
         let span = self.size / BLOCK_BYTES as u64;
         self.nlink >= 2
-            && self.size <= LARGEST_FILE
+            && self.size <= LARGEST_DIRECTORY
             && self.size % BLOCK_BYTES as u64 == 0
             && self.parent > 0
             && self.parent < geometry.inodes

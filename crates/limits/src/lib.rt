@@ -53,10 +53,14 @@ pub const ROOT_MODE: u32 = 0o755;
 pub const DIRECT_INDEXES: usize = 8;
 /// The indexes that an indirect block names.
 pub const INDIRECT_INDEXES: usize = 1024;
-/// The indexes of the largest file, and the greatest span of a directory.
+/// The indexes of the largest file.
 pub const FILE_INDEXES: usize = 1032;
 /// The bytes of the largest file.
 pub const LARGEST_FILE: u64 = 4_227_072;
+/// The most blocks that a directory spans.
+pub const MOST_SPAN: usize = 1032;
+/// The bytes of the largest directory.
+pub const LARGEST_DIRECTORY: u64 = 4_227_072;
 /// The slots of a block of a directory.
 pub const SLOTS_PER_BLOCK: u32 = 32;
 /// The most bytes of a name.
@@ -115,5 +119,9 @@ pub const MOST_KEPT_COMMITS: usize = 64;
 const _: () = prove!(FILE_INDEXES == DIRECT_INDEXES + INDIRECT_INDEXES);
 
 const _: () = prove!(LARGEST_FILE == FILE_INDEXES as u64 * BLOCK_BYTES as u64);
+
+const _: () = prove!(MOST_SPAN == DIRECT_INDEXES + INDIRECT_INDEXES);
+
+const _: () = prove!(LARGEST_DIRECTORY == MOST_SPAN as u64 * BLOCK_BYTES as u64);
 
 const _: () = prove!(FIRST_SLOT_BLOCK as u64 + LOG_SLOTS == START_BLOCK as u64);

@@ -6,8 +6,8 @@ use Rattle.std.specs.FinMap as map
 use Rattle.std.specs.FinSet as set
 use Rattle.limits.specs.declared.TheConstants.{ROOT, BLOCK_BYTES, FILE_INDEXES, INODES_PER_BLOCK}
 use Rattle.limits.specs.declared.TheConstants.{LARGEST_FILE, LEAST_DATA_BLOCKS, LEAST_INODES, MODE_BITS}
-use Rattle.limits.specs.declared.TheConstants.{MOST_BLOCKS, MOST_INODES, MOST_LINKS, NAME_BYTES, NANOSECONDS}
-use Rattle.limits.specs.declared.TheConstants.{SLOTS_PER_BLOCK, TARGET_BYTES}
+use Rattle.limits.specs.declared.TheConstants.{MOST_BLOCKS, MOST_INODES, MOST_LINKS, MOST_SPAN, NAME_BYTES}
+use Rattle.limits.specs.declared.TheConstants.{NANOSECONDS, SLOTS_PER_BLOCK, TARGET_BYTES}
 use Rattle.nfs_types.specs.declared.ctx.Ctx.{Ctx}
 use Rattle.nfs_types.specs.declared.ctx.Moment.{Moment}
 use Rattle.nfs_types.specs.declared.handle.Stamp.{Stamp}
@@ -62,7 +62,7 @@ pub record SoundBytes (bytes : List ℕ) (mapped : set.FinSet nat_cmp) : Type 0 
 -- The entries of a directory: under lawful names, each in a slot of its own among those that the directory
 -- spans.
 pub record SoundEntries (entries : Entries) (span : ℕ) : Type 0 where
-  pub blocks : span ≤ FILE_INDEXES
+  pub blocks : span ≤ MOST_SPAN
   pub names : (name : List ℕ) (entry : DirectoryEntry) → map.get entries name ≡ Some entry → SoundName name
   pub slots : (name : List ℕ) (entry : DirectoryEntry) → map.get entries name ≡ Some entry
       → entry.slot < SLOTS_PER_BLOCK * span

@@ -1,7 +1,7 @@
 -- The parts of a file, as the definition of decoding has them.
 use Rattle.std.proofs.Common.{◌≡◌, ℕ, zero, suc, ◌+◌, ◌*◌, inl, inr, cond, nat_eq, List, [], ◌∷◌, ◌++◌, take}
-use Rattle.std.proofs.Common.{drop, replicate, refl, ap, ◌∙◌, arith}
-use Rattle.std.specs.List.{flat_map, range_with_len}
+use Rattle.std.proofs.Common.{drop, replicate, refl, sym, ap, ◌∙◌, true, false, arith}
+use Rattle.std.specs.List.{flat_map, range_with_len, AllByRecursion}
 use Rattle.std.proofs.lemmas.Bool.Decides.{eqb_tells}
 use Rattle.std.proofs.lemmas.Grind.{flat_map-append}
 use Rattle.std.proofs.lemmas.List.{append-nil}
@@ -44,6 +44,9 @@ with_indirect image inode some = elim (eqb_tells inode.indirect 0) [
   | inr isnt ↦ ap (λ b. inode.direct
       ++ cond b (replicate INDIRECT_INDEXES 0) (numbers_at INDIRECT_INDEXES 0 (image inode.indirect))) isnt.0
 ]
+
+pub none_there : {P : Type 0} (number : ℕ) → number ≡ 0 → nat_eq number 0 ≡ false → P
+none_there number is some = absurd (let clash : true ≡ false = sym (ap (λ n. nat_eq n 0) is) ∙ some in cc)
 
 pub no_bytes : (image : Image) → bytes_of image [] ≡ []
 unfolding bytes_of
@@ -100,3 +103,15 @@ one_slot inodes bytes count =
     ∙ ap (flat_map slot) (more_range 0 count ∙ ap (λ k. range_with_len 0 count ++ k ∷ []) at)
     ∙ flat_map-append slot (range_with_len 0 count) (count ∷ [])
     ∙ ap (λ l. entries_below inodes bytes count ++ l) (append-nil (slot count))
+
+-- ---- blocks with all their bytes
+
+module _ (P : ℕ → Type 0) where
+  pub none_taken : (numbers : List ℕ) → AllByRecursion P (take 0 numbers)
+  none_taken [] = tt
+  none_taken (n ∷ numbers) = tt
+
+  pub more_all : (numbers : List ℕ) (n : ℕ) → AllByRecursion P numbers → P n
+      → AllByRecursion P (numbers ++ n ∷ [])
+  more_all [] n all is = (is, tt)
+  more_all (m ∷ numbers) n all is = (all.0, more_all numbers n all.1 is)

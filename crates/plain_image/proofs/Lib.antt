@@ -1,1 +1,4 @@
 pub mod Decoded
+pub mod SameFile
+pub mod Bodies
+pub mod Contents

@@ -2,8 +2,9 @@
 ghost use Rattle.std.specs.Prelude.{◌≡◌, ◌<◌, ◌++◌, IfOk, OnOk, All};
 ghost use Rattle.limits.specs.declared.TheConstants.{SUPER_BLOCK};
 ghost use Rattle.disk.specs.Memory.{image_of};
+ghost use Rattle.layout.specs.InodeForm.{SoundInode};
 ghost use Rattle.layout.specs.SuperForm.{IsSuper};
-ghost use Rattle.plain_image.specs.PlainFile.{IsDecoded, IsFileOf, if_used, numbers_in, used_below};
+ghost use Rattle.plain_image.specs.PlainFile.{IsContent, IsDecoded, IsFileOf, if_used, numbers_in, used_below};
 
 use crate::parts::{block_of, bytes_of, count_mapped, inode_of, names_of, numbers_of};
 use crate::{ImageFault, PlainName};
@@ -50,6 +51,22 @@ impl PlainImage {
     }
 }
 
+// What these bytes are in a file of this kind.
+fn content_of(
+    alloc: Global,
+    inodes: u32,
+    kind: InodeKind,
+    bytes: Vec<u8>,
+) -> Result<PlainContent, ImageFault>
+    ensures { IfOk result (λ content. IsContent inodes kind bytes.items content) }
+{
+    Ok(match kind {
+        InodeKind::Regular => PlainContent::Bytes(Octets::new(bytes)),
+        InodeKind::Directory => PlainContent::Names(names_of(alloc, inodes, &bytes)?),
+        InodeKind::Link => PlainContent::Target(Octets::new(bytes)),
+    })
+}
+
 // The file of an inode.
 fn file_of(
     alloc: Global,
@@ -58,15 +75,12 @@ fn file_of(
     number: u32,
     inode: Inode,
 ) -> Result<PlainFile, ImageFault>
-    ensures { IfOk result (λ file. IsFileOf geometry.now.inodes (image_of disk.now) number inode file) }
+    requires { SoundInode geometry.now.blocks geometry.now.inodes inode }
+    ensures { IfOk result (λ file. IsFileOf geometry.now (image_of disk.now) number inode file) }
 {
     let numbers = numbers_of(alloc, disk, geometry, &inode)?;
     let bytes = bytes_of(alloc, disk, &numbers, inode.size as usize)?;
-    let content = match inode.kind {
-        InodeKind::Directory => PlainContent::Names(names_of(alloc, geometry.inodes, &bytes)?),
-        InodeKind::Link => PlainContent::Target(Octets::new(bytes)),
-        InodeKind::Regular => PlainContent::Bytes(Octets::new(bytes)),
-    };
+    let content = content_of(alloc, geometry.inodes, inode.kind, bytes)?;
     Ok(PlainFile {
         number,
         inode,

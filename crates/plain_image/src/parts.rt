@@ -1,17 +1,20 @@
 //! The parts of a file: its inode, the numbers of its blocks, their bytes, and the names in them.
-ghost use Rattle.std.specs.Prelude.{◌≡◌, ◌≤◌, ◌<◌, ◌++◌, not, nat_eq, length, count_by, IfOk, IfErr, OnOk};
+ghost use Rattle.std.specs.Prelude.{◌≡◌, ◌≤◌, ◌<◌, ◌++◌, true, length, IfOk, IfErr, IfSome, OnOk};
 ghost use Rattle.limits.specs.declared.TheConstants.{BLOCK_BYTES, INDIRECT_INDEXES};
 ghost use Rattle.disk.specs.Memory.{image_of, memory_device};
 ghost use Rattle.model.specs.SetAttr.{resized};
-ghost use Rattle.layout.specs.Fields.{numbers_at};
+ghost use Rattle.std.specs.List.{list_all};
+ghost use Rattle.layout.specs.Fields.{numbers_at, count_of};
+ghost use Rattle.layout.specs.InodeForm.{SoundInode, is_data_block_or_none};
 ghost use Rattle.layout.specs.declared.slot.TheConstants.{SLOT_BYTES};
+ghost use Rattle.plain_image.specs.PlainFile.{AreNumbersOf, AreWhole};
 ghost use Rattle.plain_image.specs.PlainName.{entries_in, entries_of, one_entry};
 ghost use Rattle.layout.specs.Decode.{bytes_of, content_of, inode_at, numbers_of};
 
 use crate::ImageFault;
 use disk::{BlockNo, CrashDisk, MemDisk};
 use layout::{Geometry, Inode, Numbers, SLOT_BYTES, Slot};
-use limits::{BLOCK_BYTES, FILE_INDEXES, INDIRECT_INDEXES, LARGEST_FILE};
+use limits::{BLOCK_BYTES, FILE_INDEXES, INDIRECT_INDEXES, LARGEST_DIRECTORY};
 use nfs_types::Octets;
 use std::alloc::{AllocError, Global};
 
@@ -44,7 +47,9 @@ pub(crate) fn inode_of(
     number: u32,
 ) -> Result<Option<Inode>, ImageFault>
     requires { number < geometry.now.inodes }
-    ensures { IfOk result (λ found. inode_at geometry.now (image_of disk.now) number ≡ Ok found) }
+    ensures at { IfOk result (λ found. inode_at geometry.now (image_of disk.now) number ≡ Ok found) }
+    ensures sound { IfOk result (λ found. IfSome found
+        (λ inode. SoundInode geometry.now.blocks geometry.now.inodes inode)) }
 {
     let addr = geometry.inode_addr(number);
     let block = block_of(disk, addr.block.0)?;
@@ -59,7 +64,9 @@ fn indirect(
     geometry: &Geometry,
     number: u32,
 ) -> Result<Numbers, ImageFault>
-    ensures { IfOk result (λ numbers. numbers ≡ numbers_at INDIRECT_INDEXES 0 (image_of disk.now number)) }
+    ensures are { IfOk result (λ numbers. numbers ≡ numbers_at INDIRECT_INDEXES 0 (image_of disk.now number)) }
+    ensures places { IfOk result
+        (λ numbers. list_all (is_data_block_or_none geometry.now.blocks geometry.now.inodes) numbers ≡ true) }
 {
     let bytes = block_of(disk, number)?;
     let numbers = Numbers::read(alloc, geometry, bytes)??;
@@ -73,7 +80,9 @@ pub(crate) fn numbers_of(
     geometry: &Geometry,
     inode: &Inode,
 ) -> Result<Vec<u32>, ImageFault>
-    ensures { IfOk result (λ numbers. numbers.items ≡ numbers_of (image_of disk.now) inode.now) }
+    requires { SoundInode geometry.now.blocks geometry.now.inodes inode.now }
+    ensures { IfOk result
+        (λ numbers. AreNumbersOf geometry.now (image_of disk.now) inode.now numbers.items) }
 {
     let mut numbers = Vec::with_capacity(alloc, FILE_INDEXES)?;
     numbers.extend_from_slice(&inode.direct)?;
@@ -88,14 +97,15 @@ pub(crate) fn numbers_of(
 
 /// How many of the numbers are those of blocks.
 pub(crate) fn count_mapped(numbers: &[u32]) -> usize
-    ensures { result ≡ count_by (λ number. not (nat_eq number 0)) numbers.now }
+    ensures { result ≡ count_of numbers.now }
 {
     numbers.iter().filter(|number| **number != 0).count()
 }
 
 // Adds the bytes of a block, zeros where its number is 0.
 fn push_block(disk: &MemDisk, number: u32, bytes: &mut Vec<u8>) -> Result<(), ImageFault>
-    ensures { OnOk result (bytes.new.items ≡ bytes.old.items ++ content_of (image_of disk.now) number) }
+    ensures bytes { OnOk result (bytes.new.items ≡ bytes.old.items ++ content_of (image_of disk.now) number) }
+    ensures len { OnOk result (length (content_of (image_of disk.now) number) ≡ BLOCK_BYTES) }
 {
     if number == 0 {
         bytes.extend_from_slice(&[0; BLOCK_BYTES])?;
@@ -112,7 +122,9 @@ pub(crate) fn bytes_of(
     numbers: &[u32],
     size: usize,
 ) -> Result<Vec<u8>, ImageFault>
-    ensures { IfOk result (λ bytes. bytes.items ≡ resized size (bytes_of (image_of disk.now) numbers.now)) }
+    ensures bytes { IfOk result
+        (λ bytes. bytes.items ≡ resized size (bytes_of (image_of disk.now) numbers.now)) }
+    ensures whole { IfOk result (λ _. AreWhole (image_of disk.now) numbers.now) }
 {
     let mut bytes = Vec::new(alloc);
     'each: for number in numbers {
@@ -143,7 +155,7 @@ fn push_name(
     Ok(())
 }
 
-/// The names in the bytes of a directory, which has no more than the largest file.
+/// The names in the bytes of a directory, which has no more than the largest directory.
 pub(crate) fn names_of(
     alloc: Global,
     inodes: u32,
@@ -151,7 +163,7 @@ pub(crate) fn names_of(
 ) -> Result<Vec<PlainName>, ImageFault>
     ensures { IfOk result (λ names. entries_of names.items ≡ entries_in inodes bytes.now) }
 {
-    if bytes.len() > LARGEST_FILE as usize {
+    if bytes.len() > LARGEST_DIRECTORY as usize {
         return Err(ImageFault::Layout);
     }
     let mut names = Vec::new(alloc);

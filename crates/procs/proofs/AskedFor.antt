@@ -21,7 +21,8 @@ use Rattle.txn.specs.Object.{ObjectBytes}
 use Rattle.txn.specs.Wishes.{IsWhole}
 use Rattle.layout.specs.declared.inode.Inode.{Inode}
 use Rattle.procs.proofs.AllTests.{all_two, is_less, no_more}
-use Rattle.procs.proofs.InodeThere.{data_of, map_is}
+use Rattle.layout.proofs.AllNumbers.{map_is}
+use Rattle.procs.proofs.InodeThere.{data_of}
 use Rattle.procs.specs.Asks.{Asks, AsksOfFile, IsAskedInode, IsAskedOfFile, IsAskedWhole, WasReadInode}
 use Rattle.procs.specs.Asks.{inode, indirect}
 use Rattle.procs.specs.declared.snap.Snap.{Snap}

@@ -3,13 +3,12 @@ use Rattle.std.proofs.Common.{◌≡◌, ℕ, ◌*◌, ◌/◌, ◌%◌, ◌≤�
 use Rattle.std.proofs.Common.{length-append, length-take-le, arith}
 use Rattle.std.proofs.Common.{List, [], ◌∷◌, length, take, replicate, nat_eq}
 use Rattle.std.specs.List.{flat_map}
-use Rattle.limits.specs.declared.TheConstants.{BLOCK_BYTES, DIRECT_INDEXES, INDIRECT_INDEXES, LARGEST_FILE}
-use Rattle.limits.specs.declared.TheConstants.{FILE_INDEXES, TARGET_BYTES}
+use Rattle.limits.specs.declared.TheConstants.{BLOCK_BYTES, DIRECT_INDEXES, LARGEST_FILE}
+use Rattle.limits.specs.declared.TheConstants.{TARGET_BYTES}
 use Rattle.disk.specs.Crash.{Image}
 use Rattle.layout.specs.declared.inode.Inode.{Inode}
 use Rattle.layout.specs.Decode.{numbers_of, bytes_of, content_of}
-use Rattle.layout.specs.Fields.{numbers_at}
-use Rattle.layout.proofs.NumbersAt.{numbers-length}
+use Rattle.layout.proofs.AllNumbers.{all-length}
 
 one_long : (content : Image) → ((number : ℕ) → length (content number) ≡ BLOCK_BYTES) → (number : ℕ)
     → length (content_of content number) ≡ BLOCK_BYTES
@@ -29,26 +28,11 @@ bytes-length content long (n ∷ numbers) =
     let both = length-append (content_of content n) (flat_map (content_of content) numbers) in
     omega (arith, both, here, rest)
 
-far-length : (content : Image) (indirect : ℕ) (none : Bool)
-    → length (cond none (replicate INDIRECT_INDEXES 0) (numbers_at INDIRECT_INDEXES 0 (content indirect)))
-    ≡ INDIRECT_INDEXES
-far-length content indirect true = refl
-far-length content indirect false = numbers-length INDIRECT_INDEXES 0 (content indirect)
-
 module _ (content : Image) (inode : Inode) (direct : length inode.direct ≡ DIRECT_INDEXES) where
-  pub all-length : length (numbers_of content inode) ≡ FILE_INDEXES
-  unfolding numbers_of
-  all-length =
-      let far = far-length content inode.indirect (nat_eq inode.indirect 0) in
-      let both = length-append inode.direct
-      (cond (nat_eq inode.indirect 0) (replicate INDIRECT_INDEXES 0)
-      (numbers_at INDIRECT_INDEXES 0 (content inode.indirect))) in
-      omega (arith, both, far, direct)
-
   pub regular_size : ((number : ℕ) → length (content number) ≡ BLOCK_BYTES) → inode.size ≤ LARGEST_FILE
       → length (take inode.size (bytes_of content (numbers_of content inode))) ≡ inode.size
   regular_size long small =
-      let all = all-length in
+      let all = all-length content inode direct in
       let bytes = bytes-length content long (numbers_of content inode) in
       length-take-le inode.size (bytes_of content (numbers_of content inode))
       (omega (arith, all, bytes, small))

@@ -12,17 +12,16 @@ use Rattle.model.specs.Tree as model
 use Rattle.layout.specs.declared.fault.LayoutFault.TheVariants.{Range}
 use Rattle.layout.specs.declared.geometry.Geometry.{Geometry}
 use Rattle.layout.specs.declared.inode.Inode.{Inode}
-use Rattle.layout.specs.declared.inode.InodeKind.{InodeKind}
-use Rattle.layout.specs.declared.inode.InodeKind.TheVariants.{Regular, Directory, Link}
 use Rattle.layout.specs.Decode.{IsFile, IsOfKind, inode_at}
-use Rattle.layout.specs.InodeForm.{SoundInode, is_sound_inode, is_sound_kind, is_sound_file, is_sound_map}
-use Rattle.layout.specs.InodeForm.{is_sound_regular, is_sound_directory, is_sound_link, is_data_block_or_none}
+use Rattle.layout.specs.InodeForm.{SoundInode, is_sound_inode, is_sound_kind}
+use Rattle.layout.specs.InodeForm.{is_data_block_or_none}
 use Rattle.layout.specs.Geometry.{inode_block, inode_offset, is_data, data_at}
 use Rattle.layout.specs.Parts.{content_in}
 use Rattle.layout.specs.Stands.{Stands}
+use Rattle.layout.proofs.AllNumbers.{map_is}
 use Rattle.layout.proofs.Fits.{read_fits, part-length}
 use Rattle.layout.proofs.WrittenBytes.{taken, dropped}
-use Rattle.procs.proofs.AllTests.{all_two, all_three, is_less, same_number}
+use Rattle.procs.proofs.AllTests.{all_two, is_less, same_number}
 use Rattle.procs.proofs.UsedBlocks.{counted}
 use Rattle.layout.specs.Fields.{numbers_at, count_of}
 
@@ -30,15 +29,6 @@ filled : (is : Bool) (block : List ℕ) → (is ≡ true → length block ≡ BL
     → length (cond is block (replicate BLOCK_BYTES 0)) ≡ BLOCK_BYTES
 filled true block long = long refl
 filled false block long = refl
-
-pub map_is : (blocks inodes : ℕ) (kind : InodeKind) (inode : Inode)
-    → is_sound_kind blocks inodes kind inode ≡ true → is_sound_map blocks inodes inode ≡ true
-map_is blocks inodes Regular inode e =
-    (all_three (is_sound_file inode) (is_sound_map blocks inodes inode) (is_sound_regular inode) e).1
-map_is blocks inodes Directory inode e =
-    (all_three (is_sound_file inode) (is_sound_map blocks inodes inode) (is_sound_directory inodes inode) e).1
-map_is blocks inodes Link inode e =
-    (all_three (is_sound_file inode) (is_sound_map blocks inodes inode) (is_sound_link inode) e).1
 
 pub data_of : (none is : Bool) → none ≡ false → (none || is) ≡ true → is ≡ true
 data_of true is some e = cc

@@ -3,7 +3,7 @@ use Rattle.std.proofs.Common.{◌≡◌, ℕ, zero, suc, ◌+◌, ◌≤◌, sym
 use Rattle.std.proofs.Common.{List, length, take, drop, replicate, nat_eq, nat_lt, count_by, arith}
 use Rattle.std.specs.List.{list_all}
 use Rattle.std.proofs.lemmas.List.Sums.{sum_by-append, sum_by-cons}
-use Rattle.limits.specs.declared.TheConstants.{DIRECT_INDEXES, INDIRECT_INDEXES, LARGEST_FILE}
+use Rattle.limits.specs.declared.TheConstants.{DIRECT_INDEXES, INDIRECT_INDEXES, LARGEST_DIRECTORY}
 use Rattle.disk.specs.Crash.{Image}
 use Rattle.model.specs.Cost.{file_cost}
 use Rattle.layout.specs.declared.geometry.Geometry.{Geometry}
@@ -14,7 +14,7 @@ use Rattle.layout.specs.InodeForm.{names_first}
 use Rattle.layout.proofs.Mapped.{is_some}
 use Rattle.layout.proofs.Used.{regular_held, first_count}
 use Rattle.procs.proofs.AllTests.{all_two}
-use Rattle.procs.proofs.FileSizes.{all-length}
+use Rattle.layout.proofs.AllNumbers.{all-length}
 
 -- what is counted of an inode: what it names directly, and, where it has one, the indirect block and what
 -- that names
@@ -56,7 +56,7 @@ module _ (g : Geometry) (content : Image) (inode : Inode) (direct : length inode
     regular_counted mapped = regular_held g content inode direct mapped ∙ all_counted
 
     pub directory_counted : names_first (span_of inode) (numbers_of content inode) ≡ true
-        → inode.size ≤ LARGEST_FILE
+        → inode.size ≤ LARGEST_DIRECTORY
         → cond (nat_lt DIRECT_INDEXES (span_of inode)) (not (nat_eq inode.indirect 0))
         (nat_eq inode.indirect 0)
         ≡ true
