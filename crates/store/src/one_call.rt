@@ -20,7 +20,8 @@ pub fn procedure<D: CrashDisk>(
     call: Call,
 ) -> Verdict
     requires { store.old.core.out ≡ [] }
-    ensures { store.new.core.out ≡ [] }
+    ensures out { store.new.core.out ≡ [] }
+    ensures model { D.keeps_model store.new.disk → D.keeps_model store.old.disk }
 {
     let mut worker = Worker::new(store.boot);
     worker.hand(credential, moment, call);
@@ -35,7 +36,8 @@ pub fn procedure<D: CrashDisk>(
 // Drives a worker to the answer of its call.
 fn answer<D: CrashDisk>(alloc: Global, store: &mut Store<D>, worker: &mut Worker) -> Verdict
     requires { Fits worker.old store.old.core }
-    ensures { Fits worker.new store.new.core }
+    ensures fits { Fits worker.new store.new.core }
+    ensures model { D.keeps_model store.new.disk → D.keeps_model store.old.disk }
 {
     'steps: for _ in 0..u64::MAX {
         go_on(alloc, store, worker);
@@ -49,7 +51,8 @@ fn answer<D: CrashDisk>(alloc: Global, store: &mut Store<D>, worker: &mut Worker
 // The read that is due, or the next step. Where it waits for the log, everything is settled.
 fn go_on<D: CrashDisk>(alloc: Global, store: &mut Store<D>, worker: &mut Worker)
     requires { Fits worker.old store.old.core }
-    ensures { Fits worker.new store.new.core }
+    ensures fits { Fits worker.new store.new.core }
+    ensures model { D.keeps_model store.new.disk → D.keeps_model store.old.disk }
 {
     let _ = worker.read(&mut store.disk);
     match worker.step(alloc, &mut store.core) {

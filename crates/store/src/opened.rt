@@ -55,6 +55,7 @@ pub fn settle<D: CrashDisk>(store: &mut Store<D>) -> Result<(), Failed>
     ensures out { store.new.core.out ≡ store.old.core.out }
     ensures counts { SameCounts store.old.core store.new.core }
     ensures settled { OnOk result (IsSettled store.new.core) }
+    ensures model { D.keeps_model store.new.disk → D.keeps_model store.old.disk }
 {
     'calls: for _ in 0..u64::MAX {
         if store.core.broken() {
@@ -82,6 +83,7 @@ pub(crate) fn keeps_too_many<D: CrashDisk>(store: &Store<D>) -> bool
 fn log_one<D: CrashDisk>(store: &mut Store<D>) -> bool
     ensures out { store.new.core.out ≡ store.old.core.out }
     ensures counts { SameCounts store.old.core store.new.core }
+    ensures model { D.keeps_model store.new.disk → D.keeps_model store.old.disk }
 {
     let Some(io) = store.core.log_next() else {
         return false;
@@ -96,6 +98,7 @@ fn log_one<D: CrashDisk>(store: &mut Store<D>) -> bool
 fn install_one<D: CrashDisk>(store: &mut Store<D>) -> bool
     ensures out { store.new.core.out ≡ store.old.core.out }
     ensures counts { SameCounts store.old.core store.new.core }
+    ensures model { D.keeps_model store.new.disk → D.keeps_model store.old.disk }
 {
     let Some(io) = store.core.inst_next() else {
         return false;

@@ -1,6 +1,7 @@
--- the worker fits the core
+-- the worker fits the core, and the device has kept its model so far where it does
 use Rattle.store.specs.Worker.{Fits}
 use Rattle.store.proofs.one_call.answer.Given as goal
 
 abbrev pub invariant-steps : goal.invariant-steps
 invariant-steps g l = Fits l.worker l.store.core
+    × (g.D.CrashDisk.keeps_model l.store.disk → g.D.CrashDisk.keeps_model l.fn.store.disk)

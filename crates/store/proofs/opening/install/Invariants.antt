@@ -8,5 +8,6 @@ invariant-calls g l = record {
   size : (g.D.CrashDisk.device l.disk).size ≡ (g.D.CrashDisk.device l.fn.disk).size;
   blocks : l.wal.blocks ≡ l.fn.wal.blocks;
   fresh : IsFresh l.wal;
+  model : g.D.CrashDisk.keeps_model l.disk → g.D.CrashDisk.keeps_model l.fn.disk;
   same : (g.D.CrashDisk.device l.disk).size ≡ l.wal.blocks;
 }
