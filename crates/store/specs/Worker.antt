@@ -3,6 +3,9 @@ use Rattle.std.specs.Prelude.{◌≡◌, ℕ, ◌<◌, Bool, true, false, Option
 use Rattle.model.specs.Calls.{has_rules}
 use Rattle.txn.specs.Core.{CoreState}
 use Rattle.txn.specs.Out.{listed}
+use Rattle.txn.specs.Fetch.{Fetch}
+use Rattle.store_promise.specs.declared.events.Step.{Step}
+use Rattle.store_promise.specs.declared.events.Step.TheVariants as step
 use Rattle.layout.specs.Geometry.{IsLawful}
 use Rattle.procs.specs.declared.next.Plan.{Plan}
 use Rattle.procs.specs.declared.next.Plan.TheVariants as plan
@@ -109,3 +112,8 @@ pub record IsWithout (worker : Worker) : Type 0 where
   pub transaction : has_transaction worker.phase ≡ false
   pub fetch : has_fetch worker.phase ≡ false
   pub ready : IsReady worker.phase worker
+
+-- the step is the read of the block that was fetched, and the phase has whether it was read
+abbrev pub IsRead : Option Fetch → Phase → Step → Type 0
+IsRead (Some io) phase made = (ok : Bool) × (phase ≡ Read ok) × (made ≡ step.Read io.block ok)
+IsRead None phase made = ⊥

@@ -20,7 +20,8 @@ pub fn procedure<D: CrashDisk>(
     call: Call,
 ) -> Verdict
     requires { IsIdle store.old.core }
-    ensures { IsIdle store.new.core }
+    ensures idle { IsIdle store.new.core }
+    ensures model { D.keeps_model store.new.disk → D.keeps_model store.old.disk }
 {
     let mut worker = Worker::new(store.boot);
     worker.hand(credential, moment, call);
@@ -38,6 +39,7 @@ fn answer<D: CrashDisk>(alloc: Global, store: &mut Store<D>, worker: &mut Worker
     requires quiet { IsQuiet store.old.core.log }
     ensures fits { Fits worker.new store.new.core }
     ensures quiet { IsQuiet store.new.core.log }
+    ensures model { D.keeps_model store.new.disk → D.keeps_model store.old.disk }
 {
     'steps: for _ in 0..u64::MAX {
         go_on(alloc, store, worker);
@@ -54,6 +56,7 @@ fn go_on<D: CrashDisk>(alloc: Global, store: &mut Store<D>, worker: &mut Worker)
     requires quiet { IsQuiet store.old.core.log }
     ensures fits { Fits worker.new store.new.core }
     ensures quiet { IsQuiet store.new.core.log }
+    ensures model { D.keeps_model store.new.disk → D.keeps_model store.old.disk }
 {
     let _ = worker.read(&mut store.disk);
     match worker.step(alloc, &mut store.core) {

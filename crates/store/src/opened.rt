@@ -61,6 +61,7 @@ pub fn settle<D: CrashDisk>(store: &mut Store<D>) -> Result<(), Failed>
     ensures settled { OnOk result (IsSettled store.new.core) }
     ensures failed { OnErr result (HasFailed store.old.core.log (D.device store.old.disk) (D.device store.new.disk)) }
     ensures broken { OnErr result (store.new.core.log.broken ≡ true) }
+    ensures model { D.keeps_model store.new.disk → D.keeps_model store.old.disk }
 {
     'calls: loop {
         if store.core.broken() {
@@ -94,6 +95,7 @@ fn log_one<D: CrashDisk>(store: &mut Store<D>) -> bool
         → HasCalled store.old.core.log (D.device store.old.disk) store.new.core.log (D.device store.new.disk) }
     ensures none { IsFalse result
         → (store.new.core ≡ store.old.core) × (D.device store.new.disk ≡ D.device store.old.disk) }
+    ensures model { D.keeps_model store.new.disk → D.keeps_model store.old.disk }
 {
     store.core.lawful();
     let Some(io) = store.core.log_next() else {
@@ -116,6 +118,7 @@ fn install_one<D: CrashDisk>(store: &mut Store<D>) -> bool
         → HasCalled store.old.core.log (D.device store.old.disk) store.new.core.log (D.device store.new.disk) }
     ensures none { IsFalse result
         → (store.new.core ≡ store.old.core) × (D.device store.new.disk ≡ D.device store.old.disk) }
+    ensures model { D.keeps_model store.new.disk → D.keeps_model store.old.disk }
 {
     store.core.lawful();
     let Some(io) = store.core.inst_next() else {

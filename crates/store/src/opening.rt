@@ -29,6 +29,8 @@ pub fn open<D: CrashDisk>(alloc: Global, disk: D) -> Result<Store<D>, (D, OpenFa
     ensures opened { MatchResult result
         (λ store. HasOpened (D.device disk) (Ok (store_of (D.device store.disk) store.core store.boot)))
         (λ refused. HasOpened (D.device disk) (Err (D.device refused.0, refused.1))) }
+    ensures model { MatchResult result (λ store. D.keeps_model store.disk → D.keeps_model disk)
+        (λ refused. D.keeps_model refused.0 → D.keeps_model disk) }
 {
     let mut disk = disk;
     match recover(alloc, &mut disk) {
@@ -42,6 +44,7 @@ fn recover<D: CrashDisk>(alloc: Global, disk: &mut D) -> Result<(Core<Done>, u64
     ensures size { IfOk result (λ opened. (D.device disk.new).size ≡ opened.0.log.blocks) }
     ensures lawful { IfOk result (λ opened. IsLawful opened.0.log.blocks opened.0.inodes) }
     ensures idle { IfOk result (λ opened. IsIdle opened.0) }
+    ensures model { D.keeps_model disk.new → D.keeps_model disk.old }
 {
     let mut block = Block::zeros(alloc).map_err(|_| OpenFault::NoMemory)?;
     let found = read_super(disk, &mut block)?;
@@ -61,6 +64,7 @@ fn read_super<D: CrashDisk>(disk: &mut D, block: &mut Block) -> Result<Super, Op
     ensures size { (D.device disk.new).size ≡ (D.device disk.old).size }
     ensures blocks { IfOk result (λ found. found.geometry.blocks ≡ (D.device disk.old).size) }
     ensures boot { IfOk result (λ found. found.boot + 1 < 2 ^ 64) }
+    ensures model { D.keeps_model disk.new → D.keeps_model disk.old }
 {
     if disk.blocks() == 0 {
         return Err(OpenFault::Magic);
@@ -83,6 +87,7 @@ fn install<D: CrashDisk>(disk: &mut D, wal: &mut Wal) -> Result<(), OpenFault>
     ensures size { (D.device disk.new).size ≡ (D.device disk.old).size }
     ensures blocks { wal.new.blocks ≡ wal.old.blocks }
     ensures fresh { IsFresh wal.new }
+    ensures model { D.keeps_model disk.new → D.keeps_model disk.old }
 {
     'calls: for _ in 0..LOG_SLOTS + 3 {
         let Some(io) = wal.inst_next() else {
@@ -105,6 +110,7 @@ fn install_one<D: CrashDisk>(disk: &mut D, wal: &mut Wal, io: InstIo) -> bool
     ensures size { (D.device disk.new).size ≡ (D.device disk.old).size }
     ensures blocks { wal.new.blocks ≡ wal.old.blocks }
     ensures fresh { IsFresh wal.old → IsFresh wal.new }
+    ensures model { D.keeps_model disk.new → D.keeps_model disk.old }
 {
     let ok = io.perform(disk).is_ok();
     wal.inst_done(io, ok);
@@ -119,7 +125,8 @@ fn write_super<D: CrashDisk>(
     found: Super,
 ) -> Result<(), OpenFault>
     requires { 0 < (D.device disk.old).size }
-    ensures { (D.device disk.new).size ≡ (D.device disk.old).size }
+    ensures size { (D.device disk.new).size ≡ (D.device disk.old).size }
+    ensures model { D.keeps_model disk.new → D.keeps_model disk.old }
 {
     let bytes = found.write(alloc).map_err(|_| OpenFault::NoMemory)?;
     block.put(0, &bytes);

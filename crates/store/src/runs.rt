@@ -20,6 +20,7 @@ pub fn run<D: CrashDisk>(
     events: Vec<Event>,
 ) -> (D, Result<Run, OpenFault>)
     requires { workers ≡ 1 }
+    ensures model { D.keeps_model result.0 → D.keeps_model disk }
 {
     let store = match open(alloc, disk) {
         Ok(store) => store,

@@ -111,12 +111,12 @@ impl Begun {
 }
 
 impl Worker {
-    ghost use Rattle.std.specs.Prelude.{◌≡◌, ◌↔◌, IsTrue, IsSome, None, true, is_some, []};
+    ghost use Rattle.std.specs.Prelude.{◌≡◌, ◌↔◌, IfSome, IsTrue, IsSome, None, true, is_some, []};
     ghost use Rattle.txn.specs.Core.{CoreState};
     ghost use Rattle.store.specs.declared.workers.Phase.TheVariants.{Idle, Called, Reading};
     ghost use Rattle.store.specs.Counts.{SameCounts};
     ghost use Rattle.layout.specs.Geometry.{IsLawful};
-    ghost use Rattle.store.specs.Worker.{Fits, ReadsWithin, has_fetch};
+    ghost use Rattle.store.specs.Worker.{Fits, IsRead, ReadsWithin, has_fetch};
 
     /// An idle worker of a store with this boot number. It fits each core that has no transaction out, and from
     /// then on that core alone: each method keeps it so, with whatever device of as many blocks.
@@ -196,6 +196,8 @@ impl Worker {
         ensures fits { (core : CoreState) → Fits self.old core → Fits self.new core }
         ensures size { (D.device disk.new).size ≡ (D.device disk.old).size }
         ensures due { IsSome result ↔ (self.old.phase ≡ Reading) }
+        ensures model { D.keeps_model disk.new → D.keeps_model disk.old }
+        ensures step { IfSome result (IsRead self.old.begun.io self.new.phase) }
     {
         if self.phase != Phase::Reading {
             return None;

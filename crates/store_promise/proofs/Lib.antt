@@ -7,3 +7,4 @@ pub mod OneSetAttrStops
 pub mod OneSetAttrOnly
 pub mod ToldOf
 pub mod ToldLog
+pub mod Opened

@@ -12,7 +12,7 @@ use Rattle.layout.specs.declared.super_block.Super.{Super}
 use Rattle.layout.specs.Homes.{homes_of}
 use Rattle.layout.specs.Stands.{Stands}
 use Rattle.layout.specs.SuperForm.{IsSuper}
-use Rattle.wal_law.specs.Calls.{AgreesBeside, Pending}
+use Rattle.wal_law.specs.Calls.{AgreesBeside, Pending, idle}
 use Rattle.wal_law.specs.Log.{IsLawful, Log, installed_place, settled_place}
 use Rattle.txn_law.specs.Core.{CoreState}
 use Rattle.txn_law.specs.CoreWindow.{IsCoreWindow}
@@ -70,3 +70,15 @@ IsBoot boot found = found ≡ boot
 -- the entry of a place since the tree is settled, where those that are home aren't counted
 abbrev pub IsSettledOf : Log → ℕ → Type 0
 IsSettledOf log place = place ≤ settled_place log - installed_place log
+
+-- What an opening is to leave of a core, over what is at home: it is whole, the device agrees with it, and no
+-- change is in the log and no commit kept.
+pub record IsNewOver (base : Image) (d : Device) (core : CoreState) : Type 0 where
+  pub lawful : IsLawful core.log
+  pub agrees : AgreesBeside d base core.log idle idle
+  pub readable : IsReadable d core.log idle
+  pub tidy : AreTidy core
+  pub window : IsCoreWindow base core
+  pub changes : core.log.changes ≡ []
+  pub records : core.records ≡ []
+  pub inodes : (super : Super) → IsSuper (base SUPER_BLOCK) super → super.geometry.inodes ≡ core.inodes

@@ -2,7 +2,7 @@
 use Rattle.std.specs.Prelude.{◌≡◌, ◌≢◌, ℕ, ◌+◌, ◌-◌, ◌^◌, ◌<◌, ◌≤◌, ◌⊎◌}
 use Rattle.limits.specs.declared.TheConstants.{SUPER_BLOCK}
 use Rattle.disk.specs.Crash.{Image, IsAtRest, IsCrashImage}
-use Rattle.disk.specs.Device.{Content, Device, current, newest}
+use Rattle.disk.specs.Device.{Content, Device}
 use Rattle.model.specs.Tree.{Tree}
 use Rattle.nfs_types.specs.declared.ctx.Moment.{Moment}
 use Rattle.layout.specs.declared.geometry.Geometry.{Geometry}
@@ -11,6 +11,7 @@ use Rattle.layout.specs.declared.fault.LayoutFault.TheVariants as layout_fault
 use Rattle.layout.specs.declared.super_block.Super.{Super}
 use Rattle.layout.specs.SuperForm.{HasMagic, IsNoSuper, IsSuper}
 use Rattle.wal.specs.Overlay.{start_in, end_in, IsInRange, HasHomes}
+use Rattle.wal_law.specs.Recovery.{HasOnlyRead, IsUnspoiled, image_of}
 use Rattle.store_promise.specs.declared.fault.OpenFault.{OpenFault}
 use Rattle.store_promise.specs.declared.fault.OpenFault.TheVariants as fault
 use Rattle.store_promise.specs.GoodImage.{IsGoodImage}
@@ -80,10 +81,6 @@ pub record IsRefused (before later : Device) (tree : Tree) (first : ℕ) (cause 
   pub keeps : KeepsTree before later tree first
   pub because : IsCauseOf cause before later first
 
--- what the blocks hold, by their newest contents
-abbrev pub held_by : Device → Image
-held_by d block = newest (current d block)
-
 -- the sizes of the super block aren't the device's, or no boot number is left
 abbrev pub IsOfAnother : ℕ → Content → Type 0
 IsOfAnother size content = (super : Super) × IsSuper content super
@@ -102,18 +99,17 @@ IsShownBy fault.NoMemory size image = ⊥
 
 -- calls were made, none of which failed, and no block has changed
 pub record WasOnlyRead (before later : Device) : Type 0 where
-  pub past : IsLater before later
+  pub only : HasOnlyRead before later
   pub failures : later.failures ≡ before.failures
-  pub same : (clock block : ℕ) → before.clock ≤ clock → clock ≤ later.clock
-      → later.contents clock block ≡ current before block
-  pub spoiled : (block : ℕ) → later.spoiled block ≡ before.spoiled block
 
 -- An opening of any image, good or not, that was refused: for a counted failure or an allocation that failed,
--- or for what the image shows, and then it was only read.
-abbrev pub IsRefusedFor : OpenFault → Device → Device → Type 0
-IsRefusedFor fault.Device before later = IsLater before later × (before.failures < later.failures)
-IsRefusedFor fault.NoMemory before later = IsLater before later
-IsRefusedFor cause before later = WasOnlyRead before later × IsShownBy cause before.size (held_by before)
+-- or for what the image shows, and then it was only read. What it shows is what the reads bring, where the device
+-- keeps its model and no write of it has failed.
+abbrev pub IsRefusedFor : Type 0 → OpenFault → Device → Device → Type 0
+IsRefusedFor keeps_model fault.Device before later = IsLater before later × (before.failures < later.failures)
+IsRefusedFor keeps_model fault.NoMemory before later = IsLater before later
+IsRefusedFor keeps_model cause before later = WasOnlyRead before later
+    × (keeps_model → IsUnspoiled before → IsShownBy cause before.size (image_of before))
 
 -- what a stop may leave while an image is made: an image from before, one that has no super block, or the
 -- fresh one

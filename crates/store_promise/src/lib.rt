@@ -24,7 +24,10 @@ pub use one_setattr::{
     a_run_that_loses_its_setattr_breaks_the_promise, a_setattr_is_not_settled_without_the_log,
     a_setattr_that_shows_too_early_breaks_the_promise, the_steps_of_one_setattr_tell_its_run,
 };
-pub use open_store::{a_stop_leaves_a_good_image, whole_groups_are_a_good_image};
+pub use open_store::{
+    a_stop_leaves_a_good_image, an_opening_leaves_an_open_store,
+    the_files_stay_under_a_new_super_block, whole_groups_are_a_good_image,
+};
 pub use promises::{
     a_failure_that_is_told_was_counted, a_run_of_no_events_keeps_the_promise,
     a_stop_leaves_an_image, an_entry_was_called, half_a_group_breaks_the_promise,

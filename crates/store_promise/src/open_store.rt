@@ -1,14 +1,19 @@
 //! Laws on an open store.
-ghost use Rattle.std.specs.Prelude.{ℕ, List, length};
+ghost use Rattle.std.specs.Prelude.{◌≡◌, ℕ, ◌+◌, ◌≤◌, List, [], length};
+ghost use Rattle.limits.specs.declared.TheConstants.{SUPER_BLOCK};
 ghost use Rattle.disk.specs.Crash.{Image, IsCrashImage};
-ghost use Rattle.disk.specs.Device.{Device};
+ghost use Rattle.disk.specs.Device.{Content, Device};
 ghost use Rattle.model.specs.After.{Entry};
 ghost use Rattle.model.specs.Tree.{Tree};
-ghost use Rattle.wal_law.specs.Calls.{Pending};
-ghost use Rattle.wal_law.specs.Law.{IsBoundary};
+ghost use Rattle.layout.specs.declared.super_block.Super.{Super};
+ghost use Rattle.layout.specs.SuperForm.{IsSuper};
+ghost use Rattle.wal_law.specs.Calls.{Pending, idle};
+ghost use Rattle.wal_law.specs.Law.{IsBoundary, with_home};
 ghost use Rattle.wal_law.specs.Log.{IsLawful};
 ghost use Rattle.txn_law.specs.Core.{CoreState};
-ghost use Rattle.store_promise.specs.OpenStore.{HasFilesOver, IsBoot, IsOpenStore, IsSettledOf};
+ghost use Rattle.store_promise.specs.OpenStore.{HasFilesOver, IsBoot, IsNewOver, IsOpenStore};
+ghost use Rattle.store_promise.specs.OpenStore.{IsSettledOf};
+ghost use Rattle.store_promise.specs.Openings.{IsOpened};
 ghost use Rattle.store_promise.specs.Prefix.{HasPrefix};
 
 /// An image that has whole groups over what is at home is good, and has the tree after the first so many of the
@@ -33,3 +38,22 @@ pub fn a_stop_leaves_a_good_image()
     wal_law::law::a_crash_leaves_whole_groups();
     whole_groups_are_a_good_image();
 }
+
+/// What an opening leaves is an open store, with the tree that the image had and no entry since.
+pub fn an_opening_leaves_an_open_store()
+    ensures { (before opened : Device) (base : Image) (core : CoreState) (tree : Tree) (first position : ℕ)
+        → IsOpened before opened tree first position → IsNewOver base opened core
+        → IsOpenStore opened core idle idle (first + 1) tree [] tree }
+{
+    wal_law::law::a_crash_leaves_whole_groups();
+}
+
+/// Where no commit is kept, a new super block at home leaves the files as they were, with the boot number that it
+/// tells.
+pub fn the_files_stay_under_a_new_super_block()
+    ensures { (base : Image) (core : CoreState) (boot : ℕ) (tree : Tree) (super : Super) (content : Content)
+        (files : HasFilesOver base core boot tree [] tree)
+        → core.log.changes ≡ [] → core.records ≡ [] → core.present ≡ []
+        → IsSuper content super → super.geometry ≡ files.super.geometry → boot ≤ super.boot
+        → HasFilesOver (with_home base SUPER_BLOCK content) core super.boot tree [] tree }
+{}

@@ -29,7 +29,8 @@ impl<D: CrashDisk> Running<D> {
     /// A run of an opened store in which nothing has happened yet.
     pub(super) fn new(store: Store<D>) -> Running<D>
         requires { IsIdle store.core }
-        ensures { RunsWell result.worker result.store.core result.log result.inst }
+        ensures well { RunsWell result.worker result.store.core result.log result.inst }
+        ensures store { result.store ≡ store }
     {
         let boot = store.boot();
         Running {
@@ -47,7 +48,8 @@ impl<D: CrashDisk> Running<D> {
     pub(super) fn take(&mut self, alloc: Global, event: Event, run: &mut Run)
         requires well { RunsWell self.old.worker self.old.store.core self.old.log self.old.inst }
         requires room { HasRoom run.old }
-        ensures { RunsWell self.new.worker self.new.store.core self.new.log self.new.inst }
+        ensures well { RunsWell self.new.worker self.new.store.core self.new.log self.new.inst }
+        ensures model { D.keeps_model self.new.store.disk → D.keeps_model self.old.store.disk }
     {
         let step = match event {
             Event::Call {
@@ -75,7 +77,8 @@ impl<D: CrashDisk> Running<D> {
         call: Call,
     ) -> Option<Step>
         requires { RunsWell self.old.worker self.old.store.core self.old.log self.old.inst }
-        ensures { RunsWell self.new.worker self.new.store.core self.new.log self.new.inst }
+        ensures well { RunsWell self.new.worker self.new.store.core self.new.log self.new.inst }
+        ensures model { D.keeps_model self.new.store.disk → D.keeps_model self.old.store.disk }
     {
         if worker == 0 && self.worker.hand(credential, moment, call) {
             Some(Step::Called)
@@ -89,6 +92,7 @@ impl<D: CrashDisk> Running<D> {
         requires well { RunsWell self.old.worker self.old.store.core self.old.log self.old.inst }
         requires room { HasRoom run.old }
         ensures well { RunsWell self.new.worker self.new.store.core self.new.log self.new.inst }
+        ensures model { D.keeps_model self.new.store.disk → D.keeps_model self.old.store.disk }
         ensures steps { run.new.steps ≡ run.old.steps }
     {
         if worker != 0 {
@@ -107,7 +111,8 @@ impl<D: CrashDisk> Running<D> {
     // The worker's read is made.
     fn read(&mut self, worker: usize) -> Option<Step>
         requires { RunsWell self.old.worker self.old.store.core self.old.log self.old.inst }
-        ensures { RunsWell self.new.worker self.new.store.core self.new.log self.new.inst }
+        ensures well { RunsWell self.new.worker self.new.store.core self.new.log self.new.inst }
+        ensures model { D.keeps_model self.new.store.disk → D.keeps_model self.old.store.disk }
     {
         if worker != 0 {
             return None;
@@ -119,8 +124,7 @@ impl<D: CrashDisk> Running<D> {
 
     // Counts a device call.
     fn count(&mut self)
-        ensures { RunsWell self.old.worker self.old.store.core self.old.log self.old.inst
-            → RunsWell self.new.worker self.new.store.core self.new.log self.new.inst }
+        ensures { self.new ≡ record self.old { clock = self.new.clock } }
     {
         self.clock = self.clock.saturating_add(1);
     }
@@ -130,7 +134,8 @@ impl<D: CrashDisk> Running<D> {
     // Gives back the log's device call that was made, or takes the next.
     fn log(&mut self) -> Option<Step>
         requires { RunsWell self.old.worker self.old.store.core self.old.log self.old.inst }
-        ensures { RunsWell self.new.worker self.new.store.core self.new.log self.new.inst }
+        ensures well { RunsWell self.new.worker self.new.store.core self.new.log self.new.inst }
+        ensures model { D.keeps_model self.new.store.disk → D.keeps_model self.old.store.disk }
     {
         let Some(io) = self.log.take() else {
             let io = self.store.core.log_next()?;
@@ -154,7 +159,8 @@ impl<D: CrashDisk> Running<D> {
     #[tactic(auto, using(crate::proofs::Made::made_size))]
     fn log_io(&mut self) -> Option<Step>
         requires { RunsWell self.old.worker self.old.store.core self.old.log self.old.inst }
-        ensures { RunsWell self.new.worker self.new.store.core self.new.log self.new.inst }
+        ensures well { RunsWell self.new.worker self.new.store.core self.new.log self.new.inst }
+        ensures model { D.keeps_model self.new.store.disk → D.keeps_model self.old.store.disk }
     {
         if self.log_made.is_some() {
             return None;
@@ -169,7 +175,8 @@ impl<D: CrashDisk> Running<D> {
     // Gives back the installer's device call that was made, or takes the next.
     fn install(&mut self) -> Option<Step>
         requires { RunsWell self.old.worker self.old.store.core self.old.log self.old.inst }
-        ensures { RunsWell self.new.worker self.new.store.core self.new.log self.new.inst }
+        ensures well { RunsWell self.new.worker self.new.store.core self.new.log self.new.inst }
+        ensures model { D.keeps_model self.new.store.disk → D.keeps_model self.old.store.disk }
     {
         let Some(io) = self.inst.take() else {
             let io = self.store.core.inst_next()?;
@@ -193,7 +200,8 @@ impl<D: CrashDisk> Running<D> {
     #[tactic(auto, using(crate::proofs::Made::made_size))]
     fn inst_io(&mut self) -> Option<Step>
         requires { RunsWell self.old.worker self.old.store.core self.old.log self.old.inst }
-        ensures { RunsWell self.new.worker self.new.store.core self.new.log self.new.inst }
+        ensures well { RunsWell self.new.worker self.new.store.core self.new.log self.new.inst }
+        ensures model { D.keeps_model self.new.store.disk → D.keeps_model self.old.store.disk }
     {
         if self.inst_made.is_some() {
             return None;
@@ -208,6 +216,7 @@ impl<D: CrashDisk> Running<D> {
     /// The store, once what is out was given back and the worker has ended.
     pub(super) fn end(self) -> Store<D>
         requires { RunsWell self.worker self.store.core self.log self.inst }
+        ensures { result.disk ≡ self.store.disk }
     {
         let Running {
             mut store,

@@ -1,4 +1,5 @@
--- no transaction begins or ends, the image's counts stay, no device call is out, and what has failed was counted
+-- no transaction begins or ends, the image's counts stay, no device call is out, what has failed was counted, and
+-- the device has kept its model so far where it does
 use Rattle.std.proofs.Common.{◌≡◌, ◌≤◌, ◌+◌, ℕ, true, if◌then◌else◌}
 use Rattle.store.specs.Counts.{SameCounts}
 use Rattle.store.specs.Settling.{HasFailed, calls_left}
@@ -10,6 +11,7 @@ invariant-calls g l = (l.store.core.out ≡ l.fn.store.core.out)
     × ((g.D.CrashDisk.device l.fn.store.disk).failures ≤ (g.D.CrashDisk.device l.store.disk).failures)
     × (l.store.core.log.broken ≡ true
     → HasFailed l.fn.store.core.log (g.D.CrashDisk.device l.fn.store.disk) (g.D.CrashDisk.device l.store.disk))
+    × (g.D.CrashDisk.keeps_model l.store.disk → g.D.CrashDisk.keeps_model l.fn.store.disk)
 
 abbrev pub decreases-calls : goal.decreases-calls
 decreases-calls g l = if l.store.core.log.broken then 0 else calls_left l.store.core.log + 1

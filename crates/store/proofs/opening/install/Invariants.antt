@@ -10,5 +10,6 @@ invariant-calls g l = record {
   blocks : l.wal.blocks ≡ l.fn.wal.blocks;
   fresh : IsFresh l.wal;
   quiet : IsQuiet l.wal;
+  model : g.D.CrashDisk.keeps_model l.disk → g.D.CrashDisk.keeps_model l.fn.disk;
   same : (g.D.CrashDisk.device l.disk).size ≡ l.wal.blocks;
 }

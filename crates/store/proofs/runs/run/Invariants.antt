@@ -4,3 +4,4 @@ use Rattle.store.proofs.runs.run.Given as goal
 
 abbrev pub invariant-events : goal.invariant-events
 invariant-events g l = RunsWell l.running.worker l.running.store.core l.running.log l.running.inst
+    × (g.D.CrashDisk.keeps_model l.running.store.disk → g.D.CrashDisk.keeps_model l.fn.disk)
