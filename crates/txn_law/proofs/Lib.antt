@@ -19,6 +19,7 @@ pub mod OtherHome
 pub mod Homes
 pub mod CoreLaws
 pub mod Alone
+pub mod Again
 pub mod TakenBy
 pub mod Memory
 pub mod Leaves
