@@ -54,7 +54,11 @@ impl<C: Change> Model for State<C> {
       out = listed c.out;
       holds = c.holds.items;
       present = c.present.items;
-      records = map (λ r. record { place = r.place.0; read = C.objects_read r.change; written = C.objects_written r.change }) c.records.items;
+      records = map (λ r. record {
+        place = r.place.0;
+        read = C.objects_read r.change;
+        written = C.objects_written r.change;
+      }) c.records.items;
     } };
 }
 

@@ -133,7 +133,10 @@ pub all_past : (base : Image) (core : CoreState) → IsCoreWindow base core
     → past (installed_place core.log) core.records ≡ core.records
 all_past base core h =
     past-drop (installed_place core.log + 1) (installed_place core.log) core.records h.placed
-    ∙ ap (λ (n : ℕ). drop n core.records) (let none : (installed_place core.log + 1) - (installed_place core.log + 1) ≡ 0 = omega arith in none)
+    ∙ ap (λ (n : ℕ). drop n core.records) (none (installed_place core.log + 1))
+  where
+    none : (n : ℕ) → n - n ≡ 0
+    none n = omega arith
 
 -- The installer's call is given back, or one that isn't out: then from what is at home after it, and the
 -- kept commits follow from there.

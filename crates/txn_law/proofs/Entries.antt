@@ -35,12 +35,19 @@ once_push [] entry absent h = (refl, tt)
 once_push (x ∷ xs) entry absent h =
     go (λ e. once_push xs entry e h.1) (nat_eq x.block.0 entry.block.0) refl absent
   where
-    go : (present_of xs entry.block ≡ None → IsOnce (xs ++ entry ∷ [])) → (t : Bool) → nat_eq x.block.0 entry.block.0 ≡ t → cond t (Some x) (present_of xs entry.block) ≡ None
+    differs : nat_eq x.block.0 entry.block.0 ≡ false → entry.block.0 ≡ x.block.0 → ⊥
+    differs is same =
+        let there : nat_eq x.block.0 entry.block.0 ≡ true = eq-eqb x.block.0 entry.block.0 (sym same) in
+        let no : true ≡ false = sym there ∙ is in
+        absurd (cc)
+
+    go : (present_of xs entry.block ≡ None → IsOnce (xs ++ entry ∷ [])) → (t : Bool)
+        → nat_eq x.block.0 entry.block.0 ≡ t → cond t (Some x) (present_of xs entry.block) ≡ None
         → IsOnce (x ∷ xs ++ entry ∷ [])
     go rest true is e = absurd (cc)
     go rest false is e = (
       find_push_none (is_of x.block) xs (entry ∷ []) h.0
-          ∙ ap (λ b. cond b (Some entry) None) (ne_eqb entry.block.0 x.block.0 (λ same. absurd (let there : nat_eq x.block.0 entry.block.0 ≡ true = eq-eqb x.block.0 entry.block.0 (sym same) in let no : true ≡ false = sym there ∙ is in cc))),
+          ∙ ap (λ b. cond b (Some entry) None) (ne_eqb entry.block.0 x.block.0 (differs is)),
       rest e,
     )
 

@@ -15,7 +15,8 @@ module _ {X : Type 0} (p : X → Bool) where
           → (u : Bool) → q y ≡ u → cond t (Some y) (find p ys) ≡ Some x
           → find p (cond u (y ∷ filter q ys) (filter q ys)) ≡ Some x
       go rest true is true kept e = ap (λ b. cond b (Some y) (find p (filter q ys))) is ∙ e
-      go rest true is false kept e = absurd (let same : y ≡ x = cc in let no : true ≡ false = sym keeps ∙ ap q (sym same) ∙ kept in cc)
+      go rest true is false kept e =
+          let same : y ≡ x = cc in let no : true ≡ false = sym keeps ∙ ap q (sym same) ∙ kept in absurd (cc)
       go rest false is true kept e = ap (λ b. cond b (Some y) (find p (filter q ys))) is ∙ rest e keeps
       go rest false is false kept e = rest e keeps
 

@@ -18,6 +18,8 @@ pub mod Fresh
 pub mod OtherHome
 pub mod Homes
 pub mod CoreLaws
+pub mod Alone
+pub mod Again
 pub mod TakenBy
 pub mod Memory
 pub mod Leaves

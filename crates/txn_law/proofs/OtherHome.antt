@@ -137,13 +137,17 @@ module _ (base : Image) (log : Log) (commits : List Footprint) (held : List (ℕ
   first : commits_among log 0 ≡ 0
   first = omega arith
 
+  not_written : (object : ObjectBytes) → object.addr.block.0 ≡ at → IsInLog log.changes object → ⊥
+  not_written object found here =
+      let clash : None ≡ Some here.0 = sym none ∙ ap (newest log) (sym found) ∙ here.1 in absurd (cc)
+
   all_away : All (AreElsewhere at) commits
   all_away k d lt = (
     λ i o less found. away (h.pinned k d lt i o less).0
         (subst (λ (n : ℕ). Contains held (n, (h.pinned k d lt i o less).0)) found (h.pinned k d lt i o less).1),
-    λ i o less found. absurd (let w = h.written 0 (at_first refl) in let here : IsInLog log.changes (get_or (get_or commits k d).written i o) =
-        (subst (λ (n : ℕ). All (AreInLog log.changes) (drop n commits)) first w) k d lt i o less in
-        let clash : None ≡ Some here.0 = sym none ∙ ap (newest log) (sym found) ∙ here.1 in cc),
+    λ i o less found. not_written (get_or (get_or commits k d).written i o) found
+        ((subst (λ (n : ℕ). All (AreInLog log.changes) (drop n commits)) first (h.written 0 (at_first refl))) k d lt i o
+        less),
   )
 
   leads : (n : ℕ) (cs : List Footprint) → All (AreElsewhere at) cs

@@ -1,11 +1,10 @@
 -- Lemma: what another transaction holds for reading stays through a commit, with its bytes.
-use Rattle.std.proofs.Common.{◌≡◌, ℕ, ◌<◌, Bool, true, false, ◌||◌, nat_eq, ◌⊎◌, inl, inr, List, [], ◌∷◌, length, All}
+use Rattle.std.proofs.Common.{◌≡◌, ℕ, ◌<◌, true, ◌||◌, nat_eq, ◌⊎◌, inl, inr, List, length, All}
 use Rattle.std.proofs.Common.{Option, Some, None, refl, sym, ap, subst, ◌∙◌, arith}
 use Rattle.std.specs.Prelude.{Contains}
 use Rattle.std.proofs.Common.{get_or}
 use Rattle.std.proofs.lemmas.Bool.{eqb-true}
-use Rattle.std.proofs.lemmas.List.Elements.{All-contains, All-weaker}
-use Rattle.limits.specs.declared.TheConstants.{BLOCK_BYTES}
+use Rattle.std.proofs.lemmas.List.Elements.{All-contains}
 use Rattle.disk.specs.Device.{Content}
 use Rattle.disk.specs.Crash.{Image}
 use Rattle.disk.specs.declared.block.BlockNo.{BlockNo}
@@ -14,18 +13,17 @@ use Rattle.objects.specs.declared.addr.Addr.{Addr}
 use Rattle.wal_law.specs.Grows.{GrowsBy}
 use Rattle.wal_law.specs.Log.{Log, IsLawful, newest, blocks_of as group_blocks}
 use Rattle.wal_law.specs.Overlay.{content_or}
-use Rattle.txn_law.specs.Commit.{Planned, IsReadBy, IsOwn, with_record, refreshed_content, committed}
+use Rattle.txn_law.specs.Commit.{Planned, IsOwn, with_record, refreshed_content, committed}
 use Rattle.txn_law.specs.Core.{CoreState}
-use Rattle.txn_law.specs.CoreWindow.{held_of, AreBlocks, IsHomeOf, KeepsReads}
+use Rattle.txn_law.specs.CoreWindow.{held_of, IsHomeOf, KeepsReads}
 use Rattle.txn_law.specs.Group.{blocks_of, IsLaid}
-use Rattle.txn_law.specs.Holds.{exclusive, is_hold_of, hold_of, is_read, is_written, is_taken, released}
+use Rattle.txn_law.specs.Holds.{is_hold_of, hold_of, is_read, is_written, released}
 use Rattle.txn_law.specs.Leaves.{in_memory}
-use Rattle.txn_law.specs.Object.{ObjectBytes}
-use Rattle.txn_law.specs.Present.{present_of, content_in}
 use Rattle.txn_law.specs.Records.{is_kept}
-use Rattle.txn_law.specs.Tidy.{AreBeside, AreApart, IsOfOne, AreTidy}
-use Rattle.txn_law.specs.Window.{IsCurrent, now_of, object_at, part, with_objects}
+use Rattle.txn_law.specs.Tidy.{AreApart, IsOfOne, AreTidy}
+use Rattle.txn_law.specs.Window.{IsCurrent, now_of, part, with_objects}
 use Rattle.txn_law.specs.declared.hold.Hold.{Hold}
+use Rattle.txn_law.proofs.Again.{one_or_apart}
 use Rattle.txn_law.proofs.Beside.{stays_beside}
 use Rattle.txn_law.proofs.Claims.{found_by, all_four}
 use Rattle.txn_law.proofs.CoreCommits.{found_in}
@@ -33,27 +31,15 @@ use Rattle.txn_law.proofs.Entries.{same_block}
 use Rattle.txn_law.proofs.HeldReads.{some_read, left, taken_read}
 use Rattle.txn_law.proofs.Homes.{whole_now, commit_home, commit_sets}
 use Rattle.txn_law.proofs.Leaves.{leaves_commit}
-use Rattle.txn_law.proofs.Swept.{in_cons}
-
-overlap_back : (a b : Addr) → Overlap a b → Overlap b a
-overlap_back a b (same, less, more) = (sym same, more, less)
 
 -- two holds of different transactions share no byte
 two_apart : (holds : List Hold) (x y : Hold) → AreApart holds → Contains holds x → Contains holds y
     → (x.transaction ≡ y.transaction → ⊥) → Overlap x.addr y.addr → ⊥
-two_apart [] x y apart (k, lt, e) there differ over = absurd (omega (arith, lt))
-two_apart (h ∷ hs) x y apart one other differ over =
-    go (two_apart hs x y apart.1) (in_cons h x hs one) (in_cons h y hs other)
+two_apart holds x y apart one other differ over = go (one_or_apart holds x y apart one other)
   where
-    go : (Contains hs x → Contains hs y → (x.transaction ≡ y.transaction → ⊥) → Overlap x.addr y.addr → ⊥)
-        → (h ≡ x) ⊎ Contains hs x → (h ≡ y) ⊎ Contains hs y → ⊥
-    go rest (inl is) (inl also) = differ (ap (λ (z : Hold). z.transaction) (sym is ∙ also))
-    go rest (inl is) (inr later) =
-        All-contains (AreBeside h) hs y apart.0 later (subst (λ (z : Hold). Overlap z.addr y.addr) (sym is) over) tt
-    go rest (inr later) (inl is) =
-        All-contains (AreBeside h) hs x apart.0 later
-        (overlap_back x.addr h.addr (subst (λ (z : Hold). Overlap x.addr z.addr) (sym is) over)) tt
-    go rest (inr one) (inr other) = rest one other differ over
+    go : (x ≡ y) ⊎ (Overlap x.addr y.addr → ⊥) → ⊥
+    go (inl same) = differ (ap (λ (z : Hold). z.transaction) same)
+    go (inr away) = away over
 
 some_written : (o : Option Hold) → is_written o ≡ true → (x : Hold) × (o ≡ Some x)
 some_written None e = absurd (cc)

@@ -79,12 +79,16 @@ module _ (holds : List Hold) (hold : Hold) where
       All-weaker (λ x. (not (is_hold_of hold.transaction hold.addr x) ≡ true)
       × (Overlap x.addr hold.addr → Excludes (mode_of x) exclusive → IsHoldOf hold.transaction hold.addr x))
       (λ x. AreBeside x new)
-      (λ x h over excludes. let it = is_hold hold.transaction hold.addr x (h.1 (subst (λ (d : Addr). Overlap x.addr d) at over) excludes) in
-      absurd (let no : not true ≡ true = ap not (sym it) ∙ h.0 in cc))
+      (λ x h over excludes. is_not x h.0
+      (is_hold hold.transaction hold.addr x (h.1 (subst (λ (d : Addr). Overlap x.addr d) at over) excludes)))
       others
       (passing (λ x. Overlap x.addr hold.addr → Excludes (mode_of x) exclusive
       → IsHoldOf hold.transaction hold.addr x)
       (λ x. not (is_hold_of hold.transaction hold.addr x)) holds free.others)
+    where
+      is_not : (x : Hold) → not (is_hold_of hold.transaction hold.addr x) ≡ true
+          → is_hold_of hold.transaction hold.addr x ≡ true → ⊥
+      is_not x away it = let no : not true ≡ true = ap not (sym it) ∙ away in absurd (cc)
 
   pub apart_with : AreApart holds → IsFree holds hold.transaction hold.addr exclusive
       → AreApart (with_hold holds hold)
@@ -196,7 +200,10 @@ loaded present block x e not_pending = go x.content refl
   where
     go : (o : Option Content) → x.content ≡ o → (c : Content) × (o ≡ Some c)
     go (Some c) is = (c, refl)
-    go None is = absurd (let it : is_none x.content ≡ false = sym (ap is_pending e) ∙ not_pending in let yes : is_none x.content ≡ true = ap is_none is in cc)
+    go None is =
+        let it : is_none x.content ≡ false = sym (ap is_pending e) ∙ not_pending in
+        let yes : is_none x.content ≡ true = ap is_none is in
+        absurd (cc)
 
 -- a block that isn't pending is there once it is brought
 there_now : (present : List Present) (block : BlockNo) (content : Content)

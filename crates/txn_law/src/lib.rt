@@ -8,7 +8,7 @@ mod reads;
 mod window;
 
 ghost use Rattle.std.specs.Prelude.{◌≡◌, ◌≢◌, ◌∷◌, ◌+◌, ◌-◌, ◌≤◌, ℕ, List, [], All, Bool, None, length, take};
-ghost use Rattle.std.specs.Prelude.{true};
+ghost use Rattle.std.specs.Prelude.{true, false, Some};
 ghost use Rattle.disk.specs.Device.{Content};
 ghost use Rattle.disk.specs.Crash.{Image};
 ghost use Rattle.disk.specs.declared.block.BlockNo.{BlockNo};
@@ -30,6 +30,8 @@ ghost use Rattle.txn_law.specs.Tidy.{AreTidy};
 ghost use Rattle.txn_law.specs.Object.{ObjectBytes};
 ghost use Rattle.txn_law.specs.Present.{present_of, content_in};
 ghost use Rattle.txn_law.specs.Fetched.{fetched, fetch_failed};
+ghost use Rattle.txn_law.specs.Leaves.{taken_by, is_fetching};
+ghost use Rattle.txn_law.specs.Wishes.{IsOpen};
 ghost use Rattle.txn_law.specs.Commit.{Planned, IsCommitted, committed, IsWrittenBy};
 ghost use Rattle.txn_law.specs.declared.present.Present.{Present};
 ghost use Rattle.wal_law.specs.Room.{with_group};
@@ -186,4 +188,12 @@ pub fn a_fetch_keeps_the_window_of_the_core()
         → IsCoreWindow base (fetch_failed core block) }
     ensures stays { (base : Image) (log : Log) (ok : Bool) (block : ℕ) → newest log block ≡ None
         → home_after base log ok block ≡ base block }
+{}
+
+/// A transaction that has taken an address may wish for it again, once no fetch of its block is pending: the wish
+/// is told neither Outside nor Busy nor Loading. So one that was told Fetch is met after its fetch was given back,
+/// as the block is in memory then, or finds no memory.
+pub fn what_is_taken_may_be_wished_for_again()
+    ensures { (core : CoreState) (tx : ℕ) (addr : Addr) (hold : Hold) → AreTidy core
+        → taken_by core tx addr ≡ Some hold → is_fetching core addr.block ≡ false → IsOpen core tx addr }
 {}

@@ -10,11 +10,11 @@ use objects::Addr;
 use std::alloc::Global;
 use std::test::Fail;
 use txn::*;
-use wal::circ::Recovered;
+use wal::circ::{Recovered, recover};
 use wal::{Seq, Wal};
 
 // The blocks and inodes of the image here.
-const BLOCKS: u32 = 1024;
+const BLOCKS: u32 = 1040;
 
 const INODES: u32 = 64;
 
@@ -74,6 +74,21 @@ fn core(alloc: Global, start: u64) -> Result<Core<Toy>, Fail>
     Ok(Core::new(alloc, wal, INODES))
 }
 
+// A core over the log that is found on a disk.
+fn reopened<D: CrashDisk>(alloc: Global, disk: &mut D) -> Result<Core<Toy>, Fail>
+    requires { (D.device disk.old).size ≡ BLOCKS }
+    ensures size { (D.device disk.new).size ≡ BLOCKS }
+    ensures out { IfOk result (λ core. core.out ≡ []) }
+    ensures blocks { IfOk result (λ core. core.log.blocks ≡ BLOCKS) }
+{
+    let found = match recover(alloc, disk) {
+        Ok(found) => found,
+        Err(_) => Err("no log")?,
+    };
+    let wal = Wal::new(alloc, BLOCKS, found)?;
+    Ok(Core::new(alloc, wal, INODES))
+}
+
 // The 8 bytes of the first block from an offset on.
 fn eight(offset: usize) -> Addr
     requires { offset + 8 ≤ BLOCK_BYTES }
@@ -107,6 +122,7 @@ fn want<D: CrashDisk>(
     addr: Addr,
 ) -> (Tx, Seen)
     requires size { (D.device disk.old).size ≡ core.old.log.blocks }
+    requires out { core.old.out ≡ tx ∷ [] }
     ensures back { result.0 ≡ tx }
     ensures out { core.new.out ≡ core.old.out }
     ensures blocks { core.new.log.blocks ≡ core.old.log.blocks }
@@ -272,6 +288,50 @@ fn a_change_is_settled_and_brought_home(rt: HostRuntime) -> Result<(), Fail> {
     Ok(())
 }
 
+// What is left of the change of one object to 7 where the call of this number failed: its fetch is call 1, its
+// four calls of the log and its four calls of the installer come behind.
+fn worked(alloc: Global, failing: u64) -> Result<MemDisk, Fail> {
+    let mut disk = MemDisk::new(alloc, BLOCKS)?;
+    disk.fail_at(&[failing])?;
+    let mut core = core(alloc, 0)?;
+    change(alloc, &mut core, &mut disk, eight(0), 0, 7)?;
+    log_all(&mut core, &mut disk);
+    install_all(&mut core, &mut disk);
+    Ok(disk)
+}
+
+// What a new core reads of the object after a crash that the digits choose.
+fn read_after(alloc: Global, failing: u64, digits: &[u32]) -> Result<Seen, Fail> {
+    let mut rest = worked(alloc, failing)?.crash(digits);
+    if rest.blocks() != BLOCKS {
+        Err("another size")?;
+    }
+    let mut core = reopened(alloc, &mut rest)?;
+    let (_, seen) = want_two(alloc, &mut core, &mut rest, eight(0), eight(0))?;
+    Ok(seen[1])
+}
+
+#[test]
+fn a_crash_leaves_all_of_a_change_or_nothing(rt: HostRuntime) -> Result<(), Fail> {
+    for failing in 1..11u8 {
+        let (oldest, newest) = match failing {
+            1..4 => (0, 0),
+            4..6 => (0, 7),
+            _ => (7, 7),
+        };
+        let number = u64::from(failing);
+        assert!(rt;
+            read_after(rt.alloc(), number, &[])? == Seen::Bytes(oldest),
+            "oldest at {failing}"
+        );
+        assert!(rt;
+            read_after(rt.alloc(), number, &[9; 16])? == Seen::Bytes(newest),
+            "newest at {failing}"
+        );
+    }
+    Ok(())
+}
+
 // Three changes of one object, the last of which has read what the second replaced.
 fn three_changes<D: CrashDisk>(
     alloc: Global,
@@ -369,9 +429,26 @@ fn bytes_that_are_taken_by_another_address_are_busy(rt: HostRuntime) -> Result<(
     Ok(())
 }
 
-// Claims a block in a transaction of its own, and writes its first bytes.
+// Claims a block, and tells whether it is held.
+fn claim(core: &mut Core<Toy>, tx: Tx, block: BlockNo) -> (Tx, bool)
+    requires { core.old.out ≡ tx ∷ [] }
+    ensures back { result.0 ≡ tx }
+    ensures out { core.new.out ≡ core.old.out }
+    ensures blocks { core.new.log.blocks ≡ core.old.log.blocks }
+{
+    match core.claim(tx, block) {
+        Claim::Held(tx) => (tx, true),
+        Claim::Busy(tx) | Claim::Loading(tx) | Claim::Outside(tx) | Claim::NoMemory(tx) => (
+            tx, false,
+        ),
+    }
+}
+
+// Writes a block whole, in a transaction of its own that claims it.
 fn claim_and_write(alloc: Global, core: &mut Core<Toy>, block: BlockNo) -> Result<Ended, Fail>
     requires { core.old.out ≡ [] }
+    ensures blocks { core.new.log.blocks ≡ core.old.log.blocks }
+    ensures idle { core.new.out ≡ [] }
 {
     let addr = Addr::whole(block);
     let mut written = Vec::new(alloc);
@@ -382,13 +459,7 @@ fn claim_and_write(alloc: Global, core: &mut Core<Toy>, block: BlockNo) -> Resul
         inodes: INODES,
     };
     let tx = core.begin()?;
-    let tx = match core.claim(tx, block) {
-        Claim::Held(tx) => tx,
-        Claim::Busy(tx) | Claim::Loading(tx) | Claim::Outside(tx) | Claim::NoMemory(tx) => {
-            core.abort(tx);
-            return Err("not held")?;
-        }
-    };
+    let (tx, _) = claim(core, tx, block);
     Ok(commit(alloc, core, tx, toy))
 }
 
@@ -401,6 +472,32 @@ fn a_claimed_block_is_written_whole(rt: HostRuntime) -> Result<(), Fail> {
         claim_and_write(alloc, &mut core, HOME)?,
         Ended::Place(Seq(1))
     );
+    Ok(())
+}
+
+// Writes so many blocks whole, each in a change of its own. Tells whether each was committed.
+fn fill(alloc: Global, core: &mut Core<Toy>, blocks: u16) -> Result<bool, Fail>
+    requires { core.old.out ≡ [] }
+    ensures idle { core.new.out ≡ [] }
+{
+    let mut all = true;
+    'writes: for i in 0..u32::from(blocks) {
+        let ended = claim_and_write(alloc, core, BlockNo(FIRST_HOME_BLOCK + i))?;
+        all = all && ended == Ended::Place(Seq(u64::from(i) + 1));
+    }
+    Ok(all)
+}
+
+#[test]
+fn a_tail_of_511_blocks_is_full(rt: HostRuntime) -> Result<(), Fail> {
+    let alloc = rt.alloc();
+    let mut core = core(alloc, 0)?;
+    assert!(rt; fill(alloc, &mut core, 511)?);
+    let full = claim_and_write(alloc, &mut core, BlockNo(FIRST_HOME_BLOCK + 511))?;
+    let toy = whole_block(alloc)?;
+    let tx = core.begin()?;
+    let foreign = commit(alloc, &mut core, tx, toy);
+    assert_eq!(rt; [full, foreign], [Ended::Full, Ended::Foreign]);
     Ok(())
 }
 
@@ -478,21 +575,21 @@ fn claim_and_want(alloc: Global, core: &mut Core<Toy>) -> Result<(Tx, FetchIo), 
     ensures { IfOk result (λ begun. core.new.out ≡ begun.0 ∷ []) }
 {
     let tx = core.begin()?;
-    match core.claim(tx, HOME) {
-        Claim::Held(tx) => want_fetch(alloc, core, tx),
-        Claim::Busy(tx) | Claim::Loading(tx) | Claim::Outside(tx) | Claim::NoMemory(tx) => {
-            core.abort(tx);
-            Err("not held")?
-        }
-    }
+    let (tx, _) = claim(core, tx, HOME);
+    want_to_fetch(alloc, core, tx, Addr::whole(HOME))
 }
 
-// Wants the first home block, which has to be fetched.
-fn want_fetch(alloc: Global, core: &mut Core<Toy>, tx: Tx) -> Result<(Tx, FetchIo), Fail>
+// Wants an object, which has to be fetched.
+fn want_to_fetch(
+    alloc: Global,
+    core: &mut Core<Toy>,
+    tx: Tx,
+    addr: Addr,
+) -> Result<(Tx, FetchIo), Fail>
     requires { core.old.out ≡ tx ∷ [] }
     ensures { IfOk result (λ begun. core.new.out ≡ begun.0 ∷ []) }
 {
-    let tx = match core.want(alloc, tx, Addr::whole(HOME)) {
+    let tx = match core.want(alloc, tx, addr) {
         Want::Fetch(tx, io) => return Ok((tx, io)),
         Want::Held(tx, _) => tx,
         Want::Busy(tx) => tx,
@@ -532,5 +629,74 @@ fn a_block_whose_fetch_is_out_is_not_written(rt: HostRuntime) -> Result<(), Fail
     let mut core = core(alloc, 0)?;
     let ended = write_while_it_is_fetched(alloc, &mut core)?;
     assert_eq!(rt; ended, Ended::Foreign);
+    Ok(())
+}
+
+// Wants an object, and gives a fetch of it up at once.
+fn glance(alloc: Global, core: &mut Core<Toy>, tx: Tx, addr: Addr) -> (Tx, Seen)
+    requires { core.old.out ≡ tx ∷ [] }
+    ensures back { result.0 ≡ tx }
+    ensures out { core.new.out ≡ core.old.out }
+{
+    match core.want(alloc, tx, addr) {
+        Want::Held(tx, bytes) => (tx, Seen::Bytes(first(&bytes))),
+        Want::Busy(tx) => (tx, Seen::Busy),
+        Want::Fetch(tx, io) => {
+            core.fetch_failed(io);
+            (tx, Seen::FetchFailed)
+        }
+        Want::Loading(tx) => (tx, Seen::Loading),
+        Want::Outside(tx) => (tx, Seen::Outside),
+        Want::NoMemory(tx) => (tx, Seen::NoMemory),
+    }
+}
+
+// While the first home block is fetched for a transaction, it wants bytes of it by another address, and others.
+fn want_beside(alloc: Global, core: &mut Core<Toy>) -> Result<[Seen; 2], Fail>
+    requires { core.old.out ≡ [] }
+{
+    let tx = core.begin()?;
+    let (tx, io) = want_to_fetch(alloc, core, tx, eight(0))?;
+    let (tx, over) = glance(alloc, core, tx, eight(4));
+    let (tx, beside) = glance(alloc, core, tx, eight(8));
+    core.abort(tx);
+    core.fetch_failed(io);
+    Ok([over, beside])
+}
+
+#[test]
+fn what_is_taken_is_told_before_what_is_fetched(rt: HostRuntime) -> Result<(), Fail> {
+    let alloc = rt.alloc();
+    let mut core = core(alloc, 0)?;
+    assert_eq!(rt; want_beside(alloc, &mut core)?, [Seen::Busy, Seen::Loading]);
+    Ok(())
+}
+
+// A transaction leaves a fetch behind. What the next one is told, before and after it is given back.
+fn want_behind(alloc: Global, core: &mut Core<Toy>) -> Result<[Seen; 2], Fail>
+    requires { core.old.out ≡ [] }
+{
+    let tx = core.begin()?;
+    let (tx, io) = want_to_fetch(alloc, core, tx, eight(0))?;
+    core.abort(tx);
+    let Ok(tx) = core.begin() else {
+        core.fetch_failed(io);
+        return Err("not begun")?;
+    };
+    let (tx, before) = glance(alloc, core, tx, eight(0));
+    core.fetch_failed(io);
+    let (tx, after) = glance(alloc, core, tx, eight(0));
+    core.abort(tx);
+    Ok([before, after])
+}
+
+#[test]
+fn a_fetch_that_an_aborted_transaction_left_is_pending(rt: HostRuntime) -> Result<(), Fail> {
+    let alloc = rt.alloc();
+    let mut core = core(alloc, 0)?;
+    assert_eq!(rt;
+        want_behind(alloc, &mut core)?,
+        [Seen::Loading, Seen::FetchFailed]
+    );
     Ok(())
 }

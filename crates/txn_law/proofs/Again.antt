@@ -1,0 +1,92 @@
+-- Lemma: a transaction that has taken an address may wish for it again.
+use Rattle.std.proofs.Common.{◌≡◌, ℕ, false, nat_eq, ◌⊎◌, inl, inr, List, [], ◌∷◌, Some, sym, ap, subst, ◌∙◌, arith}
+use Rattle.std.proofs.Common.{get_or, true, ◌+◌, ◌<◌, ◌≤◌}
+use Rattle.std.proofs.Math.Bridge.{le_prop}
+use Rattle.limits.specs.declared.TheConstants.{BLOCK_BYTES}
+use Rattle.std.specs.Prelude.{Contains}
+use Rattle.std.proofs.lemmas.Bool.{eqb-true}
+use Rattle.std.proofs.lemmas.List.Elements.{All-contains, All-contains_itself}
+use Rattle.objects.specs.Addr.{Overlap}
+use Rattle.objects.specs.declared.addr.Addr.{Addr}
+use Rattle.wal_law.specs.Log.{IsHomeOn}
+use Rattle.txn_law.specs.Core.{CoreState}
+use Rattle.txn_law.specs.Holds.{IsHoldOf, is_hold_of}
+use Rattle.txn_law.specs.Leaves.{taken_by, is_fetching}
+use Rattle.txn_law.specs.Tidy.{AreBeside, AreApart, IsOfOne, AreTidy}
+use Rattle.txn_law.specs.Wishes.{IsOpen}
+use Rattle.txn_law.specs.declared.hold.Hold.{Hold}
+use Rattle.txn_law.proofs.Claims.{found_by, all_four}
+use Rattle.txn_law.proofs.Swept.{in_cons}
+
+-- addresses of the same numbers are one
+abbrev addr_of : (block offset len : ℕ) → 0 < len → offset + len ≤ BLOCK_BYTES → Addr
+addr_of block offset len some within = record {
+  block = record { 0 = block };
+  offset = offset;
+  len = len;
+  some = some;
+  within = within;
+}
+
+same_addr : (a b : Addr) → a.block.0 ≡ b.block.0 → a.offset ≡ b.offset → a.len ≡ b.len → a ≡ b
+same_addr a b block offset len =
+    subst (λ (n : ℕ). a ≡ addr_of n b.offset b.len b.some b.within) block
+    (subst (λ (n : ℕ). (within : n + b.len ≤ BLOCK_BYTES) → a ≡ addr_of a.block.0 n b.len b.some within) offset
+    (subst (λ (n : ℕ). (some : 0 < n) (within : a.offset + n ≤ BLOCK_BYTES)
+    → a ≡ addr_of a.block.0 a.offset n some within) len
+    (λ some within. λ i. addr_of a.block.0 a.offset a.len (le_prop a.some some i) (le_prop a.within within i)) b.some)
+    b.within)
+
+overlap_back : (a b : Addr) → Overlap a b → Overlap b a
+overlap_back a b (same, less, more) = (sym same, more, less)
+
+-- two holds are one, or share no byte
+pub one_or_apart : (holds : List Hold) (x y : Hold) → AreApart holds → Contains holds x → Contains holds y
+    → (x ≡ y) ⊎ (Overlap x.addr y.addr → ⊥)
+one_or_apart [] x y apart (k, lt, e) there = absurd (omega (arith, lt))
+one_or_apart (h ∷ hs) x y apart one other =
+    go (one_or_apart hs x y apart.1) (in_cons h x hs one) (in_cons h y hs other)
+  where
+    go : (Contains hs x → Contains hs y → (x ≡ y) ⊎ (Overlap x.addr y.addr → ⊥))
+        → (h ≡ x) ⊎ Contains hs x → (h ≡ y) ⊎ Contains hs y → (x ≡ y) ⊎ (Overlap x.addr y.addr → ⊥)
+    go rest (inl is) (inl also) = inl (sym is ∙ also)
+    go rest (inl is) (inr later) = inr (λ over.
+        All-contains (AreBeside h) hs y apart.0 later (subst (λ (z : Hold). Overlap z.addr y.addr) (sym is) over) tt)
+    go rest (inr later) (inl is) = inr (λ over.
+        All-contains (AreBeside h) hs x apart.0 later
+        (overlap_back x.addr h.addr (subst (λ (z : Hold). Overlap x.addr z.addr) (sym is) over)) tt)
+    go rest (inr one) (inr other) = rest one other
+
+pub open_again : (core : CoreState) (tx : ℕ) (addr : Addr) (hold : Hold) → AreTidy core
+    → taken_by core tx addr ≡ Some hold → is_fetching core addr.block ≡ false → IsOpen core tx addr
+open_again core tx addr hold tidy taken loaded = record {
+  home = subst (λ (a : Addr). IsHomeOn core.log.blocks a.block) at
+      (All-contains (IsOfOne core) core.holds hold tidy.owned there).1;
+  free = record {
+    others = λ k d lt over excludes. each (get_or core.holds k d) (All-contains_itself core.holds k d lt) over;
+  };
+  settled = loaded;
+}
+  where
+    there : Contains core.holds hold
+    there = (found_by (is_hold_of tx addr) core.holds hold taken).1
+
+    four : (nat_eq hold.transaction tx ≡ true) × (nat_eq hold.addr.block.0 addr.block.0 ≡ true)
+        × (nat_eq hold.addr.offset addr.offset ≡ true) × (nat_eq hold.addr.len addr.len ≡ true)
+    four = all_four (nat_eq hold.transaction tx) (nat_eq hold.addr.block.0 addr.block.0)
+        (nat_eq hold.addr.offset addr.offset) (nat_eq hold.addr.len addr.len)
+        (found_by (is_hold_of tx addr) core.holds hold taken).0
+
+    at : hold.addr ≡ addr
+    at = same_addr hold.addr addr (eqb-true hold.addr.block.0 addr.block.0 four.1)
+        (eqb-true hold.addr.offset addr.offset four.2) (eqb-true hold.addr.len addr.len four.3)
+
+    each : (x : Hold) → Contains core.holds x → Overlap x.addr addr → IsHoldOf tx addr x
+    each x inside over = go (one_or_apart core.holds x hold tidy.apart inside there)
+      where
+        go : (x ≡ hold) ⊎ (Overlap x.addr hold.addr → ⊥) → IsHoldOf tx addr x
+        go (inl same) = (
+          ap (λ (h : Hold). h.transaction) same ∙ eqb-true hold.transaction tx four.0,
+          ap (λ (h : Hold). h.addr) same ∙ at,
+        )
+        go (inr apart) = absurd (apart (subst (λ (a : Addr). Overlap x.addr a) (sym at) over))
