@@ -1,2 +1,3 @@
 pub mod Formatted
 pub mod Made
+pub mod LogMoves
