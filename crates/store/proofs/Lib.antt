@@ -1,3 +1,4 @@
 pub mod CallsLeft
 pub mod Formatted
 pub mod Made
+pub mod LogMoves

@@ -1,5 +1,6 @@
 pub mod Counts
 pub mod Formatting
+pub mod LogSide
 pub mod Opening
 pub mod Running
 pub mod Worker

@@ -1,6 +1,7 @@
 //! The events of a run.
 ghost use Rattle.std.specs.Prelude.{◌≡◌, None};
 ghost use Rattle.store_promise.specs.Room.{HasRoom};
+ghost use Rattle.store.specs.LogSide.{MayInstIo, MayInstall, MayLog, MayLogIo, Tells, side_of};
 ghost use Rattle.store.specs.Running.{RunsWell};
 ghost use Rattle.store.specs.Settling.{IsIdle};
 
@@ -29,7 +30,8 @@ impl<D: CrashDisk> Running<D> {
     /// A run of an opened store in which nothing has happened yet.
     pub(super) fn new(store: Store<D>) -> Running<D>
         requires { IsIdle store.core }
-        ensures well { RunsWell result.worker result.store.core result.log result.inst }
+        ensures well { RunsWell result.worker result.store.core result.log result.log_made
+            result.inst result.inst_made }
         ensures store { result.store ≡ store }
     {
         let boot = store.boot();
@@ -46,9 +48,11 @@ impl<D: CrashDisk> Running<D> {
 
     /// Makes the step of an event, if it applies, and tells of it.
     pub(super) fn take(&mut self, alloc: Global, event: Event, run: &mut Run)
-        requires well { RunsWell self.old.worker self.old.store.core self.old.log self.old.inst }
+        requires well { RunsWell self.old.worker self.old.store.core self.old.log self.old.log_made
+            self.old.inst self.old.inst_made }
         requires room { HasRoom run.old }
-        ensures well { RunsWell self.new.worker self.new.store.core self.new.log self.new.inst }
+        ensures well { RunsWell self.new.worker self.new.store.core self.new.log self.new.log_made
+            self.new.inst self.new.inst_made }
         ensures model { D.keeps_model self.new.store.disk → D.keeps_model self.old.store.disk }
     {
         let step = match event {
@@ -76,8 +80,10 @@ impl<D: CrashDisk> Running<D> {
         moment: Moment,
         call: Call,
     ) -> Option<Step>
-        requires { RunsWell self.old.worker self.old.store.core self.old.log self.old.inst }
-        ensures well { RunsWell self.new.worker self.new.store.core self.new.log self.new.inst }
+        requires { RunsWell self.old.worker self.old.store.core self.old.log self.old.log_made
+            self.old.inst self.old.inst_made }
+        ensures well { RunsWell self.new.worker self.new.store.core self.new.log self.new.log_made
+            self.new.inst self.new.inst_made }
         ensures model { D.keeps_model self.new.store.disk → D.keeps_model self.old.store.disk }
     {
         if worker == 0 && self.worker.hand(credential, moment, call) {
@@ -89,9 +95,11 @@ impl<D: CrashDisk> Running<D> {
 
     // The worker makes a step. What it commits and answers is told.
     fn work(&mut self, alloc: Global, worker: usize, run: &mut Run) -> Option<Step>
-        requires well { RunsWell self.old.worker self.old.store.core self.old.log self.old.inst }
+        requires well { RunsWell self.old.worker self.old.store.core self.old.log self.old.log_made
+            self.old.inst self.old.inst_made }
         requires room { HasRoom run.old }
-        ensures well { RunsWell self.new.worker self.new.store.core self.new.log self.new.inst }
+        ensures well { RunsWell self.new.worker self.new.store.core self.new.log self.new.log_made
+            self.new.inst self.new.inst_made }
         ensures model { D.keeps_model self.new.store.disk → D.keeps_model self.old.store.disk }
         ensures steps { run.new.steps ≡ run.old.steps }
     {
@@ -110,8 +118,10 @@ impl<D: CrashDisk> Running<D> {
 
     // The worker's read is made.
     fn read(&mut self, worker: usize) -> Option<Step>
-        requires { RunsWell self.old.worker self.old.store.core self.old.log self.old.inst }
-        ensures well { RunsWell self.new.worker self.new.store.core self.new.log self.new.inst }
+        requires { RunsWell self.old.worker self.old.store.core self.old.log self.old.log_made
+            self.old.inst self.old.inst_made }
+        ensures well { RunsWell self.new.worker self.new.store.core self.new.log self.new.log_made
+            self.new.inst self.new.inst_made }
         ensures model { D.keeps_model self.new.store.disk → D.keeps_model self.old.store.disk }
     {
         if worker != 0 {
@@ -133,11 +143,20 @@ impl<D: CrashDisk> Running<D> {
 impl<D: CrashDisk> Running<D> {
     // Gives back the log's device call that was made, or takes the next.
     fn log(&mut self) -> Option<Step>
-        requires { RunsWell self.old.worker self.old.store.core self.old.log self.old.inst }
-        ensures well { RunsWell self.new.worker self.new.store.core self.new.log self.new.inst }
+        requires { RunsWell self.old.worker self.old.store.core self.old.log self.old.log_made
+            self.old.inst self.old.inst_made }
+        ensures well { RunsWell self.new.worker self.new.store.core self.new.log self.new.log_made
+            self.new.inst self.new.inst_made }
         ensures model { D.keeps_model self.new.store.disk → D.keeps_model self.old.store.disk }
+        ensures tells { Tells MayLog
+            (side_of (D.device self.old.store.disk) self.old.store.core self.old.log self.old.log_made
+            self.old.inst self.old.inst_made)
+            result
+            (side_of (D.device self.new.store.disk) self.new.store.core self.new.log self.new.log_made
+            self.new.inst self.new.inst_made) }
     {
         let Some(io) = self.log.take() else {
+            self.store.core.lawful();
             let io = self.store.core.log_next()?;
             let call = io.call();
             put(&mut self.log, io);
@@ -145,6 +164,7 @@ impl<D: CrashDisk> Running<D> {
         };
         match self.log_made.take() {
             Some(ok) => {
+                self.store.core.lawful();
                 self.store.core.log_done(io, ok);
                 Some(Step::LogDone(ok))
             }
@@ -158,14 +178,23 @@ impl<D: CrashDisk> Running<D> {
     // The log's device call is made.
     #[tactic(auto, using(crate::proofs::Made::made_size))]
     fn log_io(&mut self) -> Option<Step>
-        requires { RunsWell self.old.worker self.old.store.core self.old.log self.old.inst }
-        ensures well { RunsWell self.new.worker self.new.store.core self.new.log self.new.inst }
+        requires { RunsWell self.old.worker self.old.store.core self.old.log self.old.log_made
+            self.old.inst self.old.inst_made }
+        ensures well { RunsWell self.new.worker self.new.store.core self.new.log self.new.log_made
+            self.new.inst self.new.inst_made }
         ensures model { D.keeps_model self.new.store.disk → D.keeps_model self.old.store.disk }
+        ensures tells { Tells MayLogIo
+            (side_of (D.device self.old.store.disk) self.old.store.core self.old.log self.old.log_made
+            self.old.inst self.old.inst_made)
+            result
+            (side_of (D.device self.new.store.disk) self.new.store.core self.new.log self.new.log_made
+            self.new.inst self.new.inst_made) }
     {
         if self.log_made.is_some() {
             return None;
         }
         let io = self.log.as_ref()?;
+        self.store.core.lawful();
         let ok = io.perform(&mut self.store.disk).is_ok();
         self.log_made = Some(ok);
         self.count();
@@ -174,11 +203,20 @@ impl<D: CrashDisk> Running<D> {
 
     // Gives back the installer's device call that was made, or takes the next.
     fn install(&mut self) -> Option<Step>
-        requires { RunsWell self.old.worker self.old.store.core self.old.log self.old.inst }
-        ensures well { RunsWell self.new.worker self.new.store.core self.new.log self.new.inst }
+        requires { RunsWell self.old.worker self.old.store.core self.old.log self.old.log_made
+            self.old.inst self.old.inst_made }
+        ensures well { RunsWell self.new.worker self.new.store.core self.new.log self.new.log_made
+            self.new.inst self.new.inst_made }
         ensures model { D.keeps_model self.new.store.disk → D.keeps_model self.old.store.disk }
+        ensures tells { Tells MayInstall
+            (side_of (D.device self.old.store.disk) self.old.store.core self.old.log self.old.log_made
+            self.old.inst self.old.inst_made)
+            result
+            (side_of (D.device self.new.store.disk) self.new.store.core self.new.log self.new.log_made
+            self.new.inst self.new.inst_made) }
     {
         let Some(io) = self.inst.take() else {
+            self.store.core.lawful();
             let io = self.store.core.inst_next()?;
             let call = io.call();
             put(&mut self.inst, io);
@@ -186,6 +224,7 @@ impl<D: CrashDisk> Running<D> {
         };
         match self.inst_made.take() {
             Some(ok) => {
+                self.store.core.lawful();
                 self.store.core.inst_done(io, ok);
                 Some(Step::InstDone(ok))
             }
@@ -199,14 +238,23 @@ impl<D: CrashDisk> Running<D> {
     // The installer's device call is made.
     #[tactic(auto, using(crate::proofs::Made::made_size))]
     fn inst_io(&mut self) -> Option<Step>
-        requires { RunsWell self.old.worker self.old.store.core self.old.log self.old.inst }
-        ensures well { RunsWell self.new.worker self.new.store.core self.new.log self.new.inst }
+        requires { RunsWell self.old.worker self.old.store.core self.old.log self.old.log_made
+            self.old.inst self.old.inst_made }
+        ensures well { RunsWell self.new.worker self.new.store.core self.new.log self.new.log_made
+            self.new.inst self.new.inst_made }
         ensures model { D.keeps_model self.new.store.disk → D.keeps_model self.old.store.disk }
+        ensures tells { Tells MayInstIo
+            (side_of (D.device self.old.store.disk) self.old.store.core self.old.log self.old.log_made
+            self.old.inst self.old.inst_made)
+            result
+            (side_of (D.device self.new.store.disk) self.new.store.core self.new.log self.new.log_made
+            self.new.inst self.new.inst_made) }
     {
         if self.inst_made.is_some() {
             return None;
         }
         let io = self.inst.as_ref()?;
+        self.store.core.lawful();
         let ok = io.perform(&mut self.store.disk).is_ok();
         self.inst_made = Some(ok);
         self.count();
@@ -215,7 +263,8 @@ impl<D: CrashDisk> Running<D> {
 
     /// The store, once what is out was given back and the worker has ended.
     pub(super) fn end(self) -> Store<D>
-        requires { RunsWell self.worker self.store.core self.log self.inst }
+        requires { RunsWell self.worker self.store.core self.log self.log_made
+            self.inst self.inst_made }
         ensures { result.disk ≡ self.store.disk }
     {
         let Running {

@@ -1,6 +1,5 @@
-use Rattle.std.proofs.Common.{◌≡◌, ◌∙◌, ℕ, rules, subst, sym}
+use Rattle.std.proofs.Common.{◌∙◌, ℕ, rules, subst, sym}
 use Rattle.nfs_types.specs.declared.ctx.Moment.{Moment}
-use Rattle.layout.specs.Geometry.{data_at}
 use Rattle.store.specs.Formatting.{HasWrittenUpTo, IsMade}
 use Rattle.store.proofs.Formatted.{made, same_data}
 use Rattle.store.proofs.formatting.format.Goals as goal
