@@ -1,3 +1,4 @@
 pub mod CallsLeft
+pub mod FormatStops
 pub mod Formatted
 pub mod Made
