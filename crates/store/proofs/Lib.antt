@@ -1,4 +1,5 @@
 pub mod CallsLeft
+pub mod FormatStops
 pub mod Formatted
 pub mod Made
 pub mod LogMoves

@@ -1,9 +1,13 @@
 //! Making an image: the order of its device calls. What its blocks hold is `layout`'s.
-ghost use Rattle.std.specs.Prelude.{◌≡◌, ◌≤◌, ◌<◌, OnOk};
-ghost use Rattle.disk.specs.Device.{CountsFailure, HasWritten};
+ghost use Rattle.std.specs.Prelude.{◌≡◌, ◌≤◌, ◌<◌, OnOk, replicate};
+ghost use Rattle.disk.specs.Blocks.{AreBlocks};
+ghost use Rattle.disk.specs.Crash.{IsAtRest};
+ghost use Rattle.disk.specs.Device.{CountsFailure, Device, HasWritten};
 ghost use Rattle.layout.specs.Fresh.{fresh};
 ghost use Rattle.layout.specs.Geometry.{data_at};
-ghost use Rattle.store.specs.Formatting.{HasFormatted, HasWrittenUpTo};
+ghost use Rattle.limits.specs.declared.TheConstants.{BLOCK_BYTES, FIRST_HOME_BLOCK, SUPER_BLOCK};
+ghost use Rattle.store.specs.Formatting.{HasFormatted, HasWrittenUpTo, IsBlank, IsMade, IsMadeBehind};
+ghost use Rattle.store.specs.Formatting.{LeavesByFormat, LeavesSuper, Stops};
 
 use disk::{Block, BlockNo, CrashDisk, Failed, Side};
 use layout::{FreshImage, Geometry, GeometryFault};
@@ -35,16 +39,6 @@ impl From<AllocError> for FormatFault {
     }
 }
 
-impl From<Failed> for FormatFault {
-    ghost use Rattle.store.specs.declared.formatting.FormatFault.TheVariants as fault;
-
-    ghost from_gives = { λ _ gives. gives ≡ fault.Device };
-
-    fn from(_: Failed) -> FormatFault {
-        FormatFault::Device
-    }
-}
-
 /// Makes an image of all blocks of the disk, with so many inodes, whose root is made at the moment. It
 /// answers the count of data blocks. The faults in their order: Size, Inodes, NoMemory, each before any
 /// write, and Device. While it goes on, and where the device fails, the image is the old one, or one that has
@@ -55,7 +49,9 @@ pub fn format<D: CrashDisk>(
     inodes: u32,
     moment: Moment,
 ) -> Result<u32, FormatFault>
-    ensures { HasFormatted (D.device disk.old) inodes moment result (D.device disk.new) }
+    ensures formatted { HasFormatted (D.device disk.old) inodes moment result (D.device disk.new) }
+    ensures left { D.keeps_model disk.new
+        → LeavesByFormat (D.device disk.old) inodes moment result (D.device disk.new) }
 {
     let geometry = match Geometry::new(disk.blocks(), inodes) {
         Ok(geometry) => geometry,
@@ -64,16 +60,90 @@ pub fn format<D: CrashDisk>(
     };
     let mut block = Block::zeros(alloc)?;
     let image = FreshImage::new(alloc, geometry, moment)?;
-    disk.write(BlockNo(SUPER_BLOCK), &block)?;
-    disk.barrier(Side::Home)?;
-    write_one(disk, &mut block, &image, LOG_HEADER_BLOCK)?;
-    write_one(disk, &mut block, &image, START_BLOCK)?;
-    write_up_to(disk, &mut block, &image, geometry.data().0)?;
+    match make(disk, &mut block, &image, geometry.data().0) {
+        Ok(()) => Ok(geometry.data_blocks()),
+        Err(Failed) => Err(FormatFault::Device),
+    }
+}
+
+// Writes the image's blocks and settles them, the super block last.
+fn make<D: CrashDisk>(
+    disk: &mut D,
+    block: &mut Block,
+    image: &FreshImage,
+    end: u32,
+) -> Result<(), Failed>
+    requires blocks { image.now.geometry.blocks ≡ (D.device disk.old).size }
+    requires end { end ≡ data_at image.now.geometry.blocks image.now.geometry.inodes }
+    requires zeros { block.old ≡ replicate BLOCK_BYTES 0 }
+    ensures made { OnOk result (IsMade (D.device disk.new) image.now.geometry image.now.made) }
+    ensures stops { AreBlocks (D.device disk.new)
+        → Stops (D.device disk.old) (D.device disk.new) image.now.geometry image.now.made }
+    ensures rest { OnOk result (IsAtRest (D.device disk.old) → IsAtRest (D.device disk.new)) }
+    ensures failure { CountsFailure (D.device disk.old) (D.device disk.new) result }
+    ensures size { (D.device disk.new).size ≡ (D.device disk.old).size }
+    ensures model { D.keeps_model disk.new → D.keeps_model disk.old }
+{
+    blank(disk, block)?;
+    fill(disk, block, image, end)?;
+    name(disk, block, image)
+}
+
+// Makes the super block's place blank, so that no image is there while the other blocks are written.
+fn blank<D: CrashDisk>(disk: &mut D, zeros: &Block) -> Result<(), Failed>
+    requires some { SUPER_BLOCK < (D.device disk.old).size }
+    requires zeros { zeros.now ≡ replicate BLOCK_BYTES 0 }
+    ensures blank { OnOk result (IsBlank (D.device disk.new)) }
+    ensures stops { (g : Geometry) (moment : Moment) → Stops (D.device disk.old) (D.device disk.new) g moment }
+    ensures rest { OnOk result (IsAtRest (D.device disk.old) → IsAtRest (D.device disk.new)) }
+    ensures failure { CountsFailure (D.device disk.old) (D.device disk.new) result }
+    ensures size { (D.device disk.new).size ≡ (D.device disk.old).size }
+    ensures model { D.keeps_model disk.new → D.keeps_model disk.old }
+{
+    disk.write(BlockNo(SUPER_BLOCK), zeros)?;
+    disk.barrier(Side::Home)
+}
+
+// Writes all other blocks that an image needs, and settles them.
+fn fill<D: CrashDisk>(
+    disk: &mut D,
+    block: &mut Block,
+    image: &FreshImage,
+    end: u32,
+) -> Result<(), Failed>
+    requires blocks { image.now.geometry.blocks ≡ (D.device disk.old).size }
+    requires end { end ≡ data_at image.now.geometry.blocks image.now.geometry.inodes }
+    requires blank { IsBlank (D.device disk.old) }
+    ensures made { OnOk result (IsMadeBehind (D.device disk.new) image.now.geometry image.now.made) }
+    ensures first { LeavesSuper (D.device disk.old) (D.device disk.new) }
+    ensures rest { OnOk result (IsAtRest (D.device disk.old) → IsAtRest (D.device disk.new)) }
+    ensures failure { CountsFailure (D.device disk.old) (D.device disk.new) result }
+    ensures size { (D.device disk.new).size ≡ (D.device disk.old).size }
+    ensures model { D.keeps_model disk.new → D.keeps_model disk.old }
+{
+    write_one(disk, block, image, LOG_HEADER_BLOCK)?;
+    write_one(disk, block, image, START_BLOCK)?;
+    write_up_to(disk, block, image, end)?;
     disk.barrier(Side::Log)?;
-    disk.barrier(Side::Home)?;
-    write_one(disk, &mut block, &image, SUPER_BLOCK)?;
-    disk.barrier(Side::Home)?;
-    Ok(geometry.data_blocks())
+    disk.barrier(Side::Home)
+}
+
+// Writes the super block, and settles it: from then on there is an image.
+fn name<D: CrashDisk>(disk: &mut D, block: &mut Block, image: &FreshImage) -> Result<(), Failed>
+    requires blocks { image.now.geometry.blocks ≡ (D.device disk.old).size }
+    requires blank { IsBlank (D.device disk.old) }
+    requires made { IsMadeBehind (D.device disk.old) image.now.geometry image.now.made }
+    ensures made { OnOk result (IsMade (D.device disk.new) image.now.geometry image.now.made) }
+    ensures stops { (before : Device) → AreBlocks (D.device disk.new)
+        → Stops before (D.device disk.old) image.now.geometry image.now.made
+        → Stops before (D.device disk.new) image.now.geometry image.now.made }
+    ensures rest { OnOk result (IsAtRest (D.device disk.old) → IsAtRest (D.device disk.new)) }
+    ensures failure { CountsFailure (D.device disk.old) (D.device disk.new) result }
+    ensures size { (D.device disk.new).size ≡ (D.device disk.old).size }
+    ensures model { D.keeps_model disk.new → D.keeps_model disk.old }
+{
+    write_one(disk, block, image, SUPER_BLOCK)?;
+    disk.barrier(Side::Home)
 }
 
 // Writes the image's blocks from the first behind the log up to one.
@@ -85,10 +155,13 @@ fn write_up_to<D: CrashDisk>(
 ) -> Result<(), Failed>
     requires blocks { image.now.geometry.blocks ≡ (D.device disk.old).size }
     requires end { end ≤ image.now.geometry.blocks }
+    requires some { FIRST_HOME_BLOCK ≤ end }
     ensures written { OnOk result
         (HasWrittenUpTo (D.device disk.old) image.now.geometry image.now.made end (D.device disk.new)) }
     ensures failure { CountsFailure (D.device disk.old) (D.device disk.new) result }
+    ensures first { LeavesSuper (D.device disk.old) (D.device disk.new) }
     ensures size { (D.device disk.new).size ≡ (D.device disk.old).size }
+    ensures model { D.keeps_model disk.new → D.keeps_model disk.old }
 {
     'numbers: for number in FIRST_HOME_BLOCK..end {
         write_one(disk, block, image, number)?;
@@ -109,6 +182,7 @@ fn write_one<D: CrashDisk>(
         result (D.device disk.new) }
     ensures failure { CountsFailure (D.device disk.old) (D.device disk.new) result }
     ensures size { (D.device disk.new).size ≡ (D.device disk.old).size }
+    ensures model { D.keeps_model disk.new → D.keeps_model disk.old }
 {
     image.put(number, block);
     disk.write(BlockNo(number), block)

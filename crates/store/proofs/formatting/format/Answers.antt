@@ -1,26 +1,49 @@
-use Rattle.std.proofs.Common.{◌∙◌, ℕ, rules, subst, sym}
+use Rattle.std.proofs.Common.{rules, ◌≡◌, ◌∙◌, sym, subst}
 use Rattle.nfs_types.specs.declared.ctx.Moment.{Moment}
-use Rattle.store.specs.Formatting.{HasWrittenUpTo, IsMade}
-use Rattle.store.proofs.Formatted.{made, same_data}
+use Rattle.store_promise.specs.Openings.{HasFailedToFormat, IsFormatted}
+use Rattle.store.specs.Formatting.{IsMade}
+use Rattle.store.proofs.FormatStops.{formatted, left_of_made, making_of, not_formatted}
 use Rattle.store.proofs.formatting.format.Goals as goal
 
-pub returns : goal.returns
-returns g c =
+pub returns-in-Ok-make-clause-formatted : goal.returns-in-Ok-make-clause-formatted
+returns-in-Ok-make-clause-formatted g c =
     let image = c.in_ok-image.image in
-    let device = g.D.CrashDisk.device in
-    let same = c.in_ok-image.ensures.geometry in
-    let end = c.data.ensures ∙ sym (same_data _ _ same) in
-    let parts = subst (λ (n : ℕ). HasWrittenUpTo (device c.write_one-2.new.disk) image.geometry image.made n
-    (device c.write_up_to.new.disk)) end
-    c.in_ok-write_up_to.ensures.written in
-    let whole : IsMade (device c.barrier-4.new.self) image.geometry image.made = made _ _ _ _ _ _ _ _ image.geometry image.made c.in_ok-write_one.ensures.written
-    c.in_ok-write_one-2.ensures.written parts c.in_ok-barrier-2.ensures.call c.in_ok-barrier-3.ensures.call
-    c.in_ok-write_one-3.ensures.written c.in_ok-barrier-4.ensures.call in (
+    let device = g.D.CrashDisk.device in (
       image.geometry,
       search rules,
       search rules,
       search rules,
       search rules,
       search rules,
-      subst (λ (m : Moment). IsMade (device c.barrier-4.new.self) image.geometry m) c.in_ok-image.ensures.made whole,
+      subst (λ (m : Moment). IsMade (device c.make.new.disk) image.geometry m) c.in_ok-image.ensures.made
+          c.in-Ok-make.ensures.made,
+    )
+
+pub returns-in-Ok-make-clause-left : goal.returns-in-Ok-make-clause-left
+returns-in-Ok-make-clause-left g c = λ keeps.
+    let image = c.in_ok-image.image in
+    let device = g.D.CrashDisk.device in
+    let sizes : image.geometry.blocks ≡ (device c.args.disk.now).size = search rules in (
+      image.geometry,
+      sizes,
+      search rules,
+      subst (λ (m : Moment). IsFormatted (device c.args.disk.now) (device c.make.new.disk) image.geometry m)
+          c.in_ok-image.ensures.made
+          (formatted (device c.args.disk.now) (device c.make.new.disk) image.geometry image.made sizes
+          (g.met.D.CrashDisk.whole c.make.new.disk keeps) c.in-Ok-make.ensures.stops c.in-Ok-make.ensures.failure
+          c.in-Ok-make.ensures.rest c.in-Ok-make.ensures.made),
+    )
+
+pub returns-clause-left : goal.returns-clause-left
+returns-clause-left g c = λ keeps.
+    let image = c.in_ok-image.image in
+    let device = g.D.CrashDisk.device in
+    let sizes : image.geometry.blocks ≡ (device c.args.disk.now).size = search rules in (
+      image.geometry,
+      sizes,
+      search rules,
+      subst (λ (m : Moment). HasFailedToFormat (device c.args.disk.now) (device c.make.new.disk) image.geometry m)
+          c.in_ok-image.ensures.made
+          (not_formatted (device c.args.disk.now) (device c.make.new.disk) image.geometry image.made sizes
+          (g.met.D.CrashDisk.whole c.make.new.disk keeps) c.in-Err.ensures.stops c.in-Err.ensures.failure),
     )
