@@ -52,6 +52,7 @@ pub fn format<D: CrashDisk>(
     ensures formatted { HasFormatted (D.device disk.old) inodes moment result (D.device disk.new) }
     ensures left { D.keeps_model disk.new
         → LeavesByFormat (D.device disk.old) inodes moment result (D.device disk.new) }
+    ensures model { D.keeps_model disk.new → D.keeps_model disk.old }
 {
     let geometry = match Geometry::new(disk.blocks(), inodes) {
         Ok(geometry) => geometry,
