@@ -3,6 +3,7 @@
 mod compared;
 mod failures;
 mod first_path;
+mod images;
 mod left;
 mod openings;
 mod plain;
