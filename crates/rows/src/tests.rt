@@ -1,5 +1,6 @@
 //! Tests that go through several layers. The page README.md says which file asks which question.
 
+mod by_hand;
 mod compared;
 mod failures;
 mod first_path;
