@@ -4,3 +4,4 @@ pub mod LogSide
 pub mod Opening
 pub mod Running
 pub mod Worker
+pub mod WorkerSteps

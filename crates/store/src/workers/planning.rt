@@ -17,6 +17,7 @@ impl Worker {
     ghost use Rattle.store.specs.Counts.{SameCounts};
     ghost use Rattle.store.specs.Worker.{Fits, HasRoom, IsHeld, IsPlanned, IsReplied, IsStillPlanned, IsTold};
     ghost use Rattle.store.specs.Worker.{IsWithout};
+    ghost use Rattle.store.specs.WorkerSteps.{IsStepOfPlan};
 
     // Makes the step that the plan asks for. Where the plan finds no memory the transaction is ended.
     pub(super) fn go_by_plan(&mut self, alloc: Global, core: &mut Core<Done>) -> Step
@@ -24,6 +25,7 @@ impl Worker {
         requires phase { self.old.phase ≡ Planning }
         ensures fits { Fits self.new core.new }
         ensures counts { SameCounts core.old core.new }
+        ensures step { IsStepOfPlan result }
     {
         let next = self.next(alloc);
         let tx = self.begun.take_tx();
@@ -54,6 +56,7 @@ impl Worker {
         requires { IsHeld self.old tx core.old }
         ensures fits { Fits self.new core.new }
         ensures counts { SameCounts core.old core.new }
+        ensures step { IsStepOfPlan result }
     {
         core.abort(tx);
         self.give(Verdict::NoMemory, None);
@@ -66,6 +69,7 @@ impl Worker {
         requires room { HasRoom self.old }
         ensures fits { Fits self.new core.new }
         ensures counts { SameCounts core.old core.new }
+        ensures step { IsStepOfPlan result }
     {
         let wish = match core.want(alloc, tx, addr) {
             Want::Held(tx, bytes) => {
@@ -117,6 +121,7 @@ impl Worker {
         requires room { HasRoom self.old }
         ensures fits { Fits self.new core.new }
         ensures counts { SameCounts core.old core.new }
+        ensures step { IsStepOfPlan result }
     {
         let wish = match core.claim(tx, block) {
             Claim::Held(tx) => {
@@ -161,6 +166,7 @@ impl Worker {
         requires held { IsHeld self.old tx core.old }
         ensures fits { Fits self.new core.new }
         ensures counts { SameCounts core.old core.new }
+        ensures step { IsStepOfPlan result }
     {
         let Ok((told, kept)) = twice(done.reply()) else {
             return self.lack(core, tx);

@@ -13,8 +13,9 @@ returns g c =
     let parts = subst (λ (n : ℕ). HasWrittenUpTo (device c.write_one-2.new.disk) image.geometry image.made n
     (device c.write_up_to.new.disk)) end
     c.in_ok-write_up_to.ensures.written in
-    let whole : IsMade (device c.barrier-4.new.self) image.geometry image.made = made _ _ _ _ _ _ _ _ image.geometry image.made c.in_ok-write_one.ensures.written
-    c.in_ok-write_one-2.ensures.written parts c.in_ok-barrier-2.ensures.call c.in_ok-barrier-3.ensures.call
+    let whole : IsMade (device c.barrier-4.new.self) image.geometry image.made =
+    made _ _ _ _ _ _ _ _ image.geometry image.made c.in_ok-write_one.ensures.written c.in_ok-write_one-2.ensures.written
+    parts c.in_ok-barrier-2.ensures.call c.in_ok-barrier-3.ensures.call
     c.in_ok-write_one-3.ensures.written c.in_ok-barrier-4.ensures.call in (
       image.geometry,
       search rules,
