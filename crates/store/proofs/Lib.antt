@@ -1,3 +1,4 @@
 pub mod Formatted
 pub mod Made
 pub mod LogMoves
+pub mod FewBlocks

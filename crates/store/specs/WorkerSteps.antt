@@ -7,6 +7,11 @@ use Rattle.wal_law.specs.Log.{settled_place}
 use Rattle.wal_law.specs.declared.outcomes.Seq.{Seq}
 use Rattle.txn.specs.Core.{CoreState}
 use Rattle.txn.specs.Fetch.{Fetch}
+use Rattle.procs.specs.declared.done.Done.{Done}
+use Rattle.procs.specs.declared.next.Plan.{Plan}
+use Rattle.procs.specs.declared.next.Plan.TheVariants as plan
+use Rattle.procs.specs.MostChanged.{most_changed}
+use Rattle.procs.specs.Planned.{ChangesFew}
 use Rattle.store_promise.specs.declared.events.Ending.TheVariants as ending
 use Rattle.store_promise.specs.declared.events.Step.{Step}
 use Rattle.store_promise.specs.declared.events.Step.TheVariants as step
@@ -27,13 +32,25 @@ abbrev pub IsStepOfJob : Option Job → CoreState → Step → Type 0
 IsStepOfJob None core made = ⊥
 IsStepOfJob (Some job) core made = Begins (has_rules job.call) core.begun made
 
--- a step by which a plan goes on, or ends
-abbrev pub IsStepOfPlan : Step → Type 0
-IsStepOfPlan (step.Wanted addr answer) = Unit {0}
-IsStepOfPlan (step.Claimed block answer) = Unit {0}
-IsStepOfPlan (step.Commit blocks answer) = Unit {0}
-IsStepOfPlan (step.Ended ending.NoMemory) = Unit {0}
-IsStepOfPlan _ = ⊥
+-- what a plan is done with changes no more blocks than its call does
+abbrev pub IsFew : Option Job → Done → Type 0
+IsFew None done = ⊥
+IsFew (Some job) done = ChangesFew (most_changed job.call) done
+
+abbrev pub IsFewOf : Option Job → Plan → Type 0
+IsFewOf job (plan.Done done) = IsFew job done
+IsFewOf job (plan.Need addr) = Unit {0}
+IsFewOf job (plan.Claim block) = Unit {0}
+IsFewOf job plan.NoMemory = Unit {0}
+
+-- a step by which a plan goes on, or ends: a commit of no more blocks than the call changes
+abbrev pub IsStepOfPlan : Option Job → Step → Type 0
+IsStepOfPlan job (step.Wanted addr answer) = Unit {0}
+IsStepOfPlan job (step.Claimed block answer) = Unit {0}
+IsStepOfPlan None (step.Commit blocks answer) = ⊥
+IsStepOfPlan (Some job) (step.Commit blocks answer) = blocks ≤ most_changed job.call
+IsStepOfPlan job (step.Ended ending.NoMemory) = Unit {0}
+IsStepOfPlan job _ = ⊥
 
 -- the fetch is given back, with its block or without
 abbrev pub IsGivenBack : Option Fetch → Bool → Step → Type 0
@@ -51,7 +68,7 @@ abbrev pub GoesOn : Phase → Worker → CoreState → Option Step → Type 0
 GoesOn Idle worker core made = made ≡ None
 GoesOn Reading worker core made = made ≡ None
 GoesOn Called worker core (Some made) = IsStepOfJob worker.work.job core made
-GoesOn Planning worker core (Some made) = IsStepOfPlan made
+GoesOn Planning worker core (Some made) = IsStepOfPlan worker.work.job made
 GoesOn (Read ok) worker core (Some made) = IsGivenBack worker.begun.io ok made
 GoesOn (Refused why) worker core (Some made) = made ≡ step.Ended ending.Refused
 GoesOn Again worker core (Some made) = made ≡ step.Ended ending.Again
