@@ -3,3 +3,4 @@ pub mod FormatStops
 pub mod Formatted
 pub mod Made
 pub mod LogMoves
+pub mod FewBlocks

@@ -5,3 +5,4 @@ pub mod Opening
 pub mod Running
 pub mod Worker
 pub mod Settling
+pub mod WorkerSteps

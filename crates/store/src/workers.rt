@@ -117,6 +117,7 @@ impl Worker {
     ghost use Rattle.store.specs.Counts.{SameCounts};
     ghost use Rattle.layout.specs.Geometry.{IsLawful};
     ghost use Rattle.store.specs.Worker.{Fits, IsRead, ReadsWithin, has_fetch};
+    ghost use Rattle.store.specs.WorkerSteps.{GoesOn};
 
     /// An idle worker of a store with this boot number. It fits each core that has no transaction out, and from
     /// then on that core alone: each method keeps it so, with whatever device of as many blocks.
@@ -217,6 +218,7 @@ impl Worker {
         requires { Fits self.old core.old }
         ensures fits { Fits self.new core.new }
         ensures counts { SameCounts core.old core.new }
+        ensures step { GoesOn self.old.phase self.old core.old result }
     {
         match self.phase {
             Phase::Idle | Phase::Reading => None,

@@ -17,6 +17,7 @@ impl Worker {
     ghost use Rattle.store.specs.Counts.{SameCounts};
     ghost use Rattle.store.specs.Worker.{Fits, HasRoom, IsHeld, IsPlanned, IsReplied, IsStillPlanned, IsTold};
     ghost use Rattle.store.specs.Worker.{IsWithout};
+    ghost use Rattle.store.specs.WorkerSteps.{IsFew, IsFewOf, IsStepOfPlan};
 
     // Makes the step that the plan asks for. Where the plan finds no memory the transaction is ended.
     pub(super) fn go_by_plan(&mut self, alloc: Global, core: &mut Core<Done>) -> Step
@@ -24,6 +25,7 @@ impl Worker {
         requires phase { self.old.phase ≡ Planning }
         ensures fits { Fits self.new core.new }
         ensures counts { SameCounts core.old core.new }
+        ensures step { IsStepOfPlan self.old.work.job result }
     {
         let next = self.next(alloc);
         let tx = self.begun.take_tx();
@@ -36,9 +38,12 @@ impl Worker {
     }
 
     // What the call needs next, or what comes of it, with room for what is read next.
+    #[tactic(auto, using(crate::proofs::FewBlocks::few_of))]
     fn next(&mut self, alloc: Global) -> Plan
         requires { IsPlanned self.old }
-        ensures { IsTold self.old result self.new }
+        ensures told { IsTold self.old result self.new }
+        ensures job { self.new.work.job ≡ self.old.work.job }
+        ensures few { IsFewOf self.old.work.job result }
     {
         let (Some(job), Some(snap)) = (self.work.job.as_ref(), self.work.snap.as_mut()) else {
             unreachable!();
@@ -54,6 +59,7 @@ impl Worker {
         requires { IsHeld self.old tx core.old }
         ensures fits { Fits self.new core.new }
         ensures counts { SameCounts core.old core.new }
+        ensures step { IsStepOfPlan self.old.work.job result }
     {
         core.abort(tx);
         self.give(Verdict::NoMemory, None);
@@ -66,6 +72,7 @@ impl Worker {
         requires room { HasRoom self.old }
         ensures fits { Fits self.new core.new }
         ensures counts { SameCounts core.old core.new }
+        ensures step { IsStepOfPlan self.old.work.job result }
     {
         let wish = match core.want(alloc, tx, addr) {
             Want::Held(tx, bytes) => {
@@ -117,6 +124,7 @@ impl Worker {
         requires room { HasRoom self.old }
         ensures fits { Fits self.new core.new }
         ensures counts { SameCounts core.old core.new }
+        ensures step { IsStepOfPlan self.old.work.job result }
     {
         let wish = match core.claim(tx, block) {
             Claim::Held(tx) => {
@@ -159,8 +167,10 @@ impl Worker {
     // Commits what the plan ended in. The replies are made before.
     fn commit(&mut self, alloc: Global, core: &mut Core<Done>, tx: Tx, done: Done) -> Step
         requires held { IsHeld self.old tx core.old }
+        requires few { IsFew self.old.work.job done }
         ensures fits { Fits self.new core.new }
         ensures counts { SameCounts core.old core.new }
+        ensures step { IsStepOfPlan self.old.work.job result }
     {
         let Ok((told, kept)) = twice(done.reply()) else {
             return self.lack(core, tx);

@@ -14,13 +14,17 @@ impl Worker {
     ghost use Rattle.store.specs.declared.workers.Phase.TheVariants.{Idle, Called, Read, Refused, Again};
     ghost use Rattle.store.specs.declared.workers.Phase.TheVariants.{Waiting};
     ghost use Rattle.store.specs.Counts.{SameCounts};
+    ghost use Rattle.store_promise.specs.declared.events.Ending.TheVariants as ending;
+    ghost use Rattle.store_promise.specs.declared.events.Step.TheVariants as step;
     ghost use Rattle.store.specs.Worker.{Fits};
+    ghost use Rattle.store.specs.WorkerSteps.{IsGivenBack, IsStepOfJob, IsStepOfPlace};
 
     // Begins the transaction of a call, or answers a call that needs none.
     pub(super) fn begin(&mut self, alloc: Global, core: &mut Core<Done>) -> Step
         requires fits { Fits self.old core.old }
         requires phase { self.old.phase ≡ Called }
         ensures fits { Fits self.new core.new }
+        ensures step { IsStepOfJob self.old.work.job core.old result }
         ensures counts { SameCounts core.old core.new }
     {
         let Some(job) = self.work.job.as_mut() else {
@@ -53,6 +57,7 @@ impl Worker {
         requires fits { Fits self.old core.old }
         requires phase { self.old.phase ≡ Read ok }
         ensures fits { Fits self.new core.new }
+        ensures step { IsGivenBack self.old.begun.io ok result }
         ensures counts { SameCounts core.old core.new }
     {
         let io = self.begun.take_fetch();
@@ -73,6 +78,7 @@ impl Worker {
         requires fits { Fits self.old core.old }
         requires phase { self.old.phase ≡ Refused refusal }
         ensures fits { Fits self.new core.new }
+        ensures step { result ≡ step.Ended ending.Refused }
         ensures counts { SameCounts core.old core.new }
     {
         let tx = self.begun.take_tx();
@@ -90,6 +96,7 @@ impl Worker {
         requires fits { Fits self.old core.old }
         requires phase { self.old.phase ≡ Again }
         ensures fits { Fits self.new core.new }
+        ensures step { result ≡ step.Ended ending.Again }
         ensures counts { SameCounts core.old core.new }
     {
         let tx = self.begun.take_tx();
@@ -103,6 +110,7 @@ impl Worker {
         requires fits { Fits self.old core.now }
         requires phase { self.old.phase ≡ Waiting place }
         ensures fits { Fits self.new core.now }
+        ensures step { IsStepOfPlace place core.now result }
     {
         let settled = core.stable(place).is_some();
         if settled || core.broken() {
