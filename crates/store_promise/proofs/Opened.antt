@@ -4,11 +4,10 @@ use Rattle.std.proofs.Common.{Bool, true, false, cond, if◌then◌else◌, ◌&
 use Rattle.std.proofs.Common.{replicate}
 use Rattle.std.proofs.lemmas.Bool.Decides.{nat_tests}
 use Rattle.limits.specs.declared.TheConstants.{BLOCK_BYTES, FIRST_HOME_BLOCK, SUPER_BLOCK}
-use Rattle.disk.specs.Crash.{Image, IsCrashImage}
+use Rattle.disk.specs.Crash.{Image}
 use Rattle.disk.specs.Device.{Content, Device}
-use Rattle.model.specs.After.{Entry, after}
-use Rattle.model.specs.Node.{Node}
-use Rattle.model.specs.Tree.{Tree, node_at}
+use Rattle.model.specs.After.{after}
+use Rattle.model.specs.Tree.{Tree}
 use Rattle.layout.specs.declared.geometry.Geometry.{Geometry}
 use Rattle.layout.specs.declared.super_block.Super.{Super}
 use Rattle.layout.specs.Homes.{homes_of, is_home}
@@ -18,7 +17,7 @@ use Rattle.wal_law.specs.declared.change.LogChange.{LogChange}
 use Rattle.wal_law.specs.Grows.{recovered}
 use Rattle.wal_law.specs.Law.{IsAfter, IsBoundary, IsOutside, with_changes, with_home}
 use Rattle.wal_law.specs.Calls as pending
-use Rattle.wal_law.specs.Log.{IsLawful, Log}
+use Rattle.wal_law.specs.Log.{Log}
 use Rattle.wal_law.specs.Overlay.{over}
 use Rattle.txn_law.specs.Core.{CoreState}
 use Rattle.txn_law.specs.CoreWindow.{IsCoreWindow, held_of}

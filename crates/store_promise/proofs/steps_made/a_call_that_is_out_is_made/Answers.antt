@@ -1,8 +1,8 @@
-use Rattle.std.proofs.Common.{◌≡◌, ◌≢◌, Bool, Option, Some, None, refl, subst}
+use Rattle.std.proofs.Common.{◌≢◌, Bool, Option, Some, None, refl, subst}
 use Rattle.wal_law.specs.declared.calls.IoCall.{IoCall}
 use Rattle.store_promise.specs.declared.events.Step.{Step}
 use Rattle.store_promise.specs.declared.events.Step.TheVariants as step
-use Rattle.store_promise.specs.LogTold.{CallTold, out}
+use Rattle.store_promise.specs.LogTold.{out}
 use Rattle.store_promise.specs.Schedule.{IsStepOfInstIo, IsStepOfLogIo}
 use Rattle.store_promise.proofs.steps_made.a_call_that_is_out_is_made.Goals as goal
 

@@ -1,4 +1,4 @@
-use Rattle.std.proofs.Common.{◌≡◌, ◌≢◌, ℕ, Bool, None, refl, subst}
+use Rattle.std.proofs.Common.{◌≢◌, ℕ, None, refl, subst}
 use Rattle.objects.specs.declared.addr.Addr.{Addr}
 use Rattle.store_promise.specs.Progress.{At, Begun, Job, Stage, Called, Planning, Reading, Read, Refused, Again}
 use Rattle.store_promise.specs.Progress.{Waiting}
