@@ -1,6 +1,5 @@
 -- A plan of a call changes no more blocks than the call.
 use Rattle.std.proofs.Common.{◌≡◌, Option, Some, subst, sym}
-use Rattle.nfs_types.specs.declared.call.Call.{Call}
 use Rattle.procs.specs.declared.next.Plan.{Plan}
 use Rattle.procs.specs.declared.next.Plan.TheVariants as plan
 use Rattle.procs.specs.declared.snap.Snap.{Snap}

@@ -1,7 +1,6 @@
 -- The step by which a worker goes on, by its phase.
-use Rattle.std.specs.Prelude.{◌≡◌, ◌↔◌, ℕ, ◌+◌, ◌≤◌, Bool, true, false, if◌then◌else◌, IsTrue, Option, Some}
+use Rattle.std.specs.Prelude.{◌≡◌, ◌↔◌, ℕ, ◌+◌, ◌≤◌, Bool, true, false, IsTrue, Option, Some}
 use Rattle.std.specs.Prelude.{None, Ok, Err}
-use Rattle.disk.specs.declared.block.BlockNo.{BlockNo}
 use Rattle.model.specs.Calls.{has_rules}
 use Rattle.wal_law.specs.Log.{settled_place}
 use Rattle.wal_law.specs.declared.outcomes.Seq.{Seq}
