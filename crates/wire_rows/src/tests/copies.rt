@@ -15,6 +15,13 @@ const VERIFIER: Verifier = Verifier {
     bytes: [8, 7, 6, 5, 4, 3, 2, 1],
 };
 
+// A copy of a reply that is let go then.
+fn copied(reply: Reply) -> Result<Reply, AllocError> {
+    let copy: Result<Reply, AllocError> = reply.clone();
+    drop(reply);
+    copy
+}
+
 fn handle(alloc: Global) -> Result<Handle, AllocError> {
     let stamp = Stamp {
         boot: 2,
@@ -30,22 +37,32 @@ fn is_handle(handle: &Option<Handle>) -> bool {
     }
 }
 
+// An entry of READDIR whose cookie is ten more than its number.
+fn entry(alloc: Global, number: u64, name: &[u8]) -> Result<ListedEntry, AllocError> {
+    Ok(ListedEntry {
+        number,
+        name: Octets::copied(alloc, name)?,
+        cookie: number.saturating_add(10),
+    })
+}
+
 // Two entries of READDIR, of the names `one` and `another`.
-fn listed(alloc: Global) -> Result<Reply, AllocError> {
+fn entries(alloc: Global) -> Result<ListedEntries, AllocError> {
     let mut entries = Vec::new(alloc);
-    for (number, name) in [(6, b"one".as_slice()), (7, b"another".as_slice())] {
-        entries.push(ListedEntry {
-            number,
-            name: Octets::copied(alloc, name)?,
-            cookie: number + 10,
-        })?;
-    }
+    entries.push(entry(alloc, 6, b"one")?)?;
+    entries.push(entry(alloc, 7, b"another")?)?;
+    Ok(ListedEntries::new(entries))
+}
+
+// READDIR of these two.
+fn listed(alloc: Global) -> Result<Reply, AllocError> {
+    let listed = Listed {
+        verifier: VERIFIER,
+        entries: entries(alloc)?,
+        eof: true,
+    };
     Ok(Reply::ReadDir {
-        outcome: Ok(Listed {
-            verifier: VERIFIER,
-            entries: ListedEntries::new(entries),
-            eof: true,
-        }),
+        outcome: Ok(listed),
         directory: Some(FRESH_ROOT),
     })
 }
@@ -77,34 +94,50 @@ fn is_listed(reply: &Reply) -> bool {
 
 #[test]
 fn a_listing_is_copied(rt: HostRuntime) -> Result<(), Fail> {
-    let copy = listed(rt.alloc())?.clone()?;
+    let copy = copied(listed(rt.alloc())?)?;
     assert!(rt; is_listed(&copy));
+    drop(copy);
     Ok(())
 }
 
-// Two entries of READDIRPLUS, the second with attributes and a handle.
-fn listed_plus(alloc: Global) -> Result<Reply, AllocError> {
-    let mut entries = Vec::new(alloc);
-    entries.push(ListedEntryPlus {
+fn bare_entry(alloc: Global) -> Result<ListedEntryPlus, AllocError> {
+    Ok(ListedEntryPlus {
         number: 6,
         name: Octets::copied(alloc, b"one")?,
         cookie: 16,
         attributes: None,
         handle: None,
-    })?;
-    entries.push(ListedEntryPlus {
+    })
+}
+
+fn full_entry(alloc: Global) -> Result<ListedEntryPlus, AllocError> {
+    let handle = handle(alloc)?;
+    Ok(ListedEntryPlus {
         number: 7,
         name: Octets::copied(alloc, b"another")?,
         cookie: 17,
         attributes: Some(FRESH_ROOT),
-        handle: Some(handle(alloc)?),
-    })?;
+        handle: Some(handle),
+    })
+}
+
+// Two entries of READDIRPLUS, the second with attributes and a handle.
+fn entries_plus(alloc: Global) -> Result<ListedEntriesPlus, AllocError> {
+    let mut entries = Vec::new(alloc);
+    entries.push(bare_entry(alloc)?)?;
+    entries.push(full_entry(alloc)?)?;
+    Ok(ListedEntriesPlus::new(entries))
+}
+
+// READDIRPLUS of these two.
+fn listed_plus(alloc: Global) -> Result<Reply, AllocError> {
+    let listed = ListedPlus {
+        verifier: VERIFIER,
+        entries: entries_plus(alloc)?,
+        eof: false,
+    };
     Ok(Reply::ReadDirPlus {
-        outcome: Ok(ListedPlus {
-            verifier: VERIFIER,
-            entries: ListedEntriesPlus::new(entries),
-            eof: false,
-        }),
+        outcome: Ok(listed),
         directory: None,
     })
 }
@@ -146,8 +179,9 @@ fn is_listed_plus(reply: &Reply) -> bool {
 
 #[test]
 fn a_listing_with_handles_is_copied(rt: HostRuntime) -> Result<(), Fail> {
-    let copy = listed_plus(rt.alloc())?.clone()?;
+    let copy = copied(listed_plus(rt.alloc())?)?;
     assert!(rt; is_listed_plus(&copy));
+    drop(copy);
     Ok(())
 }
 
@@ -177,23 +211,30 @@ fn is_looked_up(reply: &Reply) -> bool {
 
 #[test]
 fn a_handle_is_copied(rt: HostRuntime) -> Result<(), Fail> {
-    let copy = looked_up(rt.alloc())?.clone()?;
+    let copy = copied(looked_up(rt.alloc())?)?;
     assert!(rt; is_looked_up(&copy));
+    drop(copy);
     Ok(())
 }
 
-// READ of so many bytes, each the lowest of its offset.
-fn read(alloc: Global, count: u32) -> Result<Reply, AllocError> {
+// So many bytes, each the lowest of its offset.
+fn rising(alloc: Global, count: u32) -> Result<Octets, AllocError> {
     let mut bytes = Vec::new(alloc);
     for offset in 0..count {
         bytes.push((offset % 256) as u8)?;
     }
+    Ok(Octets::new(bytes))
+}
+
+// READ of so many such bytes.
+fn read(alloc: Global, count: u32) -> Result<Reply, AllocError> {
+    let read = ReadBytes {
+        count,
+        eof: true,
+        bytes: rising(alloc, count)?,
+    };
     Ok(Reply::Read {
-        outcome: Ok(ReadBytes {
-            count,
-            eof: true,
-            bytes: Octets::new(bytes),
-        }),
+        outcome: Ok(read),
         file: None,
     })
 }
@@ -226,7 +267,8 @@ fn is_read(reply: &Reply, count: u32) -> bool {
 
 #[test]
 fn bytes_are_copied(rt: HostRuntime) -> Result<(), Fail> {
-    let copy = read(rt.alloc(), 8192)?.clone()?;
+    let copy = copied(read(rt.alloc(), 8192)?)?;
     assert!(rt; is_read(&copy, 8192));
+    drop(copy);
     Ok(())
 }

@@ -33,6 +33,7 @@ fn is_worked_null(judged: &Judged) -> bool {
 fn null_by_nobody(rt: HostRuntime) -> Result<(), Fail> {
     let found = judged(rt.alloc(), &NULL)?;
     assert!(rt; is_worked_null(&found));
+    drop(found);
     Ok(())
 }
 
@@ -52,6 +53,7 @@ fn is_setattr_by_root(judged: &Judged) -> bool {
 fn setattr_of_the_roots_mode(rt: HostRuntime) -> Result<(), Fail> {
     let found = judged(rt.alloc(), &SETATTR)?;
     assert!(rt; is_setattr_by_root(&found));
+    drop(found);
     Ok(())
 }
 
@@ -81,6 +83,7 @@ fn calls_that_are_refused(rt: HostRuntime) -> Result<(), Fail> {
     for (message, refusal) in REFUSALS {
         let found = judged(rt.alloc(), message)?;
         assert!(rt; is_refused(&found, refusal), "{refusal:?}");
+        drop(found);
     }
     Ok(())
 }

@@ -29,15 +29,19 @@ fn is_setattr_message(message: &CallMessage) -> bool {
 // Whether these bytes are the worked SETATTR.
 fn is_read_as_setattr(alloc: Global, bytes: &[u8]) -> Result<bool, AllocError> {
     let read = read_call(alloc, bytes)?;
-    Ok(match &read {
+    let is_setattr = match &read {
         Some(message) => is_setattr_message(message),
         None => false,
-    })
+    };
+    drop(read);
+    Ok(is_setattr)
 }
 
 fn is_no_call(alloc: Global, bytes: &[u8]) -> Result<bool, AllocError> {
     let read = read_call(alloc, bytes)?;
-    Ok(read.is_none())
+    let is_none = read.is_none();
+    drop(read);
+    Ok(is_none)
 }
 
 #[test]
@@ -72,10 +76,13 @@ fn tells_of_the_root(message: &ReplyMessage) -> bool {
 
 // Whether these bytes are the attributes of a fresh root.
 fn is_read_as_attributes(bytes: &[u8]) -> bool {
-    match &read_reply(ProgramProcedure::Nfs(Procedure::GetAttr), bytes) {
+    let read = read_reply(ProgramProcedure::Nfs(Procedure::GetAttr), bytes);
+    let is_told = match &read {
         Some(message) => tells_of_the_root(message),
         None => false,
-    }
+    };
+    drop(read);
+    is_told
 }
 
 #[test]
@@ -86,7 +93,10 @@ fn attributes_of_the_root(rt: HostRuntime) -> Result<(), Fail> {
 }
 
 fn is_no_reply(procedure: Procedure, bytes: &[u8]) -> bool {
-    read_reply(ProgramProcedure::Nfs(procedure), bytes).is_none()
+    let read = read_reply(ProgramProcedure::Nfs(procedure), bytes);
+    let is_none = read.is_none();
+    drop(read);
+    is_none
 }
 
 #[test]
@@ -105,10 +115,13 @@ fn is_refused_for(message: &ReplyMessage, wanted: Refusal) -> bool {
 
 // Whether these bytes are the refusal of another version.
 fn is_read_as_mismatch(bytes: &[u8]) -> bool {
-    match &read_reply(ProgramProcedure::Nfs(Procedure::Null), bytes) {
+    let read = read_reply(ProgramProcedure::Nfs(Procedure::Null), bytes);
+    let is_refused = match &read {
         Some(message) => is_refused_for(message, Refusal::ProgramMismatch),
         None => false,
-    }
+    };
+    drop(read);
+    is_refused
 }
 
 #[test]

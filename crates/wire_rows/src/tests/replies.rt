@@ -34,7 +34,9 @@ fn attributes_of_the_root(rt: HostRuntime) -> Result<(), Fail> {
     let reply = Reply::GetAttr {
         outcome: Ok(FRESH_ROOT),
     };
-    assert!(rt; is_written(rt.alloc(), 3, RpcReply::Nfs(&reply), &GETATTR_FRESH)?);
+    let written = is_written(rt.alloc(), 3, RpcReply::Nfs(&reply), &GETATTR_FRESH);
+    drop(reply);
+    assert!(rt; written?);
     Ok(())
 }
 
@@ -44,7 +46,9 @@ fn mode_of_the_root_is_set(rt: HostRuntime) -> Result<(), Fail> {
         outcome: Ok(()),
         object: ROOT_IS_CHANGED,
     };
-    assert!(rt; is_written(rt.alloc(), 4, RpcReply::Nfs(&reply), &SETATTR_DONE)?);
+    let written = is_written(rt.alloc(), 4, RpcReply::Nfs(&reply), &SETATTR_DONE);
+    drop(reply);
+    assert!(rt; written?);
     Ok(())
 }
 

@@ -71,6 +71,7 @@ fn sixteen_groups_are_judged(rt: HostRuntime) -> Result<(), Fail> {
     let bytes = content(rt.alloc(), &SIXTEEN_GIDS)?;
     let found = judge(rt.alloc(), bytes.as_slice())?;
     assert!(rt; is_null_by_caller(&found));
+    drop(found);
     Ok(())
 }
 
@@ -88,10 +89,12 @@ fn is_caller_on_client(credential: &MessageCredential) -> bool {
 // Whether the plain reader finds that user in these bytes.
 fn is_read_so(alloc: Global, bytes: &[u8]) -> Result<bool, AllocError> {
     let read = read_call(alloc, bytes)?;
-    Ok(match &read {
+    let is_so = match &read {
         Some(message) => message.xid == 9 && is_caller_on_client(&message.credential),
         None => false,
-    })
+    };
+    drop(read);
+    Ok(is_so)
 }
 
 #[test]
