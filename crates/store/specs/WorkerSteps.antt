@@ -6,11 +6,11 @@ use Rattle.wal_law.specs.Log.{settled_place}
 use Rattle.wal_law.specs.declared.outcomes.Seq.{Seq}
 use Rattle.txn.specs.Core.{CoreState}
 use Rattle.txn.specs.Fetch.{Fetch}
-use Rattle.procs.specs.declared.done.Done.{Done}
+use Rattle.procs.specs.Finished.{ChangesFew}
 use Rattle.procs.specs.declared.next.Plan.{Plan}
 use Rattle.procs.specs.declared.next.Plan.TheVariants as plan
 use Rattle.procs.specs.MostChanged.{most_changed}
-use Rattle.procs.specs.Planned.{ChangesFew}
+use Rattle.procs.specs.Outcome.{Outcome}
 use Rattle.store_promise.specs.declared.events.Ending.TheVariants as ending
 use Rattle.store_promise.specs.declared.events.Step.{Step}
 use Rattle.store_promise.specs.declared.events.Step.TheVariants as step
@@ -32,7 +32,7 @@ IsStepOfJob None core made = ⊥
 IsStepOfJob (Some job) core made = Begins (has_rules job.call) core.begun made
 
 -- what a plan is done with changes no more blocks than its call does
-abbrev pub IsFew : Option Job → Done → Type 0
+abbrev pub IsFew : Option Job → Outcome → Type 0
 IsFew None done = ⊥
 IsFew (Some job) done = ChangesFew (most_changed job.call) done
 

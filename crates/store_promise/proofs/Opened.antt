@@ -1,7 +1,7 @@
 -- What an opening leaves, over what is at home.
 use Rattle.std.proofs.Common.{◌≡◌, ℕ, zero, suc, ◌+◌, ◌≤◌, ◌⊎◌, inl, inr, ap, sym, ◌∙◌, refl, subst, arith}
 use Rattle.std.proofs.Common.{Bool, true, false, cond, if◌then◌else◌, ◌&&◌, List, [], All, nat_eq, nat_le, nat_lt, take}
-use Rattle.std.proofs.Common.{replicate}
+use Rattle.std.proofs.Common.{length, replicate}
 use Rattle.std.proofs.lemmas.Bool.Decides.{nat_tests}
 use Rattle.limits.specs.declared.TheConstants.{BLOCK_BYTES, FIRST_HOME_BLOCK, SUPER_BLOCK}
 use Rattle.disk.specs.Crash.{Image}
@@ -20,7 +20,7 @@ use Rattle.wal_law.specs.Calls as pending
 use Rattle.wal_law.specs.Log.{Log}
 use Rattle.wal_law.specs.Overlay.{over}
 use Rattle.txn_law.specs.Core.{CoreState}
-use Rattle.txn_law.specs.CoreWindow.{IsCoreWindow, held_of}
+use Rattle.txn_law.specs.CoreWindow.{AreBlocks, IsCoreWindow, held_of}
 use Rattle.txn_law.specs.declared.present.Present.{Present}
 use Rattle.txn_law.specs.Window.{Follow, Footprint, IsCurrent, LeadsTo, after_commits, commits_among, now_of, opening}
 use Rattle.store_promise.specs.GoodImage.{IsGoodImage}
@@ -95,7 +95,7 @@ module _ (before opened : Device) (base : Image) (core : CoreState) (tree : Tree
 
   files : HasFilesOver base core (first + 1) tree [] tree
   files = record {
-    window = new.window;
+    home = new.home;
     super = good.super;
     is_super = is_super;
     boot_is = good.boot_is;
@@ -136,7 +136,7 @@ after_none blocks (suc n) block = refl
 
 module _ (base : Image) (core : CoreState) (boot : ℕ) (tree : Tree) (super : Super) (content : Content)
     (files : HasFilesOver base core boot tree [] tree) (changes : core.log.changes ≡ [])
-    (records : core.records ≡ []) (present : core.present ≡ []) where
+    (records : core.records ≡ []) (present : core.present ≡ []) (is_block : length content ≡ BLOCK_BYTES) where
   abbrev raised : Image
   raised = with_home base SUPER_BLOCK content
 
@@ -169,17 +169,24 @@ module _ (base : Image) (core : CoreState) (boot : ℕ) (tree : Tree) (super : S
       ∙ ap (λ rs. after_commits (opening raised core.log) (take (commits_among core.log count) rs) block)
       (sym records)
 
+  whole : AreBlocks core.log.blocks raised
+  whole block within = by_test (nat_eq block SUPER_BLOCK)
+    where
+      by_test : (same : Bool) → length (if same then content else base block) ≡ BLOCK_BYTES
+      by_test true = is_block
+      by_test false = files.home.whole block within
+
   window : IsCoreWindow raised core
   window = record {
     follow = subst (Follow (opening raised core.log)) (sym records) tt;
-    placed = files.window.placed;
-    all = files.window.all;
-    opened = files.window.opened;
+    placed = files.home.window.placed;
+    all = files.home.window.all;
+    opened = files.home.window.opened;
     group = λ count ends none. leads count;
-    written = files.window.written;
+    written = files.home.window.written;
     memory = subst (λ (ps : List Present). All (IsCurrent (now_of raised core.log core.records)) (held_of ps))
         (sym present) (λ k d less. absurd (omega (arith, less)));
-    pinned = files.window.pinned;
+    pinned = files.home.window.pinned;
   }
 
   module _ (is_super : IsSuper content super) (geometry : super.geometry ≡ files.super.geometry)
@@ -196,7 +203,7 @@ module _ (base : Image) (core : CoreState) (boot : ℕ) (tree : Tree) (super : S
 
     pub under_new : HasFilesOver raised core super.boot tree [] tree
     under_new = record {
-      window = window;
+      home = record { whole = whole; window = window };
       super = super;
       is_super = is_super;
       boot_is = refl;

@@ -1,5 +1,5 @@
 -- What holds of an open store at each moment: its device, its core, and the files that these are.
-use Rattle.std.specs.Prelude.{◌≡◌, ℕ, ◌-◌, ◌≤◌, List, [], ◌∷◌, Some, take}
+use Rattle.std.specs.Prelude.{◌≡◌, ℕ, ◌-◌, ◌≤◌, false, List, [], ◌∷◌, Some, take}
 use Rattle.limits.specs.declared.TheConstants.{SUPER_BLOCK}
 use Rattle.disk.specs.Crash.{Image}
 use Rattle.disk.specs.Device.{Device}
@@ -15,7 +15,7 @@ use Rattle.layout.specs.SuperForm.{IsSuper}
 use Rattle.wal_law.specs.Calls.{AgreesBeside, Pending, idle}
 use Rattle.wal_law.specs.Log.{IsLawful, Log, installed_place, settled_place}
 use Rattle.txn_law.specs.Core.{CoreState}
-use Rattle.txn_law.specs.CoreWindow.{IsCoreWindow}
+use Rattle.txn_law.specs.CoreWindow.{IsHomeOf}
 use Rattle.txn_law.specs.HomeRead.{IsReadable}
 use Rattle.txn_law.specs.Tidy.{AreTidy}
 use Rattle.txn_law.specs.Window.{Footprint, opening, with_objects}
@@ -34,11 +34,11 @@ IsChain g blocks tree (commit ∷ commits) [] last = ⊥
 abbrev pub IsOfBoot : ℕ → Tree → Type 0
 IsOfBoot boot tree = (number : ℕ) (node : Node) → node_at tree number ≡ Some node → node.stamp.boot ≤ boot
 
--- What the files are, over what is at home: the commits that aren't installed lead on from there, and each has its
--- entry; and the super block at home is that of this boot. The entries are those since the tree.
+-- What the files are, over what is at home, which is whole: the commits that aren't installed lead on from there,
+-- and each has its entry; and the super block at home is that of this boot. The entries are those since the tree.
 pub record HasFilesOver (base : Image) (core : CoreState) (boot : ℕ) (tree : Tree) (entries : List Entry)
     (last : Tree) : Type 0 where
-  pub window : IsCoreWindow base core
+  pub home : IsHomeOf base core
   pub super : Super
   pub is_super : IsSuper (base SUPER_BLOCK) super
   pub boot_is : super.boot ≡ boot
@@ -71,14 +71,18 @@ IsBoot boot found = found ≡ boot
 abbrev pub IsSettledOf : Log → ℕ → Type 0
 IsSettledOf log place = place ≤ settled_place log - installed_place log
 
--- What an opening is to leave of a core, over what is at home: it is whole, the device agrees with it, and no
--- change is in the log and no commit kept.
+-- What an opening is to leave of a core, over what is at home: the device agrees with it, nothing is in the log or in
+-- memory, no commit was made, no transaction begun, and nothing has failed.
 pub record IsNewOver (base : Image) (d : Device) (core : CoreState) : Type 0 where
   pub lawful : IsLawful core.log
   pub agrees : AgreesBeside d base core.log idle idle
   pub readable : IsReadable d core.log idle
   pub tidy : AreTidy core
-  pub window : IsCoreWindow base core
+  pub home : IsHomeOf base core
   pub changes : core.log.changes ≡ []
   pub records : core.records ≡ []
+  pub present : core.present ≡ []
+  pub begun : core.begun ≡ 0
+  pub places : core.log.places ≡ 0
+  pub sound : core.log.broken ≡ false
   pub inodes : (super : Super) → IsSuper (base SUPER_BLOCK) super → super.geometry.inodes ≡ core.inodes

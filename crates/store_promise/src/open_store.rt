@@ -1,6 +1,6 @@
 //! Laws on an open store.
 ghost use Rattle.std.specs.Prelude.{◌≡◌, ℕ, ◌+◌, ◌≤◌, List, [], length};
-ghost use Rattle.limits.specs.declared.TheConstants.{SUPER_BLOCK};
+ghost use Rattle.limits.specs.declared.TheConstants.{BLOCK_BYTES, SUPER_BLOCK};
 ghost use Rattle.disk.specs.Crash.{Image, IsCrashImage};
 ghost use Rattle.disk.specs.Device.{Content, Device};
 ghost use Rattle.model.specs.After.{Entry};
@@ -54,6 +54,6 @@ pub fn the_files_stay_under_a_new_super_block()
     ensures { (base : Image) (core : CoreState) (boot : ℕ) (tree : Tree) (super : Super) (content : Content)
         (files : HasFilesOver base core boot tree [] tree)
         → core.log.changes ≡ [] → core.records ≡ [] → core.present ≡ []
-        → IsSuper content super → super.geometry ≡ files.super.geometry → boot ≤ super.boot
+        → length content ≡ BLOCK_BYTES → IsSuper content super → super.geometry ≡ files.super.geometry → boot ≤ super.boot
         → HasFilesOver (with_home base SUPER_BLOCK content) core super.boot tree [] tree }
 {}

@@ -39,7 +39,7 @@ module _ (base : Image) (core : CoreState) (boot : ℕ) (tree last : Tree) (entr
   writes =
       let none : installed_place core.log - installed_place core.log ≡ 0 = omega arith in
       subst (λ n. All (AreInLog core.log.changes) (drop n core.records)) none
-      (files.window.written 0 (at_first refl))
+      (files.home.window.written 0 (at_first refl))
 
   module _ (k : ℕ) (there : (block : ℕ) → IsOutside size block
       → over image block ≡ after_commits (opening base core.log) (take k core.records) block) where
@@ -109,5 +109,5 @@ module _ (base : Image) (core : CoreState) (boot : ℕ) (tree last : Tree) (entr
 pub returns : goal.returns
 returns c = λ base core boot tree last entries image lawful files boundary.
     let prefix = c.a_crash_leaves_a_prefix.ensures base core.log core.records (held_of core.present) image lawful
-    files.window boundary in
+    files.home.window boundary in
     left base core boot tree last entries image lawful files boundary prefix.0 prefix.1 prefix.2 prefix.3
