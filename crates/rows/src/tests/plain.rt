@@ -32,14 +32,20 @@ fn caller(alloc: Global, credential: MessageCredential) -> Credential {
     }
 }
 
+// The call that this message spells.
+fn read(alloc: Global, message: &[u32]) -> Result<CallMessage, Fail> {
+    let bytes = content(alloc, message)?;
+    let read = read_call(alloc, bytes.as_slice())?;
+    Ok(read.ok_or("a call")?)
+}
+
 /// Who asks for what by this message.
 pub fn asked(alloc: Global, message: &[u32]) -> Result<(Credential, Call), Fail> {
-    let read = read_call(alloc, &content(alloc, message)?)?.ok_or("a call")?;
     let CallMessage {
         credential,
         call,
         ..
-    } = read;
+    } = read(alloc, message)?;
     match call {
         ProgramCall::Nfs(call) => Ok((caller(alloc, credential), call)),
         ProgramCall::Mount(_) => Err(Fail::from("a call of MOUNT")),
@@ -60,13 +66,17 @@ pub fn plain_reply_to(
         boot,
         transaction: 1,
     };
-    Ok(plain_server::serve(tree, &ctx, &call)?)
+    let served = plain_server::serve(tree, &ctx, &call);
+    drop(ctx);
+    drop(call);
+    Ok(served?)
 }
 
 /// The tree of a fresh image after this message.
 pub fn changed_by(alloc: Global, message: &[u32]) -> Result<PlainTree, Fail> {
     let mut tree = fresh(alloc)?;
-    plain_reply_to(alloc, &mut tree, 1, message)?;
+    let reply = plain_reply_to(alloc, &mut tree, 1, message)?;
+    drop(reply);
     Ok(tree)
 }
 

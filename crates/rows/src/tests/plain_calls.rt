@@ -41,6 +41,15 @@ fn handle_of(alloc: Global, number: u32, boot: u64) -> Result<Handle, AllocError
     Handle::of(alloc, number, stamp)
 }
 
+// What the plain server answers to a user.
+fn served(alloc: Global, tree: &mut PlainTree, uid: u32, call: Call) -> Result<Reply, PlainFault> {
+    let ctx = called_by(alloc, uid);
+    let reply = serve(tree, &ctx, &call);
+    drop(ctx);
+    drop(call);
+    reply
+}
+
 // What a GETATTR answers to user 0 of the file with this number and boot number.
 fn told(
     alloc: Global,
@@ -48,14 +57,14 @@ fn told(
     number: u32,
     boot: u64,
 ) -> Result<Option<Result<Attributes, Status>>, AllocError> {
-    let ctx = called_by(alloc, 0);
-    let call = Call::GetAttr {
-        object: handle_of(alloc, number, boot)?,
-    };
-    Ok(match &serve(tree, &ctx, &call) {
+    let object = handle_of(alloc, number, boot)?;
+    let reply = served(alloc, tree, 0, Call::GetAttr { object });
+    let told = match &reply {
         Ok(Reply::GetAttr { outcome }) => Some(*outcome),
         _ => None,
-    })
+    };
+    drop(reply);
+    Ok(told)
 }
 
 fn is_told(answer: &Option<Result<Attributes, Status>>, wanted: &Attributes) -> bool {
@@ -99,16 +108,18 @@ fn set(
     attributes: NewAttributes,
     guard: Option<Moment>,
 ) -> Option<Set> {
-    let ctx = called_by(alloc, uid);
     let call = Call::SetAttr {
         object,
         attributes,
         guard,
     };
-    match &serve(tree, &ctx, &call) {
+    let reply = served(alloc, tree, uid, call);
+    let set = match &reply {
         Ok(Reply::SetAttr { outcome, object }) => Some((*outcome, *object)),
         _ => None,
-    }
+    };
+    drop(reply);
+    set
 }
 
 // Whether this was answered, and this told of the file.
@@ -270,16 +281,16 @@ fn has_last_bytes(tree: &PlainTree, wanted: &[u8]) -> bool {
 }
 
 // Whether the plain server has no rules for the call.
-fn has_no_rules(alloc: Global, tree: &mut PlainTree, call: &Call) -> bool {
-    matches!(
-        &serve(tree, &called_by(alloc, 0), call),
-        Err(PlainFault::NoRules)
-    )
+fn has_no_rules(alloc: Global, tree: &mut PlainTree, call: Call) -> bool {
+    let reply = served(alloc, tree, 0, call);
+    let has_none = matches!(&reply, Err(PlainFault::NoRules));
+    drop(reply);
+    has_none
 }
 
 #[test]
 fn no_other_call_is_served(rt: HostRuntime) -> Result<(), AllocError> {
     let mut tree = fresh(rt.alloc())?;
-    assert!(rt; has_no_rules(rt.alloc(), &mut tree, &Call::Null));
+    assert!(rt; has_no_rules(rt.alloc(), &mut tree, Call::Null));
     Ok(())
 }

@@ -153,16 +153,23 @@ fn is_reply(verdict: &Verdict, reply: &Reply) -> bool {
     }
 }
 
-// Whether each answer of the run is the worked reply, which is the plain server's too.
-fn has_worked_answers(alloc: Global, run: &Run) -> Result<bool, Fail> {
-    let mut tree = fresh(alloc)?;
-    let reply = plain_reply_to(alloc, &mut tree, run.boot, &SETATTR)?;
+// Whether each answer of the run is the worked reply, and this one.
+fn has_answers(alloc: Global, run: &Run, reply: &Reply) -> Result<bool, AllocError> {
     for answer in &run.answers {
-        if !is_reply(&answer.verdict, &reply) || !is_so_written(alloc, &answer.verdict)? {
+        if !is_reply(&answer.verdict, reply) || !is_so_written(alloc, &answer.verdict)? {
             return Ok(false);
         }
     }
     Ok(true)
+}
+
+// Whether each answer of the run is the worked reply, which is the plain server's too.
+fn has_worked_answers(alloc: Global, run: &Run) -> Result<bool, Fail> {
+    let mut tree = fresh(alloc)?;
+    let reply = plain_reply_to(alloc, &mut tree, run.boot, &SETATTR)?;
+    let has_them = has_answers(alloc, run, &reply);
+    drop(reply);
+    Ok(has_them?)
 }
 
 #[test]

@@ -62,13 +62,15 @@ fn set_mode(alloc: Global, store: &mut Store<MemDisk>, mode: u32) -> Result<bool
             guard: None,
         },
     );
-    Ok(matches!(
+    let is_set = matches!(
         &verdict,
         Verdict::Reply(Reply::SetAttr {
             outcome: Ok(()),
             ..
         })
-    ))
+    );
+    drop(verdict);
+    Ok(is_set)
 }
 
 // The root's mode, where its attributes are told.
@@ -78,14 +80,16 @@ fn mode(alloc: Global, store: &mut Store<MemDisk>) -> Result<Option<u32>, AllocE
 {
     let object = Handle::of(alloc, ROOT, MADE_BY_FORMAT)?;
     let verdict = call(alloc, store, Call::GetAttr { object });
-    Ok(match &verdict {
+    let mode = match &verdict {
         Verdict::Reply(
             Reply::GetAttr {
                 outcome: Ok(attributes),
             },
         ) => Some(attributes.mode),
         _ => None,
-    })
+    };
+    drop(verdict);
+    Ok(mode)
 }
 
 // Sets the root's mode so often, and tells how often that was answered Ok.
