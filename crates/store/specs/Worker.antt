@@ -1,5 +1,9 @@
 -- What a worker has begun.
 use Rattle.std.specs.Prelude.{◌≡◌, ℕ, ◌<◌, Bool, true, false, Option, Some, None, is_some, IfSome, [], ◌∷◌}
+use Rattle.nfs_types.specs.declared.call.Call.{Call}
+use Rattle.nfs_types.specs.declared.ctx.Credential.{Credential}
+use Rattle.nfs_types.specs.declared.ctx.Ctx.{Ctx}
+use Rattle.nfs_types.specs.declared.ctx.Moment.{Moment}
 use Rattle.model.specs.Calls.{has_rules}
 use Rattle.txn.specs.Core.{CoreState}
 use Rattle.txn.specs.Out.{listed}
@@ -106,6 +110,18 @@ HasRoomFor plan.NoMemory worker = Unit {0}
 pub record IsTold (old : Worker) (next : Plan) (new : Worker) : Type 0 where
   pub planned : IsStillPlanned old new
   pub room : HasRoomFor next new
+
+-- the context of a call that begins no transaction yet
+abbrev pub ctx_of : Credential → Moment → ℕ → Ctx
+ctx_of credential moment boot =
+    record { credential = credential; moment = moment; boot = boot; transaction = 0 }
+
+-- an idle worker took a call, and is else what it was
+abbrev pub HasTaken : Worker → Ctx → Call → Worker → Type 0
+HasTaken old ctx call new = new ≡ record old {
+  work = record old.work { job = Some (record { ctx = ctx; call = call }) };
+  phase = Called;
+}
 
 -- the worker needs no transaction to go on
 pub record IsWithout (worker : Worker) : Type 0 where

@@ -111,12 +111,12 @@ impl Begun {
 }
 
 impl Worker {
-    ghost use Rattle.std.specs.Prelude.{◌≡◌, ◌↔◌, IfSome, IsTrue, IsSome, None, true, is_some, []};
+    ghost use Rattle.std.specs.Prelude.{◌≡◌, ◌↔◌, IfSome, IsTrue, IsFalse, IsSome, None, true, is_some, []};
     ghost use Rattle.txn.specs.Core.{CoreState};
     ghost use Rattle.store.specs.declared.workers.Phase.TheVariants.{Idle, Called, Reading};
     ghost use Rattle.store.specs.Counts.{SameCounts};
     ghost use Rattle.layout.specs.Geometry.{IsLawful};
-    ghost use Rattle.store.specs.Worker.{Fits, IsRead, ReadsWithin, has_fetch};
+    ghost use Rattle.store.specs.Worker.{Fits, HasTaken, IsRead, ReadsWithin, ctx_of, has_fetch};
     ghost use Rattle.store.specs.WorkerSteps.{GoesOn};
 
     /// An idle worker of a store with this boot number. It fits each core that has no transaction out, and from
@@ -162,6 +162,9 @@ impl Worker {
     pub fn hand(&mut self, credential: Credential, moment: Moment, call: Call) -> bool
         ensures fits { (core : CoreState) → Fits self.old core → Fits self.new core }
         ensures taken { IsTrue result ↔ (self.old.phase ≡ Idle) }
+        ensures took { IsTrue result
+            → HasTaken self.old (ctx_of credential moment self.old.boot) call self.new }
+        ensures busy { IsFalse result → self.new ≡ self.old }
     {
         if !self.is_idle() {
             return false;
@@ -178,12 +181,7 @@ impl Worker {
 
     // Takes a call, which begins with the next step.
     fn take_call(&mut self, ctx: Ctx, call: Call)
-        ensures phase { self.new.phase ≡ Called }
-        ensures job { is_some self.new.work.job ≡ true }
-        ensures rest { self.new ≡ record self.old {
-          work = record self.old.work { job = self.new.work.job };
-          phase = self.new.phase;
-        } }
+        ensures { HasTaken self.old ctx call self.new }
     {
         self.work.job = Some(Job { ctx, call });
         self.phase = Phase::Called;
