@@ -1,5 +1,6 @@
 //! What a store makes durable, and when it brings that home.
-ghost use Rattle.std.specs.Prelude.{◌≡◌, IfOk, None, []};
+ghost use Rattle.std.specs.Prelude.{IfOk};
+ghost use Rattle.store.specs.Settling.{IsIdle};
 
 use crate::tests::compared::is_tree_of;
 use crate::tests::plain::fresh;
@@ -15,7 +16,7 @@ use worked_messages::NOW;
 
 // The opened store of an image.
 fn opened(alloc: Global, disk: MemDisk) -> Result<Store<MemDisk>, Fail>
-    ensures { IfOk result (λ store. store.core.out ≡ []) }
+    ensures { IfOk result (λ store. IsIdle store.core) }
 {
     Ok(store::open(alloc, disk).map_err(|refused| refused.1)?)
 }
@@ -28,8 +29,8 @@ const MADE_BY_FORMAT: Stamp = Stamp {
 
 // Serves a call of the owner of the root.
 fn call(alloc: Global, store: &mut Store<MemDisk>, call: Call) -> Verdict
-    requires { store.old.core.out ≡ [] }
-    ensures { store.new.core.out ≡ [] }
+    requires { IsIdle store.old.core }
+    ensures { IsIdle store.new.core }
 {
     let owner = Credential {
         uid: 0,
@@ -41,8 +42,8 @@ fn call(alloc: Global, store: &mut Store<MemDisk>, call: Call) -> Verdict
 
 // Sets the root's mode, and tells whether that was answered Ok.
 fn set_mode(alloc: Global, store: &mut Store<MemDisk>, mode: u32) -> Result<bool, AllocError>
-    requires { store.old.core.out ≡ [] }
-    ensures { store.new.core.out ≡ [] }
+    requires { IsIdle store.old.core }
+    ensures { IsIdle store.new.core }
 {
     let object = Handle::of(alloc, ROOT, MADE_BY_FORMAT)?;
     let attributes = NewAttributes {
@@ -75,8 +76,8 @@ fn set_mode(alloc: Global, store: &mut Store<MemDisk>, mode: u32) -> Result<bool
 
 // The root's mode, where its attributes are told.
 fn mode(alloc: Global, store: &mut Store<MemDisk>) -> Result<Option<u32>, AllocError>
-    requires { store.old.core.out ≡ [] }
-    ensures { store.new.core.out ≡ [] }
+    requires { IsIdle store.old.core }
+    ensures { IsIdle store.new.core }
 {
     let object = Handle::of(alloc, ROOT, MADE_BY_FORMAT)?;
     let verdict = call(alloc, store, Call::GetAttr { object });
@@ -94,8 +95,8 @@ fn mode(alloc: Global, store: &mut Store<MemDisk>) -> Result<Option<u32>, AllocE
 
 // Sets the root's mode so often, and tells how often that was answered Ok.
 fn set_modes(alloc: Global, store: &mut Store<MemDisk>, times: u32) -> Result<u32, AllocError>
-    requires { store.old.core.out ≡ [] }
-    ensures { store.new.core.out ≡ [] }
+    requires { IsIdle store.old.core }
+    ensures { IsIdle store.new.core }
 {
     let mut count: u32 = 0;
     'calls: for turn in 0..times {
@@ -140,8 +141,8 @@ fn a_setattr_makes_four_device_calls(rt: HostRuntime) -> Result<(), Fail> {
 
 // Reads the root's mode so often, and tells the most commits that were kept after a reading.
 fn most_kept(alloc: Global, store: &mut Store<MemDisk>, times: u32) -> Result<usize, AllocError>
-    requires { store.old.core.out ≡ [] }
-    ensures { store.new.core.out ≡ [] }
+    requires { IsIdle store.old.core }
+    ensures { IsIdle store.new.core }
 {
     let mut most = 0;
     'calls: for _ in 0..times {

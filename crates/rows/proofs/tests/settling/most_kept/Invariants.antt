@@ -1,6 +1,6 @@
--- no transaction is out
-use Rattle.std.proofs.Common.{◌≡◌, []}
+-- nothing is out
+use Rattle.store.specs.Settling.{IsIdle}
 use Rattle.rows.proofs.tests.settling.most_kept.Given as goal
 
 abbrev pub invariant-calls : goal.invariant-calls
-invariant-calls l = l.store.core.out ≡ []
+invariant-calls l = IsIdle l.store.core
