@@ -3,6 +3,10 @@
 mod planning;
 mod steps;
 
+ghost use Rattle.std.specs.Prelude.{◌≡◌, []};
+ghost use Rattle.txn.specs.Out.{listed};
+ghost use Rattle.store.specs.Counts.{SameCounts};
+
 use disk::CrashDisk;
 use nfs_types::{Call, Credential, Ctx, Moment, Reply};
 use procs::{Done, Snap};
@@ -101,12 +105,29 @@ impl Begun {
         ensures ended { core.new.out ≡ [] }
     {
         let Begun { tx, io } = self;
-        if let Some(io) = io {
-            core.fetch_failed(io);
-        }
-        if let Some(tx) = tx {
-            core.abort(tx);
-        }
+        give_up(io, core);
+        leave(tx, core);
+    }
+}
+
+// Gives a fetch back that isn't made any more.
+fn give_up(io: Option<FetchIo>, core: &mut Core<Done>)
+    ensures counts { SameCounts core.old core.new }
+    ensures out { core.new.out ≡ core.old.out }
+{
+    if let Some(io) = io {
+        core.fetch_failed(io);
+    }
+}
+
+// Ends the transaction that is out.
+fn leave(tx: Option<Tx>, core: &mut Core<Done>)
+    requires { core.old.out ≡ listed tx }
+    ensures counts { SameCounts core.old core.new }
+    ensures ended { core.new.out ≡ [] }
+{
+    if let Some(tx) = tx {
+        core.abort(tx);
     }
 }
 
