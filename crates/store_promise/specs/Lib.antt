@@ -13,3 +13,4 @@ pub mod Room
 pub mod OneSetAttr
 pub mod OpenStore
 pub mod ToldOf
+pub mod OpenSince

@@ -8,6 +8,7 @@ mod fault;
 mod fresh;
 mod log_steps;
 mod one_setattr;
+mod open_steps;
 mod open_store;
 mod promises;
 mod steps_made;
@@ -23,6 +24,11 @@ pub use one_setattr::{
     a_run_of_one_setattr_keeps_the_promise, a_run_that_answers_at_its_commit_breaks_the_promise,
     a_run_that_loses_its_setattr_breaks_the_promise, a_setattr_is_not_settled_without_the_log,
     a_setattr_that_shows_too_early_breaks_the_promise, the_steps_of_one_setattr_tell_its_run,
+};
+pub use open_steps::{
+    a_commit_leaves_the_store_open, a_read_leaves_the_store_open, a_stop_leaves_a_beginning,
+    a_transaction_leaves_the_store_open, an_open_store_keeps_its_files,
+    the_installer_leaves_the_store_open, the_logger_leaves_the_store_open,
 };
 pub use open_store::{
     a_stop_leaves_a_good_image, an_opening_leaves_an_open_store,
