@@ -1,6 +1,7 @@
 -- Chains of commits with their entries: one more, and the first of them apart.
-use Rattle.std.proofs.Common.{◌≡◌, ℕ, zero, suc, ◌+◌, ◌≤◌, sym, ◌∙◌, refl, subst, arith}
+use Rattle.std.proofs.Common.{ℕ, zero, suc, ◌+◌, ◌≤◌, sym, refl, subst, arith}
 use Rattle.std.proofs.Common.{List, [], ◌∷◌, ◌++◌, length, take, drop}
+use Rattle.std.proofs.Math.Seq.{take-add}
 use Rattle.disk.specs.Crash.{Image}
 use Rattle.nfs_types.specs.declared.call.Call.{Call}
 use Rattle.nfs_types.specs.declared.ctx.Ctx.{Ctx}
@@ -9,40 +10,17 @@ use Rattle.model.specs.After.{Entry, after}
 use Rattle.model.specs.Sound.{IsMadeBy}
 use Rattle.model.specs.Step.{step}
 use Rattle.model.specs.Tree.{Tree}
+use Rattle.model.proofs.Joined.{join}
 use Rattle.layout.specs.declared.geometry.Geometry.{Geometry}
 use Rattle.layout.specs.Stands.{Stands}
 use Rattle.txn_law.specs.Window.{Footprint, after_commits, with_objects}
 use Rattle.store_promise.specs.OpenStore.{IsChain}
 
--- ---- histories
-
-pub after_one_more : (tree last next : Tree) (entries : List Entry) (entry : Entry) → after tree entries last
-    → step last entry.ctx entry.call entry.reply next → after tree (entries ++ entry ∷ []) next
-after_one_more tree last next [] entry led stepped =
-    (next, subst (λ t. step t entry.ctx entry.call entry.reply next) led stepped, refl)
-after_one_more tree last next (e ∷ entries) entry led stepped =
-    (led.0, led.1, after_one_more led.0 last next entries entry led.2 stepped)
-
-none_and : (m : ℕ) → m ≡ 0 + m
-none_and m = omega arith
-
-one_and : (n m : ℕ) → suc (n + m) ≡ suc n + m
-one_and n m = omega arith
-
-no_more : (tree last : Tree) (m : ℕ) → after tree (take m []) last → last ≡ tree
-no_more tree last zero led = led
-no_more tree last (suc m) led = led
-
 pub after_both : (tree middle last : Tree) (n m : ℕ) (entries : List Entry) → after tree (take n entries) middle
     → after middle (take m (drop n entries)) last → after tree (take (n + m) entries) last
-after_both tree middle last zero m entries led more =
-    subst (λ (k : ℕ). after tree (take k entries) last) (none_and m)
-    (subst (λ (t : Tree). after t (take m entries) last) led more)
-after_both tree middle last (suc n) m [] led more =
-    subst (λ (k : ℕ). after tree (take k []) last) (one_and n m) (no_more middle last m more ∙ led)
-after_both tree middle last (suc n) m (e ∷ entries) led more =
-    subst (λ (k : ℕ). after tree (take k (e ∷ entries)) last) (one_and n m)
-    (led.0, led.1, after_both led.0 middle last n m entries led.2 more)
+after_both tree middle last n m entries led more =
+    subst (λ (es : List Entry). after tree es last) (sym (take-add n m entries))
+    (join tree middle last (take n entries) (take m (drop n entries)) led more)
 
 -- ---- a chain ends with the blocks after all its commits
 

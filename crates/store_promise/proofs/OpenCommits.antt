@@ -17,6 +17,7 @@ use Rattle.model.specs.After.{Entry, after}
 use Rattle.model.specs.Sound.{IsMadeBy}
 use Rattle.model.specs.Step.{step}
 use Rattle.model.specs.Tree.{Tree}
+use Rattle.model.proofs.Joined.{push}
 use Rattle.layout.specs.declared.geometry.Geometry.{Geometry}
 use Rattle.layout.specs.Homes.{homes_of, is_home}
 use Rattle.layout.specs.Stands.{Stands}
@@ -43,7 +44,7 @@ use Rattle.txn_law.proofs.CoreCommits.{found_in}
 use Rattle.txn_law.proofs.Entries.{is_of, same_block}
 use Rattle.store_promise.specs.OpenSince.{IsOpenSince, IsSoundCore, TellsOf}
 use Rattle.store_promise.specs.OpenStore.{HasFilesOver, IsChain, IsOpenOver}
-use Rattle.store_promise.proofs.Chains.{after_both, after_one_more, chain_end, chain_leads, chain_more, stamps_more}
+use Rattle.store_promise.proofs.Chains.{after_both, chain_end, chain_leads, chain_more, stamps_more}
 use Rattle.store_promise.proofs.Opened.{of_boot}
 use Rattle.store_promise.proofs.Stopped.{after_same}
 
@@ -262,7 +263,7 @@ module _ (base : Image) (d : Device) (old new : CoreState) (logging installing :
         (drop_all (installed_place new.log) more (omega (arith, all, long)))
         (subst (λ (es : List Entry). after first es led.0)
         (sym (take_all (installed_place new.log) more (omega (arith, all, long))))
-        (after_one_more first last led.0 entries entry whole led.1)) (
+        (push first last led.0 entries entry whole led.1)) (
           subst (λ (image : Image). Stands g image led.0)
               (ap (λ (xs : List Footprint). with_objects (after_commits homes xs) plan.written) kept
               ∙ ap (λ (os : List ObjectBytes). with_objects homes os) writes) led.2,

@@ -14,3 +14,4 @@ pub mod OneSetAttr
 pub mod OpenStore
 pub mod ToldOf
 pub mod OpenSince
+pub mod Running
