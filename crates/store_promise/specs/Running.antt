@@ -7,7 +7,7 @@ use Rattle.disk.specs.declared.block.BlockNo.{BlockNo}
 use Rattle.objects.specs.declared.addr.Addr.{Addr}
 use Rattle.model.specs.After.{Entry}
 use Rattle.model.specs.Tree.{Tree}
-use Rattle.wal_law.specs.Calls.{Pending, home_after}
+use Rattle.wal_law.specs.Calls.{Pending, home_after, idle}
 use Rattle.wal_law.specs.Log.{Log}
 use Rattle.txn_law.specs.Core.{CoreState}
 use Rattle.txn_law.specs.CoreWindow.{IsPending, KeepsReads}
@@ -28,6 +28,10 @@ pub record StoreSide : Type 0 where
   pub core : CoreState
   pub logging : Pending
   pub installing : Pending
+
+-- no call is out
+abbrev pub at_rest : Device → CoreState → StoreSide
+at_rest d core = record { device = d; core = core; logging = idle; installing = idle }
 
 -- what was read of a block whose fetch is pending is what is at home
 abbrev pub IsFetchOver : Image → CoreState → Fetch → Type 0

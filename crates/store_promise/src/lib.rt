@@ -42,7 +42,9 @@ pub use promises::{
     the_boot_number_stays_raised, the_history_is_in_order, what_a_commit_covers_is_kept,
     what_is_stable_is_kept, what_is_told_as_settled_is_kept,
 };
-pub use running::{a_device_counts_the_calls_of_its_steps, what_was_read_is_at_home};
+pub use running::{
+    a_device_counts_the_calls_of_its_steps, an_opening_begins_a_run, what_was_read_is_at_home,
+};
 pub use steps_made::{
     a_call_changes_no_more_than_it_may, a_call_that_is_out_is_made, a_full_log_is_full,
     a_worker_goes_by_its_plan, a_worker_passes_over_no_event, nothing_is_asked_for_twice,

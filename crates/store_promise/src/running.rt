@@ -1,5 +1,5 @@
 //! Laws on a run that goes on: what its device has counted, and what its reads have brought.
-ghost use Rattle.std.specs.Prelude.{◌≡◌, ◌++◌, ◌∷◌, [], All, Contains, List, Option, Result, is_err, ℕ, Bool, false, true};
+ghost use Rattle.std.specs.Prelude.{◌≡◌, ◌+◌, ◌++◌, ◌∷◌, [], All, Contains, List, Option, Result, is_err, ℕ, Bool, false, true};
 ghost use Rattle.disk.specs.Crash.{Image};
 ghost use Rattle.disk.specs.Device.{CountsFailure, Device, OneLater, current, newest};
 ghost use Rattle.disk.specs.declared.block.BlockNo.{BlockNo};
@@ -14,8 +14,26 @@ ghost use Rattle.txn_law.specs.HomeRead.{HasContents};
 ghost use Rattle.txn_law.specs.Leaves.{is_fetching, with_fetch};
 ghost use Rattle.store_promise.specs.declared.events.Step.{Step};
 ghost use Rattle.store_promise.specs.OpenSince.{IsOpenSince};
-ghost use Rattle.store_promise.specs.Running.{IsFetchOver, IsMovedAlong, IsMovedBy};
+ghost use Rattle.store_promise.specs.LogTold.{empty_log};
+ghost use Rattle.store_promise.specs.OpenStore.{IsNewOver};
+ghost use Rattle.store_promise.specs.Openings.{IsOpened};
+ghost use Rattle.store_promise.specs.Schedule.{Setting};
+ghost use Rattle.store_promise.specs.Running.{IsFetchOver, IsMovedAlong, IsMovedBy, IsRunningOver, at_rest, told_of};
 ghost use Rattle.store_promise.specs.Transcript.{calls_device, fails};
+
+/// What an opening leaves begins a run, over what is at home: with the files that were found, no entry, no read that is
+/// out, and a log of which nothing is told yet.
+pub fn an_opening_begins_a_run()
+    ensures runs { (before opened : Device) (base : Image) (core : CoreState) (tree : Tree) (first : ℕ) (o : Setting)
+        → IsOpened before opened tree first o.position → IsNewOver base opened core
+        → o.geometry.blocks ≡ opened.size
+        → IsRunningOver o base (at_rest opened core) [] (first + 1) tree [] tree }
+    ensures told { (before opened : Device) (base : Image) (core : CoreState) (tree : Tree) (first position : ℕ)
+        → IsOpened before opened tree first position → IsNewOver base opened core
+        → told_of position (at_rest opened core) ≡ empty_log }
+{
+    crate::an_opening_leaves_an_open_store();
+}
 
 /// The device of a run has counted its steps' calls and their failures: at first none, and with each step its own.
 pub fn a_device_counts_the_calls_of_its_steps()
