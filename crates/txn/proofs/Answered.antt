@@ -9,6 +9,7 @@ use Rattle.limits.specs.declared.TheConstants.{BLOCK_BYTES}
 use Rattle.disk.specs.Device.{Content}
 use Rattle.disk.specs.declared.block.BlockNo.{BlockNo}
 use Rattle.objects.specs.declared.addr.Addr.{Addr}
+use Rattle.objects.specs.declared.mode.Mode.{Mode}
 use Rattle.wal_law.specs.declared.change.LogChange.{LogChange}
 use Rattle.wal_law.specs.Grows.{IsWholeChange}
 use Rattle.wal_law.specs.Log.{Log, IsLawful, newest, changes_of}
@@ -40,14 +41,14 @@ use Rattle.txn.specs.declared.outcomes.Commit.TheVariants as commit
 same_home : (old new : CoreState) → new ≡ old → KeepsHome old new
 same_home old new e base h = subst (λ (core : CoreState). IsHomeOf base core) (sym e) h
 
-pub wanted_home : (old new : CoreState) (tx : ℕ) (addr : Addr) (answer : Want)
-    → IsWantedExactly old tx addr answer new → KeepsHome old new
-wanted_home old new tx addr (want.Held back bytes) h = home_held old new tx addr bytes.items h.2
-wanted_home old new tx addr (want.Fetch back io) h = home_fetch old new tx addr io h.2
-wanted_home old new tx addr (want.Busy back) h = same_home old new h.2
-wanted_home old new tx addr (want.Loading back) h = same_home old new h.2
-wanted_home old new tx addr (want.Outside back) h = same_home old new h.2
-wanted_home old new tx addr (want.NoMemory back) h = same_home old new h.2
+pub wanted_home : (old new : CoreState) (tx : ℕ) (addr : Addr) (mode : Mode) (answer : Want)
+    → IsWantedExactly old tx addr mode answer new → KeepsHome old new
+wanted_home old new tx addr mode (want.Held back bytes) h = home_held old new tx addr mode bytes.items h.2
+wanted_home old new tx addr mode (want.Fetch back io) h = home_fetch old new tx addr mode io h.2
+wanted_home old new tx addr mode (want.Busy back) h = same_home old new h.2
+wanted_home old new tx addr mode (want.Loading back) h = same_home old new h.2
+wanted_home old new tx addr mode (want.Outside back) h = same_home old new h.2
+wanted_home old new tx addr mode (want.NoMemory back) h = same_home old new h.2
 
 pub claimed_home : (old new : CoreState) (tx : ℕ) (addr : Addr) (answer : Claim)
     → IsClaimedExactly old tx addr answer new → KeepsHome old new
@@ -74,14 +75,14 @@ module _ (P : ℕ → ℕ → List ObjectBytes → List ObjectBytes → Type 0) 
   same_law : (old new : CoreState) → new ≡ old → IsLawfulCore P old → IsLawfulCore P new
   same_law old new e h = subst (λ (core : CoreState). IsLawfulCore P core) (sym e) h
 
-  pub wanted_law : (old new : CoreState) (tx : ℕ) (addr : Addr) (answer : Want) → IsOut old tx
-      → IsWantedExactly old tx addr answer new → IsLawfulCore P old → IsLawfulCore P new
-  wanted_law old new tx addr (want.Held back bytes) is_out h = lawful_held P old new tx addr bytes.items is_out h.1 h.2
-  wanted_law old new tx addr (want.Fetch back io) is_out h = lawful_fetch P old new tx addr io is_out h.1 h.2
-  wanted_law old new tx addr (want.Busy back) is_out h = same_law old new h.2
-  wanted_law old new tx addr (want.Loading back) is_out h = same_law old new h.2
-  wanted_law old new tx addr (want.Outside back) is_out h = same_law old new h.2
-  wanted_law old new tx addr (want.NoMemory back) is_out h = same_law old new h.2
+  pub wanted_law : (old new : CoreState) (tx : ℕ) (addr : Addr) (mode : Mode) (answer : Want) → IsOut old tx
+      → IsWantedExactly old tx addr mode answer new → IsLawfulCore P old → IsLawfulCore P new
+  wanted_law old new tx addr mode (want.Held back bytes) is_out h = lawful_held P old new tx addr mode bytes.items is_out h.1 h.2
+  wanted_law old new tx addr mode (want.Fetch back io) is_out h = lawful_fetch P old new tx addr mode io is_out h.1 h.2
+  wanted_law old new tx addr mode (want.Busy back) is_out h = same_law old new h.2
+  wanted_law old new tx addr mode (want.Loading back) is_out h = same_law old new h.2
+  wanted_law old new tx addr mode (want.Outside back) is_out h = same_law old new h.2
+  wanted_law old new tx addr mode (want.NoMemory back) is_out h = same_law old new h.2
 
   pub claimed_law : (old new : CoreState) (tx : ℕ) (block : BlockNo) (addr : Addr) (answer : Claim)
       → IsWhole block addr → IsOut old tx → IsClaimedExactly old tx addr answer new → IsLawfulCore P old → IsLawfulCore P new
@@ -170,14 +171,14 @@ commit_set old new tx plan change (commit.Spent back same) lawful tidy h = tt
 same_reads : (old new : CoreState) → new ≡ old → (other : ℕ) → KeepsReads old new other
 same_reads old new e other = subst (λ (core : CoreState). KeepsReads old core other) (sym e) (λ object h. h)
 
-pub wanted_reads : (old new : CoreState) (tx : ℕ) (addr : Addr) (answer : Want)
-    → IsWantedExactly old tx addr answer new → (other : ℕ) → KeepsReads old new other
-wanted_reads old new tx addr (want.Held back bytes) h other = reads_held old new tx addr bytes.items other h.2
-wanted_reads old new tx addr (want.Fetch back io) h other = reads_fetch old new tx addr io other h.2
-wanted_reads old new tx addr (want.Busy back) h other = same_reads old new h.2 other
-wanted_reads old new tx addr (want.Loading back) h other = same_reads old new h.2 other
-wanted_reads old new tx addr (want.Outside back) h other = same_reads old new h.2 other
-wanted_reads old new tx addr (want.NoMemory back) h other = same_reads old new h.2 other
+pub wanted_reads : (old new : CoreState) (tx : ℕ) (addr : Addr) (mode : Mode) (answer : Want)
+    → IsWantedExactly old tx addr mode answer new → (other : ℕ) → KeepsReads old new other
+wanted_reads old new tx addr mode (want.Held back bytes) h other = reads_held old new tx addr mode bytes.items other h.2
+wanted_reads old new tx addr mode (want.Fetch back io) h other = reads_fetch old new tx addr mode io other h.2
+wanted_reads old new tx addr mode (want.Busy back) h other = same_reads old new h.2 other
+wanted_reads old new tx addr mode (want.Loading back) h other = same_reads old new h.2 other
+wanted_reads old new tx addr mode (want.Outside back) h other = same_reads old new h.2 other
+wanted_reads old new tx addr mode (want.NoMemory back) h other = same_reads old new h.2 other
 
 pub claimed_reads : (old new : CoreState) (tx : ℕ) (addr : Addr) (answer : Claim)
     → IsClaimedExactly old tx addr answer new → (other : ℕ) → KeepsReads old new other
@@ -220,15 +221,15 @@ commit_reads P old new tx plan change (commit.Spent back same) core h other diff
 
 -- What each answer leaves.
 
-pub wanted_leaves : (old new : CoreState) (tx : ℕ) (addr : Addr) (answer : Want)
-    → IsWantedExactly old tx addr answer new → IsWanted old tx addr answer new
-wanted_leaves old new tx addr (want.Held back bytes) h =
-    (h.0, h.1, leaves_held old new tx addr bytes.items h.1 h.2)
-wanted_leaves old new tx addr (want.Fetch back io) h = (h.0, h.1, leaves_fetch old new tx addr io h.2)
-wanted_leaves old new tx addr (want.Busy back) h = h
-wanted_leaves old new tx addr (want.Loading back) h = h
-wanted_leaves old new tx addr (want.Outside back) h = h
-wanted_leaves old new tx addr (want.NoMemory back) h = h
+pub wanted_leaves : (old new : CoreState) (tx : ℕ) (addr : Addr) (mode : Mode) (answer : Want)
+    → IsWantedExactly old tx addr mode answer new → IsWanted old tx addr mode answer new
+wanted_leaves old new tx addr mode (want.Held back bytes) h =
+    (h.0, h.1, leaves_held old new tx addr mode bytes.items h.1 h.2)
+wanted_leaves old new tx addr mode (want.Fetch back io) h = (h.0, h.1, leaves_fetch old new tx addr mode io h.2)
+wanted_leaves old new tx addr mode (want.Busy back) h = h
+wanted_leaves old new tx addr mode (want.Loading back) h = h
+wanted_leaves old new tx addr mode (want.Outside back) h = h
+wanted_leaves old new tx addr mode (want.NoMemory back) h = h
 
 pub claimed_leaves : (old new : CoreState) (tx : ℕ) (addr : Addr) (answer : Claim)
     → IsClaimedExactly old tx addr answer new → IsClaimed old tx addr answer new

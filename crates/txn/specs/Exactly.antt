@@ -1,6 +1,7 @@
 -- What the answers of the private state say: as those of the core, and exactly what they make of its lists.
 use Rattle.std.specs.Prelude.{◌≡◌, ℕ, ◌+◌}
 use Rattle.objects.specs.declared.addr.Addr.{Addr}
+use Rattle.objects.specs.declared.mode.Mode.{Mode}
 use Rattle.wal_law.specs.Calls.{KeepsAgreement}
 use Rattle.wal_law.specs.Room.{with_group}
 use Rattle.wal_law.specs.declared.outcomes.Room.TheVariants as room
@@ -12,10 +13,10 @@ use Rattle.txn.specs.declared.outcomes.Want.{Want}
 use Rattle.txn.specs.declared.outcomes.Claim.{Claim}
 use Rattle.txn.specs.declared.outcomes.Commit.{Commit}
 
-abbrev pub IsWantedExactly : CoreState → ℕ → Addr → Want → CoreState → Type 0
-IsWantedExactly old tx addr answer new =
-    IsWantedWith (λ bytes. IsHeldExactly old tx addr bytes new) (λ io. IsFetchedExactly old tx addr io new) old tx
-    addr answer new
+abbrev pub IsWantedExactly : CoreState → ℕ → Addr → Mode → Want → CoreState → Type 0
+IsWantedExactly old tx addr mode answer new =
+    IsWantedWith (λ bytes. IsHeldExactly old tx addr mode bytes new) (λ io. IsFetchedExactly old tx addr mode io new)
+    old tx addr mode answer new
 
 abbrev pub IsClaimedExactly : CoreState → ℕ → Addr → Claim → CoreState → Type 0
 IsClaimedExactly old tx addr answer new =

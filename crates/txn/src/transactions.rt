@@ -3,6 +3,7 @@ ghost use Rattle.std.specs.Prelude.{◌≡◌, ◌≤◌, ◌+◌, ◌^◌, ◌�
 ghost use Rattle.std.specs.Prelude.{ℕ, IfOk, ◌∷◌, true, false, is_some, if◌then◌else◌, [], length};
 ghost use Rattle.limits.specs.declared.TheConstants.{CHANGED_BLOCKS};
 ghost use Rattle.objects.specs.declared.addr.Addr.{Addr};
+ghost use Rattle.objects.specs.declared.mode.Mode.TheVariants as modes;
 ghost use Rattle.wal_law.specs.Log.{settled_place, installed_place, tail_count};
 ghost use Rattle.wal_law.specs.Calls.{LogCallGoesOut, LogCallComesBack, InstCallGoesOut, InstCallComesBack};
 ghost use Rattle.wal_law.specs.Calls.{AgreesBeside, Pending, home_after};
@@ -23,7 +24,7 @@ ghost use Rattle.txn.specs.Outcomes.{IsWanted, IsWithin, IsClaimed, IsCommit, Is
 use crate::state::State;
 use crate::{BeginFault, Change, Claim, Commit, FetchIo, Stable, Tx, Want};
 use disk::BlockNo;
-use objects::Addr;
+use objects::{Addr, Mode};
 use std::alloc::Global;
 use std::marker::Model;
 use wal::{InstIo, LogIo, Seq, Wal};
@@ -98,19 +99,19 @@ impl<C: Change> Core<C> {
         self.state.begin()
     }
 
-    /// Takes an object for reading, in a transaction that is out of this core. Outside: the block isn't one that
-    /// a change may write. Busy: another transaction has taken a byte of it, or this one by another address.
+    /// Takes an object for reading, alone, in a transaction that is out of this core. Outside: the block isn't one
+    /// that a change may write. Busy: another transaction has taken a byte of it, or this one by another address.
     /// Loading: a fetch of the block is pending, and nothing is taken. Fetch: the block has to be read from home;
     /// the object is taken, and the same want after `fetched` answers Held or NoMemory. NoMemory: nothing has
     /// changed.
     pub fn want(&mut self, alloc: Global, tx: Tx, addr: Addr) -> Want
         requires { IsOut self.old tx }
-        ensures answer { IsWanted self.old tx addr result self.new }
+        ensures answer { IsWanted self.old tx addr modes.Exclusive result self.new }
         ensures within { IsWithin self.old.log.blocks addr.len result }
         ensures stays { (other : ℕ) → KeepsReads self.old self.new other }
         ensures keeps { KeepsHome self.old self.new }
     {
-        self.state.want(alloc, tx, addr)
+        self.state.want(alloc, tx, addr, Mode::Exclusive)
     }
 
     /// Takes a whole block for writing, whose bytes don't matter. It answers as `want` does, and never Fetch.

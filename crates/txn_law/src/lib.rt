@@ -24,7 +24,9 @@ ghost use Rattle.txn_law.specs.Records.{swept};
 ghost use Rattle.txn_law.specs.declared.hold.Hold.{Hold};
 ghost use Rattle.txn_law.specs.Lists.{IsHeldExactly, IsFetchedExactly, claimed};
 ghost use Rattle.txn_law.specs.Fetch.{Fetch};
+ghost use Rattle.objects.specs.Mode.{raised};
 ghost use Rattle.objects.specs.declared.addr.Addr.{Addr};
+ghost use Rattle.objects.specs.declared.mode.Mode.{Mode};
 ghost use Rattle.txn_law.specs.CoreWindow.{IsCoreWindow, held_of};
 ghost use Rattle.txn_law.specs.Tidy.{AreTidy};
 ghost use Rattle.txn_law.specs.Object.{ObjectBytes};
@@ -168,10 +170,10 @@ pub fn what_is_not_in_memory_is_written_whole()
 
 /// What a transaction takes, and its end, keep the window of the core.
 pub fn a_transaction_keeps_the_window_of_the_core()
-    ensures held { (base : Image) (old new : CoreState) (tx : ℕ) (addr : Addr) (bytes : List ℕ)
-        → IsHeldExactly old tx addr bytes new → IsCoreWindow base old → IsCoreWindow base new }
-    ensures fetch { (base : Image) (old new : CoreState) (tx : ℕ) (addr : Addr) (io : Fetch)
-        → IsFetchedExactly old tx addr io new → IsCoreWindow base old → IsCoreWindow base new }
+    ensures held { (base : Image) (old new : CoreState) (tx : ℕ) (addr : Addr) (mode : Mode)
+        (bytes : List ℕ) → IsHeldExactly old tx addr mode bytes new → IsCoreWindow base old → IsCoreWindow base new }
+    ensures fetch { (base : Image) (old new : CoreState) (tx : ℕ) (addr : Addr) (mode : Mode)
+        (io : Fetch) → IsFetchedExactly old tx addr mode io new → IsCoreWindow base old → IsCoreWindow base new }
     ensures claim { (base : Image) (old : CoreState) (tx : ℕ) (addr : Addr) → IsCoreWindow base old
         → IsCoreWindow base (claimed old tx addr) }
     ensures end { (base : Image) (old : CoreState) (tx : ℕ) → IsCoreWindow base old
@@ -190,10 +192,11 @@ pub fn a_fetch_keeps_the_window_of_the_core()
         → home_after base log ok block ≡ base block }
 {}
 
-/// A transaction that has taken an address may wish for it again, once no fetch of its block is pending: the wish
-/// is told neither Outside nor Busy nor Loading. So one that was told Fetch is met after its fetch was given back,
-/// as the block is in memory then, or finds no memory.
+/// A transaction that has taken an address may wish for it again, once no fetch of its block is pending, in a mode
+/// that adds nothing to the one that it has: the wish is told neither Outside nor Busy nor Loading. So one that was
+/// told Fetch is met after its fetch was given back, as the block is in memory then, or finds no memory.
 pub fn what_is_taken_may_be_wished_for_again()
-    ensures { (core : CoreState) (tx : ℕ) (addr : Addr) (hold : Hold) → AreTidy core
-        → taken_by core tx addr ≡ Some hold → is_fetching core addr.block ≡ false → IsOpen core tx addr }
+    ensures { (core : CoreState) (tx : ℕ) (addr : Addr) (hold : Hold) (mode : Mode) → AreTidy core
+        → taken_by core tx addr ≡ Some hold → raised hold.mode mode ≡ hold.mode
+        → is_fetching core addr.block ≡ false → IsOpen core tx addr mode }
 {}
