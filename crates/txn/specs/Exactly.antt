@@ -3,7 +3,7 @@ use Rattle.std.specs.Prelude.{◌≡◌, ℕ, ◌+◌}
 use Rattle.objects.specs.declared.addr.Addr.{Addr}
 use Rattle.objects.specs.declared.mode.Mode.{Mode}
 use Rattle.wal_law.specs.Calls.{KeepsAgreement}
-use Rattle.wal_law.specs.Room.{with_group}
+use Rattle.wal_law.specs.Grows.{StandsStill}
 use Rattle.wal_law.specs.declared.outcomes.Room.TheVariants as room
 use Rattle.txn_law.specs.Commit.{Planned, committed}
 use Rattle.txn_law.specs.Core.{CoreState}
@@ -26,9 +26,8 @@ pub record TakesPlaceExactly (old : CoreState) (tx : ℕ) (plan : Planned) (plac
   pub tried : IsTried old tx plan room.Fits
   pub next : place ≡ old.log.places + 1
   pub group : BringsGroup old plan new
-  pub appended : new.log ≡ with_group old.log group.group
+  pub still : StandsStill old.log new.log
   pub places : new.log.places ≡ old.log.places + 1
-  pub blocks : new.log.blocks ≡ old.log.blocks
   pub core : new ≡ committed old tx plan new.log
   pub law : KeepsAgreement old.log new.log
 

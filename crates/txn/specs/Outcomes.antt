@@ -10,7 +10,7 @@ use Rattle.wal_law.specs.Log.{newest, blocks_of as group_blocks}
 use Rattle.wal_law.specs.Room.{IsRoom}
 use Rattle.wal_law.specs.Calls.{KeepsAgreement}
 use Rattle.wal_law.specs.Effects.{HasAppended}
-use Rattle.wal_law.specs.Grows.{GrowsBy}
+use Rattle.wal_law.specs.Grows.{GrowsBy, StandsStill}
 use Rattle.wal_law.specs.declared.outcomes.Room.{Room}
 use Rattle.wal_law.specs.declared.outcomes.Room.TheVariants as room
 use Rattle.txn_law.specs.Commit.{Planned, IsOwn, with_record, refreshed_content}
@@ -19,7 +19,6 @@ use Rattle.txn_law.specs.CoreWindow.{SetsOnly}
 use Rattle.txn_law.specs.Fetch.{Fetch}
 use Rattle.txn_law.specs.Group.{blocks_of, IsLaid}
 use Rattle.txn_law.specs.Leaves.{Leaves, taken_by, is_fetching, in_memory, but_by}
-use Rattle.txn_law.specs.Steps.{StandsStill}
 use Rattle.txn_law.specs.Wishes.{IsOpen, IsOutside, IsBusy, IsLoading, IsHeld, IsFetched, IsTaken}
 use Rattle.txn.specs.declared.outcomes.Want.{Want}
 use Rattle.txn.specs.declared.outcomes.Want.TheVariants as want
