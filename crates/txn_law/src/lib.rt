@@ -7,15 +7,15 @@ mod present;
 mod reads;
 mod window;
 
-ghost use Rattle.std.specs.Prelude.{◌≡◌, ◌≢◌, ◌∷◌, ◌+◌, ◌-◌, ◌≤◌, ℕ, List, [], All, Bool, None, length, take};
+ghost use Rattle.std.specs.Prelude.{◌≡◌, ◌≢◌, ◌∷◌, ◌+◌, ◌-◌, ◌≤◌, ℕ, List, [], All, Bool, None, length, take, drop};
 ghost use Rattle.std.specs.Prelude.{true, false, Some};
 ghost use Rattle.disk.specs.Device.{Content};
 ghost use Rattle.disk.specs.Crash.{Image};
 ghost use Rattle.disk.specs.declared.block.BlockNo.{BlockNo};
-ghost use Rattle.wal_law.specs.Log.{Log, IsLawful, newest, opened, installed_place, settled_place};
+ghost use Rattle.wal_law.specs.Log.{Log, IsLawful, newest, opened, installed_place, settled_place, tail_count};
 ghost use Rattle.wal_law.specs.Law.{IsBoundary, IsOutside, with_changes};
 ghost use Rattle.wal_law.specs.Overlay.{over};
-ghost use Rattle.wal_law.specs.Calls.{home_after};
+ghost use Rattle.wal_law.specs.Calls.{home_after, KeepsAgreement};
 ghost use Rattle.wal_law.specs.Logger.{with_log_out, with_log_back};
 ghost use Rattle.wal_law.specs.Installer.{with_inst_out, with_inst_back};
 ghost use Rattle.wal_law.specs.Grows.{GrowsBy};
@@ -39,7 +39,7 @@ ghost use Rattle.txn_law.specs.declared.present.Present.{Present};
 ghost use Rattle.wal_law.specs.Room.{with_group};
 ghost use Rattle.txn_law.specs.Window.{Footprint, with_objects, after_commits};
 ghost use Rattle.txn_law.specs.Window.{IsWindowOver, IsCurrent, ArePinned, now_of, opening};
-ghost use Rattle.txn_law.specs.Absorb.{with_absorbed};
+ghost use Rattle.txn_law.specs.Absorb.{fresh, with_absorbed};
 ghost use Rattle.txn_law.specs.Steps.{IsBrought, IsMade, with_commit, IsWholeIn};
 
 pub use hold::Hold;
@@ -133,10 +133,16 @@ pub fn a_group_is_laid_over_what_is_current()
         → IsBrought now commit group }
 {}
 
-/// So is one that takes the place of older changes in the open tail.
+/// An append that takes the place of older changes in the open tail grows the log as any other, and keeps the
+/// agreement with the disk. It adds the blocks that the tail lacks.
 pub fn an_absorbing_append_grows_the_log()
-    ensures { (log : Log) (group : List (BlockNo × Content)) → IsLawful log
+    ensures grows { (log : Log) (group : List (BlockNo × Content)) → IsLawful log
         → GrowsBy log group (with_absorbed log group) }
+    ensures agreement { (log : Log) (group : List (BlockNo × Content)) → IsLawful log
+        → KeepsAgreement log (with_absorbed log group) }
+    ensures tail { (log : Log) (group : List (BlockNo × Content)) → IsLawful log
+        → tail_count (with_absorbed log group)
+        ≡ tail_count log + length (fresh (drop (log.logged + log.taken) log.changes) group) }
 {}
 
 /// What the core lets go of memory was read by no commit that it keeps.
