@@ -32,7 +32,7 @@ use Rattle.layout.proofs.FreshFiles.{not_equal}
 use Rattle.layout.proofs.Retouched.{same_blocks, rules, body_is, file, shape, sound_file, sound_node}
 use Rattle.layout.proofs.Retouched.{touched_fits, touched_sound}
 use Rattle.layout.proofs.Spelled.{read_back, written-length}
-use Rattle.layout.proofs.Splices.{spliced-length}
+use Rattle.objects.proofs.Splices.{spliced-length}
 use Rattle.layout.proofs.Written.{not_same, elsewhere, here, parts_written}
 use Rattle.layout.proofs.WrittenBytes.{spliced-bytes, inode_are, taken, dropped}
 

@@ -10,7 +10,6 @@ pub mod Local
 pub mod Frame
 pub mod Spelled
 pub mod Fits
-pub mod Splices
 pub mod Written
 pub mod WrittenBytes
 pub mod Retouched

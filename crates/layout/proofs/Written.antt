@@ -16,7 +16,7 @@ use Rattle.layout.specs.InodeForm.{read_inode}
 use Rattle.objects.specs.Spliced.{spliced}
 use Rattle.layout.specs.Parts.{parts_of, put, table_of, bits_of, bit_at, with_bytes}
 use Rattle.layout.specs.Geometry.{bitmap_blocks, inode_bitmap_at, data_at, is_data, inode_block, inode_offset}
-use Rattle.layout.proofs.Splices.{there, ahead, behind}
+use Rattle.objects.proofs.Splices.{there, ahead, behind}
 
 pub not_same : (a b : ℕ) → (a ≡ b → ⊥) → nat_eq a b ≡ false
 not_same a b not = elim (eqb_tells a b) [ inl is ↦ absurd (not is.1) | inr isnt ↦ isnt.0 ]
