@@ -26,4 +26,5 @@ pub mod SlotBytes
 pub mod NumbersBytes
 pub mod SuperBytes
 pub mod OneGeometry
+pub mod Versions
 pub mod AllNumbers
