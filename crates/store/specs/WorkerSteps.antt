@@ -44,7 +44,7 @@ IsFewOf job plan.NoMemory = Unit {0}
 
 -- a step by which a plan goes on, or ends: a commit of no more blocks than the call changes
 abbrev pub IsStepOfPlan : Option Job → Step → Type 0
-IsStepOfPlan job (step.Wanted addr answer) = Unit {0}
+IsStepOfPlan job (step.Wanted addr mode answer) = Unit {0}
 IsStepOfPlan job (step.Claimed block answer) = Unit {0}
 IsStepOfPlan None (step.Commit blocks answer) = ⊥
 IsStepOfPlan (Some job) (step.Commit blocks answer) = blocks ≤ most_changed job.call

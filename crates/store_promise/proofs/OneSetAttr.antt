@@ -59,10 +59,10 @@ module _ (g : Geometry) (blocks changed : Image) (one : OneSetAttr) (room : one.
   along =
       (less, refl)
       then (less, begins (told_before (events_of one) (steps_of one) 1) _ rules refl refl)
-      then (less, (record { unheld = refl; asks = asks }, refl))
+      then (less, (record { unheld = refl; asks = asks; alone = refl }, refl))
       then (less, refl)
       then (less, refl)
-      then (less, (record { unheld = refl; asks = asks }, tt))
+      then (less, (record { unheld = refl; asks = asks; alone = refl }, tt))
       then (
         less,
         (omega arith, (refl, refl, record { place = omega arith; positions = within }, omega arith)),

@@ -6,6 +6,7 @@ use Rattle.disk.specs.Crash.{Image, IsCrashImage}
 use Rattle.disk.specs.Device.{Device}
 use Rattle.disk.specs.declared.block.Side.TheVariants as side
 use Rattle.objects.specs.declared.addr.Addr.{Addr}
+use Rattle.objects.specs.declared.mode.Mode.TheVariants as modes
 use Rattle.nfs_types.specs.declared.attributes.NewAttributes.{NewAttributes}
 use Rattle.nfs_types.specs.declared.call.Call.{Call}
 use Rattle.nfs_types.specs.declared.call.Call.TheVariants as call
@@ -73,8 +74,8 @@ events_to_commit one =
 
 abbrev pub steps_to_commit : OneSetAttr → List Step
 steps_to_commit one =
-    step.Called ∷ step.Begun (Ok 1) ∷ step.Wanted one.addr wish.Fetch ∷ step.Read one.addr.block true
-    ∷ step.Fetched one.addr.block ∷ step.Wanted one.addr wish.Held
+    step.Called ∷ step.Begun (Ok 1) ∷ step.Wanted one.addr modes.Exclusive wish.Fetch ∷ step.Read one.addr.block true
+    ∷ step.Fetched one.addr.block ∷ step.Wanted one.addr modes.Exclusive wish.Held
     ∷ step.Commit 1 (committing.Committed (record { 0 = 1 })) ∷ []
 
 -- the log's four device calls: the slot's write, a barrier, the header's write, a barrier

@@ -6,7 +6,7 @@ use super::{Job, Phase, Worker};
 use crate::options::put;
 use disk::BlockNo;
 use nfs_types::{Reply, Status};
-use objects::Addr;
+use objects::{Addr, Mode};
 use procs::{Done, Plan, is_answered_stable, plan, refused_reply};
 use std::alloc::{AllocError, Global};
 use store_promise::{Cause, Committing, Ending, Entry, Step, Verdict, Wish};
@@ -102,7 +102,7 @@ impl Worker {
                 Wish::NoMemory
             }
         };
-        Step::Wanted(addr, wish)
+        Step::Wanted(addr, Mode::Exclusive, wish)
     }
 
     // Keeps what was read.
