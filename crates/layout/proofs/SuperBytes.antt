@@ -1,13 +1,15 @@
 -- A block that is a super block is the bytes that this super block gets.
 use Rattle.std.proofs.Common.{◌≡◌, ℕ, ◌+◌, ◌-◌, ◌≤◌, sym, ap, ◌∙◌, List, length, drop, replicate}
-use Rattle.std.proofs.Common.{nat_eq, true, arith}
+use Rattle.std.proofs.Common.{nat_eq, true, Some, arith}
 use Rattle.std.proofs.lemmas.List.{length-drop, take_all}
 use Rattle.limits.specs.declared.TheConstants.{BLOCK_BYTES}
 use Rattle.nfs_types.specs.Fits.{AreBytes}
 use Rattle.layout.specs.declared.super_block.Super.{Super}
+use Rattle.layout.specs.declared.version.FormatVersion.{FormatVersion}
 use Rattle.layout.specs.Fields.{four_at, four_bytes, eight_bytes, is_zeros}
 use Rattle.layout.specs.SuperForm.{IsSuper, super_head, super_bytes}
 use Rattle.layout.proofs.Respelled.{all_two, same_number, all_zeros, first_four, first_eight, followed, part}
+use Rattle.layout.proofs.OneGeometry.{one_geometry}
 use Rattle.layout.proofs.Versions.{number_is}
 
 module _ (bytes : List ℕ) (s : Super) (are : AreBytes bytes) (long : length bytes ≡ BLOCK_BYTES)
@@ -41,3 +43,16 @@ module _ (bytes : List ℕ) (s : Super) (are : AreBytes bytes) (long : length by
   pub spelled : bytes ≡ super_bytes s
   spelled = sym (take_all BLOCK_BYTES bytes (omega (arith, long)))
       ∙ sym (followed bytes are 0 32 (BLOCK_BYTES - 32) _ _ head rest)
+
+-- a block is one super block at most
+some_same : (a b : FormatVersion) → Some a ≡ Some b → a ≡ b
+some_same a b same = cc
+
+pub one_super : (bytes : List ℕ) (s t : Super) → IsSuper bytes s → IsSuper bytes t → s ≡ t
+one_super bytes s t a b =
+    let version : s.geometry.version ≡ t.geometry.version =
+    some_same s.geometry.version t.geometry.version (sym a.version ∙ b.version) in
+    let geometry : s.geometry ≡ t.geometry =
+    one_geometry s.geometry t.geometry version (a.blocks ∙ sym b.blocks) (a.inodes ∙ sym b.inodes) in
+    let boot : s.boot ≡ t.boot = a.boot ∙ sym b.boot in
+    λ i. record { geometry = geometry i; boot = boot i }

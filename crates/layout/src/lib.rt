@@ -29,9 +29,10 @@ pub use laws::{a_changed_mode_stands, a_touched_inode_stands, blocks_stand_for_o
 pub use numbers::Numbers;
 pub use slot::{SLOT_BYTES, Slot};
 pub use spellings::{
-    a_slot_is_its_bytes, a_super_block_has_one_spelling, a_written_inode_is_read,
-    an_indirect_block_is_its_bytes, an_inode_is_its_bytes, counts_make_one_geometry,
-    other_bytes_are_no_indirect_block, other_bytes_are_no_inode, other_bytes_are_no_slot,
+    a_block_is_one_super_block, a_slot_is_its_bytes, a_super_block_has_one_spelling,
+    a_written_inode_is_read, an_indirect_block_is_its_bytes, an_inode_is_its_bytes,
+    counts_make_one_geometry, other_bytes_are_no_indirect_block, other_bytes_are_no_inode,
+    other_bytes_are_no_slot,
 };
 pub use super_block::Super;
 pub use version::FormatVersion;

@@ -74,6 +74,11 @@ pub fn a_super_block_has_one_spelling()
         → bytes ≡ super_bytes s }
 {}
 
+/// A block is one super block at most: its bytes tell version, counts and boot number.
+pub fn a_block_is_one_super_block()
+    ensures { (bytes : List ℕ) (s t : Super) → IsSuper bytes s → IsSuper bytes t → s ≡ t }
+{}
+
 /// Geometries of the same counts are one, as there is one version so far.
 pub fn counts_make_one_geometry()
     ensures { (g h : Geometry) → g.blocks ≡ h.blocks → g.inodes ≡ h.inodes → g ≡ h }

@@ -101,7 +101,7 @@ module _ (image : Image) (inode : Inode) (direct : length inode.direct ≡ DIREC
         ∙ less_taken inode.size BLOCK_BYTES all (omega (arith, small))
         ∙ sym (cut inode.size all (let long = all-length in omega (arith, long, small)))
 
-    spanned : inode.size ≤ LARGEST_DIRECTORY → inode.size % BLOCK_BYTES ≡ 0
+    pub spanned : inode.size ≤ LARGEST_DIRECTORY → inode.size % BLOCK_BYTES ≡ 0
         → bytes_of image (take (span_of inode) (numbers_of image inode)) ≡ resized inode.size all
     spanned small whole_blocks =
         let size : BLOCK_BYTES * span_of inode ≡ inode.size = omega (arith, whole_blocks) in
@@ -109,7 +109,7 @@ module _ (image : Image) (inode : Inode) (direct : length inode.direct ≡ DIREC
         ∙ ap (λ k. take k all) size
         ∙ sym (cut inode.size all (let long = all-length in omega (arith, long, small)))
 
-    cut-length : inode.size ≤ LARGEST_DIRECTORY → length (resized inode.size all) ≡ inode.size
+    pub cut-length : inode.size ≤ LARGEST_DIRECTORY → length (resized inode.size all) ≡ inode.size
     cut-length small =
         let few : inode.size ≤ length all = (let long = all-length in omega (arith, long, small)) in
         ap (λ (l : List ℕ). length l) (cut inode.size all few) ∙ length-take-le inode.size all few

@@ -20,10 +20,10 @@ use Rattle.plain_image.specs.PlainFile.{AreWhole, HasBody, IsContent}
 use Rattle.plain_image.specs.PlainName.{entries_in}
 use Rattle.plain_image.proofs.Bodies.{regular_bytes, link_bytes, directory_names}
 
-no_more : (a b : ℕ) → nat_le a b ≡ true → a ≤ b
+pub no_more : (a b : ℕ) → nat_le a b ≡ true → a ≤ b
 no_more a b e = grind (arith, nat_tests)
 
-second_third : (a b c d e f g h : Bool) → (a && b && c && d && e && f && g && h) ≡ true
+pub second_third : (a b c d e f g h : Bool) → (a && b && c && d && e && f && g && h) ≡ true
     → (b ≡ true) × (c ≡ true)
 second_third true true true d e f g h all = (refl, refl)
 second_third true true false d e f g h all = cc

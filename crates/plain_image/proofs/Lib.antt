@@ -2,3 +2,4 @@ pub mod Decoded
 pub mod SameFile
 pub mod Bodies
 pub mod Contents
+pub mod Readable

@@ -66,7 +66,7 @@ module _ (g : Geometry) (image : Image) where
   is_decoded number inode file less read sound is = record {
     body = body_of g.inodes image inode.kind inode;
     at = (λ i. file_at g (parts_of g image) (is.number_is i))
-        ∙ file_is inode sound is.places number less read
+        ∙ file_is inode sound is.readable.places number less read
         ∙ (λ i. Some (node_with (sym is.inode_is i) (body_of g.inodes image inode.kind inode)));
     content = is.content;
     inode = (λ i. inode_at g image (is.number_is i)) ∙ read ∙ (λ i. Ok (Some (sym is.inode_is i)));

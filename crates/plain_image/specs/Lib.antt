@@ -1,2 +1,3 @@
 pub mod PlainFile
 pub mod PlainName
+pub mod Refusal

@@ -20,6 +20,7 @@ use Rattle.plain_image.specs.declared.files.PlainContent.{PlainContent}
 use Rattle.plain_image.specs.declared.files.PlainContent.TheVariants.{Bytes, Names, Target}
 use Rattle.plain_image.specs.declared.files.PlainFile.{PlainFile}
 use Rattle.plain_image.specs.PlainName.{entries_in, entries_of}
+use Rattle.plain_image.specs.Refusal.{IsReadable}
 
 -- what the plain decoder has of a file is what is in it: a directory's entries are those of its names
 abbrev pub HasBody : PlainContent → Body → Type 0
@@ -52,7 +53,7 @@ pub record IsFileOf (g : Geometry) (blocks : Image) (number : ℕ) (inode : Inod
     pub inode_is : file.inode ≡ inode
     pub mapped : file.blocks ≡ count_of (numbers_of blocks inode)
     pub content : HasBody file.content (body_of g.inodes blocks inode.kind inode)
-    pub places : list_all (is_data_block_or_none g) (numbers_of blocks inode) ≡ true
+    pub readable : IsReadable g blocks inode
 
 -- It is the file that the blocks have under its number: its inode lies there, with what is in the file, and so
 -- many blocks are mapped.

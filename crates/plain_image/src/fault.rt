@@ -10,18 +10,28 @@ pub enum ImageFault {
     NoMemory,
     #[error("a block past the device")]
     Outside,
-    #[error("a block refused by the layout")]
-    Layout,
+    #[error("refused by the layout: {0}")]
+    Layout(LayoutFault),
 }
 
 impl From<AllocError> for ImageFault {
+    ghost use Rattle.std.specs.Prelude.{◌≡◌};
+    ghost use Rattle.plain_image.specs.declared.fault.ImageFault.TheVariants.{NoMemory};
+
+    ghost from_gives = { λ _ fault. fault ≡ NoMemory };
+
     fn from(_: AllocError) -> ImageFault {
         ImageFault::NoMemory
     }
 }
 
 impl From<LayoutFault> for ImageFault {
-    fn from(_: LayoutFault) -> ImageFault {
-        ImageFault::Layout
+    ghost use Rattle.std.specs.Prelude.{◌≡◌};
+    ghost use Rattle.plain_image.specs.declared.fault.ImageFault.TheVariants.{Layout};
+
+    ghost from_gives = { λ why fault. fault ≡ Layout why };
+
+    fn from(fault: LayoutFault) -> ImageFault {
+        ImageFault::Layout(fault)
     }
 }

@@ -1,14 +1,16 @@
 //! All files of an image.
-ghost use Rattle.std.specs.Prelude.{◌≡◌, ◌<◌, ◌++◌, IfOk, OnOk, All};
-ghost use Rattle.limits.specs.declared.TheConstants.{SUPER_BLOCK};
-ghost use Rattle.disk.specs.Memory.{image_of};
+ghost use Rattle.std.specs.Prelude.{◌≡◌, ◌≢◌, Contains, IfSome, IfNone, ◌<◌, ◌≤◌, ◌/◌, ◌++◌, length, IfOk, IfErr, OnOk, All};
+ghost use Rattle.limits.specs.declared.TheConstants.{LARGEST_DIRECTORY, SUPER_BLOCK};
+ghost use Rattle.disk.specs.Memory.{image_of, memory_device};
+ghost use Rattle.layout.specs.Decode.{SLOT_SIZE, inode_at};
 ghost use Rattle.layout.specs.InodeForm.{SoundInode};
 ghost use Rattle.layout.specs.SuperForm.{IsSuper};
 ghost use Rattle.plain_image.specs.PlainFile.{IsContent, IsDecoded, IsFileOf, if_used, numbers_in, used_below};
+ghost use Rattle.plain_image.specs.Refusal.{AreReadable, AreSlots, CanBeRead, IsRangeFor, IsReadable, IsRefused};
 
 use crate::parts::{block_of, bytes_of, count_mapped, inode_of, names_of, numbers_of};
 use crate::{ImageFault, PlainName};
-use disk::MemDisk;
+use disk::{CrashDisk, MemDisk};
 use layout::{Geometry, Inode, InodeKind, Super};
 use limits::SUPER_BLOCK;
 use nfs_types::Octets;
@@ -41,7 +43,11 @@ pub struct PlainImage {
 
 impl PlainImage {
     /// The file of a number, if there is one.
-    pub fn file(&self, number: u32) -> Option<&PlainFile> {
+    pub fn file(&self, number: u32) -> Option<&PlainFile>
+        ensures number { IfSome result (λ file. file.now.number ≡ number) }
+        ensures there { IfSome result (λ file. Contains self.now.files.items file.now) }
+        ensures none { IfNone result (All (λ file. file.number ≢ number) self.now.files.items) }
+    {
         for file in &self.files {
             if file.number == number {
                 return Some(file);
@@ -58,7 +64,12 @@ fn content_of(
     kind: InodeKind,
     bytes: Vec<u8>,
 ) -> Result<PlainContent, ImageFault>
-    ensures { IfOk result (λ content. IsContent inodes kind bytes.items content) }
+    requires { kind ≡ InodeKind.Directory → length bytes.items ≤ LARGEST_DIRECTORY }
+    ensures content { IfOk result (λ content. IsContent inodes kind bytes.items content) }
+    ensures slots { IfOk result
+        (λ _. kind ≡ InodeKind.Directory → AreSlots inodes bytes.items (length bytes.items / SLOT_SIZE)) }
+    ensures refused { IfErr result (IsRangeFor ((kind ≡ InodeKind.Directory)
+        × (AreSlots inodes bytes.items (length bytes.items / SLOT_SIZE) → ⊥))) }
 {
     Ok(match kind {
         InodeKind::Regular => PlainContent::Bytes(Octets::new(bytes)),
@@ -75,8 +86,10 @@ fn file_of(
     number: u32,
     inode: Inode,
 ) -> Result<PlainFile, ImageFault>
-    requires { SoundInode geometry.now inode }
-    ensures { IfOk result (λ file. IsFileOf geometry.now (image_of disk.now) number inode file) }
+    requires sound { SoundInode geometry.now inode }
+    requires fits { geometry.now.blocks ≤ (memory_device disk.now).size }
+    ensures file { IfOk result (λ file. IsFileOf geometry.now (image_of disk.now) number inode file) }
+    ensures refused { IfErr result (IsRangeFor (IsReadable geometry.now (image_of disk.now) inode → ⊥)) }
 {
     let numbers = numbers_of(alloc, disk, geometry, &inode)?;
     let bytes = bytes_of(alloc, disk, &numbers, inode.size as usize)?;
@@ -97,11 +110,16 @@ fn push_file(
     number: u32,
     files: &mut Vec<PlainFile>,
 ) -> Result<(), ImageFault>
-    requires { number < geometry.now.inodes }
+    requires number { number < geometry.now.inodes }
+    requires fits { geometry.now.blocks ≤ (memory_device disk.now).size }
     ensures decoded { OnOk result (All (IsDecoded geometry.now (image_of disk.now)) files.old.items
         → All (IsDecoded geometry.now (image_of disk.now)) files.new.items) }
     ensures numbers { OnOk result (numbers_in files.new.items ≡ numbers_in files.old.items
         ++ if_used geometry.now (image_of disk.now) number) }
+    ensures readable { OnOk result (CanBeRead geometry.now (image_of disk.now)
+        (inode_at geometry.now (image_of disk.now) number)) }
+    ensures refused { IfErr result (IsRangeFor (CanBeRead geometry.now (image_of disk.now)
+        (inode_at geometry.now (image_of disk.now) number) → ⊥)) }
 {
     if let Some(inode) = inode_of(disk, geometry, number)? {
         let file = file_of(alloc, disk, geometry, number, inode)?;
@@ -110,22 +128,62 @@ fn push_file(
     Ok(())
 }
 
-/// Reads all files of an image, or says what stands in the way. It doesn't look at the bitmaps.
+// The files of an image, by rising number.
+fn files_of(
+    alloc: Global,
+    disk: &MemDisk,
+    geometry: &Geometry,
+) -> Result<Vec<PlainFile>, ImageFault>
+    requires { geometry.now.blocks ≤ (memory_device disk.now).size }
+    ensures decoded { IfOk result (λ files. All (IsDecoded geometry.now (image_of disk.now)) files.items) }
+    ensures all { IfOk result (λ files. numbers_in files.items
+        ≡ used_below geometry.now (image_of disk.now) geometry.now.inodes) }
+    ensures readable { IfOk result (λ _. AreReadable geometry.now (image_of disk.now)) }
+    ensures refused { IfErr result (IsRangeFor (AreReadable geometry.now (image_of disk.now) → ⊥)) }
+{
+    let mut files = Vec::new(alloc);
+    'inodes: for number in 0..geometry.inodes {
+        push_file(alloc, disk, geometry, number, &mut files)?;
+    }
+    Ok(files)
+}
+
+// The super block of an image of which the device has each block.
+fn super_of(disk: &MemDisk) -> Result<Super, ImageFault>
+    ensures found { IfOk result (λ found. IsSuper (image_of disk.now SUPER_BLOCK) found) }
+    ensures fits { IfOk result (λ found. found.geometry.blocks ≤ (memory_device disk.now).size) }
+    ensures refused { IfErr result
+        (λ fault. IsRefused fault (memory_device disk.now).size (image_of disk.now)) }
+{
+    if disk.blocks() == 0 {
+        return Err(ImageFault::Outside);
+    }
+    let found = Super::read(block_of(disk, SUPER_BLOCK))?;
+    if disk.blocks() < found.geometry.blocks {
+        return Err(ImageFault::Outside);
+    }
+    Ok(found)
+}
+
+/// Reads all files of an image, or says what stands in the way: first that the device has no block or the first one is
+/// no super block, then that the device has fewer blocks than the image, then that a file shows something wrong.
+/// It doesn't look at the bitmaps.
 pub fn read_image(alloc: Global, disk: &MemDisk) -> Result<PlainImage, ImageFault>
     ensures head { IfOk result
         (λ image. IsSuper (image_of disk.now SUPER_BLOCK) (record {
           geometry = image.geometry;
           boot = image.boot;
         })) }
+    ensures fits { IfOk result (λ image. image.geometry.blocks ≤ (memory_device disk.now).size) }
     ensures decoded { IfOk result (λ image. All (IsDecoded image.geometry (image_of disk.now)) image.files.items) }
     ensures all { IfOk result (λ image. numbers_in image.files.items
         ≡ used_below image.geometry (image_of disk.now) image.geometry.inodes) }
+    ensures readable { IfOk result (λ image. AreReadable image.geometry (image_of disk.now)) }
+    ensures refused { IfErr result
+        (λ fault. IsRefused fault (memory_device disk.now).size (image_of disk.now)) }
 {
-    let Super { geometry, boot } = Super::read(block_of(disk, SUPER_BLOCK)?)?;
-    let mut files = Vec::new(alloc);
-    'inodes: for number in 0..geometry.inodes {
-        push_file(alloc, disk, &geometry, number, &mut files)?;
-    }
+    let Super { geometry, boot } = super_of(disk)?;
+    let files = files_of(alloc, disk, &geometry)?;
     Ok(PlainImage {
         boot,
         geometry,

@@ -1,6 +1,7 @@
 //! The parts of a file: its inode, the numbers of its blocks, their bytes, and the names in them.
-ghost use Rattle.std.specs.Prelude.{◌≡◌, ◌≤◌, ◌<◌, ◌++◌, true, length, IfOk, IfErr, IfSome, OnOk};
-ghost use Rattle.limits.specs.declared.TheConstants.{BLOCK_BYTES, INDIRECT_INDEXES};
+ghost use Rattle.std.specs.Prelude.{◌≡◌, ◌≤◌, ◌<◌, ◌/◌, ◌++◌, true, false, length, All, IsOk, IfOk, IfErr};
+ghost use Rattle.std.specs.Prelude.{IfSome, OnOk};
+ghost use Rattle.limits.specs.declared.TheConstants.{BLOCK_BYTES, INDIRECT_INDEXES, LARGEST_DIRECTORY};
 ghost use Rattle.disk.specs.Memory.{image_of, memory_device};
 ghost use Rattle.model.specs.SetAttr.{resized};
 ghost use Rattle.std.specs.List.{list_all};
@@ -9,12 +10,14 @@ ghost use Rattle.layout.specs.InodeForm.{SoundInode, is_data_block_or_none};
 ghost use Rattle.layout.specs.declared.slot.TheConstants.{SLOT_BYTES};
 ghost use Rattle.plain_image.specs.PlainFile.{AreNumbersOf, AreWhole};
 ghost use Rattle.plain_image.specs.PlainName.{entries_in, entries_of, one_entry};
-ghost use Rattle.layout.specs.Decode.{bytes_of, content_of, inode_at, numbers_of};
+ghost use Rattle.plain_image.specs.Refusal.{AreSlots, CanBeRead, IsRangeFor};
+ghost use Rattle.layout.specs.Decode.{SLOT_SIZE, bytes_of, content_of, inode_at, numbers_of};
+ghost use Rattle.layout.specs.SlotForm.{read_slot};
 
 use crate::ImageFault;
-use disk::{BlockNo, CrashDisk, MemDisk};
+use disk::{BlockNo, MemDisk};
 use layout::{Geometry, Inode, Numbers, SLOT_BYTES, Slot};
-use limits::{BLOCK_BYTES, FILE_INDEXES, INDIRECT_INDEXES, LARGEST_DIRECTORY};
+use limits::{BLOCK_BYTES, FILE_INDEXES, INDIRECT_INDEXES};
 use nfs_types::Octets;
 use std::alloc::{AllocError, Global};
 
@@ -27,16 +30,12 @@ pub struct PlainName {
 }
 
 /// The bytes of a block.
-pub(crate) fn block_of(disk: &MemDisk, number: u32) -> Result<&[u8], ImageFault>
-    ensures bytes { IfOk result (λ bytes. bytes.now ≡ image_of disk.now number) }
-    ensures len { IfOk result (λ bytes. length bytes.now ≡ BLOCK_BYTES) }
-    ensures err { IfErr result (λ _. (memory_device disk.now).size ≤ number) }
+pub(crate) fn block_of(disk: &MemDisk, number: u32) -> &[u8]
+    requires { number < (memory_device disk.now).size }
+    ensures bytes { result.now ≡ image_of disk.now number }
+    ensures len { length result.now ≡ BLOCK_BYTES }
 {
-    if number < disk.blocks() {
-        Ok(disk.newest(BlockNo(number)).as_slice())
-    } else {
-        Err(ImageFault::Outside)
-    }
+    disk.newest(BlockNo(number)).as_slice()
 }
 
 /// The inode of a number below the image's: None where it is free.
@@ -46,13 +45,16 @@ pub(crate) fn inode_of(
     geometry: &Geometry,
     number: u32,
 ) -> Result<Option<Inode>, ImageFault>
-    requires { number < geometry.now.inodes }
+    requires number { number < geometry.now.inodes }
+    requires fits { geometry.now.blocks ≤ (memory_device disk.now).size }
     ensures at { IfOk result (λ found. inode_at geometry.now (image_of disk.now) number ≡ Ok found) }
-    ensures sound { IfOk result (λ found. IfSome found
-        (λ inode. SoundInode geometry.now inode)) }
+    ensures sound { IfOk result (λ found. IfSome found (λ inode. SoundInode geometry.now inode)) }
+    ensures refused { IfErr result
+        (IsRangeFor (CanBeRead geometry.now (image_of disk.now) (inode_at geometry.now (image_of disk.now) number)
+        → ⊥)) }
 {
     let addr = geometry.inode_addr(number);
-    let block = block_of(disk, addr.block.0)?;
+    let block = block_of(disk, addr.block.0);
     let found = Inode::read(geometry, &block[addr.offset..addr.offset + addr.len])?;
     Ok(found)
 }
@@ -64,12 +66,14 @@ fn indirect(
     geometry: &Geometry,
     number: u32,
 ) -> Result<Numbers, ImageFault>
+    requires { number < (memory_device disk.now).size }
     ensures are { IfOk result (λ numbers. numbers ≡ numbers_at INDIRECT_INDEXES 0 (image_of disk.now number)) }
     ensures places { IfOk result
         (λ numbers. list_all (is_data_block_or_none geometry.now) numbers ≡ true) }
+    ensures refused { IfErr result (IsRangeFor (list_all (is_data_block_or_none geometry.now)
+        (numbers_at INDIRECT_INDEXES 0 (image_of disk.now number)) ≡ false)) }
 {
-    let bytes = block_of(disk, number)?;
-    let numbers = Numbers::read(alloc, geometry, bytes)??;
+    let numbers = Numbers::read(alloc, geometry, block_of(disk, number))??;
     Ok(numbers)
 }
 
@@ -80,9 +84,12 @@ pub(crate) fn numbers_of(
     geometry: &Geometry,
     inode: &Inode,
 ) -> Result<Vec<u32>, ImageFault>
-    requires { SoundInode geometry.now inode.now }
-    ensures { IfOk result
+    requires sound { SoundInode geometry.now inode.now }
+    requires fits { geometry.now.blocks ≤ (memory_device disk.now).size }
+    ensures numbers { IfOk result
         (λ numbers. AreNumbersOf geometry.now (image_of disk.now) inode.now numbers.items) }
+    ensures refused { IfErr result (IsRangeFor (list_all (is_data_block_or_none geometry.now)
+        (numbers_of (image_of disk.now) inode.now) ≡ false)) }
 {
     let mut numbers = Vec::with_capacity(alloc, FILE_INDEXES)?;
     numbers.extend_from_slice(&inode.direct)?;
@@ -103,16 +110,16 @@ pub(crate) fn count_mapped(numbers: &[u32]) -> usize
 }
 
 // Adds the bytes of a block, zeros where its number is 0.
-fn push_block(disk: &MemDisk, number: u32, bytes: &mut Vec<u8>) -> Result<(), ImageFault>
+fn push_block(disk: &MemDisk, number: u32, bytes: &mut Vec<u8>) -> Result<(), AllocError>
+    requires { number < (memory_device disk.now).size }
     ensures bytes { OnOk result (bytes.new.items ≡ bytes.old.items ++ content_of (image_of disk.now) number) }
     ensures len { OnOk result (length (content_of (image_of disk.now) number) ≡ BLOCK_BYTES) }
 {
     if number == 0 {
-        bytes.extend_from_slice(&[0; BLOCK_BYTES])?;
+        bytes.extend_from_slice(&[0; BLOCK_BYTES])
     } else {
-        bytes.extend_from_slice(block_of(disk, number)?)?;
+        bytes.extend_from_slice(block_of(disk, number))
     }
-    Ok(())
 }
 
 /// So many bytes of the blocks of these numbers, zeros where there is none.
@@ -121,7 +128,8 @@ pub(crate) fn bytes_of(
     disk: &MemDisk,
     numbers: &[u32],
     size: usize,
-) -> Result<Vec<u8>, ImageFault>
+) -> Result<Vec<u8>, AllocError>
+    requires { All (λ number. number < (memory_device disk.now).size) numbers.now }
     ensures bytes { IfOk result
         (λ bytes. bytes.items ≡ resized size (bytes_of (image_of disk.now) numbers.now)) }
     ensures whole { IfOk result (λ _. AreWhole (image_of disk.now) numbers.now) }
@@ -143,8 +151,10 @@ fn push_name(
     names: &mut Vec<PlainName>,
 ) -> Result<(), ImageFault>
     requires { length part.now ≡ SLOT_BYTES }
-    ensures { OnOk result (entries_of names.new.items ≡ entries_of names.old.items
+    ensures names { OnOk result (entries_of names.new.items ≡ entries_of names.old.items
         ++ one_entry inodes index part.now) }
+    ensures slot { OnOk result (IsOk (read_slot inodes part.now)) }
+    ensures refused { IfErr result (IsRangeFor (IsOk (read_slot inodes part.now) → ⊥)) }
 {
     if let Some(slot) = Slot::read(alloc, inodes, part)?? {
         let Slot { number, name } = slot;
@@ -155,17 +165,17 @@ fn push_name(
     Ok(())
 }
 
-/// The names in the bytes of a directory, which has no more than the largest directory.
+/// The names in the bytes of a directory.
 pub(crate) fn names_of(
     alloc: Global,
     inodes: u32,
     bytes: &[u8],
 ) -> Result<Vec<PlainName>, ImageFault>
-    ensures { IfOk result (λ names. entries_of names.items ≡ entries_in inodes bytes.now) }
+    requires { length bytes.now ≤ LARGEST_DIRECTORY }
+    ensures names { IfOk result (λ names. entries_of names.items ≡ entries_in inodes bytes.now) }
+    ensures slots { IfOk result (λ _. AreSlots inodes bytes.now (length bytes.now / SLOT_SIZE)) }
+    ensures refused { IfErr result (IsRangeFor (AreSlots inodes bytes.now (length bytes.now / SLOT_SIZE) → ⊥)) }
 {
-    if bytes.len() > LARGEST_DIRECTORY as usize {
-        return Err(ImageFault::Layout);
-    }
     let mut names = Vec::new(alloc);
     let slots = (bytes.len() / SLOT_BYTES) as u32;
     'each_slot: for index in 0..slots {

@@ -50,7 +50,7 @@ never same = cc
 
 -- ---- what a handle's file is asked for
 
-number_read : (number : ℕ) (stamp : Stamp) → number < 2 ^ 32 → number_in (handle_bytes number stamp) ≡ number
+pub number_read : (number : ℕ) (stamp : Stamp) → number < 2 ^ 32 → number_in (handle_bytes number stamp) ≡ number
 number_read number stamp small = search rules
 
 module _ (g : Geometry) (handle : List ℕ) where

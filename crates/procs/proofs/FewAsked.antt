@@ -120,7 +120,7 @@ one_of_two a b object there = at there.0 there.1 there.2
     at (suc zero) less is = inr is
     at (suc (suc index)) less is = absurd (omega arith)
 
-some_same : (a b : Inode) → ◌≡◌ {A = Result (Option Inode) LayoutFault} (Ok (Some a)) (Ok (Some b)) → a ≡ b
+pub some_same : (a b : Inode) → ◌≡◌ {A = Result (Option Inode) LayoutFault} (Ok (Some a)) (Ok (Some b)) → a ≡ b
 some_same a b same = cc
 
 same_parts : (a b : Addr) → same_addr a b ≡ true

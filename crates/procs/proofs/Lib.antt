@@ -12,3 +12,4 @@ pub mod FarThere
 pub mod StepsOf
 pub mod Apart
 pub mod FewAsked
+pub mod RefusedThere

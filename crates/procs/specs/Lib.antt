@@ -6,4 +6,5 @@ pub mod Asks
 pub mod MostChanged
 pub mod MostAsked
 pub mod Planned
+pub mod Refused
 pub mod Finished

@@ -1,10 +1,13 @@
 //! The file that a handle names.
-ghost use Rattle.std.specs.Prelude.{◌≡◌, ◌+◌, ◌<◌, ◌≤◌, length, cond, nat_eq, Ok, IfErr, IfOk, IfSome};
+ghost use Rattle.std.specs.Prelude.{◌≡◌, ◌≢◌, true, ◌+◌, ◌<◌, ◌≤◌, length, cond, nat_eq, Ok, IfErr, IfOk, IfSome};
 ghost use Rattle.limits.specs.declared.TheConstants.{BLOCK_BYTES, INDIRECT_INDEXES};
 ghost use Rattle.layout.specs.Fields.{numbers_at, count_of};
 ghost use Rattle.disk.specs.Crash.{Image};
+ghost use Rattle.std.specs.List.{list_all};
 ghost use Rattle.layout.specs.Decode.{inode_at};
+ghost use Rattle.layout.specs.InodeForm.{is_data_block_or_none};
 ghost use Rattle.txn.specs.Window.{object_at};
+ghost use Rattle.procs.specs.Refused.{NoneRefused};
 ghost use Rattle.procs.specs.Snap.{IsNew};
 ghost use Rattle.procs.specs.Asks.{WasRead, WasReadInode, IsAskedInode, IsAskedOfFile, IsAskedWhole};
 ghost use Rattle.layout.specs.Stands.{Stands};
@@ -44,6 +47,10 @@ fn used_by(alloc: Global, snap: &Snap, indirect: u32) -> Result<u32, Stop>
         → length (blocks indirect) ≡ BLOCK_BYTES
         → used ≡ cond (nat_eq indirect 0) 0
         (count_of (numbers_at INDIRECT_INDEXES 0 (blocks indirect)) + 1)) }
+    ensures places { IfOk result (λ used. (blocks : Image) → Saw blocks snap.now
+        → length (blocks indirect) ≡ BLOCK_BYTES → indirect ≢ 0
+        → list_all (is_data_block_or_none snap.now.geometry) (numbers_at INDIRECT_INDEXES 0 (blocks indirect))
+        ≡ true) }
     ensures err { IfErr result (λ stop. IsNew snap.now stop) }
     ensures io { IfErr result (λ stop. NamesOthers snap.now indirect stop) }
     ensures asks { IfErr result (λ stop. IsAskedWhole indirect stop) }
@@ -92,6 +99,7 @@ pub(crate) fn find(
     ensures tells { IfOk result (λ found. (blocks : Image) (tree : Tree)
         → Stands snap.now.geometry blocks tree → Saw blocks snap.now
         → IsFoundIn snap.now.geometry blocks tree handle.now.bytes found) }
+    ensures sound { IfOk result (λ found. NoneRefused snap.now handle.now.bytes) }
 {
     let Some((number, stamp)) = handle.parts() else {
         return Ok(Err(Status::BadHandle));

@@ -14,6 +14,7 @@ ghost use Rattle.procs.specs.Asks.{IsAsked, IsAskedOfFile, IsWritable, WasReadIn
 ghost use Rattle.procs.specs.Finished.{ChangesFew, EndsFrom};
 ghost use Rattle.procs.specs.MostChanged.{most_changed};
 ghost use Rattle.procs.specs.Planned.{IsPlanFor, IsStepPlan};
+ghost use Rattle.procs.specs.Refused.{IsDoneWith, IsIoWhereRefused, NoneRefused, NoneRefusedIn};
 ghost use Rattle.procs.specs.Snap.{IsNew, IsDoneFor};
 
 use crate::attributes::FoundFile;
@@ -59,6 +60,7 @@ fn get_attr(alloc: Global, snap: &Snap, object: &Handle) -> Result<Draft, Stop>
     ensures err { IfErr result (λ stop. IsNew snap.now stop) }
     ensures asks { IfErr result (λ stop. IsAskedOfFile snap.now object.now.bytes stop) }
     ensures io { IfErr result (λ stop. NoneStand snap.now stop) }
+    ensures sound { IfOk result (λ done. NoneRefused snap.now object.now.bytes) }
 {
     let found = find(alloc, snap, object)?;
     let outcome = outcome_of(found);
@@ -126,6 +128,7 @@ fn set_attr(
     ensures err { IfErr result (λ stop. IsNew snap.now stop) }
     ensures asks { IfErr result (λ stop. IsAskedOfFile snap.now object.now.bytes stop) }
     ensures io { IfErr result (λ stop. NoneStand snap.now stop) }
+    ensures sound { IfOk result (λ done. NoneRefused snap.now object.now.bytes) }
 {
     let found = match find(alloc, snap, object)? {
         Ok(found) => found,
@@ -155,6 +158,7 @@ fn work(alloc: Global, ctx: &Ctx, call: &Call, snap: &Snap) -> Result<Draft, Sto
     ensures err { IfErr result (λ stop. IsNew snap.now stop) }
     ensures asks { IfErr result (λ stop. IsAsked snap.now call.now stop) }
     ensures io { IfErr result (λ stop. NoneStand snap.now stop) }
+    ensures sound { IfOk result (λ done. NoneRefusedIn snap.now call.now) }
 {
     match call {
         Call::GetAttr { object } => get_attr(alloc, snap, object),
@@ -194,6 +198,7 @@ fn finish(ctx: &Ctx, call: &Call, snap: &Snap, draft: Draft) -> Plan
     requires step { IsStepOf snap.now.geometry ctx.now call.now draft }
     ensures plan { IsPlanFor call.now snap.now result }
     ensures step { IsStepPlan snap.now.geometry ctx.now call.now result }
+    ensures done { IsDoneWith draft result }
 {
     draft.few();
     Plan::Done(Done::new(draft))
@@ -207,6 +212,7 @@ pub fn plan(alloc: Global, ctx: &Ctx, call: &Call, snap: &Snap) -> Plan
     requires { has_rules call.now ≡ true }
     ensures plan { IsPlanFor call.now snap.now result }
     ensures step { IsStepPlan snap.now.geometry ctx.now call.now result }
+    ensures io { IsIoWhereRefused call.now snap.now result }
 {
     match work(alloc, ctx, call, snap) {
         Ok(done) => finish(ctx, call, snap, done),

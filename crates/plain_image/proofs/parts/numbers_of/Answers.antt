@@ -1,16 +1,19 @@
-use Rattle.std.proofs.Common.{ℕ, List, ◌++◌, replicate, sym, ap, ◌∙◌}
+use Rattle.std.proofs.Common.{rules, ◌≡◌, false, ℕ, List, ◌++◌, replicate, sym, ap, ◌∙◌, IfErr}
 use Rattle.std.specs.List.{list_all}
 use Rattle.limits.specs.declared.TheConstants.{INDIRECT_INDEXES}
-use Rattle.disk.specs.Memory.{image_of}
+use Rattle.disk.specs.Memory.{image_of, memory_device}
+use Rattle.layout.specs.Fields.{numbers_at}
 use Rattle.layout.specs.InodeForm.{is_data_block_or_none}
 use Rattle.layout.proofs.AllNumbers.{all_placed}
+use Rattle.plain_image.specs.Refusal.{IsRangeFor}
 use Rattle.plain_image.proofs.Decoded.{direct_only, with_indirect, none_there}
+use Rattle.plain_image.proofs.Readable.{err_for, far_refused, far_within}
 use Rattle.plain_image.proofs.parts.numbers_of.Goals as goal
 use Rattle.plain_image.proofs.parts.numbers_of.Goals.{then-inode-eq0+in_ok-extend_from_slice-2}
 use Rattle.plain_image.proofs.parts.numbers_of.Goals.{else-inode-eq0+in_ok-more+in_ok-extend_from_slice-3}
 
-pub returns : goal.returns
-returns c =
+pub returns-clause-numbers : goal.returns-clause-numbers
+returns-clause-numbers c =
     let g = c.args.geometry.now in
     let image = image_of c.args.disk.now in
     let inode = c.args.inode.now in
@@ -24,7 +27,7 @@ returns c =
           record {
             are = are;
             places = ap (list_all (is_data_block_or_none g)) are
-                ∙ all_placed g image inode c.requires (none_there inode.indirect w.if-inode-eq0.true);
+                ∙ all_placed g image inode c.requires.sound (none_there inode.indirect w.if-inode-eq0.true);
           }
       | else-inode-eq0+in_ok-more+in_ok-extend_from_slice-3 w ↦
           let far = w.as_slice.ensures ∙ w.in_ok-more.ensures.are in
@@ -34,8 +37,23 @@ returns c =
           record {
             are = are;
             places = ap (list_all (is_data_block_or_none g)) are
-                ∙ all_placed g image inode c.requires (λ some.
+                ∙ all_placed g image inode c.requires.sound (λ some.
                 ap (list_all (is_data_block_or_none g)) (sym w.in_ok-more.ensures.are)
                 ∙ w.in_ok-more.ensures.places);
           }
     ]
+
+pub indirect-requires : goal.indirect-requires
+indirect-requires c =
+    far_within c.args.geometry.now (memory_device c.args.disk.now).size c.requires.fits c.args.inode.now
+    c.requires.sound
+
+pub returns-in_err-more-clause-refused : goal.returns-in_err-more-clause-refused
+returns-in_err-more-clause-refused c =
+    let g = c.args.geometry.now in
+    let image = image_of c.args.disk.now in
+    let inode = c.args.inode.now in
+    let refused : IfErr c.from_residual-in_err-more.result (IsRangeFor
+    (list_all (is_data_block_or_none g) (numbers_at INDIRECT_INDEXES 0 (image inode.indirect)) ≡ false)) =
+    search rules in
+    err_for (far_refused g image inode c.if-inode-eq0.false) c.from_residual-in_err-more.result refused

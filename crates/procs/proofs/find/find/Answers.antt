@@ -6,7 +6,10 @@ use Rattle.procs.proofs.FoundThere.{stale_free, stale_stamp, found, stamps_same}
 use Rattle.procs.proofs.FoundThere.{stamps_differ}
 use Rattle.procs.proofs.FarThere.{none_name_others}
 use Rattle.procs.proofs.InodeThere.{indirect_long}
+use Rattle.procs.proofs.RefusedThere.{inside, not_free, not_stale, not_found}
 use Rattle.procs.proofs.find.find.Goals as goal
+use Rattle.procs.proofs.find.find.Goals.{then-number-eq0-via-then-number-eq0}
+use Rattle.procs.proofs.find.find.Goals.{then-number-eq0-via-else-number-eq0+then-number-snap}
 
 pub returns-in_default-2-clause-tells : goal.returns-in_default-2-clause-tells
 returns-in_default-2-clause-tells c = λ blocks tree stands saw.
@@ -63,3 +66,37 @@ returns-in_err-used-clause-asks c =
     (rw c.in-Some-2.is at c.in_ok-inode.ensures.read)
     c.in_err-used.field-0.0 c.in_err-used.ensures.asks in
     subst (λ r. IfErr r (λ why. IsAskedOfFile c.args.snap.now c.args.handle.now.bytes why)) (sym same) asks
+
+pub returns-in_default-clause-sound : goal.returns-in_default-clause-sound
+returns-in_default-clause-sound c = λ blocks saw refused. c.in_default.ensures.none refused.long
+
+pub returns-then-number-eq0-clause-sound : goal.returns-then-number-eq0-clause-sound
+returns-then-number-eq0-clause-sound c = λ blocks saw refused.
+    let lies = inside c.args.snap.now.geometry blocks c.args.handle.now.bytes c.in-Some.number c.in-Some.stamp
+    c.in-Some.ensures.some (search rules) (search rules) (search rules) refused in
+    let least = lies.0 in
+    let most = lies.1 in
+    elim c.then-number-eq0.branch [
+      | then-number-eq0-via-then-number-eq0 w ↦ (let none = w.if-number-eq0.true in omega (arith, least, none))
+      | then-number-eq0-via-else-number-eq0+then-number-snap w ↦
+          (let past = w.if-number-snap.true in omega (arith, most, past))
+    ]
+
+pub returns-in_default-2-clause-sound : goal.returns-in_default-2-clause-sound
+returns-in_default-2-clause-sound c = λ blocks saw refused.
+    not_free c.args.snap.now.geometry blocks c.args.handle.now.bytes c.in-Some.number c.in-Some.stamp
+    c.in-Some.ensures.some (search rules) (search rules) (search rules) refused
+    (rw c.in_default-2.is at (c.in_ok-inode.ensures.there blocks saw))
+
+pub returns-then-ne-clause-sound : goal.returns-then-ne-clause-sound
+returns-then-ne-clause-sound c = λ blocks saw refused.
+    not_stale c.args.snap.now.geometry blocks c.args.handle.now.bytes c.in-Some.number c.in-Some.stamp
+    c.in-Some.ensures.some (search rules) (search rules) (search rules) refused c.in-Some-2.inode
+    (rw c.in-Some-2.is at (c.in_ok-inode.ensures.there blocks saw))
+    (stamps_differ c.in-Some-2.inode.stamp c.in-Some.stamp (sym c.ne.ensures ∙ c.if-ne.true))
+
+pub returns-clause-sound : goal.returns-clause-sound
+returns-clause-sound c = λ blocks saw refused.
+    not_found c.args.snap.now.geometry blocks c.args.handle.now.bytes c.in-Some.number c.in-Some.stamp
+    c.in-Some.ensures.some (search rules) (search rules) (search rules) refused c.in-Some-2.inode
+    (rw c.in-Some-2.is at (c.in_ok-inode.ensures.there blocks saw)) (c.in_ok-used.ensures.places blocks saw)

@@ -25,3 +25,12 @@ returns-in-Err-clause-io c = λ blocks saw long. (
       (c.in_ok-bytes.ensures.there blocks saw) long))
       ∙ (rw c.in-Err.is at c.in_ok-numbers.ensures.refused).1,
 )
+
+pub returns-in-Ok-clause-places : goal.returns-in-Ok-clause-places
+returns-in-Ok-clause-places c = λ blocks saw long some.
+    let same = whole_there blocks c.args.indirect c.whole.result c.in_ok-bytes.bytes.now
+    (ap (λ (b : BlockNo). b.0) c.whole.ensures.value.0) c.whole.ensures.value.1 c.whole.ensures.value.2
+    (c.in_ok-bytes.ensures.there blocks saw) long in
+    ap (list_all (is_data_block_or_none c.args.snap.now.geometry))
+    (ap (numbers_at INDIRECT_INDEXES 0) (sym same) ∙ sym (rw c.in-Ok.is at c.in_ok-numbers.ensures.ok))
+    ∙ (rw c.in-Ok.is at c.in_ok-numbers.ensures.places)

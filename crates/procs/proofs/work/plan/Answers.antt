@@ -1,6 +1,7 @@
 use Rattle.std.proofs.Common.{rules, ◌≡◌, subst}
 use Rattle.procs.specs.declared.stop.Stop.TheVariants as stop
 use Rattle.procs.specs.Steps.{AreAsRead, NoneStand}
+use Rattle.procs.proofs.RefusedThere.{io_by_none, io_by_reply}
 use Rattle.procs.proofs.work.plan.Goals as goal
 
 pub finish-requires-in-Ok-told-clause-step : goal.finish-requires-in-Ok-told-clause-step
@@ -8,3 +9,11 @@ finish-requires-in-Ok-told-clause-step c = λ blocks tree now stands read.
     let is : c.in-Err-Io.field-0 ≡ stop.Io = search rules in
     absurd (subst (NoneStand c.args.snap.now) is c.in-Err-Io.ensures.io blocks tree stands
     (subst (AreAsRead blocks) c.in-Ok-told.ensures.done.read read))
+
+pub returns-in-Ok-clause-io : goal.returns-in-Ok-clause-io
+returns-in-Ok-clause-io c =
+    io_by_none c.args.call.now c.args.snap.now c.finish.result (rw c.in-Ok.is at c.work.ensures.sound)
+
+pub returns-in-Ok-told-clause-io : goal.returns-in-Ok-told-clause-io
+returns-in-Ok-told-clause-io c =
+    io_by_reply c.args.call.now c.args.snap.now _ _ c.finish-in-Ok-told.ensures.done (search rules) (search rules)

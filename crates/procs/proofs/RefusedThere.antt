@@ -1,0 +1,107 @@
+-- What was read shows that the layout doesn't refuse the file of a handle.
+use Rattle.std.proofs.Common.{rules, ◌≡◌, ◌≢◌, ℕ, ◌^◌, ◌<◌, inl, inr, sym, ap, ◌∙◌, subst, true, false}
+use Rattle.std.proofs.Common.{List, [], length, Option, Some, None, Result, Ok, Err, arith}
+use Rattle.std.specs.List.{list_all}
+use Rattle.limits.specs.declared.TheConstants.{BLOCK_BYTES, INDIRECT_INDEXES}
+use Rattle.disk.specs.Crash.{Image}
+use Rattle.nfs_types.specs.Handle.{handle_bytes}
+use Rattle.nfs_types.specs.declared.handle.Stamp.{Stamp}
+use Rattle.nfs_types.specs.declared.call.Call.{Call}
+use Rattle.nfs_types.specs.declared.status.Status.TheVariants as status
+use Rattle.model.specs.Find.{number_in, stamp_in}
+use Rattle.model.specs.Refused.{refused}
+use Rattle.layout.specs.declared.fault.LayoutFault.{LayoutFault}
+use Rattle.layout.specs.declared.fault.LayoutFault.TheVariants.{Range}
+use Rattle.layout.specs.declared.geometry.Geometry.{Geometry}
+use Rattle.layout.specs.declared.inode.Inode.{Inode}
+use Rattle.layout.specs.Decode.{inode_at}
+use Rattle.layout.specs.Fields.{numbers_at}
+use Rattle.layout.specs.InodeForm.{is_data_block_or_none}
+use Rattle.procs.specs.declared.next.Plan.{Plan}
+use Rattle.procs.specs.declared.next.Plan.TheVariants as plan
+use Rattle.procs.specs.declared.snap.Snap.{Snap}
+use Rattle.procs.specs.Outcome.{Outcome}
+use Rattle.procs.specs.Refused.{IsDoneWith, IsIoWhereRefused, IsRefusedFile, NamesNoData, NoneRefusedIn}
+use Rattle.procs.proofs.Apart.{number_read}
+use Rattle.procs.proofs.FewAsked.{some_same}
+
+stamp_read : (number : ℕ) (stamp : Stamp) → stamp.boot < 2 ^ 64 → stamp.transaction < 2 ^ 64
+    → stamp_in (handle_bytes number stamp) ≡ stamp
+stamp_read number stamp boot transaction =
+    let boot_is : (stamp_in (handle_bytes number stamp)).boot ≡ stamp.boot = search rules in
+    let transaction_is : (stamp_in (handle_bytes number stamp)).transaction ≡ stamp.transaction = search rules in
+    λ i. record { boot = boot_is i; transaction = transaction_is i }
+
+abbrev Read : Type 0
+Read = Result (Option Inode) LayoutFault
+
+err_ok : (found : Option Inode) → ◌≡◌ {A = Read} (Err Range) (Ok found) → ⊥
+err_ok found same = cc
+
+some_none : (inode : Inode) → ◌≡◌ {A = Read} (Ok (Some inode)) (Ok None) → ⊥
+some_none inode same = cc
+
+never : true ≡ false → ⊥
+never same = cc
+
+module _ (g : Geometry) (blocks : Image) (handle : List ℕ) (number : ℕ) (stamp : Stamp)
+    (is : handle ≡ handle_bytes number stamp) (small : number < 2 ^ 32) (boot : stamp.boot < 2 ^ 64)
+    (transaction : stamp.transaction < 2 ^ 64) (refused : IsRefusedFile g blocks handle) where
+  number_is : number_in handle ≡ number
+  number_is = ap number_in is ∙ number_read number stamp small
+
+  stamp_is : stamp_in handle ≡ stamp
+  stamp_is = ap stamp_in is ∙ stamp_read number stamp boot transaction
+
+  pub inside : (0 < number) × (number < g.inodes)
+  inside =
+      let some = refused.some in
+      let less = refused.within in
+      let same = number_is in
+      (omega (arith, some, same), omega (arith, less, same))
+
+  at_is : (found : Read) → inode_at g blocks number ≡ found → inode_at g blocks (number_in handle) ≡ found
+  at_is found read = ap (inode_at g blocks) number_is ∙ read
+
+  pub not_free : inode_at g blocks number ≡ Ok None → ⊥
+  not_free read = elim refused.why [
+    | inl fault ↦ err_ok None (sym fault ∙ at_is (Ok None) read)
+    | inr some ↦ some_none some.0 (sym some.1 ∙ at_is (Ok None) read)
+  ]
+
+  module _ (inode : Inode) (read : inode_at g blocks number ≡ Ok (Some inode)) where
+    pub not_stale : (inode.stamp ≡ stamp → ⊥) → ⊥
+    not_stale differs = elim refused.why [
+      | inl fault ↦ err_ok (Some inode) (sym fault ∙ at_is (Ok (Some inode)) read)
+      | inr some ↦ differs
+          (ap (λ (i : Inode). i.stamp) (some_same inode some.0 (sym (at_is (Ok (Some inode)) read) ∙ some.1))
+          ∙ some.2 ∙ stamp_is)
+    ]
+
+    pub not_found : (length (blocks inode.indirect) ≡ BLOCK_BYTES → inode.indirect ≢ 0
+        → list_all (is_data_block_or_none g) (numbers_at INDIRECT_INDEXES 0 (blocks inode.indirect)) ≡ true) → ⊥
+    not_found places = elim refused.why [
+      | inl fault ↦ err_ok (Some inode) (sym fault ∙ at_is (Ok (Some inode)) read)
+      | inr some ↦ (let names : NamesNoData g blocks inode =
+          subst (NamesNoData g blocks) (some_same some.0 inode (sym some.1 ∙ at_is (Ok (Some inode)) read)) some.3 in
+          never (sym (places names.whole names.some) ∙ names.refused))
+    ]
+
+-- ---- plans
+
+pub io_by_none : (asked : Call) (snap : Snap) (next : Plan) → NoneRefusedIn snap asked
+    → IsIoWhereRefused asked snap next
+io_by_none asked snap (plan.Done done) none = λ blocks saw refused. absurd (none blocks saw refused)
+io_by_none asked snap (plan.Need addr) none = tt
+io_by_none asked snap (plan.Claim block) none = tt
+io_by_none asked snap plan.NoMemory none = tt
+
+pub io_by_reply : (asked : Call) (snap : Snap) (next : Plan) (outcome : Outcome) → IsDoneWith outcome next
+    → outcome.reply ≡ refused status.Io asked → outcome.written ≡ [] → IsIoWhereRefused asked snap next
+io_by_reply asked snap (plan.Done done) outcome is reply written = λ blocks saw refused. (
+  ap (λ (o : Outcome). o.reply) is ∙ reply,
+  ap (λ (o : Outcome). o.written) is ∙ written,
+)
+io_by_reply asked snap (plan.Need addr) outcome is reply written = tt
+io_by_reply asked snap (plan.Claim block) outcome is reply written = tt
+io_by_reply asked snap plan.NoMemory outcome is reply written = tt

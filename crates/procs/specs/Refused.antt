@@ -1,0 +1,84 @@
+-- When the layout refuses what a call's file has.
+use Rattle.std.specs.Prelude.{◌≡◌, ◌≢◌, ℕ, ◌<◌, ◌⊎◌, false, List, [], Some, Ok, Err, length}
+use Rattle.std.specs.List.{list_all}
+use Rattle.limits.specs.declared.TheConstants.{BLOCK_BYTES, HANDLE_BYTES, INDIRECT_INDEXES}
+use Rattle.nfs_types.specs.declared.call.Call.{Call}
+use Rattle.nfs_types.specs.declared.call.Call.TheVariants as call
+use Rattle.nfs_types.specs.declared.status.Status.TheVariants.{Io}
+use Rattle.disk.specs.Crash.{Image}
+use Rattle.layout.specs.declared.fault.LayoutFault.TheVariants.{Range}
+use Rattle.layout.specs.declared.geometry.Geometry.{Geometry}
+use Rattle.layout.specs.declared.inode.Inode.{Inode}
+use Rattle.layout.specs.Decode.{inode_at}
+use Rattle.layout.specs.Fields.{numbers_at}
+use Rattle.layout.specs.InodeForm.{is_data_block_or_none}
+use Rattle.model.specs.Find.{number_in, stamp_in}
+use Rattle.model.specs.Refused.{refused}
+use Rattle.procs.specs.declared.next.Plan.{Plan}
+use Rattle.procs.specs.declared.next.Plan.TheVariants as plan
+use Rattle.procs.specs.declared.snap.Snap.{Snap}
+use Rattle.procs.specs.Outcome.{Outcome}
+use Rattle.procs.specs.Steps.{Saw}
+
+-- the inode has an indirect block, and this names what is no data block
+pub record NamesNoData (g : Geometry) (blocks : Image) (inode : Inode) : Type 0 where
+  pub some : inode.indirect ≢ 0
+  pub whole : length (blocks inode.indirect) ≡ BLOCK_BYTES
+  pub refused : list_all (is_data_block_or_none g) (numbers_at INDIRECT_INDEXES 0 (blocks inode.indirect))
+      ≡ false
+
+-- In these blocks the layout refuses the inode that a handle names, or the indirect block of the handle's file.
+pub record IsRefusedFile (g : Geometry) (blocks : Image) (handle : List ℕ) : Type 0 where
+  pub long : length handle ≡ HANDLE_BYTES
+  pub some : number_in handle ≢ 0
+  pub within : number_in handle < g.inodes
+  pub why : (inode_at g blocks (number_in handle) ≡ Err Range)
+      ⊎ ((inode : Inode) × (inode_at g blocks (number_in handle) ≡ Ok (Some inode))
+      × (inode.stamp ≡ stamp_in handle) × NamesNoData g blocks inode)
+
+-- so it is for what a call asks for
+abbrev pub IsRefusedIn : Geometry → Image → Call → Type 0
+IsRefusedIn g blocks (call.GetAttr object) = IsRefusedFile g blocks object.bytes
+IsRefusedIn g blocks (call.SetAttr object attributes guard) = IsRefusedFile g blocks object.bytes
+IsRefusedIn g blocks call.Null = ⊥
+IsRefusedIn g blocks (call.Lookup name) = ⊥
+IsRefusedIn g blocks (call.Access object bits) = ⊥
+IsRefusedIn g blocks (call.ReadLink link) = ⊥
+IsRefusedIn g blocks (call.Read file offset count) = ⊥
+IsRefusedIn g blocks (call.Write file offset count stability bytes) = ⊥
+IsRefusedIn g blocks (call.Create name how) = ⊥
+IsRefusedIn g blocks (call.MkDir name attributes) = ⊥
+IsRefusedIn g blocks (call.SymLink name attributes target) = ⊥
+IsRefusedIn g blocks (call.MkNod name special) = ⊥
+IsRefusedIn g blocks (call.Remove name) = ⊥
+IsRefusedIn g blocks (call.RmDir name) = ⊥
+IsRefusedIn g blocks (call.Rename source target) = ⊥
+IsRefusedIn g blocks (call.Link file name) = ⊥
+IsRefusedIn g blocks (call.ReadDir directory cookie verifier count) = ⊥
+IsRefusedIn g blocks (call.ReadDirPlus directory cookie verifier directory_count greatest_count) = ⊥
+IsRefusedIn g blocks (call.FsStat object) = ⊥
+IsRefusedIn g blocks (call.FsInfo object) = ⊥
+IsRefusedIn g blocks (call.PathConf object) = ⊥
+IsRefusedIn g blocks (call.Commit file offset count) = ⊥
+
+-- no blocks that have what was read are refused
+abbrev pub NoneRefused : Snap → List ℕ → Type 0
+NoneRefused snap handle = (blocks : Image) → Saw blocks snap → IsRefusedFile snap.geometry blocks handle → ⊥
+
+abbrev pub NoneRefusedIn : Snap → Call → Type 0
+NoneRefusedIn snap call = (blocks : Image) → Saw blocks snap → IsRefusedIn snap.geometry blocks call → ⊥
+
+-- where blocks that have what was read are refused a plan ends in IO, with nothing told and nothing written
+abbrev pub IsIoWhereRefused : Call → Snap → Plan → Type 0
+IsIoWhereRefused call snap (plan.Done done) = (blocks : Image) → Saw blocks snap
+    → IsRefusedIn snap.geometry blocks call → (done.reply ≡ refused Io call) × (done.written ≡ [])
+IsIoWhereRefused call snap (plan.Need addr) = Unit {0}
+IsIoWhereRefused call snap (plan.Claim block) = Unit {0}
+IsIoWhereRefused call snap plan.NoMemory = Unit {0}
+
+-- a plan is done with this
+abbrev pub IsDoneWith : Outcome → Plan → Type 0
+IsDoneWith outcome (plan.Done done) = done ≡ outcome
+IsDoneWith outcome (plan.Need addr) = ⊥
+IsDoneWith outcome (plan.Claim block) = ⊥
+IsDoneWith outcome plan.NoMemory = ⊥
