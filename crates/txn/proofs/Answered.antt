@@ -14,7 +14,7 @@ use Rattle.wal_law.specs.declared.change.LogChange.{LogChange}
 use Rattle.wal_law.specs.Grows.{IsWholeChange}
 use Rattle.wal_law.specs.Log.{Log, IsLawful, newest, changes_of}
 use Rattle.txn_law.specs.Commit.{Planned, with_record, refreshed_content}
-use Rattle.txn_law.specs.Core.{CoreState, IsOut, without}
+use Rattle.txn_law.specs.Core.{CoreState, IsOut, with_begun, without}
 use Rattle.txn_law.specs.CoreLaw.{IsLawfulCore}
 use Rattle.txn_law.specs.CoreWindow.{IsHomeOf, KeepsHome, KeepsReads, SetsOnly}
 use Rattle.txn_law.specs.Leaves.{Leaves, taken_by, is_fetching, in_memory, but_by}
@@ -123,18 +123,14 @@ module _ {X : Type 0} (old new : CoreState) (log : Log) where
 
 -- a transaction is begun, or not
 pub begun_law : (P : ℕ → ℕ → List ObjectBytes → List ObjectBytes → Type 0) (old new : CoreState)
-    (answer : Result ℕ BeginFault) → old.out ≡ [] → IfOk answer (λ tx. (tx ≡ old.begun + 1)
-    × (new ≡ record old { begun = old.begun + 1; out = (old.begun + 1) ∷ [] })) → OnErr answer (new ≡ old)
-    → IsLawfulCore P old → IsLawfulCore P new
-begun_law P old new (Ok tx) nobody done none h =
-    subst (λ (core : CoreState). IsLawfulCore P core) (sym done.1)
-    (lawful_begun P old (old.begun + 1) ((old.begun + 1) ∷ [])
-    (λ other is_out. absurd (let no : false ≡ true =
-    sym (ap (λ (out : List ℕ). list_any (λ t. nat_eq t other) out) nobody) ∙ is_out in cc)) h)
-begun_law P old new (Err fault) nobody done none h = subst (λ (core : CoreState). IsLawfulCore P core) (sym none) h
+    (answer : Result ℕ BeginFault) → IfOk answer (λ tx. (tx ≡ old.begun + 1) × (new ≡ with_begun old))
+    → OnErr answer (new ≡ old) → IsLawfulCore P old → IsLawfulCore P new
+begun_law P old new (Ok tx) done none h =
+    subst (λ (core : CoreState). IsLawfulCore P core) (sym done.1) (lawful_begun P old h)
+begun_law P old new (Err fault) done none h = subst (λ (core : CoreState). IsLawfulCore P core) (sym none) h
 
-pub begun_home : (old new : CoreState) (answer : Result ℕ BeginFault) → IfOk answer (λ tx. (tx ≡ old.begun + 1)
-    × (new ≡ record old { begun = old.begun + 1; out = (old.begun + 1) ∷ [] })) → OnErr answer (new ≡ old)
+pub begun_home : (old new : CoreState) (answer : Result ℕ BeginFault)
+    → IfOk answer (λ tx. (tx ≡ old.begun + 1) × (new ≡ with_begun old)) → OnErr answer (new ≡ old)
     → KeepsHome old new
 begun_home old new (Ok tx) done none base h = subst (λ (core : CoreState). IsHomeOf base core) (sym done.1)
     (record { whole = h.whole; window = h.window })
@@ -181,8 +177,8 @@ next_reads (Some x) old new log some none other =
     subst (λ (core : CoreState). KeepsReads old core other) (sym (some refl)) (reads_log old log other)
 next_reads None old new log some none other = same_reads old new (none refl) other
 
-pub begun_reads : (old new : CoreState) (answer : Result ℕ BeginFault) → IfOk answer (λ tx. (tx ≡ old.begun + 1)
-    × (new ≡ record old { begun = old.begun + 1; out = (old.begun + 1) ∷ [] })) → OnErr answer (new ≡ old)
+pub begun_reads : (old new : CoreState) (answer : Result ℕ BeginFault)
+    → IfOk answer (λ tx. (tx ≡ old.begun + 1) × (new ≡ with_begun old)) → OnErr answer (new ≡ old)
     → (other : ℕ) → KeepsReads old new other
 begun_reads old new (Ok tx) done none other =
     subst (λ (core : CoreState). KeepsReads old core other) (sym done.1)

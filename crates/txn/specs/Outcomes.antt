@@ -46,6 +46,15 @@ IsWanted old tx addr mode answer new =
     IsWantedWith (λ bytes. IsHeld old tx addr mode bytes new) (λ io. IsFetched old tx addr mode io new) old tx addr
     mode answer new
 
+-- the wish was met, or there was no memory for it
+abbrev pub IsMet : Want → Type 0
+IsMet (want.Held back bytes) = Unit {0}
+IsMet (want.NoMemory back) = Unit {0}
+IsMet (want.Busy back) = ⊥
+IsMet (want.Fetch back io) = ⊥
+IsMet (want.Loading back) = ⊥
+IsMet (want.Outside back) = ⊥
+
 -- the bytes are as many as asked for, and what is to be fetched is a block of the image
 abbrev pub IsWithin : ℕ → ℕ → Want → Type 0
 IsWithin blocks len (want.Held back bytes) = length bytes.items ≡ len

@@ -5,6 +5,7 @@ mod change;
 mod commit;
 mod group;
 mod holds;
+mod laws;
 mod object;
 mod outcomes;
 mod present;
@@ -15,6 +16,7 @@ mod tx;
 mod want;
 
 pub use change::Change;
+pub use laws::a_wish_is_met_after_its_fetch;
 pub use object::Object;
 pub use outcomes::{BeginFault, Claim, Commit, Want};
 pub use transactions::Core;

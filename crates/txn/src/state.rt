@@ -11,7 +11,7 @@ ghost use Rattle.wal_law.specs.Calls.{LogCallGoesOut, LogCallComesBack, InstCall
 ghost use Rattle.wal_law.specs.Io.{IsCallWithin};
 ghost use Rattle.wal_law.specs.Logger.{IsNextLogCall, may_log, with_log_out, is_log_out, with_log_back};
 ghost use Rattle.wal_law.specs.Installer.{IsNextInstCall, may_install, with_inst_out, is_inst_out, with_inst_back};
-ghost use Rattle.txn_law.specs.Core.{without, ended, past, installed};
+ghost use Rattle.txn_law.specs.Core.{with_begun, without, ended, past, installed};
 ghost use Rattle.txn_law.specs.Records.{swept};
 
 use crate::group::blocks_of_objects;
@@ -112,7 +112,7 @@ impl<C: Change> State<C> {
     pub(crate) fn begin(&mut self) -> Result<Tx, BeginFault>
         requires { self.old.out ≡ [] }
         ensures begun { IfOk result (λ tx. (tx ≡ self.old.begun + 1)
-            × (self.new ≡ record self.old { begun = self.old.begun + 1; out = (self.old.begun + 1) ∷ [] })) }
+            × (self.new ≡ with_begun self.old)) }
         ensures refused { OnErr result (self.new ≡ self.old) }
         ensures broken { IsErrOf result BeginFault.Broken ↔ (self.old.log.broken ≡ true) }
         ensures spent { IsErrOf result BeginFault.Spent

@@ -12,12 +12,12 @@ ghost use Rattle.disk.specs.Crash.{Image};
 ghost use Rattle.wal_law.specs.Io.{IsCallWithin};
 ghost use Rattle.wal_law.specs.Logger.{IsNextLogCall, may_log, with_log_out, is_log_out, with_log_back};
 ghost use Rattle.wal_law.specs.Installer.{IsNextInstCall, may_install, with_inst_out, is_inst_out, with_inst_back};
-ghost use Rattle.txn_law.specs.Core.{IsOut, without, past};
+ghost use Rattle.txn_law.specs.Core.{IsOut, with_begun, without, past};
 ghost use Rattle.txn_law.specs.CoreLaw.{IsFresh, IsLawfulCore};
 ghost use Rattle.txn_law.specs.CoreWindow.{IsHomeOf, KeepsHome, KeepsReads, IsPending};
 ghost use Rattle.txn_law.specs.Group.{blocks_of};
 ghost use Rattle.txn_law.specs.HomeRead.{IsReadable, HasContents};
-ghost use Rattle.txn_law.specs.Leaves.{Leaves, taken_by, is_fetching, in_memory, but_by, without_fetch, with_content};
+ghost use Rattle.txn_law.specs.Leaves.{Leaves, HasFetched, taken_by, is_fetching, in_memory, but_by, without_fetch};
 ghost use Rattle.txn_law.specs.Wishes.{IsWhole};
 ghost use Rattle.txn.specs.Outcomes.{IsWanted, IsWithin, IsClaimed, IsCommit, IsSetBy};
 
@@ -87,7 +87,7 @@ impl<C: Change> Core<C> {
     pub fn begin(&mut self) -> Result<Tx, BeginFault>
         requires { self.old.out ≡ [] }
         ensures begun { IfOk result (λ tx. (tx ≡ self.old.begun + 1)
-            × (self.new ≡ record self.old { begun = self.old.begun + 1; out = (self.old.begun + 1) ∷ [] })) }
+            × (self.new ≡ with_begun self.old)) }
         ensures refused { OnErr result (self.new ≡ self.old) }
         ensures broken { IsErrOf result BeginFault.Broken ↔ (self.old.log.broken ≡ true) }
         ensures spent { IsErrOf result BeginFault.Spent
@@ -128,9 +128,7 @@ impl<C: Change> Core<C> {
     /// where its fetch was pending; else nothing changes. What the disk has of a pending block is what is at home.
     pub fn fetched(&mut self, io: FetchIo)
         ensures only { self.new ≡ record self.old { present = self.new.present } }
-        ensures leaves { Leaves self.new (taken_by self.old) (without_fetch io.block (is_fetching self.old))
-            (if is_fetching self.old io.block then with_content io.block io.content (in_memory self.old)
-            else in_memory self.old) }
+        ensures leaves { HasFetched self.old io.block io.content self.new }
         ensures brings { (d : Device) (base : Image) (logging installing : Pending)
             → AgreesBeside d base self.old.log logging installing → IsReadable d self.old.log installing
             → HasContents d → io.content ≡ newest_content (current d io.block.0) → IsPending self.old io.block

@@ -1,8 +1,7 @@
 -- Lemmas: each step of the core keeps what is true of every core.
-use Rattle.std.proofs.Common.{◌≡◌, ℕ, ◌+◌, ◌-◌, Bool, true, false, if◌then◌else◌, nat_lt, nat_eq, List, [], ◌∷◌, ◌++◌}
+use Rattle.std.proofs.Common.{◌≡◌, ℕ, ◌+◌, ◌-◌, Bool, true, false, ◌||◌, if◌then◌else◌, nat_lt, nat_eq, List, [], ◌∷◌, ◌++◌}
 use Rattle.std.proofs.Common.{length, drop, replicate, All, refl, sym, ap, subst, ◌∙◌, arith}
 use Rattle.std.proofs.lemmas.List.Elements.{All-push, All-drop, All-filter, All-weaker}
-use Rattle.std.specs.List.{list_any}
 use Rattle.std.proofs.Math.ListN.{length-replicate}
 use Rattle.limits.specs.declared.TheConstants.{BLOCK_BYTES}
 use Rattle.disk.specs.Device.{Content}
@@ -19,7 +18,7 @@ use Rattle.wal_law.specs.Logger.{with_log_out, with_log_back}
 use Rattle.wal_law.specs.Log.{Log, IsLawful, newest, installed_place, blocks_of as group_blocks}
 use Rattle.wal_law.proofs.Effects.{seen_inst_done}
 use Rattle.txn_law.specs.Commit.{Planned, IsOwn, committed}
-use Rattle.txn_law.specs.Core.{CoreState, IsOut, past, installed, ended}
+use Rattle.txn_law.specs.Core.{CoreState, IsOut, with_begun, past, installed, ended}
 use Rattle.txn_law.specs.CoreLaw.{IsFresh, IsPlanned, IsLawfulCore}
 use Rattle.txn_law.specs.CoreWindow.{held_of, IsCoreWindow, AreBlocks, IsHomeOf, KeepsHome}
 use Rattle.txn_law.specs.Fetch.{Fetch}
@@ -37,7 +36,7 @@ use Rattle.txn_law.proofs.Fresh.{fresh_window}
 use Rattle.txn_law.proofs.Homes.{whole_after, fetched_some_home, commit_home}
 use Rattle.txn_law.proofs.Moves.{window_log_out, window_log_back, window_inst_out}
 use Rattle.txn_law.proofs.OtherHome.{either}
-use Rattle.txn_law.proofs.Swept.{window_swept, core_installed}
+use Rattle.txn_law.proofs.Swept.{or-true, window_swept, core_installed}
 use Rattle.txn_law.proofs.TidyCommit.{tidy_commit}
 use Rattle.txn_law.proofs.Tidied.{tidy_held, tidy_fetch, tidy_claim, tidy_end, tidy_fetched, tidy_failed}
 use Rattle.txn_law.proofs.Tidied.{tidy_installed, tidy_log}
@@ -228,14 +227,15 @@ module _ (P : ℕ → ℕ → List ObjectBytes → List ObjectBytes → Type 0) 
   }
 
   -- a transaction more changes nothing of it
-  pub lawful_begun : (old : CoreState) (begun : ℕ) (out : List ℕ)
-      → ((tx : ℕ) → IsOut old tx → list_any (λ other. nat_eq other tx) out ≡ true) → IsLawfulCore P old
-      → IsLawfulCore P (record old { begun = begun; out = out })
-  lawful_begun old begun out still h = record {
+  pub lawful_begun : (old : CoreState) → IsLawfulCore P old → IsLawfulCore P (with_begun old)
+  lawful_begun old h = record {
     log = h.log;
     tidy = record {
-      owned = All-weaker (IsOfOne old) (IsOfOne (record old { begun = begun; out = out }))
-          (λ x own. (still x.transaction own.0, own.1)) old.holds h.tidy.owned;
+      owned = All-weaker (IsOfOne old) (IsOfOne (with_begun old))
+          (λ x own. (
+            ap (λ b. nat_eq (old.begun + 1) x.transaction || b) own.0 ∙ or-true (nat_eq (old.begun + 1) x.transaction),
+            own.1,
+          )) old.holds h.tidy.owned;
       placed = h.tidy.placed;
       apart = h.tidy.apart;
       read = h.tidy.read;

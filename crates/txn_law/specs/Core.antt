@@ -1,5 +1,5 @@
 -- What a contract sees of the core. Its lists have no promised order, but that of the commits.
-use Rattle.std.specs.Prelude.{◌≡◌, ℕ, not, true, List, nat_eq, nat_lt}
+use Rattle.std.specs.Prelude.{◌≡◌, ℕ, ◌+◌, not, true, List, ◌∷◌, nat_eq, nat_lt}
 use Rattle.std.specs.List.{filter, list_any}
 use Rattle.wal_law.specs.Log.{Log, installed_place}
 use Rattle.txn_law.specs.Holds.{released}
@@ -27,6 +27,10 @@ pub record CoreState : Type 0 where
 -- the transaction is out
 abbrev pub IsOut : CoreState → ℕ → Type 0
 IsOut core tx = list_any (λ other. nat_eq other tx) core.out ≡ true
+
+-- the core once a transaction was begun, by the next number
+abbrev pub with_begun : CoreState → CoreState
+with_begun core = record core { begun = core.begun + 1; out = (core.begun + 1) ∷ core.out }
 
 -- the transactions that are out once this one has ended
 abbrev pub without : ℕ → List ℕ → List ℕ

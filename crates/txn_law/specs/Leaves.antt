@@ -57,3 +57,8 @@ without_fetch block fetching other = not (nat_eq other.0 block.0) && fetching ot
 -- what is in memory once this block is there with this content
 abbrev pub with_content : BlockNo → Content → (BlockNo → Option Content) → BlockNo → Option Content
 with_content block content there other = if nat_eq other.0 block.0 then Some content else there other
+
+-- A fetch was given back with this content: it is pending no more, and where it was, the content is in memory.
+abbrev pub HasFetched : CoreState → BlockNo → Content → CoreState → Type 0
+HasFetched old block content new = Leaves new (taken_by old) (without_fetch block (is_fetching old))
+    (if is_fetching old block then with_content block content (in_memory old) else in_memory old)

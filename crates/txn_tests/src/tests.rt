@@ -4,8 +4,12 @@ ghost use Rattle.limits.specs.declared.TheConstants.{BLOCK_BYTES, CHANGED_BLOCKS
 ghost use Rattle.txn.specs.Group.{blocks_of};
 ghost use Rattle.txn_tests.specs.declared.tests.TheConstants.{BLOCKS, INODES};
 
+mod refused_memory;
+mod sizes;
+mod sums;
+
 use disk::{Block, BlockNo, CrashDisk, MemDisk};
-use limits::FIRST_HOME_BLOCK;
+use limits::{CHANGED_BLOCKS, FIRST_HOME_BLOCK};
 use objects::Addr;
 use std::alloc::Global;
 use std::test::Fail;
@@ -58,6 +62,20 @@ impl Change for Toy {
     }
 
     fn is_planned(&self) {}
+}
+
+// A change of these objects, where it writes no more than a change may.
+fn toy_of(read: Vec<Object>, written: Vec<Object>) -> Result<Toy, Fail>
+    ensures { IfOk result (λ toy. toy.inodes ≡ INODES) }
+{
+    if written.len() > CHANGED_BLOCKS {
+        Err("too many objects")?;
+    }
+    Ok(Toy {
+        read,
+        written,
+        inodes: INODES,
+    })
 }
 
 // A core over an empty log that begins at a position.

@@ -1,4 +1,4 @@
-use Rattle.std.proofs.Common.{ap, subst, ◌∙◌}
+use Rattle.std.proofs.Common.{subst}
 use Rattle.txn_law.specs.Core.{CoreState}
 use Rattle.txn_law.specs.CoreWindow.{KeepsHome, KeepsReads}
 use Rattle.txn.proofs.Answered.{begun_home, begun_law}
@@ -7,9 +7,8 @@ use Rattle.txn.proofs.transactions.Core.begin.Goals as goal
 
 pub invariant_of-self : goal.invariant_of-self
 invariant_of-self g c =
-    begun_law g.C.Change.is_plan c.self.inside.state c.begin.new.self c.begin.result
-    (ap (λ (old : CoreState). old.out) c.self.view_is ∙ c.requires) c.begin.ensures.begun c.begin.ensures.refused
-    c.self.invariant
+    begun_law g.C.Change.is_plan c.self.inside.state c.begin.new.self c.begin.result c.begin.ensures.begun
+    c.begin.ensures.refused c.self.invariant
 
 pub returns-clause-keeps : goal.returns-clause-keeps
 returns-clause-keeps g c =

@@ -11,8 +11,7 @@ use Rattle.disk.specs.Device.{Device, current, newest as newest_content}
 use Rattle.wal_law.specs.Calls.{AgreesBeside, Pending}
 use Rattle.txn_law.specs.HomeRead.{IsReadable, HasContents}
 use Rattle.txn_law.proofs.HeldReads.{reads_fetched}
-use Rattle.txn_law.specs.Leaves.{Leaves, taken_by, is_fetching, in_memory, without_fetch, with_content}
-use Rattle.std.proofs.Common.{if◌then◌else◌}
+use Rattle.txn_law.specs.Leaves.{HasFetched}
 use Rattle.txn_law.proofs.Leaves.{leaves_fetched}
 use Rattle.txn.proofs.transactions.Core.fetched.Goals as goal
 
@@ -38,14 +37,9 @@ returns-clause-stays g c = λ other.
 
 pub returns-clause-leaves : goal.returns-clause-leaves
 returns-clause-leaves g c =
-    subst (λ (old : CoreState). Leaves c.fetched.new.self (taken_by old)
-    (without_fetch c.args.io.block (is_fetching old)) (if is_fetching old c.args.io.block
-    then with_content c.args.io.block c.args.io.content (in_memory old) else in_memory old)) c.self.view_is
-    (subst (λ (core : CoreState). Leaves core (taken_by c.self.inside.state)
-    (without_fetch c.args.io.block (is_fetching c.self.inside.state))
-    (if is_fetching c.self.inside.state c.args.io.block
-    then with_content c.args.io.block c.args.io.content (in_memory c.self.inside.state)
-    else in_memory c.self.inside.state)) (sym c.fetched.ensures)
+    subst (λ (old : CoreState). HasFetched old c.args.io.block c.args.io.content c.fetched.new.self) c.self.view_is
+    (subst (λ (core : CoreState). HasFetched c.self.inside.state c.args.io.block c.args.io.content core)
+    (sym c.fetched.ensures)
     (leaves_fetched c.self.inside.state c.args.io.block c.args.io.content c.self.invariant.tidy))
 
 pub returns-clause-brings : goal.returns-clause-brings
