@@ -14,7 +14,7 @@ use Rattle.txn_law.specs.CoreLaw.{IsLawfulCore}
 use Rattle.txn_law.specs.Object.{ObjectBytes}
 use Rattle.wal_law.specs.Logger.{IsNextLogCall, group_size, has_group, is_log_out, may_log, with_log_back}
 use Rattle.wal_law.specs.Logger.{with_log_made, with_log_out}
-use Rattle.wal_law.specs.Installer.{IsNextInstCall, is_inst_out, may_install, next_home, passed_over}
+use Rattle.wal_law.specs.Installer.{IsNextInstCall, is_inst_out, may_install, next_home}
 use Rattle.wal_law.specs.Installer.{with_inst_back, with_inst_made, with_inst_out, with_installed}
 use Rattle.store.specs.Settling.{HasCalled, IsQuiet, group_left, calls_left}
 
