@@ -8,8 +8,10 @@ mod fault;
 mod fresh;
 mod log_steps;
 mod one_setattr;
+mod open_steps;
 mod open_store;
 mod promises;
+mod running;
 mod steps_made;
 mod told_log;
 mod transcript;
@@ -24,6 +26,11 @@ pub use one_setattr::{
     a_run_that_loses_its_setattr_breaks_the_promise, a_setattr_is_not_settled_without_the_log,
     a_setattr_that_shows_too_early_breaks_the_promise, the_steps_of_one_setattr_tell_its_run,
 };
+pub use open_steps::{
+    a_commit_leaves_the_store_open, a_read_leaves_the_store_open, a_stop_leaves_a_beginning,
+    a_transaction_leaves_the_store_open, an_open_store_keeps_its_files,
+    the_installer_leaves_the_store_open, the_logger_leaves_the_store_open,
+};
 pub use open_store::{
     a_stop_leaves_a_good_image, an_opening_leaves_an_open_store,
     the_files_stay_under_a_new_super_block, whole_groups_are_a_good_image,
@@ -34,6 +41,9 @@ pub use promises::{
     no_stable_answer_bears_place_0, no_stable_answer_comes_with_its_commit,
     the_boot_number_stays_raised, the_history_is_in_order, what_a_commit_covers_is_kept,
     what_is_stable_is_kept, what_is_told_as_settled_is_kept,
+};
+pub use running::{
+    a_device_counts_the_calls_of_its_steps, an_opening_begins_a_run, what_was_read_is_at_home,
 };
 pub use steps_made::{
     a_call_changes_no_more_than_it_may, a_call_that_is_out_is_made, a_full_log_is_full,
