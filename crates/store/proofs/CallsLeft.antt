@@ -14,8 +14,9 @@ use Rattle.txn_law.specs.CoreLaw.{IsLawfulCore}
 use Rattle.txn_law.specs.Object.{ObjectBytes}
 use Rattle.wal_law.specs.Logger.{IsNextLogCall, group_size, has_group, is_log_out, may_log, with_log_back}
 use Rattle.wal_law.specs.Logger.{with_log_made, with_log_out}
-use Rattle.wal_law.specs.Installer.{IsNextInstCall, is_inst_out, may_install, next_home, passed_over}
+use Rattle.wal_law.specs.Installer.{IsNextInstCall, is_inst_out, may_install, next_home}
 use Rattle.wal_law.specs.Installer.{with_inst_back, with_inst_made, with_inst_out, with_installed}
+use Rattle.store.proofs.OutCalls.{inst_is_out, inst_out_sound, its_is_out}
 use Rattle.store.specs.Settling.{HasCalled, IsQuiet, group_left, calls_left}
 
 -- the logger takes the tail, where it has no group
@@ -86,11 +87,6 @@ given_back : (is_out : Bool) (made same new : Log) → is_out ≡ true → new �
 given_back true made same new is given = given
 given_back false made same new is given = absurd (true≢false (sym is))
 
--- the one that is out is that which was handed out
-same_out : (is_out : Bool) (a b c d : ℕ) → is_out ≡ true → a ≡ b → c ≡ d
-    → (is_out && (nat_eq a b && nat_eq c d)) ≡ true
-same_out is_out a b c d is first second = grind (arith, nat_tests)
-
 -- what was given back, answered so
 log_back : (log : Log) (before after : Device) (answer : Result Unit Failed) → IsLawful log
     → may_log log ≡ true → IsLawful (with_log_out log) → CountsFailure before after answer
@@ -121,8 +117,7 @@ pub log_called : (log out new : Log) (before after : Device) (io : Io) (answer :
     → ok ≡ is_ok answer → new ≡ (if is_log_out out io then with_log_back out ok else out)
     → CountsFailure before after answer → HasCalled log before new after
 log_called log out new before after io answer ok lawful may out_is out_lawful next ok_is given counted =
-    let is_out = same_out out.log_out io.beginning (log_end out) io.step out.log_step
-    (ap (λ (l : Log). l.log_out) out_is) next.beginning next.step in
+    let is_out = its_is_out out io (ap (λ (l : Log). l.log_out) out_is) next in
     let made = given_back (is_log_out out io) (with_log_back out ok) out new is_out given in
     let back = log_back log before after answer lawful (sym may) (subst IsLawful out_is out_lawful) counted in
     subst (λ l. HasCalled log before l after)
@@ -204,26 +199,6 @@ inst_back log before after (Err e) lawful may out_lawful more sound_out =
       failed = λ broken. grind (arith);
       counted = grind (arith);
     }
-
-inst_out_sound : (log : Log) (has : Bool) → ((if has then record log { inst_out = true } else record log {
-  installing = log.logged;
-  inst_step = next_home log.changes log.logged 0;
-  inst_out = true;
-}).broken ≡ log.broken) × ((if has then record log { inst_out = true } else record log {
-  installing = log.logged;
-  inst_step = next_home log.changes log.logged 0;
-  inst_out = true;
-}).inst_out ≡ true)
-inst_out_sound log true = (refl, refl)
-inst_out_sound log false = (refl, refl)
-
--- the call that the installer was handed is the one that is out
-pub inst_is_out : (log out : Log) (io : Io) → out ≡ with_inst_out log → IsNextInstCall out io
-    → is_inst_out out io ≡ true
-inst_is_out log out io out_is next =
-    same_out out.inst_out io.beginning out.start io.step out.inst_step
-    (ap (λ (l : Log). l.inst_out) out_is ∙ (inst_out_sound log (nat_lt 0 log.installing)).1) next.beginning
-    next.step
 
 -- no call is out once it was given back
 inst_made_quiet : (out : Log) (is_home is_next : Bool) (step : ℕ) → out.log_out ≡ false

@@ -1,6 +1,8 @@
+pub mod AfterCommit
 pub mod CallsLeft
 pub mod FormatStops
 pub mod Formatted
-pub mod Made
 pub mod LogMoves
-pub mod FewBlocks
+pub mod LogSteps
+pub mod Made
+pub mod OutCalls

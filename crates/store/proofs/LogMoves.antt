@@ -1,5 +1,5 @@
 -- Each step of the log's side leads from what is told to what is told next, and keeps the agreement.
-use Rattle.std.proofs.Common.{◌≡◌, ℕ, ◌+◌, ap, sym, ◌∙◌, refl, subst, arith}
+use Rattle.std.proofs.Common.{◌≡◌, ◌≤◌, ℕ, ◌+◌, ap, sym, ◌∙◌, refl, subst, arith, length}
 use Rattle.std.proofs.Common.{Bool, true, false, if◌then◌else◌, ◌&&◌, Option, Some, None, Result, Ok, Err, is_ok}
 use Rattle.std.proofs.Common.{nat_eq, nat_lt}
 use Rattle.std.proofs.lemmas.Bool.Decides.{nat_tests}
@@ -19,15 +19,44 @@ use Rattle.store_promise.specs.declared.events.Step.{Step}
 use Rattle.store_promise.specs.declared.events.Step.TheVariants as step
 use Rattle.store_promise.specs.LogTold.{LogTold, log_moved}
 use Rattle.store_promise.specs.NextCall.{IsNextOfInstalling, next_log_call}
+use Rattle.store_promise.specs.Running.{home_next, told_next}
 use Rattle.store_promise.specs.Schedule.{IsNextOfInstaller, IsNextOfLog, Setting}
 use Rattle.store_promise.specs.ToldOf.{StandsAtHome, log_told}
 use Rattle.store_promise.proofs.ToldLog.{inst_call_is, log_call_is, may_install_is, may_log_is, stands_given_back}
 use Rattle.store_promise.proofs.ToldLog.{stands_logging, stands_taken}
 use Rattle.store_promise.proofs.ToldOf.{inst_given_told, inst_taken_told, log_given_told, log_taken_told}
-use Rattle.wal_law.specs.declared.calls.IoCall.{IoCall}
-use Rattle.txn_law.specs.Core.{CoreState}
-use Rattle.store.specs.Running.{IsMadeOf}
-use Rattle.store.specs.LogSide.{IsBehind, IsOver, LogSide, side_of, MayInstIo, MayInstall, MayLog, MayLogIo, Tells, pending_of}
+use Rattle.store.proofs.OutCalls.{its_home_is_out, its_is_out}
+use Rattle.store.specs.LogSide.{MayInstIo, MayInstall, MayLog, MayLogIo, pending_of}
+
+-- the device, the memory log, and the calls that are out
+pub record LogSide : Type 0 where
+  pub device : Device
+  pub log : Log
+  pub logging : Pending
+  pub installing : Pending
+
+-- what is told of it, where an opening left the log at a position
+abbrev told_at : ℕ → LogSide → LogTold
+told_at position side = log_told position side.log side.logging side.installing
+
+-- the log has gone on from where the opening left it, on the disk that was opened
+pub record IsBehind (o : Setting) (log : Log) : Type 0 where
+  pub position : o.position ≤ log.start + length log.changes
+  pub blocks : o.geometry.blocks ≡ log.blocks
+
+-- The log's side agrees over what is at home, and the installer stands at a home.
+pub record IsOver (o : Setting) (base : Image) (side : LogSide) : Type 0 where
+  pub agrees : AgreesBeside side.device base side.log side.logging side.installing
+  pub stands : StandsAtHome side.log
+  pub behind : IsBehind o side.log
+
+-- Whatever is at home, a step is one that may be made, it leads from what is told to what is told next, and the
+-- log's side agrees as before.
+abbrev pub Tells : (Setting → LogTold → Option Step → Type 0) → LogSide → Option Step → LogSide → Type 0
+Tells MayMake old made new = (o : Setting) (base : Image) → IsOver o base old
+    → MayMake o (told_at o.position old) made
+    × (told_at o.position new ≡ told_next (told_at o.position old) made)
+    × IsOver o (home_next base old.log made) new
 
 abbrev pub side : Device → Log → Pending → Pending → LogSide
 side device log logging installing = record { device = device; log = log; logging = logging; installing = installing }
@@ -40,13 +69,6 @@ answer_is io (Ok done) = refl
 answer_is io (Err failed) = refl
 
 -- ---- the logger
-
-equal : (a b : ℕ) → a ≡ b → nat_eq a b ≡ true
-equal a b same = grind (arith, nat_tests)
-
-is_its : (log : Log) (io : Io) → log.log_out ≡ true → IsNextLogCall log io → is_log_out log io ≡ true
-is_its log io is_out next = λ i. is_out i && (equal io.beginning (log_end log) next.beginning i
-    && equal io.step log.log_step next.step i)
 
 out_of : (d : Device) (log : Log) (io : Io) (ok : Bool) → IsLoggerAt d log (pending_of (Some io) (Some ok))
     → (log.log_out ≡ true) × IsNextLogCall log io
@@ -103,7 +125,7 @@ module _ (d : Device) (old : Log) (installing : Pending) (lawful : IsLawful old)
         (side d new idle installing)
     log_given new true is back o base over =
         let its = out_of d old io true over.agrees.logger in
-        let same = is ∙ (λ i. if is_its old io its.0 its.1 i then with_log_back old true else old) in (
+        let same = is ∙ (λ i. if its_is_out old io its.0 its.1 i then with_log_back old true else old) in (
           refl,
           ap (λ log. log_told o.position log idle installing) same
               ∙ log_given_told o.position old io (Ok tt) installing true,
@@ -115,7 +137,7 @@ module _ (d : Device) (old : Log) (installing : Pending) (lawful : IsLawful old)
         )
     log_given new false is back o base over =
         let its = out_of d old io false over.agrees.logger in
-        let same = is ∙ (λ i. if is_its old io its.0 its.1 i then with_log_back old false else old) in (
+        let same = is ∙ (λ i. if its_is_out old io its.0 its.1 i then with_log_back old false else old) in (
           refl,
           ap (λ log. log_told o.position log idle installing) same
               ∙ log_given_told o.position old io (Err (record {})) installing false,
@@ -162,10 +184,6 @@ pub no_log_call : (d : Device) (log : Log) (installing : Pending) (made : Option
 no_log_call d log installing made o base over = (refl, refl, over)
 
 -- ---- the installer
-
-is_its_home : (log : Log) (io : Io) → log.inst_out ≡ true → IsNextInstCall log io → is_inst_out log io ≡ true
-is_its_home log io is_out next = λ i. is_out i && (equal io.beginning log.start next.beginning i
-    && equal io.step log.inst_step next.step i)
 
 home_out_of : (d : Device) (base : Image) (log : Log) (io : Io) (ok : Bool)
     → IsInstallerAt d base log (pending_of (Some io) (Some ok))
@@ -249,7 +267,7 @@ module _ (d : Device) (old : Log) (logging : Pending) (lawful : IsLawful old) wh
         (side d new logging idle)
     inst_given new true is back o base over =
         let its = home_out_of d base old io true over.agrees.installer in
-        let same = is ∙ (λ i. if is_its_home old io its.0 its.1 i then with_inst_back old true else old) in (
+        let same = is ∙ (λ i. if its_home_is_out old io its.0 its.1 i then with_inst_back old true else old) in (
           refl,
           ap (λ log. log_told o.position log logging idle) same
               ∙ inst_given_told o.position old io (Ok tt) logging lawful over.stands its.0 its.1 true,
@@ -261,7 +279,7 @@ module _ (d : Device) (old : Log) (logging : Pending) (lawful : IsLawful old) wh
         )
     inst_given new false is back o base over =
         let its = home_out_of d base old io false over.agrees.installer in
-        let same = is ∙ (λ i. if is_its_home old io its.0 its.1 i then with_inst_back old false else old) in (
+        let same = is ∙ (λ i. if its_home_is_out old io its.0 its.1 i then with_inst_back old false else old) in (
           refl,
           ap (λ log. log_told o.position log logging idle) same
               ∙ inst_given_told o.position old io (Err (record {})) logging lawful over.stands its.0 its.1 false,
@@ -306,111 +324,3 @@ pub no_inst_call : (d : Device) (log : Log) (logging : Pending) (made : Option B
     → Tells MayInstIo (side d log logging (pending_of None made)) None
     (side d log logging (pending_of None made))
 no_inst_call d log logging made o base over = (refl, refl, over)
-
--- ---- as the code has them
-
-abbrev Sides : (Setting → LogTold → Option Step → Type 0) → LogSide → Step → LogSide → Type 0
-Sides May old made new = Tells May old (Some made) new
-
-module _ (d : Device) (core new : CoreState) (other : Option Io) (other_made : Option Bool)
-    (lawful : IsLawful core.log) where
-  abbrev by_log : CoreState → Option Io → Option Bool → LogSide
-  by_log core log made = side_of d core log made other other_made
-
-  abbrev by_installer : CoreState → Option Io → Option Bool → LogSide
-  by_installer core inst made = side_of d core other other_made inst made
-
-  abbrev beside : Pending
-  beside = pending_of other other_made
-
-  module _ (log : Option Io) (made : Option Bool) where
-    pub log_next_none : log ≡ None → may_log core.log ≡ false
-        → Tells MayLog (by_log core log made) None (by_log core log made)
-    log_next_none none may =
-        subst (λ l. Tells MayLog (by_log core l made) None (by_log core l made)) (sym none)
-        (nothing_to_log d core.log beside lawful may)
-
-    pub log_next_some : (taken : Option Io) (io : Io) (call : IoCall) → IsMadeOf log made → log ≡ None
-        → taken ≡ Some io → call ≡ io.call → may_log core.log ≡ true → new.log ≡ with_log_out core.log
-        → LogCallGoesOut core.log io new.log
-        → Sides MayLog (by_log core log made) (step.LogNext call) (by_log new taken made)
-    log_next_some taken io call well none put same may is law =
-        let unmade = subst (λ l. IsMadeOf l made) none well in
-        subst (λ l. Sides MayLog (by_log core l made) (step.LogNext call) (by_log new taken made)) (sym none)
-        (subst (λ m. Sides MayLog (by_log core None m) (step.LogNext call) (by_log new taken m)) (sym unmade)
-        (subst (λ t. Sides MayLog (by_log core None None) (step.LogNext call) (by_log new t None)) (sym put)
-        (subst (λ c. Sides MayLog (by_log core None None) (step.LogNext c) (by_log new (Some io) None)) (sym same)
-        (log_taken d core.log beside lawful io new.log may is law))))
-
-    pub log_done : (rest : Option Io) (rest_made : Option Bool) (io : Io) (ok : Bool) → log ≡ Some io
-        → made ≡ Some ok → rest ≡ None
-        → new.log ≡ (if is_log_out core.log io then with_log_back core.log ok else core.log)
-        → LogCallComesBack core.log io ok new.log
-        → Sides MayLog (by_log core log made) (step.LogDone ok) (by_log new rest rest_made)
-    log_done rest rest_made io ok some was none is law =
-        subst (λ l. Sides MayLog (by_log core l made) (step.LogDone ok) (by_log new rest rest_made)) (sym some)
-        (subst (λ m. Sides MayLog (by_log core (Some io) m) (step.LogDone ok) (by_log new rest rest_made)) (sym was)
-        (subst (λ r. Sides MayLog (by_log core (Some io) (Some ok)) (step.LogDone ok) (by_log new r rest_made))
-        (sym none) (log_given d core.log beside lawful io new.log ok is law)))
-
-    pub inst_next_none : log ≡ None → may_install core.log ≡ false
-        → Tells MayInstall (by_installer core log made) None (by_installer core log made)
-    inst_next_none none may =
-        subst (λ l. Tells MayInstall (by_installer core l made) None (by_installer core l made)) (sym none)
-        (nothing_to_install d core.log beside lawful may)
-
-    pub inst_next_some : (taken : Option Io) (io : Io) (call : IoCall) → IsMadeOf log made → log ≡ None
-        → taken ≡ Some io → call ≡ io.call → may_install core.log ≡ true → new.log ≡ with_inst_out core.log
-        → InstCallGoesOut core.log io new.log
-        → Sides MayInstall (by_installer core log made) (step.InstNext call) (by_installer new taken made)
-    inst_next_some taken io call well none put same may is law =
-        let unmade = subst (λ l. IsMadeOf l made) none well in
-        subst (λ l. Sides MayInstall (by_installer core l made) (step.InstNext call) (by_installer new taken made))
-        (sym none)
-        (subst (λ m. Sides MayInstall (by_installer core None m) (step.InstNext call) (by_installer new taken m))
-        (sym unmade)
-        (subst (λ t. Sides MayInstall (by_installer core None None) (step.InstNext call) (by_installer new t None))
-        (sym put)
-        (subst (λ c. Sides MayInstall (by_installer core None None) (step.InstNext c)
-        (by_installer new (Some io) None)) (sym same)
-        (inst_taken d core.log beside lawful io new.log may is law))))
-
-    pub inst_done : (rest : Option Io) (rest_made : Option Bool) (io : Io) (ok : Bool) → log ≡ Some io
-        → made ≡ Some ok → rest ≡ None
-        → new.log ≡ (if is_inst_out core.log io then with_inst_back core.log ok else core.log)
-        → InstCallComesBack core.log io ok new.log
-        → Sides MayInstall (by_installer core log made) (step.InstDone ok) (by_installer new rest rest_made)
-    inst_done rest rest_made io ok some was none is law =
-        subst (λ l. Sides MayInstall (by_installer core l made) (step.InstDone ok)
-        (by_installer new rest rest_made)) (sym some)
-        (subst (λ m. Sides MayInstall (by_installer core (Some io) m) (step.InstDone ok)
-        (by_installer new rest rest_made)) (sym was)
-        (subst (λ r. Sides MayInstall (by_installer core (Some io) (Some ok)) (step.InstDone ok)
-        (by_installer new r rest_made)) (sym none) (inst_given d core.log beside lawful io new.log ok is law)))
-
-    module _ (after : Device) (now : Option Bool) (io : Io) (result : Result Unit Failed) (ok : Bool) where
-      pub log_io_made : log ≡ Some io → made ≡ None → now ≡ Some ok → ok ≡ is_ok result
-          → LogCallIsMade d io result after
-          → Sides MayLogIo (by_log core log made) (step.LogIo ok)
-          (side_of after core log now other other_made)
-      log_io_made some unmade is_now is law =
-          subst (λ l. Sides MayLogIo (by_log core l made) (step.LogIo ok)
-          (side_of after core l now other other_made)) (sym some)
-          (subst (λ m. Sides MayLogIo (by_log core (Some io) m) (step.LogIo ok)
-          (side_of after core (Some io) now other other_made)) (sym unmade)
-          (subst (λ n. Sides MayLogIo (by_log core (Some io) None) (step.LogIo ok)
-          (side_of after core (Some io) n other other_made)) (sym is_now)
-          (log_made d after core.log beside io result ok lawful law is)))
-
-      pub inst_io_made : log ≡ Some io → made ≡ None → now ≡ Some ok → ok ≡ is_ok result
-          → InstCallIsMade d io result after
-          → Sides MayInstIo (by_installer core log made) (step.InstIo ok)
-          (side_of after core other other_made log now)
-      inst_io_made some unmade is_now is law =
-          subst (λ l. Sides MayInstIo (by_installer core l made) (step.InstIo ok)
-          (side_of after core other other_made l now)) (sym some)
-          (subst (λ m. Sides MayInstIo (by_installer core (Some io) m) (step.InstIo ok)
-          (side_of after core other other_made (Some io) now)) (sym unmade)
-          (subst (λ n. Sides MayInstIo (by_installer core (Some io) None) (step.InstIo ok)
-          (side_of after core other other_made (Some io) n)) (sym is_now)
-          (inst_made d after core.log beside io result ok lawful law is)))

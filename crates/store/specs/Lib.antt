@@ -2,7 +2,11 @@ pub mod Counts
 pub mod Formatting
 pub mod LogSide
 pub mod Opening
+pub mod Phases
 pub mod Running
-pub mod Worker
+pub mod Seen
 pub mod Settling
+pub mod Worker
+pub mod WorkerAnswers
+pub mod WorkerReads
 pub mod WorkerSteps

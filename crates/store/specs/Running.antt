@@ -1,8 +1,11 @@
 -- What is true of a run that goes on.
-use Rattle.std.specs.Prelude.{◌≡◌, ℕ, Bool, Option, Some, None, IfSome}
+use Rattle.std.specs.Prelude.{◌≡◌, ℕ, ◌+◌, ◌-◌, ◌^◌, Bool, Option, Some, None, IfSome, if◌then◌else◌, min}
 use Rattle.txn.specs.Core.{CoreState}
 use Rattle.wal.specs.Io.{Io, IsCallWithin}
+use Rattle.store_promise.specs.declared.events.Step.{Step}
+use Rattle.store_promise.specs.Transcript.{calls_device}
 use Rattle.store.specs.Worker.{Fits}
+use Rattle.store.specs.declared.runs.running.Calls.{Calls}
 use Rattle.store.specs.declared.workers.Worker.{Worker}
 
 -- a device call that is out goes to a block of the image
@@ -15,10 +18,17 @@ IsMadeOf None made = made ≡ None
 IsMadeOf (Some io) made = Unit {0}
 
 -- the worker fits the core, and what is out goes to blocks of the image
-pub record RunsWell (worker : Worker) (core : CoreState) (log : Option Io) (log_made : Option Bool)
-    (inst : Option Io) (inst_made : Option Bool) : Type 0 where
+pub record RunsWell (worker : Worker) (core : CoreState) (calls : Calls) : Type 0 where
   pub fits : Fits worker core
-  pub log_within : IsWithin core.log.blocks log
-  pub inst_within : IsWithin core.log.blocks inst
-  pub log_made_is : IsMadeOf log log_made
-  pub inst_made_is : IsMadeOf inst inst_made
+  pub log_within : IsWithin core.log.blocks calls.log
+  pub inst_within : IsWithin core.log.blocks calls.inst
+  pub log_made_is : IsMadeOf calls.log calls.log_made
+  pub inst_made_is : IsMadeOf calls.inst calls.inst_made
+
+-- the count of device calls with one more, as far as it can count
+abbrev pub one_more : ℕ → ℕ
+one_more clock = min (clock + 1) (2 ^ 64 - 1)
+
+-- and after a step
+abbrev pub counted : ℕ → Option Step → ℕ
+counted clock made = if calls_device made then one_more clock else clock

@@ -2,7 +2,7 @@
 ghost use Rattle.std.specs.Prelude.{◌≡◌, ◌<◌, ◌↔◌, IsTrue, IsFalse, OnOk, OnErr, length, true};
 ghost use Rattle.limits.specs.declared.TheConstants.{MOST_KEPT_COMMITS};
 ghost use Rattle.layout.specs.Geometry.{IsLawful};
-ghost use Rattle.store.specs.Counts.{SameCounts};
+ghost use Rattle.store.specs.Counts.{SameFrame};
 ghost use Rattle.store.specs.Opening.{IsSettled};
 ghost use Rattle.store.specs.Settling.{HasCalled, HasFailed, IsQuiet};
 ghost use Rattle.wal_law.specs.Installer.{may_install};
@@ -57,7 +57,7 @@ pub fn close<D: CrashDisk>(store: Store<D>) -> D
 pub fn settle<D: CrashDisk>(store: &mut Store<D>) -> Result<(), Failed>
     requires { IsQuiet store.old.core.log }
     ensures out { store.new.core.out ≡ store.old.core.out }
-    ensures counts { SameCounts store.old.core store.new.core }
+    ensures counts { SameFrame store.old.core store.new.core }
     ensures settled { OnOk result (IsSettled store.new.core) }
     ensures failed { OnErr result (HasFailed store.old.core.log (D.device store.old.disk) (D.device store.new.disk)) }
     ensures broken { OnErr result (store.new.core.log.broken ≡ true) }
@@ -89,7 +89,7 @@ pub(crate) fn keeps_too_many<D: CrashDisk>(store: &Store<D>) -> bool
 fn log_one<D: CrashDisk>(store: &mut Store<D>) -> bool
     requires { IsQuiet store.old.core.log }
     ensures out { store.new.core.out ≡ store.old.core.out }
-    ensures counts { SameCounts store.old.core store.new.core }
+    ensures counts { SameFrame store.old.core store.new.core }
     ensures may { result ≡ may_log store.old.core.log }
     ensures called { IsTrue result
         → HasCalled store.old.core.log (D.device store.old.disk) store.new.core.log (D.device store.new.disk) }
@@ -112,7 +112,7 @@ fn log_one<D: CrashDisk>(store: &mut Store<D>) -> bool
 fn install_one<D: CrashDisk>(store: &mut Store<D>) -> bool
     requires { IsQuiet store.old.core.log }
     ensures out { store.new.core.out ≡ store.old.core.out }
-    ensures counts { SameCounts store.old.core store.new.core }
+    ensures counts { SameFrame store.old.core store.new.core }
     ensures may { result ≡ may_install store.old.core.log }
     ensures called { IsTrue result
         → HasCalled store.old.core.log (D.device store.old.disk) store.new.core.log (D.device store.new.disk) }

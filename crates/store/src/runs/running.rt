@@ -1,8 +1,9 @@
 //! The events of a run.
 ghost use Rattle.std.specs.Prelude.{◌≡◌, None};
 ghost use Rattle.store_promise.specs.Room.{HasRoom};
-ghost use Rattle.store.specs.LogSide.{MayInstIo, MayInstall, MayLog, MayLogIo, Tells, side_of};
-ghost use Rattle.store.specs.Running.{RunsWell};
+ghost use Rattle.store_promise.specs.Running.{IsLogStep};
+ghost use Rattle.store.specs.LogSide.{MayInstIo, MayInstall, MayLog, MayLogIo, side_of};
+ghost use Rattle.store.specs.Running.{RunsWell, counted, one_more};
 ghost use Rattle.store.specs.Settling.{IsIdle};
 
 use crate::opened::Store;
@@ -10,49 +11,57 @@ use crate::options::put;
 use crate::workers::Worker;
 use disk::CrashDisk;
 use nfs_types::{Call, Credential, Moment};
+use procs::Done;
 use std::alloc::Global;
-use store_promise::{Event, Run, Step};
-use txn::{InstIo, LogIo};
+use store_promise::{
+    Event, Run, Step, a_device_counts_the_calls_of_its_steps, the_installer_leaves_the_store_open,
+    the_logger_leaves_the_store_open, what_was_read_is_at_home,
+};
+use txn::{Core, InstIo, LogIo};
 
-/// A run that goes on: the store with its worker, the device calls that the log and the installer have out,
-/// whether these were made and answered Ok, and how many device calls the events have made.
+/// A run that goes on: the store with its worker, the device calls that are out, and how many device calls the events
+/// have made.
 pub(super) struct Running<D: CrashDisk> {
     store: Store<D>,
     worker: Worker,
+    calls: Calls,
+    clock: u64,
+}
+
+/// The device calls that the log and the installer have out, and whether these were made and answered Ok.
+pub(super) struct Calls {
     log: Option<LogIo>,
     log_made: Option<bool>,
     inst: Option<InstIo>,
     inst_made: Option<bool>,
-    clock: u64,
 }
 
 impl<D: CrashDisk> Running<D> {
     /// A run of an opened store in which nothing has happened yet.
     pub(super) fn new(store: Store<D>) -> Running<D>
         requires { IsIdle store.core }
-        ensures well { RunsWell result.worker result.store.core result.log result.log_made
-            result.inst result.inst_made }
+        ensures well { RunsWell result.worker result.store.core result.calls }
         ensures store { result.store ≡ store }
     {
         let boot = store.boot();
         Running {
             store,
             worker: Worker::new(boot),
-            log: None,
-            log_made: None,
-            inst: None,
-            inst_made: None,
+            calls: Calls {
+                log: None,
+                log_made: None,
+                inst: None,
+                inst_made: None,
+            },
             clock: 0,
         }
     }
 
     /// Makes the step of an event, if it applies, and tells of it.
     pub(super) fn take(&mut self, alloc: Global, event: Event, run: &mut Run)
-        requires well { RunsWell self.old.worker self.old.store.core self.old.log self.old.log_made
-            self.old.inst self.old.inst_made }
+        requires well { RunsWell self.old.worker self.old.store.core self.old.calls }
         requires room { HasRoom run.old }
-        ensures well { RunsWell self.new.worker self.new.store.core self.new.log self.new.log_made
-            self.new.inst self.new.inst_made }
+        ensures well { RunsWell self.new.worker self.new.store.core self.new.calls }
         ensures model { D.keeps_model self.new.store.disk → D.keeps_model self.old.store.disk }
     {
         let step = match event {
@@ -80,10 +89,8 @@ impl<D: CrashDisk> Running<D> {
         moment: Moment,
         call: Call,
     ) -> Option<Step>
-        requires { RunsWell self.old.worker self.old.store.core self.old.log self.old.log_made
-            self.old.inst self.old.inst_made }
-        ensures well { RunsWell self.new.worker self.new.store.core self.new.log self.new.log_made
-            self.new.inst self.new.inst_made }
+        requires { RunsWell self.old.worker self.old.store.core self.old.calls }
+        ensures well { RunsWell self.new.worker self.new.store.core self.new.calls }
         ensures model { D.keeps_model self.new.store.disk → D.keeps_model self.old.store.disk }
     {
         if worker == 0 && self.worker.hand(credential, moment, call) {
@@ -95,11 +102,9 @@ impl<D: CrashDisk> Running<D> {
 
     // The worker makes a step. What it commits and answers is told.
     fn work(&mut self, alloc: Global, worker: usize, run: &mut Run) -> Option<Step>
-        requires well { RunsWell self.old.worker self.old.store.core self.old.log self.old.log_made
-            self.old.inst self.old.inst_made }
+        requires well { RunsWell self.old.worker self.old.store.core self.old.calls }
         requires room { HasRoom run.old }
-        ensures well { RunsWell self.new.worker self.new.store.core self.new.log self.new.log_made
-            self.new.inst self.new.inst_made }
+        ensures well { RunsWell self.new.worker self.new.store.core self.new.calls }
         ensures model { D.keeps_model self.new.store.disk → D.keeps_model self.old.store.disk }
         ensures steps { run.new.steps ≡ run.old.steps }
     {
@@ -118,10 +123,8 @@ impl<D: CrashDisk> Running<D> {
 
     // The worker's read is made.
     fn read(&mut self, worker: usize) -> Option<Step>
-        requires { RunsWell self.old.worker self.old.store.core self.old.log self.old.log_made
-            self.old.inst self.old.inst_made }
-        ensures well { RunsWell self.new.worker self.new.store.core self.new.log self.new.log_made
-            self.new.inst self.new.inst_made }
+        requires { RunsWell self.old.worker self.old.store.core self.old.calls }
+        ensures well { RunsWell self.new.worker self.new.store.core self.new.calls }
         ensures model { D.keeps_model self.new.store.disk → D.keeps_model self.old.store.disk }
     {
         if worker != 0 {
@@ -134,7 +137,7 @@ impl<D: CrashDisk> Running<D> {
 
     // Counts a device call.
     fn count(&mut self)
-        ensures { self.new ≡ record self.old { clock = self.new.clock } }
+        ensures { self.new ≡ record self.old { clock = one_more self.old.clock } }
     {
         self.clock = self.clock.saturating_add(1);
     }
@@ -143,33 +146,35 @@ impl<D: CrashDisk> Running<D> {
 impl<D: CrashDisk> Running<D> {
     // Gives back the log's device call that was made, or takes the next.
     fn log(&mut self) -> Option<Step>
-        requires { RunsWell self.old.worker self.old.store.core self.old.log self.old.log_made
-            self.old.inst self.old.inst_made }
-        ensures well { RunsWell self.new.worker self.new.store.core self.new.log self.new.log_made
-            self.new.inst self.new.inst_made }
+        requires { RunsWell self.old.worker self.old.store.core self.old.calls }
+        ensures well { RunsWell self.new.worker self.new.store.core self.new.calls }
         ensures model { D.keeps_model self.new.store.disk → D.keeps_model self.old.store.disk }
-        ensures tells { Tells MayLog
-            (side_of (D.device self.old.store.disk) self.old.store.core self.old.log self.old.log_made
-            self.old.inst self.old.inst_made)
-            result
-            (side_of (D.device self.new.store.disk) self.new.store.core self.new.log self.new.log_made
-            self.new.inst self.new.inst_made) }
+        ensures step { IsLogStep MayLog
+            (side_of (D.device self.old.store.disk) self.old.store.core self.old.calls) result
+            (side_of (D.device self.new.store.disk) self.new.store.core self.new.calls) }
+        ensures worker { self.new.worker ≡ self.old.worker }
+        ensures clock { self.new.clock ≡ counted self.old.clock result }
     {
-        let Some(io) = self.log.take() else {
+        the_logger_leaves_the_store_open();
+        a_device_counts_the_calls_of_its_steps();
+        what_was_read_is_at_home();
+        let Some(io) = self.calls.log.take() else {
             self.store.core.lawful();
             let io = self.store.core.log_next()?;
+            self.store.core.lawful();
             let call = io.call();
-            put(&mut self.log, io);
+            put(&mut self.calls.log, io);
             return Some(Step::LogNext(call));
         };
-        match self.log_made.take() {
+        match self.calls.log_made.take() {
             Some(ok) => {
                 self.store.core.lawful();
                 self.store.core.log_done(io, ok);
+                self.store.core.lawful();
                 Some(Step::LogDone(ok))
             }
             None => {
-                put(&mut self.log, io);
+                put(&mut self.calls.log, io);
                 None
             }
         }
@@ -178,58 +183,60 @@ impl<D: CrashDisk> Running<D> {
     // The log's device call is made.
     #[tactic(auto, using(crate::proofs::Made::made_size))]
     fn log_io(&mut self) -> Option<Step>
-        requires { RunsWell self.old.worker self.old.store.core self.old.log self.old.log_made
-            self.old.inst self.old.inst_made }
-        ensures well { RunsWell self.new.worker self.new.store.core self.new.log self.new.log_made
-            self.new.inst self.new.inst_made }
+        requires { RunsWell self.old.worker self.old.store.core self.old.calls }
+        ensures well { RunsWell self.new.worker self.new.store.core self.new.calls }
         ensures model { D.keeps_model self.new.store.disk → D.keeps_model self.old.store.disk }
-        ensures tells { Tells MayLogIo
-            (side_of (D.device self.old.store.disk) self.old.store.core self.old.log self.old.log_made
-            self.old.inst self.old.inst_made)
-            result
-            (side_of (D.device self.new.store.disk) self.new.store.core self.new.log self.new.log_made
-            self.new.inst self.new.inst_made) }
+        ensures step { IsLogStep MayLogIo
+            (side_of (D.device self.old.store.disk) self.old.store.core self.old.calls) result
+            (side_of (D.device self.new.store.disk) self.new.store.core self.new.calls) }
+        ensures worker { self.new.worker ≡ self.old.worker }
+        ensures clock { self.new.clock ≡ counted self.old.clock result }
     {
-        if self.log_made.is_some() {
+        the_logger_leaves_the_store_open();
+        a_device_counts_the_calls_of_its_steps();
+        what_was_read_is_at_home();
+        if self.calls.log_made.is_some() {
             return None;
         }
-        let io = self.log.as_ref()?;
+        let io = self.calls.log.as_ref()?;
         self.store.core.lawful();
         let ok = io.perform(&mut self.store.disk).is_ok();
-        self.log_made = Some(ok);
+        self.calls.log_made = Some(ok);
         self.count();
         Some(Step::LogIo(ok))
     }
 
     // Gives back the installer's device call that was made, or takes the next.
     fn install(&mut self) -> Option<Step>
-        requires { RunsWell self.old.worker self.old.store.core self.old.log self.old.log_made
-            self.old.inst self.old.inst_made }
-        ensures well { RunsWell self.new.worker self.new.store.core self.new.log self.new.log_made
-            self.new.inst self.new.inst_made }
+        requires { RunsWell self.old.worker self.old.store.core self.old.calls }
+        ensures well { RunsWell self.new.worker self.new.store.core self.new.calls }
         ensures model { D.keeps_model self.new.store.disk → D.keeps_model self.old.store.disk }
-        ensures tells { Tells MayInstall
-            (side_of (D.device self.old.store.disk) self.old.store.core self.old.log self.old.log_made
-            self.old.inst self.old.inst_made)
-            result
-            (side_of (D.device self.new.store.disk) self.new.store.core self.new.log self.new.log_made
-            self.new.inst self.new.inst_made) }
+        ensures step { IsLogStep MayInstall
+            (side_of (D.device self.old.store.disk) self.old.store.core self.old.calls) result
+            (side_of (D.device self.new.store.disk) self.new.store.core self.new.calls) }
+        ensures worker { self.new.worker ≡ self.old.worker }
+        ensures clock { self.new.clock ≡ counted self.old.clock result }
     {
-        let Some(io) = self.inst.take() else {
+        the_installer_leaves_the_store_open();
+        a_device_counts_the_calls_of_its_steps();
+        what_was_read_is_at_home();
+        let Some(io) = self.calls.inst.take() else {
             self.store.core.lawful();
             let io = self.store.core.inst_next()?;
+            self.store.core.lawful();
             let call = io.call();
-            put(&mut self.inst, io);
+            put(&mut self.calls.inst, io);
             return Some(Step::InstNext(call));
         };
-        match self.inst_made.take() {
+        match self.calls.inst_made.take() {
             Some(ok) => {
                 self.store.core.lawful();
                 self.store.core.inst_done(io, ok);
+                self.store.core.lawful();
                 Some(Step::InstDone(ok))
             }
             None => {
-                put(&mut self.inst, io);
+                put(&mut self.calls.inst, io);
                 None
             }
         }
@@ -238,51 +245,63 @@ impl<D: CrashDisk> Running<D> {
     // The installer's device call is made.
     #[tactic(auto, using(crate::proofs::Made::made_size))]
     fn inst_io(&mut self) -> Option<Step>
-        requires { RunsWell self.old.worker self.old.store.core self.old.log self.old.log_made
-            self.old.inst self.old.inst_made }
-        ensures well { RunsWell self.new.worker self.new.store.core self.new.log self.new.log_made
-            self.new.inst self.new.inst_made }
+        requires { RunsWell self.old.worker self.old.store.core self.old.calls }
+        ensures well { RunsWell self.new.worker self.new.store.core self.new.calls }
         ensures model { D.keeps_model self.new.store.disk → D.keeps_model self.old.store.disk }
-        ensures tells { Tells MayInstIo
-            (side_of (D.device self.old.store.disk) self.old.store.core self.old.log self.old.log_made
-            self.old.inst self.old.inst_made)
-            result
-            (side_of (D.device self.new.store.disk) self.new.store.core self.new.log self.new.log_made
-            self.new.inst self.new.inst_made) }
+        ensures step { IsLogStep MayInstIo
+            (side_of (D.device self.old.store.disk) self.old.store.core self.old.calls) result
+            (side_of (D.device self.new.store.disk) self.new.store.core self.new.calls) }
+        ensures worker { self.new.worker ≡ self.old.worker }
+        ensures clock { self.new.clock ≡ counted self.old.clock result }
     {
-        if self.inst_made.is_some() {
+        the_installer_leaves_the_store_open();
+        a_device_counts_the_calls_of_its_steps();
+        what_was_read_is_at_home();
+        if self.calls.inst_made.is_some() {
             return None;
         }
-        let io = self.inst.as_ref()?;
+        let io = self.calls.inst.as_ref()?;
         self.store.core.lawful();
         let ok = io.perform(&mut self.store.disk).is_ok();
-        self.inst_made = Some(ok);
+        self.calls.inst_made = Some(ok);
         self.count();
         Some(Step::InstIo(ok))
     }
 
     /// The store, once what is out was given back and the worker has ended.
     pub(super) fn end(self) -> Store<D>
-        requires { RunsWell self.worker self.store.core self.log self.log_made
-            self.inst self.inst_made }
+        requires { RunsWell self.worker self.store.core self.calls }
         ensures { result.disk ≡ self.store.disk }
     {
         let Running {
             mut store,
             worker,
+            calls,
+            clock: _,
+        } = self;
+        worker.end(&mut store.core);
+        calls.end(&mut store.core);
+        store
+    }
+}
+
+impl Calls {
+    // Gives back what is out.
+    fn end(self, core: &mut Core<Done>)
+        ensures blocks { core.new.log.blocks ≡ core.old.log.blocks }
+        ensures inodes { core.new.inodes ≡ core.old.inodes }
+    {
+        let Calls {
             log,
             log_made: _,
             inst,
             inst_made: _,
-            clock: _,
         } = self;
-        worker.end(&mut store.core);
         if let Some(io) = log {
-            store.core.log_done(io, false);
+            core.log_done(io, false);
         }
         if let Some(io) = inst {
-            store.core.inst_done(io, false);
+            core.inst_done(io, false);
         }
-        store
     }
 }

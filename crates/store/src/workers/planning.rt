@@ -1,31 +1,37 @@
 //! The steps of a worker that go by its plan: it reads and claims what the plan asks for, and commits what it
 //! ends in.
-ghost use Rattle.std.specs.Prelude.{◌≡◌, ◌≤◌, Some, None, true, length, IfOk};
+ghost use Rattle.std.specs.Prelude.{◌≡◌, ℕ, None, Some, true, length};
 
-use super::{Job, Phase, Worker};
+use super::parts::{Phase, State};
 use crate::options::put;
 use disk::BlockNo;
-use nfs_types::{Reply, Status};
 use objects::{Addr, Mode};
-use procs::{Done, Plan, is_answered_stable, plan, refused_reply};
-use std::alloc::{AllocError, Global};
-use store_promise::{Cause, Committing, Ending, Entry, Step, Verdict, Wish};
-use txn::{Change, Claim, Commit, Core, Seq, Tx, Want};
+use procs::{Done, Plan, plan};
+use std::alloc::Global;
+use store_promise::{Cause, Ending, Step, Verdict, Wish};
+use txn::{Claim, Core, Tx, Want};
 
-impl Worker {
-    ghost use Rattle.store.specs.declared.workers.Phase.TheVariants.{Planning, Waiting};
-    ghost use Rattle.store.specs.Counts.{SameCounts};
-    ghost use Rattle.store.specs.Worker.{Fits, HasRoom, IsHeld, IsPlanned, IsReplied, IsStillPlanned, IsTold};
-    ghost use Rattle.store.specs.Worker.{IsWithout};
-    ghost use Rattle.store.specs.WorkerSteps.{IsFew, IsFewOf, IsStepOfPlan};
+impl State {
+    ghost use Rattle.store.specs.declared.workers.parts.Phase.TheVariants.{Planning};
+    ghost use Rattle.store.specs.Counts.{SameFrame};
+    ghost use Rattle.store.specs.Phases.{is_planned};
+    ghost use Rattle.store.specs.Seen.{seen_in, with_claim, with_object};
+    ghost use Rattle.store.specs.Worker.{GoesWith, HasBytes, HasRoom, HasRoomFor, IsHeld};
+    ghost use Rattle.store.specs.WorkerAnswers.{begun_claimed, begun_wanted, claim_wish, phase_claimed};
+    ghost use Rattle.store.specs.WorkerAnswers.{phase_wanted, seen_claimed, seen_wanted, wish_of};
+    ghost use Rattle.store.specs.WorkerSteps.{GoesByPlan, HasClaimed, HasLacked, HasWanted, IsNext, KeepsReadsOf};
+    ghost use Rattle.store.specs.WorkerSteps.{side, with_snap};
+    ghost use Rattle.txn.specs.CoreWindow.{KeepsHome, KeepsReads};
 
     // Makes the step that the plan asks for. Where the plan finds no memory the transaction is ended.
     pub(super) fn go_by_plan(&mut self, alloc: Global, core: &mut Core<Done>) -> Step
-        requires fits { Fits self.old core.old }
+        requires with { GoesWith self.old core.old }
         requires phase { self.old.phase ≡ Planning }
-        ensures fits { Fits self.new core.new }
-        ensures counts { SameCounts core.old core.new }
-        ensures step { IsStepOfPlan self.old.work.job result }
+        ensures with { GoesWith self.new core.new }
+        ensures frame { SameFrame core.old core.new }
+        ensures step { GoesByPlan (side self.old core.old) result (side self.new core.new) }
+        ensures home { KeepsHome core.old core.new }
+        ensures stays { KeepsReadsOf (side self.old core.old) (side self.new core.new) }
     {
         let next = self.next(alloc);
         let tx = self.begun.take_tx();
@@ -38,12 +44,12 @@ impl Worker {
     }
 
     // What the call needs next, or what comes of it, with room for what is read next.
-    #[tactic(auto, using(crate::proofs::FewBlocks::few_of))]
     fn next(&mut self, alloc: Global) -> Plan
-        requires { IsPlanned self.old }
-        ensures told { IsTold self.old result self.new }
-        ensures job { self.new.work.job ≡ self.old.work.job }
-        ensures few { IsFewOf self.old.work.job result }
+        requires { is_planned self.old.work ≡ true }
+        ensures next { IsNext self.old result }
+        ensures rest { self.new ≡ with_snap self.new self.old }
+        ensures seen { seen_in self.new.work.snap ≡ seen_in self.old.work.snap }
+        ensures room { HasRoomFor result self.new }
     {
         let (Some(job), Some(snap)) = (self.work.job.as_ref(), self.work.snap.as_mut()) else {
             unreachable!();
@@ -55,11 +61,13 @@ impl Worker {
     }
 
     // Ends the transaction for want of memory.
-    fn lack(&mut self, core: &mut Core<Done>, tx: Tx) -> Step
+    pub(super) fn lack(&mut self, core: &mut Core<Done>, tx: Tx) -> Step
         requires { IsHeld self.old tx core.old }
-        ensures fits { Fits self.new core.new }
-        ensures counts { SameCounts core.old core.new }
-        ensures step { IsStepOfPlan self.old.work.job result }
+        ensures with { GoesWith self.new core.new }
+        ensures frame { SameFrame core.old core.new }
+        ensures step { HasLacked tx (side self.old core.old) result (side self.new core.new) }
+        ensures home { KeepsHome core.old core.new }
+        ensures stays { (other : ℕ) → (other ≡ tx → ⊥) → KeepsReads core.old core.new other }
     {
         core.abort(tx);
         self.give(Verdict::NoMemory, None);
@@ -70,11 +78,33 @@ impl Worker {
     fn want(&mut self, alloc: Global, core: &mut Core<Done>, tx: Tx, addr: Addr) -> Step
         requires held { IsHeld self.old tx core.old }
         requires room { HasRoom self.old }
-        ensures fits { Fits self.new core.new }
-        ensures counts { SameCounts core.old core.new }
-        ensures step { IsStepOfPlan self.old.work.job result }
+        ensures with { GoesWith self.new core.new }
+        ensures frame { SameFrame core.old core.new }
+        ensures step { HasWanted tx addr (side self.old core.old) result (side self.new core.new) }
+        ensures home { KeepsHome core.old core.new }
+        ensures stays { (other : ℕ) → KeepsReads core.old core.new other }
+        ensures tx { self.new.begun.tx ≡ Some tx }
     {
-        let wish = match core.want(alloc, tx, addr) {
+        let answer = core.want(alloc, tx, addr);
+        let wish = self.wanted(addr, answer);
+        Step::Wanted(addr, Mode::Exclusive, wish)
+    }
+
+    // Goes on by what came of a wish to read.
+    fn wanted(&mut self, addr: Addr, answer: Want) -> Wish
+        requires planned { is_planned self.old.work ≡ true }
+        requires none { (self.old.begun.tx ≡ None) × (self.old.begun.io ≡ None) }
+        requires room { HasRoom self.old }
+        requires len { HasBytes addr.len answer }
+        ensures wish { result ≡ wish_of answer }
+        ensures rest { self.new ≡ record (with_snap self.new self.old) {
+          phase = phase_wanted answer;
+          begun = begun_wanted answer;
+        } }
+        ensures seen { seen_in self.new.work.snap ≡ seen_wanted addr answer (seen_in self.old.work.snap) }
+        ensures planned { is_planned self.new.work ≡ true }
+    {
+        match answer {
             Want::Held(tx, bytes) => {
                 self.keep(addr, bytes);
                 self.go_on(tx, Phase::Planning);
@@ -101,16 +131,17 @@ impl Worker {
                 self.go_on(tx, Phase::Refused(Cause::NoMemory));
                 Wish::NoMemory
             }
-        };
-        Step::Wanted(addr, Mode::Exclusive, wish)
+        }
     }
 
     // Keeps what was read.
     fn keep(&mut self, addr: Addr, bytes: Vec<u8>)
-        requires planned { IsPlanned self.old }
+        requires planned { is_planned self.old.work ≡ true }
         requires room { HasRoom self.old }
         requires len { length bytes.items ≡ addr.len }
-        ensures { IsStillPlanned self.old self.new }
+        ensures rest { self.new ≡ with_snap self.new self.old }
+        ensures seen { seen_in self.new.work.snap ≡ with_object addr bytes.items (seen_in self.old.work.snap) }
+        ensures planned { is_planned self.new.work ≡ true }
     {
         match self.work.snap.as_mut() {
             Some(snap) => snap.add(addr, bytes),
@@ -122,11 +153,32 @@ impl Worker {
     fn claim(&mut self, core: &mut Core<Done>, tx: Tx, block: BlockNo) -> Step
         requires held { IsHeld self.old tx core.old }
         requires room { HasRoom self.old }
-        ensures fits { Fits self.new core.new }
-        ensures counts { SameCounts core.old core.new }
-        ensures step { IsStepOfPlan self.old.work.job result }
+        ensures with { GoesWith self.new core.new }
+        ensures frame { SameFrame core.old core.new }
+        ensures step { HasClaimed tx block (side self.old core.old) result (side self.new core.new) }
+        ensures home { KeepsHome core.old core.new }
+        ensures stays { (other : ℕ) → KeepsReads core.old core.new other }
+        ensures tx { self.new.begun.tx ≡ Some tx }
     {
-        let wish = match core.claim(tx, block) {
+        let answer = core.claim(tx, block);
+        let wish = self.claimed(block, answer);
+        Step::Claimed(block, wish)
+    }
+
+    // Goes on by what came of a wish to claim.
+    fn claimed(&mut self, block: BlockNo, answer: Claim) -> Wish
+        requires planned { is_planned self.old.work ≡ true }
+        requires none { (self.old.begun.tx ≡ None) × (self.old.begun.io ≡ None) }
+        requires room { HasRoom self.old }
+        ensures wish { result ≡ claim_wish answer }
+        ensures rest { self.new ≡ record (with_snap self.new self.old) {
+          phase = phase_claimed answer;
+          begun = begun_claimed answer;
+        } }
+        ensures seen { seen_in self.new.work.snap ≡ seen_claimed block answer (seen_in self.old.work.snap) }
+        ensures planned { is_planned self.new.work ≡ true }
+    {
+        match answer {
             Claim::Held(tx) => {
                 self.note_claim(block);
                 self.go_on(tx, Phase::Planning);
@@ -148,106 +200,20 @@ impl Worker {
                 self.go_on(tx, Phase::Refused(Cause::NoMemory));
                 Wish::NoMemory
             }
-        };
-        Step::Claimed(block, wish)
+        }
     }
 
     // Notes that a block was claimed.
     fn note_claim(&mut self, block: BlockNo)
-        requires planned { IsPlanned self.old }
+        requires planned { is_planned self.old.work ≡ true }
         requires room { HasRoom self.old }
-        ensures { IsStillPlanned self.old self.new }
+        ensures rest { self.new ≡ with_snap self.new self.old }
+        ensures seen { seen_in self.new.work.snap ≡ with_claim block (seen_in self.old.work.snap) }
+        ensures planned { is_planned self.new.work ≡ true }
     {
         match self.work.snap.as_mut() {
             Some(snap) => snap.claimed(block),
             None => unreachable!(),
         }
     }
-
-    // Commits what the plan ended in. The replies are made before.
-    fn commit(&mut self, alloc: Global, core: &mut Core<Done>, tx: Tx, done: Done) -> Step
-        requires held { IsHeld self.old tx core.old }
-        requires few { IsFew self.old.work.job done }
-        ensures fits { Fits self.new core.new }
-        ensures counts { SameCounts core.old core.new }
-        ensures step { IsStepOfPlan self.old.work.job result }
-    {
-        let Ok((told, kept)) = twice(done.reply()) else {
-            return self.lack(core, tx);
-        };
-        let blocks = core.added_blocks(done.written());
-        done.finished();
-        let answer = match core.commit(alloc, tx, done) {
-            Commit::Committed(place) => {
-                self.committed(place, told, kept);
-                Committing::Committed(place)
-            }
-            Commit::Full(tx, _) => {
-                self.go_on(tx, Phase::Planning);
-                Committing::Full
-            }
-            Commit::Foreign(tx, _) => {
-                self.go_on(tx, Phase::Again);
-                Committing::Foreign
-            }
-            Commit::NoMemory(tx, _) => {
-                self.go_on(tx, Phase::Refused(Cause::NoMemory));
-                Committing::NoMemory
-            }
-            Commit::Broken(tx, _) => {
-                self.go_on(tx, Phase::Refused(Cause::Io));
-                Committing::Broken
-            }
-            Commit::Spent(tx, _) => {
-                self.go_on(tx, Phase::Refused(Cause::Spent));
-                Committing::Spent
-            }
-        };
-        Step::Commit(blocks, answer)
-    }
-
-    // The procedure was committed at this place. It is answered at once, or when its place is settled.
-    fn committed(&mut self, place: Seq, told: Reply, kept: Reply)
-        requires planned { IsPlanned self.old }
-        requires out { (self.old.begun.tx ≡ None) × (self.old.begun.io ≡ None) }
-        ensures out { (self.new.begun.tx ≡ None) × (self.new.begun.io ≡ None) }
-        ensures ready { IsWithout self.new }
-    {
-        let Some(job) = self.work.job.take() else {
-            unreachable!();
-        };
-        if is_answered_stable(&job.call) {
-            self.wait_for(place, told, refused_reply(&job.call, Status::Io));
-        } else {
-            self.give(Verdict::Reply(told), Some(place));
-        }
-        self.note_entry(job, kept);
-    }
-
-    // The procedure is answered once its place is settled: so, or, if the store breaks before, by the other
-    // reply.
-    fn wait_for(&mut self, place: Seq, told: Reply, broken: Reply)
-        ensures phase { self.new.phase ≡ Waiting place }
-        ensures replied { IsReplied self.new }
-        ensures rest { self.new.begun ≡ self.old.begun }
-    {
-        self.work.reply = Some(told);
-        self.work.broken_reply = Some(broken);
-        self.phase = Phase::Waiting(place);
-    }
-
-    // The entry of a committed procedure lies ready to be taken.
-    fn note_entry(&mut self, job: Job, reply: Reply)
-        ensures { self.new ≡ record self.old { work = record self.old.work { entry = self.new.work.entry } } }
-    {
-        let Job { ctx, call } = job;
-        self.work.entry = Some(Entry { ctx, call, reply });
-    }
-}
-
-// Two copies of a reply: one is answered, and one is kept for the history.
-fn twice(reply: &Reply) -> Result<(Reply, Reply), AllocError>
-    ensures { IfOk result (λ both. (both.0 ≡ reply.now) × (both.1 ≡ reply.now)) }
-{
-    Ok((reply.clone()?, reply.clone()?))
 }

@@ -1,31 +1,82 @@
 //! The steps of a worker besides planning.
-ghost use Rattle.std.specs.Prelude.{◌≡◌, Some, None, true};
+ghost use Rattle.std.specs.Prelude.{◌≡◌, ◌<◌, ℕ, Some, None, true, is_some, IfSome};
+ghost use Rattle.store_promise.specs.Verdicts.{cause_of, refusal};
 
-use super::{Phase, Worker};
+use super::parts::{Job, Phase, State};
 use crate::options::put;
+use disk::CrashDisk;
 use layout::{FormatVersion, Geometry};
-use nfs_types::{Call, Status};
+use nfs_types::{Call, Ctx, Status};
 use procs::{Done, Snap, has_rules, refused_reply};
 use std::alloc::Global;
 use store_promise::{CallAnswer, Cause, Ending, Step, Verdict};
 use txn::{BeginFault, Core, Seq, Tx};
 
-impl Worker {
-    ghost use Rattle.store.specs.declared.workers.Phase.TheVariants.{Idle, Called, Read, Refused, Again};
-    ghost use Rattle.store.specs.declared.workers.Phase.TheVariants.{Waiting};
-    ghost use Rattle.store.specs.Counts.{SameCounts};
-    ghost use Rattle.store_promise.specs.declared.events.Ending.TheVariants as ending;
-    ghost use Rattle.store_promise.specs.declared.events.Step.TheVariants as step;
-    ghost use Rattle.store.specs.Worker.{Fits};
-    ghost use Rattle.store.specs.WorkerSteps.{IsGivenBack, IsStepOfJob, IsStepOfPlace};
+impl State {
+    ghost use Rattle.txn.specs.CoreWindow.{KeepsHome, KeepsReads};
+    ghost use Rattle.store.specs.declared.workers.parts.Phase.TheVariants.{Idle, Called, Reading, Read, Refused, Again};
+    ghost use Rattle.store.specs.declared.workers.parts.Phase.TheVariants.{Waiting};
+    ghost use Rattle.store.specs.Counts.{SameFrame};
+    ghost use Rattle.store.specs.Worker.{GoesWith, with_call};
+    ghost use Rattle.store.specs.WorkerAnswers.{with_answer};
+    ghost use Rattle.store.specs.WorkerReads.{HasReadBlock};
+    ghost use Rattle.store.specs.WorkerSteps.{Begins, BeginsAgain, GivesBack, GoesOn, HasToldBroken, HasToldReply};
+    ghost use Rattle.store.specs.WorkerSteps.{KeepsHomeOf, KeepsReadsOf, Refuses, Waits, side};
+
+    // Makes the next step.
+    pub(super) fn step(&mut self, alloc: Global, core: &mut Core<Done>) -> Option<Step>
+        requires { GoesWith self.old core.old }
+        ensures with { GoesWith self.new core.new }
+        ensures frame { SameFrame core.old core.new }
+        ensures step { GoesOn self.old.phase (side self.old core.old) result (side self.new core.new) }
+        ensures home { KeepsHomeOf (side self.old core.old) (side self.new core.new) }
+        ensures stays { KeepsReadsOf (side self.old core.old) (side self.new core.new) }
+    {
+        match self.phase {
+            Phase::Idle | Phase::Reading => None,
+            Phase::Called => Some(self.begin(alloc, core)),
+            Phase::Planning => Some(self.go_by_plan(alloc, core)),
+            Phase::Read(ok) => Some(self.give_back(core, ok)),
+            Phase::Refused(why) => Some(self.refuse(core, why)),
+            Phase::Again => Some(self.begin_again(core)),
+            Phase::Waiting(place) => Some(self.wait(core, place)),
+        }
+    }
+
+    // Takes a call, which begins with the next step.
+    pub(super) fn take_call(&mut self, ctx: Ctx, call: Call)
+        ensures { self.new ≡ with_call ctx call self.old }
+    {
+        self.work.job = Some(Job { ctx, call });
+        self.phase = Phase::Called;
+    }
+
+    // Reads the block that is due.
+    pub(super) fn read<D: CrashDisk>(&mut self, disk: &mut D) -> Step
+        requires some { is_some self.old.begun.io ≡ true }
+        requires within { IfSome self.old.begun.io (λ io. io.block.0 < (D.device disk.old).size) }
+        ensures model { D.keeps_model disk.new → D.keeps_model disk.old }
+        ensures step { HasReadBlock (D.keeps_model disk.new) (D.device disk.old) self.old result
+            (D.device disk.new) self.new }
+    {
+        let Some(io) = self.begun.io.as_mut() else {
+            unreachable!();
+        };
+        let block = io.block();
+        let ok = io.perform(disk).is_ok();
+        self.phase = Phase::Read(ok);
+        Step::Read(block, ok)
+    }
 
     // Begins the transaction of a call, or answers a call that needs none.
-    pub(super) fn begin(&mut self, alloc: Global, core: &mut Core<Done>) -> Step
-        requires fits { Fits self.old core.old }
+    fn begin(&mut self, alloc: Global, core: &mut Core<Done>) -> Step
+        requires with { GoesWith self.old core.old }
         requires phase { self.old.phase ≡ Called }
-        ensures fits { Fits self.new core.new }
-        ensures step { IsStepOfJob self.old.work.job core.old result }
-        ensures counts { SameCounts core.old core.new }
+        ensures with { GoesWith self.new core.new }
+        ensures frame { SameFrame core.old core.new }
+        ensures step { Begins (side self.old core.old) result (side self.new core.new) }
+        ensures home { KeepsHome core.old core.new }
+        ensures stays { (tx : ℕ) → KeepsReads core.old core.new tx }
     {
         let Some(job) = self.work.job.as_mut() else {
             unreachable!();
@@ -58,12 +109,14 @@ impl Worker {
     }
 
     // Gives the core the block that was read. Where the read failed the transaction has to be ended.
-    pub(super) fn give_back(&mut self, core: &mut Core<Done>, ok: bool) -> Step
-        requires fits { Fits self.old core.old }
+    fn give_back(&mut self, core: &mut Core<Done>, ok: bool) -> Step
+        requires with { GoesWith self.old core.old }
         requires phase { self.old.phase ≡ Read ok }
-        ensures fits { Fits self.new core.new }
-        ensures step { IsGivenBack self.old.begun.io ok result }
-        ensures counts { SameCounts core.old core.new }
+        ensures with { GoesWith self.new core.new }
+        ensures frame { SameFrame core.old core.new }
+        ensures step { GivesBack ok (side self.old core.old) result (side self.new core.new) }
+        ensures home { KeepsHomeOf (side self.old core.old) (side self.new core.new) }
+        ensures stays { (tx : ℕ) → KeepsReads core.old core.new tx }
     {
         let io = self.begun.take_fetch();
         let block = io.block();
@@ -79,30 +132,34 @@ impl Worker {
     }
 
     // Ends the transaction, and answers why.
-    pub(super) fn refuse(&mut self, core: &mut Core<Done>, refusal: Cause) -> Step
-        requires fits { Fits self.old core.old }
-        requires phase { self.old.phase ≡ Refused refusal }
-        ensures fits { Fits self.new core.new }
-        ensures step { result ≡ step.Ended ending.Refused }
-        ensures counts { SameCounts core.old core.new }
+    fn refuse(&mut self, core: &mut Core<Done>, why: Cause) -> Step
+        requires with { GoesWith self.old core.old }
+        requires phase { self.old.phase ≡ Refused why }
+        ensures with { GoesWith self.new core.new }
+        ensures frame { SameFrame core.old core.new }
+        ensures step { Refuses why (side self.old core.old) result (side self.new core.new) }
+        ensures home { KeepsHome core.old core.new }
+        ensures stays { KeepsReadsOf (side self.old core.old) (side self.new core.new) }
     {
         let tx = self.begun.take_tx();
         core.abort(tx);
         let Some(job) = self.work.job.as_ref() else {
             unreachable!();
         };
-        let told = verdict(&job.call, refusal);
+        let told = verdict(&job.call, why);
         self.give(told, None);
         Step::Ended(Ending::Refused)
     }
 
     // Ends the transaction of a call that begins again.
-    pub(super) fn begin_again(&mut self, core: &mut Core<Done>) -> Step
-        requires fits { Fits self.old core.old }
+    fn begin_again(&mut self, core: &mut Core<Done>) -> Step
+        requires with { GoesWith self.old core.old }
         requires phase { self.old.phase ≡ Again }
-        ensures fits { Fits self.new core.new }
-        ensures step { result ≡ step.Ended ending.Again }
-        ensures counts { SameCounts core.old core.new }
+        ensures with { GoesWith self.new core.new }
+        ensures frame { SameFrame core.old core.new }
+        ensures step { BeginsAgain (side self.old core.old) result (side self.new core.new) }
+        ensures home { KeepsHome core.old core.new }
+        ensures stays { KeepsReadsOf (side self.old core.old) (side self.new core.new) }
     {
         let tx = self.begun.take_tx();
         core.abort(tx);
@@ -111,31 +168,46 @@ impl Worker {
     }
 
     // Answers a committed procedure once its place is settled, or once it can't be any more.
-    pub(super) fn wait(&mut self, core: &Core<Done>, place: Seq) -> Step
-        requires fits { Fits self.old core.now }
+    fn wait(&mut self, core: &Core<Done>, place: Seq) -> Step
+        requires with { GoesWith self.old core.now }
         requires phase { self.old.phase ≡ Waiting place }
-        ensures fits { Fits self.new core.now }
-        ensures step { IsStepOfPlace place core.now result }
+        ensures with { GoesWith self.new core.now }
+        ensures step { Waits place (side self.old core.now) result (side self.new core.now) }
     {
         let settled = core.stable(place).is_some();
-        if settled || core.broken() {
-            let reply = if settled {
-                self.work.reply.take()
-            } else {
-                self.work.broken_reply.take()
-            };
-            let Some(reply) = reply else {
-                unreachable!();
-            };
-            self.give(Verdict::Reply(reply), Some(place));
+        if settled {
+            self.tell_reply(place);
+        } else if core.broken() {
+            self.tell_broken(place);
         }
         Step::Stable(place, settled)
     }
 
+    // Answers the reply of the procedure.
+    fn tell_reply(&mut self, place: Seq)
+        requires { is_some self.old.work.reply ≡ true }
+        ensures { HasToldReply place self.old self.new }
+    {
+        match self.work.reply.take() {
+            Some(reply) => self.give(Verdict::Reply(reply), Some(place)),
+            None => unreachable!(),
+        }
+    }
+
+    // Answers the one in its place.
+    fn tell_broken(&mut self, place: Seq)
+        requires { is_some self.old.work.broken_reply ≡ true }
+        ensures { HasToldBroken place self.old self.new }
+    {
+        match self.work.broken_reply.take() {
+            Some(reply) => self.give(Verdict::Reply(reply), Some(place)),
+            None => unreachable!(),
+        }
+    }
+
     // The answer lies ready to be taken, and the worker is idle.
     pub(super) fn give(&mut self, verdict: Verdict, place: Option<Seq>)
-        ensures idle { self.new.phase ≡ Idle }
-        ensures rest { self.new.begun ≡ self.old.begun }
+        ensures { self.new ≡ with_answer verdict place self.old }
     {
         self.work.answer = Some(CallAnswer { verdict, place });
         self.phase = Phase::Idle;
@@ -144,9 +216,10 @@ impl Worker {
     // The worker goes on with its transaction.
     pub(super) fn go_on(&mut self, tx: Tx, phase: Phase)
         requires { self.old.begun.tx ≡ None }
-        ensures tx { self.new.begun.tx ≡ Some tx }
-        ensures phase { self.new.phase ≡ phase }
-        ensures rest { (self.new.work ≡ self.old.work) × (self.new.begun.io ≡ self.old.begun.io) }
+        ensures { self.new ≡ record self.old {
+          phase = phase;
+          begun = record self.old.begun { tx = Some tx };
+        } }
     {
         self.phase = phase;
         put(&mut self.begun.tx, tx);
@@ -154,8 +227,10 @@ impl Worker {
 }
 
 // What a call is answered that is refused.
-fn verdict(call: &Call, refusal: Cause) -> Verdict {
-    match refusal {
+fn verdict(call: &Call, why: Cause) -> Verdict
+    ensures { result ≡ refusal call.now why }
+{
+    match why {
         Cause::Io => Verdict::Reply(refused_reply(call, Status::Io)),
         Cause::Spent => Verdict::Reply(refused_reply(call, Status::ServerFault)),
         Cause::NoMemory => Verdict::NoMemory,
@@ -163,7 +238,9 @@ fn verdict(call: &Call, refusal: Cause) -> Verdict {
 }
 
 // Why a call is refused that no transaction could be begun for.
-fn cause_of(fault: BeginFault) -> Cause {
+fn cause_of(fault: BeginFault) -> Cause
+    ensures { result ≡ cause_of fault }
+{
     match fault {
         BeginFault::Broken => Cause::Io,
         BeginFault::Spent => Cause::Spent,

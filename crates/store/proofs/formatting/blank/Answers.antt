@@ -1,7 +1,6 @@
-use Rattle.std.proofs.Common.{subst, Ok, Err, Result}
+use Rattle.std.proofs.Common.{subst, Ok, Err}
 use Rattle.limits.specs.declared.TheConstants.{SUPER_BLOCK}
 use Rattle.disk.specs.Device.{Content, HasWritten}
-use Rattle.disk.specs.declared.device.Failed.{Failed}
 use Rattle.store.proofs.FormatStops.{blanked_stops, first_written}
 use Rattle.store.proofs.formatting.blank.Goals as goal
 

@@ -1,8 +1,8 @@
-use Rattle.std.proofs.Common.{rules, ◌≡◌, ◌∙◌, sym, subst}
+use Rattle.std.proofs.Common.{rules, ◌≡◌, subst}
 use Rattle.nfs_types.specs.declared.ctx.Moment.{Moment}
 use Rattle.store_promise.specs.Openings.{HasFailedToFormat, IsFormatted}
 use Rattle.store.specs.Formatting.{IsMade}
-use Rattle.store.proofs.FormatStops.{formatted, left_of_made, making_of, not_formatted}
+use Rattle.store.proofs.FormatStops.{formatted, not_formatted}
 use Rattle.store.proofs.formatting.format.Goals as goal
 
 pub returns-in-Ok-make-clause-formatted : goal.returns-in-Ok-make-clause-formatted

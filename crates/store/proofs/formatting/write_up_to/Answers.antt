@@ -1,4 +1,4 @@
-use Rattle.std.proofs.Common.{rules, arith, ◌≡◌, ℕ, subst}
+use Rattle.std.proofs.Common.{rules, ◌≡◌, ℕ, subst}
 use Rattle.store.proofs.FormatStops.{super_stays_on}
 use Rattle.store.proofs.Formatted.{one_more}
 use Rattle.store.specs.Formatting.{HasWrittenUpTo}

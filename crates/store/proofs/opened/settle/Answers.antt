@@ -1,6 +1,5 @@
-use Rattle.std.proofs.Common.{arith, rules, ◌≡◌, ◌∙◌, refl, sym, true≢false, false, ap, length}
+use Rattle.std.proofs.Common.{arith, rules, ◌∙◌, refl, sym, true≢false}
 use Rattle.procs.specs.Finished.{HasPlan}
-use Rattle.wal_law.specs.Log.{settled_place}
 use Rattle.store.proofs.CallsLeft.{stuck}
 use Rattle.store.proofs.opened.settle.Goals.{else-is_settled-via-then-is_settled+else-not-keeps_too_many}
 use Rattle.store.proofs.opened.settle.Goals.{else-is_settled-via-else-is_settled}

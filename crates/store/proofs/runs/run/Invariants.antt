@@ -3,6 +3,5 @@ use Rattle.store.specs.Running.{RunsWell}
 use Rattle.store.proofs.runs.run.Given as goal
 
 abbrev pub invariant-events : goal.invariant-events
-invariant-events g l = RunsWell l.running.worker l.running.store.core l.running.log
-    l.running.log_made l.running.inst l.running.inst_made
+invariant-events g l = RunsWell l.running.worker l.running.store.core l.running.calls
     × (g.D.CrashDisk.keeps_model l.running.store.disk → g.D.CrashDisk.keeps_model l.fn.disk)
