@@ -9,6 +9,7 @@ mod looking;
 mod names;
 mod reading;
 mod rights;
+mod space;
 mod targets;
 
 pub use committing::commit;
@@ -17,4 +18,5 @@ pub use finding::{Changed, Told, found};
 pub use looking::look_up;
 pub use reading::read;
 pub use rights::access;
+pub use space::free_blocks;
 pub use targets::read_link;

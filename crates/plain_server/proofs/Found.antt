@@ -47,7 +47,7 @@ neither : (b : Bool) (i : ℕ) (o : Option ℕ) → cond b (Some i) o ≡ None �
 neither true i o e = cc
 neither false i o e = (refl, e)
 
-find_none : (xs : List NumberedNode) (q i : ℕ) → position_from (λ n. nat_eq q n.number) i xs ≡ None
+pub find_none : (xs : List NumberedNode) (q i : ℕ) → position_from (λ n. nat_eq q n.number) i xs ≡ None
     → map.find nat_cmp q (map numbered xs) ≡ None
 find_none [] q i none = refl
 find_none (x ∷ xs) q i none =
