@@ -11,6 +11,7 @@ mod reading;
 mod rights;
 mod space;
 mod targets;
+mod writing;
 
 pub use committing::commit;
 pub use file_system::{file_system_info, path_limits};
@@ -20,3 +21,4 @@ pub use reading::read;
 pub use rights::access;
 pub use space::free_blocks;
 pub use targets::read_link;
+pub use writing::write;

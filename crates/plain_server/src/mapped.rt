@@ -1,5 +1,5 @@
 //! The indexes of the blocks that a regular file has.
-ghost use Rattle.std.specs.Prelude.{◌≡◌, ℕ, ◌+◌, ◌*◌, ◌<◌, ◌≤◌, nat_lt, nat_le, length, filter, OnOk, OnErr};
+ghost use Rattle.std.specs.Prelude.{◌≡◌, ℕ, ◌+◌, ◌*◌, ◌<◌, ◌≤◌, nat_lt, nat_le, length, filter, IfOk, OnOk, OnErr};
 ghost use Rattle.std.specs.List.{list_any};
 ghost use Rattle.std.specs.FinSet as set;
 ghost use Rattle.model.specs.Cost.{file_cost};
@@ -39,6 +39,14 @@ impl MappedIndexes {
         MappedIndexes {
             indexes: Vec::new(alloc),
         }
+    }
+
+    /// The same indexes once more.
+    pub fn copied(&self) -> Result<MappedIndexes, AllocError>
+        ensures { IfOk result (λ copy. copy ≡ self.now) }
+    {
+        let indexes = self.indexes.clone()?;
+        Ok(MappedIndexes { indexes })
     }
 
     /// Keeps one index more.

@@ -1,4 +1,4 @@
-use Rattle.std.proofs.Common.{◌≡◌, sym, ap, ◌∙◌, Option, Some, None, IfNone, position}
+use Rattle.std.proofs.Common.{sym, ap, ◌∙◌, Option, Some, None, IfNone, position}
 use Rattle.plain_server.specs.Plain.{body_of}
 use Rattle.procedures.specs.Places.{entry_at}
 use Rattle.plain_procedures.proofs.Entries.{absent, eq, leads}

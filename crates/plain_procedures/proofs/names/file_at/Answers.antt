@@ -1,4 +1,4 @@
-use Rattle.std.proofs.Common.{◌≡◌, sym, ap, ◌∙◌, Option, Some, None, IfNone}
+use Rattle.std.proofs.Common.{sym, ap, ◌∙◌, Option, Some, None, IfNone}
 use Rattle.std.specs.Option.{option_map}
 use Rattle.plain_server.proofs.Found.{absent, first_of}
 use Rattle.plain_server.specs.Plain.{node_of}

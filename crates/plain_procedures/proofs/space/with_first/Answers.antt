@@ -1,10 +1,10 @@
-use Rattle.std.proofs.Common.{◌≡◌, ◌+◌, sym, ap, ◌∙◌, drop, arith}
+use Rattle.std.proofs.Common.{◌≡◌, ◌+◌, ap, ◌∙◌, drop, arith}
 use Rattle.std.specs.FinMap as map
 use Rattle.model.specs.Cost.{cost}
 use Rattle.model.specs.Tree.{cost_at}
 use Rattle.plain_server.specs.Plain.{body_of}
 use Rattle.plain_server.specs.declared.tree.NumberedNode.{NumberedNode}
-use Rattle.plain_procedures.specs.Listed.{blocks_of, files_of}
+use Rattle.plain_procedures.specs.Listed.{files_of}
 use Rattle.plain_procedures.proofs.Listed as listed
 use Rattle.plain_procedures.proofs.space.with_first.Goals as goal
 
