@@ -81,6 +81,14 @@ pub const EXECUTE_RIGHT: u32 = 1;
 pub const GROUP_CLASS: u32 = 8;
 /// By what the bits of others are multiplied to have those of the owner.
 pub const OWNER_CLASS: u32 = 64;
+/// The mode of a new file that is given none: read and write for its owner, read for everybody else.
+pub const NEW_FILE_MODE: u32 = 0o644;
+/// The mode of a new file of an exclusive CREATE, which gives none: read and write for its owner.
+pub const EXCLUSIVE_MODE: u32 = 0o600;
+/// The mode of a new directory that is given none.
+pub const NEW_DIRECTORY_MODE: u32 = 0o755;
+/// The mode of a new link that is given none.
+pub const NEW_LINK_MODE: u32 = 0o777;
 /// Nanoseconds of a second: those of a time lie below.
 pub const NANOSECONDS: u32 = 1_000_000_000;
 
@@ -100,6 +108,22 @@ pub const MACHINE_NAME_BYTES: usize = 255;
 pub const MOST_GIDS: usize = 16;
 /// The user and the group of a call without credential.
 pub const NOBODY: u32 = 65_534;
+/// The most bytes that one READ or WRITE moves.
+pub const TRANSFER_BYTES: u32 = 32_768;
+/// Of what the sizes of READ and WRITE are best a multiple.
+pub const TRANSFER_MULTIPLE: u32 = 4096;
+/// The most bytes of a listing of a directory that its call may ask for.
+pub const LISTING_BYTES: u32 = 32_768;
+/// The bytes of a listing that are best asked for.
+pub const LISTING_PREFERRED: u32 = 8192;
+/// The bytes that a listing takes before its first entry.
+pub const LISTING_FRAME: u32 = 104;
+/// The bytes that an entry of READDIR takes, but for its name.
+pub const ENTRY_BYTES: u32 = 24;
+/// The bytes that an entry of READDIRPLUS takes, but for its name.
+pub const ENTRY_PLUS_BYTES: u32 = 140;
+/// The step of the server's clock, in nanoseconds.
+pub const CLOCK_STEP: u32 = 1;
 
 // The sizes of sessions.
 

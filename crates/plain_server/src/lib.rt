@@ -12,5 +12,8 @@ mod tree;
 
 pub use mapped::MappedIndexes;
 pub use node::{PlainBody, PlainEntry, PlainNode};
+pub use permissions::{
+    acts_as_owner, class_of, has_right, has_write, is_own_group, is_superuser, may_write_file,
+};
 pub use server::{PlainFault, serve};
 pub use tree::{NumberedNode, PlainTree};

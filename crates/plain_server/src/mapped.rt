@@ -1,5 +1,5 @@
 //! The indexes of the blocks that a regular file has.
-ghost use Rattle.std.specs.Prelude.{◌≡◌, ℕ, ◌+◌, ◌*◌, ◌<◌, ◌≤◌, nat_lt, nat_le, length, filter, OnOk, OnErr};
+ghost use Rattle.std.specs.Prelude.{◌≡◌, ℕ, ◌+◌, ◌*◌, ◌<◌, ◌≤◌, nat_lt, nat_le, length, filter, IfOk, OnOk, OnErr};
 ghost use Rattle.std.specs.List.{list_any};
 ghost use Rattle.std.specs.FinSet as set;
 ghost use Rattle.model.specs.Cost.{file_cost};
@@ -8,18 +8,18 @@ use limits::{BLOCK_BYTES, DIRECT_INDEXES, FILE_INDEXES};
 use std::alloc::{AllocError, Global};
 use std::marker::Model;
 
-/// A set of indexes, at most as many as the largest file has.
+/// A set of indexes that a file may have.
 #[derive(Drop)]
 pub struct MappedIndexes {
     indexes: Vec<u32>,
 }
 
 impl Model for MappedIndexes {
-    ghost use Rattle.std.specs.Prelude.{◌≡◌, ◌≤◌, length};
+    ghost use Rattle.std.specs.Prelude.{◌≡◌, length};
     ghost use Rattle.std.specs.Ordering.{nat_cmp};
     ghost use Rattle.std.specs.FinSet as set;
     ghost use Rattle.std.specs.Coded.{coded_ℕ};
-    ghost use Rattle.limits.specs.declared.TheConstants.{FILE_INDEXES};
+    ghost use Rattle.plain_server.specs.Indexes.{AreIndexes};
 
     ghost Value = { set.FinSet nat_cmp };
 
@@ -27,9 +27,9 @@ impl Model for MappedIndexes {
 
     ghost view = { λ k. set.from_list k.indexes.items };
 
-    // no index stands twice
+    // no index stands twice, and each is one that a file may have
     ghost invariant = { λ k. (set.len (set.from_list {R = nat_cmp} k.indexes.items) ≡ length k.indexes.items)
-        × (length k.indexes.items ≤ FILE_INDEXES) };
+        × AreIndexes (set.from_list k.indexes.items) };
 }
 
 impl MappedIndexes {
@@ -41,9 +41,17 @@ impl MappedIndexes {
         }
     }
 
+    /// The same indexes once more.
+    pub fn copied(&self) -> Result<MappedIndexes, AllocError>
+        ensures { IfOk result (λ copy. copy ≡ self.now) }
+    {
+        let indexes = self.indexes.clone()?;
+        Ok(MappedIndexes { indexes })
+    }
+
     /// Keeps one index more.
     pub fn map_index(&mut self, index: u32) -> Result<(), AllocError>
-        requires { set.len self.old < FILE_INDEXES }
+        requires { index < FILE_INDEXES }
         ensures ok { OnOk result (self.new ≡ set.insert self.old index) }
         ensures err { OnErr result (self.new ≡ self.old) }
     {
@@ -79,8 +87,7 @@ fn any_is_indirect(indexes: &[u32]) -> bool
 }
 
 fn retain_below(indexes: &mut Vec<u32>, size: u64)
-    ensures items { indexes.new.items ≡ filter (λ index. nat_lt (index * BLOCK_BYTES) size) indexes.old.items }
-    ensures len { length indexes.new.items ≤ length indexes.old.items }
+    ensures { indexes.new.items ≡ filter (λ index. nat_lt (index * BLOCK_BYTES) size) indexes.old.items }
 {
     indexes.retain(|index| (*index as u64) * (BLOCK_BYTES as u64) < size);
 }

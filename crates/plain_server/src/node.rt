@@ -1,5 +1,5 @@
 //! Files as plain structs.
-ghost use Rattle.std.specs.Prelude.{◌≡◌, ◌*◌};
+ghost use Rattle.std.specs.Prelude.{◌≡◌, ◌*◌, ◌^◌, ◌≤◌};
 ghost use Rattle.model.specs.Attributes.{attributes_of, before_change, kind_of, size_of};
 ghost use Rattle.model.specs.Cost.{cost};
 ghost use Rattle.plain_server.specs.Plain.{body_of, node_of};
@@ -72,11 +72,12 @@ impl PlainBody {
         }
     }
 
-    /// The bytes of the blocks that the file uses.
-    pub fn used(&self) -> u64
-        ensures { result ≡ BLOCK_BYTES * cost (body_of self.now) }
+    /// The blocks that the file uses.
+    pub fn cost(&self) -> u64
+        ensures cost { result ≡ cost (body_of self.now) }
+        ensures small { result ≤ 2 ^ 32 }
     {
-        let blocks = match self {
+        match self {
             PlainBody::Regular { mapped, .. } => mapped.cost(),
             PlainBody::Directory { span, .. } => {
                 *span as u64
@@ -87,8 +88,14 @@ impl PlainBody {
                     }
             }
             PlainBody::Link { .. } => 1,
-        };
-        BLOCK_BYTES as u64 * blocks
+        }
+    }
+
+    /// The bytes of the blocks that the file uses.
+    pub fn used(&self) -> u64
+        ensures { result ≡ BLOCK_BYTES * cost (body_of self.now) }
+    {
+        BLOCK_BYTES as u64 * self.cost()
     }
 }
 

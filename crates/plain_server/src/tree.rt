@@ -68,7 +68,7 @@ impl PlainTree {
     }
 
     /// Where the first file of this number stands.
-    fn position_of(&self, number: u32) -> Option<usize>
+    pub fn position_of(&self, number: u32) -> Option<usize>
         ensures { result ≡ position (λ n. nat_eq number n.number) self.now.nodes.items }
     {
         self.nodes.iter().position(|n| number == n.number)
@@ -93,7 +93,7 @@ impl PlainTree {
     }
 
     /// Where the file stands that a handle names.
-    pub(crate) fn find(&self, handle: &Handle) -> Result<usize, Status>
+    pub fn find(&self, handle: &Handle) -> Result<usize, Status>
         ensures { Locates self.now.nodes.items result (find_file (tree_of self.now) handle.now.bytes) }
     {
         let Some((number, Stamp { boot, transaction })) = handle.parts() else {

@@ -1,10 +1,12 @@
-use Rattle.std.proofs.Common.{◌≡◌, ℕ, ◌+◌, nat_le, length, Bool, cond, List, ap, ◌∙◌, sym}
+use Rattle.std.proofs.Common.{◌≡◌, ℕ, ◌+◌, nat_le, length, Bool, cond, List, ap, ◌∙◌, sym, true, false, ◌≤◌, arith}
 use Rattle.std.specs.List.{list_any}
 use Rattle.std.specs.Ordering.{nat_cmp}
 use Rattle.std.specs.FinSet as set
-use Rattle.limits.specs.declared.TheConstants.{DIRECT_INDEXES}
+use Rattle.limits.specs.declared.TheConstants.{DIRECT_INDEXES, FILE_INDEXES}
 use Rattle.model.specs.Cost.{file_cost}
 use Rattle.model.proofs.Sets.{any_items}
+use Rattle.plain_server.specs.Indexes.{AreIndexes}
+use Rattle.plain_server.proofs.Few.{few_indexes}
 use Rattle.plain_server.proofs.mapped.MappedIndexes.cost.Goals as goal
 use Rattle.plain_server.proofs.mapped.MappedIndexes.cost.Goals.{then-any_is_indirect, else-any_is_indirect}
 
@@ -29,3 +31,20 @@ returns-clause-cost c =
           ∙ ap (λ b. cond b 1 0) (sym w.if-any_is_indirect.false)
     ])
     ∙ ap file_cost c.self.view_is
+
+small_cost : (items : List ℕ) (len extra : ℕ) (b : Bool)
+    → set.len (set.from_list {R = nat_cmp} items) ≡ length items → AreIndexes (set.from_list items)
+    → len ≡ length items → extra ≡ cond b 1 0 → len + extra ≤ FILE_INDEXES + 1
+small_cost items len extra true distinct are len_is extra_is =
+    let few = few_indexes (set.from_list items) are in omega (arith, few, distinct, len_is, extra_is)
+small_cost items len extra false distinct are len_is extra_is =
+    let few = few_indexes (set.from_list items) are in omega (arith, few, distinct, len_is, extra_is)
+
+pub returns-clause-small : goal.returns-clause-small
+returns-clause-small c =
+    elim c.if-any_is_indirect.branch [
+      | then-any_is_indirect w ↦ small_cost c.self.inside.indexes.items c.len.result
+          c.if-any_is_indirect.indirect true c.self.invariant.0 c.self.invariant.1 (cc) w.indirect-is
+      | else-any_is_indirect w ↦ small_cost c.self.inside.indexes.items c.len.result
+          c.if-any_is_indirect.indirect false c.self.invariant.0 c.self.invariant.1 (cc) w.indirect-is
+    ]

@@ -5,6 +5,8 @@ use Rattle.std.specs.Ordering.{nat_cmp}
 use Rattle.std.specs.Cmp.{nat_cmp_total}
 use Rattle.std.specs.FinSet as set
 use Rattle.model.proofs.Sets.{Distinct, distinct-push, insert_again}
+use Rattle.plain_server.specs.Indexes.{AreIndexes}
+use Rattle.plain_server.proofs.Few.{with_index}
 use Rattle.plain_server.proofs.mapped.MappedIndexes.map_index.Goals as goal
 
 pub invariant_of-self : goal.invariant_of-self
@@ -16,20 +18,9 @@ invariant_of-self c =
     let d : Distinct c.self.inside.indexes.items = record { count = c.self.invariant.0 } in
     let e : Distinct c.push.new.self.items =
     subst Distinct (sym c.in_ok-push.ensures.items) (distinct-push _ _ absent d) in
-    let room : set.len (set.from_list {R = nat_cmp} c.self.inside.indexes.items) ≡ set.len c.args.self.now =
-    ap set.len c.self.view_is in
-    let grown : length c.push.new.self.items ≡ length (c.self.inside.indexes.items ++ c.args.index ∷ []) =
-    ap length c.in_ok-push.ensures.items in (
-      e.count,
-      omega (
-        arith,
-        c.requires,
-        room,
-        d.count,
-        grown,
-        length-append c.self.inside.indexes.items (c.args.index ∷ []),
-      ),
-    )
+    let all = ap set.from_list (c.in_ok-push.ensures.items)
+    ∙ set.from_list_push nat_cmp_total set.nat_cmp-IsAntisymmetric _ _ in
+    (e.count, subst AreIndexes (sym all) (with_index _ c.args.index c.requires c.self.invariant.1))
 
 pub returns-in_ok-push-clause-ok : goal.returns-in_ok-push-clause-ok
 returns-in_ok-push-clause-ok c =

@@ -1,6 +1,8 @@
-use Rattle.std.proofs.Common.{length, ap, ◌∙◌, arith, sym}
+use Rattle.std.proofs.Common.{sym, ap, ◌∙◌, length, subst}
 use Rattle.std.specs.Ordering.{nat_cmp}
 use Rattle.std.specs.FinSet as set
+use Rattle.plain_server.specs.Indexes.{AreIndexes}
+use Rattle.plain_server.proofs.Few.{no_indexes}
 use Rattle.plain_server.proofs.mapped.MappedIndexes.new.Goals as goal
 
 pub invariant_of-result : goal.invariant_of-result
@@ -8,5 +10,5 @@ invariant_of-result c =
     let none = ap length c.new.ensures.items in (
       ap (λ ks. set.len (set.from_list {R = nat_cmp} ks)) c.new.ensures.items ∙ set.len-empty nat_cmp
           ∙ sym none,
-      omega arith,
+      subst (λ ks. AreIndexes (set.from_list ks)) (sym c.new.ensures.items) no_indexes,
     )

@@ -1,0 +1,5 @@
+pub mod Entries
+pub mod Listed
+pub mod Tell
+pub mod Touched
+pub mod Writes

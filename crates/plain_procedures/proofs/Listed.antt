@@ -1,0 +1,69 @@
+-- What a list of files stands for, file by file.
+use Rattle.std.proofs.Common.{rules, ◌≡◌, ℕ, ◌+◌, ◌<◌, sym, ap, ◌∙◌, refl, true}
+use Rattle.std.proofs.Common.{List, [], ◌∷◌, length, get_or, drop, map, position, nat_eq, Option, Some, None, arith, sum_by}
+use Rattle.std.proofs.lemmas.List.{drop_more}
+use Rattle.std.proofs.lemmas.Iterator.Adapters.{position_from-zero}
+use Rattle.std.proofs.lemmas.List.Quantifiers.{position-Some}
+use Rattle.std.specs.Cmp.{nat_cmp_total}
+use Rattle.std.specs.FinMap as map
+use Rattle.std.specs.Ordering.{nat_cmp}
+use Rattle.model.proofs.Maps.{entries-empty, sum_insert}
+use Rattle.model.specs.Cost.{cost}
+use Rattle.model.specs.Node.{Node}
+use Rattle.model.specs.Tree.{cost_at}
+use Rattle.procedures.proofs.Sums.{sum_insert_new}
+use Rattle.plain_server.proofs.Found.{find_at, find_none}
+use Rattle.plain_server.specs.Plain.{body_of, node_of, numbered}
+use Rattle.plain_server.specs.declared.tree.NumberedNode.{NumberedNode}
+use Rattle.plain_procedures.specs.Listed.{blocks_of, files_of}
+
+same_number : (a b : ℕ) → nat_eq a b ≡ true → a ≡ b
+same_number a b e = search rules
+
+-- a number that stands nowhere is no file's
+pub got_none : (xs : List NumberedNode) (q : ℕ) → position (λ n. nat_eq q n.number) xs ≡ None
+    → map.get (files_of xs) q ≡ None
+got_none xs q none =
+    map.get-from_entries nat_cmp_total (map numbered xs) q
+    ∙ find_none xs q 0 (sym (position_from-zero (λ n. nat_eq q n.number) xs) ∙ none)
+
+-- the first file of a number is that number's
+pub got_some : (xs : List NumberedNode) (q index : ℕ) (file : NumberedNode)
+    → position (λ n. nat_eq q n.number) xs ≡ Some index → file ≡ get_or xs index file
+    → map.get (files_of xs) q ≡ Some (node_of file.node)
+got_some xs q index file is here =
+    let at = position-Some (λ n. nat_eq q n.number) xs index file is in
+    let number_is : q ≡ file.number = same_number q _ at.1 ∙ ap (λ n. n.number) (sym here) in
+    ap (map.get (files_of xs)) number_is
+    ∙ map.get-from_entries nat_cmp_total (map numbered xs) file.number
+    ∙ find_at xs index file at.0 (sym here)
+    (λ k below. ap (λ p. nat_eq p (get_or xs k file).number) (sym number_is) ∙ at.2 k below)
+
+-- a file before others: one of its number among those is hidden by it
+with_known : (x : NumberedNode) (xs : List NumberedNode) (at : Option Node) → map.get (files_of xs) x.number ≡ at
+    → blocks_of (x ∷ xs) + cost_at at ≡ blocks_of xs + cost (body_of x.node.body)
+with_known x xs None is =
+    let sum = sum_insert_new (λ e. cost e.1.body) x.number (node_of x.node) (files_of xs) is in
+    omega (arith, sum)
+with_known x xs (Some old) is = sum_insert (λ e. cost e.1.body) x.number old (node_of x.node) (files_of xs) is
+
+pub with_one : (x : NumberedNode) (xs : List NumberedNode)
+    → blocks_of (x ∷ xs) + cost_at (map.get (files_of xs) x.number) ≡ blocks_of xs + cost (body_of x.node.body)
+with_one x xs = with_known x xs (map.get (files_of xs) x.number) refl
+
+pub with_first : (xs : List NumberedNode) (index : ℕ) (file : NumberedNode) → index < length xs
+    → file ≡ get_or xs index file
+    → blocks_of (drop index xs) + cost_at (map.get (files_of (drop (index + 1) xs)) file.number)
+    ≡ blocks_of (drop (index + 1) xs) + cost (body_of file.node.body)
+with_first xs index file inside here =
+    let is : drop index xs ≡ file ∷ drop (index + 1) xs =
+    drop_more xs index file inside ∙ ap (λ x. x ∷ drop (index + 1) xs) (sym here) in
+    ap (λ ys. blocks_of ys + cost_at (map.get (files_of (drop (index + 1) xs)) file.number)) is
+    ∙ with_one file (drop (index + 1) xs)
+
+no_blocks : blocks_of [] ≡ 0
+no_blocks = ap (sum_by (λ e. cost e.1.body)) (entries-empty nat_cmp)
+
+pub none_left : (xs : List NumberedNode) → blocks_of (drop (length xs) xs) ≡ 0
+none_left [] = no_blocks
+none_left (x ∷ xs) = none_left xs

@@ -1,0 +1,24 @@
+//! The procedures of NFS version 3 computed in a plain, slow way over trees in memory. Each is proved to be the
+//! step that `procedures` defines.
+#![tactic(auto)]
+
+mod committing;
+mod file_system;
+mod finding;
+mod looking;
+mod names;
+mod reading;
+mod rights;
+mod space;
+mod targets;
+mod writing;
+
+pub use committing::commit;
+pub use file_system::{file_system_info, path_limits};
+pub use finding::{Changed, Told, found};
+pub use looking::look_up;
+pub use reading::read;
+pub use rights::access;
+pub use space::free_blocks;
+pub use targets::read_link;
+pub use writing::write;

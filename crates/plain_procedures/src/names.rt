@@ -1,0 +1,114 @@
+//! Names in directories, and the tests on them (RFC 1813, section 3.2).
+ghost use Rattle.std.specs.Prelude.{◌≡◌, ◌||◌, IfSome, IfNone, nat_eq, position, Some, None};
+ghost use Rattle.std.specs.Cmp.Lexicographic.{slice_cmp};
+ghost use Rattle.std.specs.List.{list_all, list_any};
+ghost use Rattle.std.specs.Ordering.{eq_by_cmp, nat_cmp};
+ghost use Rattle.model.specs.SetAttr.{first_of_tests};
+ghost use Rattle.model.specs.Sound.{DOT, SLASH};
+ghost use Rattle.procedures.specs.FirstTests.{is_no_name, may_search, place_tests};
+ghost use Rattle.procedures.specs.Places.{entry_at, file_at, is_dots, named_file};
+ghost use Rattle.plain_server.specs.Plain.{body_of, entry_of, node_of, numbered, tree_of};
+
+use limits::{EXECUTE_RIGHT, NAME_BYTES};
+use nfs_types::{Credential, Status};
+use plain_server::{NumberedNode, PlainBody, PlainEntry, PlainNode, PlainTree, has_right};
+
+fn has_only_dots(name: &[u8]) -> bool
+    ensures { result ≡ list_all (λ byte. nat_eq byte DOT) name.now }
+{
+    name.iter().all(|byte| *byte == b'.')
+}
+
+pub(crate) fn is_dots(count: usize, name: &[u8]) -> bool
+    ensures { result ≡ is_dots count name.now }
+{
+    name.len() == count && has_only_dots(name)
+}
+
+fn has_forbidden(name: &[u8]) -> bool
+    ensures { result ≡ list_any (λ byte. nat_eq byte SLASH || nat_eq byte 0) name.now }
+{
+    name.iter().any(|byte| *byte == b'/' || *byte == 0)
+}
+
+fn is_no_name(name: &[u8]) -> bool
+    ensures { result ≡ is_no_name name.now }
+{
+    name.len() == 0 || has_forbidden(name)
+}
+
+pub(crate) fn may_search(caller: &Credential, directory: &PlainNode) -> bool
+    ensures { result ≡ may_search caller.now (node_of directory.now) }
+{
+    has_right(EXECUTE_RIGHT, caller, directory)
+}
+
+/// Why a name in a directory isn't looked at.
+pub(crate) fn place_refusal(allowed: bool, directory: &PlainNode, name: &[u8]) -> Option<Status>
+    ensures { result ≡ first_of_tests (place_tests allowed (node_of directory.now) name.now) }
+{
+    if !matches!(&directory.body, PlainBody::Directory { .. }) {
+        Some(Status::NotDir)
+    } else if is_no_name(name) {
+        Some(Status::Acces)
+    } else if name.len() > NAME_BYTES {
+        Some(Status::NameTooLong)
+    } else if !allowed {
+        Some(Status::Acces)
+    } else {
+        None
+    }
+}
+
+/// The file of a number.
+pub(crate) fn file_at(tree: &PlainTree, number: u32) -> Option<&NumberedNode>
+    ensures some { IfSome result (λ file. file_at (tree_of tree.now) number ≡ Some (numbered file.now)) }
+    ensures none { IfNone result (file_at (tree_of tree.now) number ≡ None) }
+{
+    let index = tree.position_of(number)?;
+    Some(&tree.nodes[index])
+}
+
+// Whether two names are one.
+fn same_name(one: &[u8], other: &[u8]) -> bool
+    ensures { result ≡ eq_by_cmp (slice_cmp nat_cmp) one.now other.now }
+{
+    one.cmp(other).is_eq()
+}
+
+// Where the first entry of a name stands.
+fn position_of_name(entries: &[PlainEntry], name: &[u8]) -> Option<usize>
+    ensures { result ≡ position (λ entry. eq_by_cmp (slice_cmp nat_cmp) name.now entry.name) entries.now }
+{
+    entries
+        .iter()
+        .position(|entry| same_name(name, entry.name.as_slice()))
+}
+
+/// What a name in a directory leads to.
+pub(crate) fn entry_at<'t>(body: &'t PlainBody, name: &[u8]) -> Option<&'t PlainEntry>
+    ensures some { IfSome result (λ entry. entry_at (body_of body.now) name.now ≡ Some (entry_of entry.now).1) }
+    ensures none { IfNone result (entry_at (body_of body.now) name.now ≡ None) }
+{
+    let PlainBody::Directory { entries, .. } = body else {
+        return None;
+    };
+    let index = position_of_name(entries, name)?;
+    Some(&entries[index])
+}
+
+/// The file that a name in a directory leads to.
+pub(crate) fn named_file<'t>(
+    tree: &'t PlainTree,
+    directory: &PlainNode,
+    name: &[u8],
+) -> Option<&'t NumberedNode>
+    ensures some { IfSome result (λ file. named_file (tree_of tree.now) (node_of directory.now) name.now
+        ≡ Some (numbered file.now)) }
+    ensures none { IfNone result (named_file (tree_of tree.now) (node_of directory.now) name.now ≡ None) }
+{
+    match entry_at(&directory.body, name) {
+        Some(entry) => file_at(tree, entry.number),
+        None => None,
+    }
+}

@@ -1,0 +1,40 @@
+-- MKDIR (RFC 1813, section 3.3.9).
+use Rattle.std.specs.Prelude.{ℕ, Bool, ◌||◌, List, [], ◌∷◌, ◌++◌, is_some, nat_le, Option, None, Result}
+use Rattle.std.specs.FinMap as map
+use Rattle.limits.specs.declared.TheConstants.{MOST_LINKS, NEW_DIRECTORY_MODE}
+use Rattle.nfs_types.specs.declared.attributes.NewAttributes.{NewAttributes}
+use Rattle.nfs_types.specs.declared.attributes.WeakCacheData.{WeakCacheData}
+use Rattle.nfs_types.specs.declared.ctx.Ctx.{Ctx}
+use Rattle.nfs_types.specs.declared.reply.Created.{Created}
+use Rattle.nfs_types.specs.declared.status.Status.{Status}
+use Rattle.nfs_types.specs.declared.status.Status.TheVariants as status
+use Rattle.model.specs.Node.{Node, Directory}
+use Rattle.model.specs.SetAttr.{first_of_tests}
+use Rattle.model.specs.Tree.{Tree}
+use Rattle.procedures.specs.FirstTests.{may_change, place_tests, unless}
+use Rattle.procedures.specs.Fresh.{fresh, make, without_size}
+use Rattle.procedures.specs.Places.{is_own_name, named_file}
+use Rattle.procedures.specs.Told.{Acts, Effect}
+
+-- the name is there already, or is one that each directory has
+abbrev pub is_there : Tree → Node → List ℕ → Bool
+is_there tree directory name = is_own_name name || is_some (named_file tree directory name)
+
+-- it has as many links as a file may have
+abbrev pub is_full : Node → Bool
+is_full node = nat_le MOST_LINKS node.nlink
+
+abbrev pub make_directory : Tree → Ctx → List ℕ → NewAttributes → Option ℕ → ℕ → Node
+    → Result (Effect Created) Status
+make_directory tree ctx name wanted number at directory =
+    unless (first_of_tests (place_tests (may_change ctx.credential directory) directory name
+    ++ (is_there tree directory name, status.Exist)
+    ∷ (is_full directory, status.MLink)
+    ∷ []))
+    (make tree ctx number at directory name (without_size wanted)
+    (fresh ctx NEW_DIRECTORY_MODE None (Directory map.empty 0 at)))
+
+abbrev pub MkDirStep : Tree → Ctx → List ℕ → List ℕ → NewAttributes → Option ℕ → Result Created Status
+    → WeakCacheData → Tree → Type 0
+MkDirStep tree ctx directory name wanted number outcome told next =
+    Acts tree directory (make_directory tree ctx name wanted number) outcome told next

@@ -1,0 +1,46 @@
+-- RMDIR (RFC 1813, section 3.3.13).
+use Rattle.std.specs.Prelude.{ℕ, Bool, List, [], ◌∷◌, ◌++◌, length, nat_lt, is_none, Option, Result, Ok}
+use Rattle.nfs_types.specs.declared.attributes.WeakCacheData.{WeakCacheData}
+use Rattle.nfs_types.specs.declared.ctx.Credential.{Credential}
+use Rattle.nfs_types.specs.declared.ctx.Ctx.{Ctx}
+use Rattle.nfs_types.specs.declared.status.Status.{Status}
+use Rattle.nfs_types.specs.declared.status.Status.TheVariants as status
+use Rattle.model.specs.Names.{entries_of}
+use Rattle.model.specs.Node.{Node, Body}
+use Rattle.model.specs.SetAttr.{first_of_tests, given}
+use Rattle.model.specs.Tree.{Tree}
+use Rattle.procedures.specs.Changes.{without_name}
+use Rattle.procedures.specs.FirstTests.{may_change, place_tests, unless}
+use Rattle.procedures.specs.Places.{is_found_other, is_own_name, named_file}
+use Rattle.procedures.specs.Told.{Acts, Effect}
+
+-- some name lies in it
+abbrev pub has_names : Body → Bool
+has_names body = nat_lt 0 (length (entries_of body))
+
+-- there is such a file, and it has names in it
+abbrev pub is_found_filled : Option (ℕ × Node) → Bool
+is_found_filled found = given found (λ file. has_names file.1.body)
+
+abbrev pub rmdir_refusal : Credential → Node → List ℕ → Option (ℕ × Node) → Option Status
+rmdir_refusal caller directory name found = first_of_tests (
+    place_tests (may_change caller directory) directory name
+    ++ (is_own_name name, status.Inval)
+    ∷ (is_none found, status.NoEnt)
+    ∷ (is_found_other found, status.NotDir)
+    ∷ (is_found_filled found, status.NotEmpty)
+    ∷ [])
+
+-- the name goes, and the directory with it
+abbrev pub remove_directory : Tree → Ctx → List ℕ → ℕ → Node → Result (Effect (Unit {0})) Status
+remove_directory tree ctx name at directory =
+    unless (rmdir_refusal ctx.credential directory name (named_file tree directory name))
+    (Ok (record {
+      answer = tt;
+      next = without_name tree ctx.moment at name (named_file tree directory name);
+    }))
+
+abbrev pub RmDirStep : Tree → Ctx → List ℕ → List ℕ → Result (Unit {0}) Status → WeakCacheData → Tree
+    → Type 0
+RmDirStep tree ctx directory name outcome told next =
+    Acts tree directory (remove_directory tree ctx name) outcome told next

@@ -1,0 +1,31 @@
+-- SYMLINK (RFC 1813, section 3.3.10).
+use Rattle.std.specs.Prelude.{ℕ, List, [], ◌∷◌, ◌++◌, length, nat_eq, nat_lt, Option, None, Result}
+use Rattle.limits.specs.declared.TheConstants.{NEW_LINK_MODE, TARGET_BYTES}
+use Rattle.nfs_types.specs.declared.attributes.NewAttributes.{NewAttributes}
+use Rattle.nfs_types.specs.declared.attributes.WeakCacheData.{WeakCacheData}
+use Rattle.nfs_types.specs.declared.ctx.Ctx.{Ctx}
+use Rattle.nfs_types.specs.declared.reply.Created.{Created}
+use Rattle.nfs_types.specs.declared.status.Status.{Status}
+use Rattle.nfs_types.specs.declared.status.Status.TheVariants as status
+use Rattle.model.specs.Node.{Node, Link}
+use Rattle.model.specs.SetAttr.{first_of_tests}
+use Rattle.model.specs.Tree.{Tree}
+use Rattle.procedures.specs.FirstTests.{may_change, place_tests, unless}
+use Rattle.procedures.specs.Fresh.{fresh, make, without_size}
+use Rattle.procedures.specs.MkDir.{is_there}
+use Rattle.procedures.specs.Told.{Acts, Effect}
+
+abbrev pub make_link : Tree → Ctx → List ℕ → NewAttributes → List ℕ → Option ℕ → ℕ → Node
+    → Result (Effect Created) Status
+make_link tree ctx name wanted target number at directory =
+    unless (first_of_tests (place_tests (may_change ctx.credential directory) directory name
+    ++ (is_there tree directory name, status.Exist)
+    ∷ (nat_eq (length target) 0, status.Inval)
+    ∷ (nat_lt TARGET_BYTES (length target), status.NameTooLong)
+    ∷ []))
+    (make tree ctx number at directory name (without_size wanted) (fresh ctx NEW_LINK_MODE None (Link target)))
+
+abbrev pub SymLinkStep : Tree → Ctx → List ℕ → List ℕ → NewAttributes → List ℕ → Option ℕ
+    → Result Created Status → WeakCacheData → Tree → Type 0
+SymLinkStep tree ctx directory name wanted target number outcome told next =
+    Acts tree directory (make_link tree ctx name wanted target number) outcome told next

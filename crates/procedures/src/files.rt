@@ -1,0 +1,32 @@
+//! Laws on what READ and WRITE do with the bytes of a file, and on what WRITE takes of the blocks.
+ghost use Rattle.std.specs.Prelude.{◌≡◌, ◌≤◌, ◌<◌, ◌-◌, ℕ, List, length, get_or, Some};
+ghost use Rattle.limits.specs.declared.TheConstants.{TRANSFER_BYTES};
+ghost use Rattle.model.specs.Cost.{cost};
+ghost use Rattle.model.specs.Node.{Node};
+ghost use Rattle.model.specs.Tree.{Tree, need, node_at, with_node};
+ghost use Rattle.procedures.specs.Read.{piece};
+ghost use Rattle.procedures.specs.Write.{overwritten};
+
+/// What was written is what a READ of as many bytes from there gives.
+pub fn what_is_written_is_read()
+    ensures { (offset : ℕ) (text bytes : List ℕ) → length text ≤ TRANSFER_BYTES
+        → piece offset (length text) (overwritten offset text bytes) ≡ text }
+{}
+
+/// Between the end of the file and what is written behind it there are zeros.
+pub fn a_hole_is_zeros()
+    ensures { (offset at : ℕ) (text bytes : List ℕ) → length bytes ≤ at → at < offset
+        → get_or (overwritten offset text bytes) at 0 ≡ 0 }
+{}
+
+/// The bytes before what is written stay.
+pub fn what_lies_before_stays()
+    ensures { (offset at : ℕ) (text bytes : List ℕ) → at < offset
+        → get_or (overwritten offset text bytes) at 0 ≡ get_or bytes at 0 }
+{}
+
+/// A change of one file needs the blocks that the new one costs beyond the old one.
+pub fn one_file_needs_what_it_adds()
+    ensures { (tree : Tree) (number : ℕ) (old new : Node) → node_at tree number ≡ Some old
+        → need tree (with_node tree number new) ≡ cost new.body - cost old.body }
+{}

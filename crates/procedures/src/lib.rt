@@ -1,0 +1,22 @@
+//! The procedures of NFS version 3 over trees, as definitions: what each may answer and which tree it leads to
+//! (RFC 1813, section 3.3). They stand in `specs/`, one file a procedure; the functions here have laws about
+//! them as their contracts.
+#![tactic(auto)]
+
+mod bits;
+mod cookies;
+mod files;
+mod steps;
+
+pub use bits::{
+    ACCESS_DELETE, ACCESS_EXECUTE, ACCESS_EXTEND, ACCESS_LOOKUP, ACCESS_MODIFY, ACCESS_READ,
+    HAS_LINKS, HAS_SYMBOLIC_LINKS, IS_HOMOGENEOUS, SETS_TIMES,
+};
+pub use cookies::{FIRST_SLOT_COOKIE, ITSELF_COOKIE, PARENT_COOKIE};
+pub use files::{
+    a_hole_is_zeros, one_file_needs_what_it_adds, what_is_written_is_read, what_lies_before_stays,
+};
+pub use steps::{
+    a_numbered_step_is_determined, a_refusal_leaves_the_tree, each_call_has_a_step,
+    what_only_tells_leaves_the_tree,
+};

@@ -1,0 +1,34 @@
+//! Laws on the steps of all procedures.
+ghost use Rattle.std.specs.Prelude.{◌≡◌, ◌≢◌, ℕ, Option, true};
+ghost use Rattle.nfs_types.specs.declared.call.Call.{Call};
+ghost use Rattle.nfs_types.specs.declared.call.Call.TheVariants as call;
+ghost use Rattle.nfs_types.specs.declared.ctx.Ctx.{Ctx};
+ghost use Rattle.nfs_types.specs.declared.reply.Reply.{Reply};
+ghost use Rattle.model.specs.Tree.{Tree};
+ghost use Rattle.procedures.specs.Kinds.{is_refusal, only_tells};
+ghost use Rattle.procedures.specs.WholeStep.{WholeStep, numbered_step};
+
+/// Where the number of a new file is known, a call has one reply and one next tree.
+pub fn a_numbered_step_is_determined()
+    ensures { (tree next other : Tree) (ctx : Ctx) (new : Option ℕ) (asked : Call) (reply another : Reply)
+        → numbered_step tree ctx new asked reply next → numbered_step tree ctx new asked another other
+        → (reply ≡ another) × (next ≡ other) }
+{}
+
+/// Each call but NULL has a reply and a next tree, whatever the tree is.
+pub fn each_call_has_a_step()
+    ensures { (tree : Tree) (ctx : Ctx) (asked : Call) → asked ≢ call.Null
+        → (reply : Reply) × (next : Tree) × WholeStep tree ctx asked reply next }
+{}
+
+/// A call that is refused changes nothing.
+pub fn a_refusal_leaves_the_tree()
+    ensures { (tree next : Tree) (ctx : Ctx) (asked : Call) (reply : Reply)
+        → WholeStep tree ctx asked reply next → is_refusal reply ≡ true → next ≡ tree }
+{}
+
+/// A call that only tells something changes nothing.
+pub fn what_only_tells_leaves_the_tree()
+    ensures { (tree next : Tree) (ctx : Ctx) (asked : Call) (reply : Reply)
+        → WholeStep tree ctx asked reply next → only_tells asked ≡ true → next ≡ tree }
+{}
