@@ -1,16 +1,21 @@
 //! Tests that go through several layers. The page README.md says which file asks which question.
 
 mod by_hand;
+mod changed_bytes;
 mod compared;
 mod failures;
 mod first_path;
+mod full_log;
 mod images;
 mod left;
 mod openings;
 mod plain;
 mod plain_calls;
+mod records;
 mod runs;
 mod served;
 mod settling;
 mod spent;
+mod stopped_formats;
+mod stopped_openings;
 mod streams;

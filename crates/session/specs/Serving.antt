@@ -39,8 +39,9 @@ pub record IsServing (result : Result ℕ SessionFault) (store : Opened) (client
   pub idle : IsIdle store.core
   pub ended : IsEnded result store client
 
--- A store and a client were to be served, each call at the moment, which was answered so, and left them so. As
--- its body can't be used elsewhere, it is known of just what `serve` answers.
+-- A store and a client were to be served, each call at the moment, which was answered so, and left them so. Its
+-- body can't be used elsewhere, and the proof of `serve` alone cites what gives it: so it is known of just what
+-- `serve` answers.
 pub HasServed : Opened → Client → Moment → Result ℕ SessionFault → Opened → Client → Type 0
 HasServed opened client moment result store later = IsServing result store later
 

@@ -22,22 +22,22 @@ use thiserror::Error;
 /// Why a stream isn't served to its end.
 #[derive(Clone, Copy, Debug, PartialEq, Eq, Error)]
 pub enum SessionFault {
-    /// A record isn't one fragment, announces too much, or has no header that can be read.
+    /// A record isn't one fragment, announces too much, or is no call whose header can be read.
     #[error("Record")]
     Record,
     /// A read failed and wasn't interrupted, or there were too many of them.
     #[error("Input")]
     Input,
-    /// A write of a reply failed.
+    /// A write of a reply or the flush behind it failed.
     #[error("Output")]
     Output,
-    /// A record found no memory.
+    /// An allocation failed: for a piece of the input, for a record or its header, or for the bytes of a reply.
     #[error("NoMemory")]
     NoMemory,
     /// The input ends inside a record.
     #[error("Truncated")]
     Truncated,
-    /// The last settling failed.
+    /// The input has ended, and the settling behind it failed.
     #[error("Device")]
     Device,
 }
@@ -206,8 +206,8 @@ fn serve_call<D: CrashDisk, W: Write>(
     }
 }
 
-/// What a call is answered by what came of its procedure: its reply, or a system error where an allocation
-/// failed or where the reply has no spelling yet.
+/// What a call is answered by what came of its procedure: its reply, or a system error where that has no spelling
+/// yet or where an allocation failed in the procedure.
 pub fn reply_to(verdict: &Verdict) -> RpcReply<'_>
     ensures reply { body_of result ≡ reply_for verdict.now }
     ensures spellable { IsSpellable (body_of result) }

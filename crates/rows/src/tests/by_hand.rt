@@ -9,16 +9,16 @@ use std::alloc::{AllocError, Global};
 use std::test::Fail;
 use worked_messages::GETATTR;
 
-// Adds words of four bytes, the lowest byte of each first.
-fn put_words(bytes: &mut Vec<u8>, words: &[u32]) -> Result<(), AllocError> {
+/// Adds words of four bytes, the lowest byte of each first.
+pub fn put_words(bytes: &mut Vec<u8>, words: &[u32]) -> Result<(), AllocError> {
     for word in words {
         bytes.extend_from_slice(&word.to_le_bytes())?;
     }
     Ok(())
 }
 
-// Gives a block these bytes, and zeros behind them.
-fn set(alloc: Global, disk: &mut MemDisk, number: u32, bytes: &[u8]) -> Result<(), Fail> {
+/// Gives a block these bytes, and zeros behind them.
+pub fn set(alloc: Global, disk: &mut MemDisk, number: u32, bytes: &[u8]) -> Result<(), Fail> {
     if number >= disk.blocks() || bytes.len() > BLOCK_BYTES {
         return Err(Fail::from("a block"));
     }
@@ -45,9 +45,9 @@ const ROOT: [u32; 32] = [
     520, 521, 522, 523, 524, 525, 0,
 ];
 
-// The file: mode 420, of user 7 and group 8, one name, as long as a file can be, made by transaction 5 of boot 1.
-// Its index 0 is block 527, index 3 is block 528, and 529 is the indirect one.
-const FILE: [u32; 32] = [
+/// The file: mode 420, of user 7 and group 8, one name, as long as a file can be, made by transaction 5 of boot 1.
+/// Its index 0 is block 527, index 3 is block 528, and 529 is the indirect one.
+pub const FILE: [u32; 32] = [
     1, 420, 7, 8, 1, 0, 4_227_072, 0, 1000, 1, 1001, 2, 1002, 3, 1, 0, 5, 0, 0, 0, 0, 0, 527, 0, 0,
     528, 0, 0, 0, 0, 529, 0,
 ];
@@ -70,29 +70,43 @@ fn set_bitmap(
     set(alloc, disk, number, &bytes)
 }
 
-fn made(alloc: Global) -> Result<MemDisk, Fail> {
-    let mut disk = MemDisk::new(alloc, 1024)?;
-    set_words(alloc, &mut disk, 0, &SUPER)?;
-    // Blocks 0 to 531 are in use: 66 bytes of ones, and the bits of blocks 528 to 531.
+// The bitmaps: blocks 0 to 531 are in use, which are 66 bytes of ones and the bits of blocks 528 to 531, and the
+// inodes 0 to 2.
+fn set_bitmaps(alloc: Global, disk: &mut MemDisk) -> Result<(), Fail> {
     let mut used = Vec::new(alloc);
     used.resize(66, 0xff)?;
     used.push(0x0f)?;
-    set_bitmap(alloc, &mut disk, 514, &used, 1024)?;
-    set_bitmap(alloc, &mut disk, 515, &[7], 32)?;
+    set_bitmap(alloc, disk, 514, &used, 1024)?;
+    set_bitmap(alloc, disk, 515, &[7], 32)
+}
+
+// The table of inodes: 0 is free, 1 the root and 2 the file.
+fn set_table(alloc: Global, disk: &mut MemDisk) -> Result<(), Fail> {
     let mut table = Vec::new(alloc);
     put_words(&mut table, &[0; 32])?;
     put_words(&mut table, &ROOT)?;
     put_words(&mut table, &FILE)?;
-    set(alloc, &mut disk, 516, &table)?;
-    // The directory's indirect block names its ninth block, whose first slot has the name.
-    set_words(alloc, &mut disk, 525, &[526])?;
-    set_words(alloc, &mut disk, 526, &SLOT)?;
-    // The file's indirect block names its indexes 8 and 1031.
+    set(alloc, disk, 516, &table)
+}
+
+// The indirect blocks: the directory's names its ninth block, and the file's names its indexes 8 and 1031.
+fn set_indirect(alloc: Global, disk: &mut MemDisk) -> Result<(), Fail> {
+    set_words(alloc, disk, 525, &[526])?;
     let mut far = Vec::new(alloc);
     put_words(&mut far, &[530])?;
     far.resize(4092, 0)?;
     put_words(&mut far, &[531])?;
-    set(alloc, &mut disk, 529, &far)?;
+    set(alloc, disk, 529, &far)
+}
+
+// The image: the first slot of the directory's ninth block has the name.
+fn made(alloc: Global) -> Result<MemDisk, Fail> {
+    let mut disk = MemDisk::new(alloc, 1024)?;
+    set_words(alloc, &mut disk, 0, &SUPER)?;
+    set_bitmaps(alloc, &mut disk)?;
+    set_table(alloc, &mut disk)?;
+    set_indirect(alloc, &mut disk)?;
+    set_words(alloc, &mut disk, 526, &SLOT)?;
     set(alloc, &mut disk, 528, b"third")?;
     set(alloc, &mut disk, 531, b"last")?;
     Ok(disk)
@@ -203,45 +217,60 @@ fn begins_at(bytes: &[u8], offset: usize, part: &[u8]) -> bool {
     }
 }
 
+// Whether they are the name of file 2 alone, in the first slot of the ninth block.
+fn is_its_name(content: &PlainContent) -> bool {
+    match content {
+        PlainContent::Names(names) => match names.as_slice() {
+            [name] => name.name.as_slice() == b"f".as_slice()
+                && name.number == 2
+                && name.slot == 256,
+            _ => false,
+        },
+        _ => false,
+    }
+}
+
+// Whether they are the bytes of file 2.
+fn are_its_bytes(content: &PlainContent) -> bool {
+    match content {
+        PlainContent::Bytes(bytes) => {
+            bytes.as_slice().len() == 4_227_072
+                && begins_at(bytes.as_slice(), 12_288, b"third")
+                && begins_at(bytes.as_slice(), 4_222_976, b"last")
+        }
+        _ => false,
+    }
+}
+
 #[test]
-fn the_plain_decoder_reads_it(rt: HostRuntime) -> Result<(), Fail> {
+fn the_plain_decoder_reads_two_files(rt: HostRuntime) -> Result<(), Fail> {
     let alloc = rt.alloc();
     let image = read_image(alloc, &made(alloc)?)?;
     assert_eq!(rt; image.boot, 0);
     assert_eq!(rt; image.files.len(), 2);
-    match image.file(1) {
-        Some(root) => {
-            assert_eq!(rt; root.blocks, 9);
-            match &root.content {
-                PlainContent::Names(names) => {
-                    assert_eq!(rt; names.len(), 1);
-                    match names.first() {
-                        Some(name) => {
-                            assert_eq!(rt; name.name.as_slice(), b"f".as_slice());
-                            assert_eq!(rt; name.number, 2);
-                            assert_eq!(rt; name.slot, 256);
-                        }
-                        None => return Err(Fail::from("no name")),
-                    }
-                }
-                _ => return Err(Fail::from("no directory")),
-            }
-        }
-        None => return Err(Fail::from("no root")),
-    }
-    match image.file(2) {
-        Some(file) => {
-            assert_eq!(rt; file.blocks, 4);
-            match &file.content {
-                PlainContent::Bytes(bytes) => {
-                    assert_eq!(rt; bytes.as_slice().len(), 4_227_072);
-                    assert!(rt; begins_at(bytes.as_slice(), 12_288, b"third"));
-                    assert!(rt; begins_at(bytes.as_slice(), 4_222_976, b"last"));
-                }
-                _ => return Err(Fail::from("no regular file")),
-            }
-        }
-        None => return Err(Fail::from("no file")),
-    }
+    Ok(())
+}
+
+#[test]
+fn the_plain_decoder_reads_a_directory_of_nine_blocks(rt: HostRuntime) -> Result<(), Fail> {
+    let alloc = rt.alloc();
+    let image = read_image(alloc, &made(alloc)?)?;
+    assert!(rt;
+        image
+            .file(1)
+            .is_some_and(|root| root.blocks == 9 && is_its_name(&root.content))
+    );
+    Ok(())
+}
+
+#[test]
+fn the_plain_decoder_reads_a_file_of_four_blocks(rt: HostRuntime) -> Result<(), Fail> {
+    let alloc = rt.alloc();
+    let image = read_image(alloc, &made(alloc)?)?;
+    assert!(rt;
+        image
+            .file(2)
+            .is_some_and(|file| file.blocks == 4 && are_its_bytes(&file.content))
+    );
     Ok(())
 }

@@ -57,37 +57,70 @@ fn is_new(failed: u64, digits: [u32; 2]) -> bool {
     }
 }
 
-// Serves a SETATTR while a call of its group fails, of those that are made before the stream ends. Then
-// crashes.
-fn assert_failed(rt: &impl Host, failed: u64, made: u64, digits: [u32; 2]) -> Result<(), Fail> {
-    let alloc = rt.alloc();
+// Serves a SETATTR on a fresh image while a call of its group fails.
+fn set_failing(alloc: Global, failed: u64) -> Result<Served, Fail> {
     let call = calls_until_read(alloc)?.saturating_add(failed);
-    let served = served_failing(alloc, call, &[&SETATTR])?;
+    served_failing(alloc, call, &[&SETATTR])
+}
+
+// It is answered by whether its group was settled before a call failed.
+fn assert_answered(rt: &impl Host, failed: u64) -> Result<(), Fail> {
+    let served = set_failing(rt.alloc(), failed)?;
     let settled = failed > LOG_CALLS as u64;
     let reply: &[u32] = if settled { &SETATTR_DONE } else { &SETATTR_IO };
-    assert!(rt; has_replies(alloc, &served, &[reply])?, "{failed}");
+    assert!(rt; has_replies(rt.alloc(), &served, &[reply])?, "{failed}");
+    Ok(())
+}
+
+// The session ends by whether a call failed of those that are made before the stream ends.
+fn assert_ended(rt: &impl Host, failed: u64, made: u64) -> Result<(), Fail> {
+    let served = set_failing(rt.alloc(), failed)?;
     let result = if failed > made {
         Ok(1)
     } else {
         Err(SessionFault::Device)
     };
     assert_eq!(rt; served.result, result, "{failed}");
-    let boot = assert_left(rt, served.disk.crash(&digits), is_new(failed, digits))?;
-    assert_eq!(rt; boot, 2, "{failed}");
+    Ok(())
+}
+
+// The tree that each crash leaves then.
+fn assert_crashes(rt: &impl Host, failed: u64) -> Result<(), Fail> {
+    for digits in CHOICES {
+        let served = set_failing(rt.alloc(), failed)?;
+        let boot = assert_left(rt, served.disk.crash(&digits), is_new(failed, digits))?;
+        assert_eq!(rt; boot, 2, "{failed}");
+    }
+    Ok(())
+}
+
+// How many calls the group of a SETATTR makes.
+fn calls_of_group(alloc: Global) -> Result<u64, Fail> {
+    let served = serve(alloc, formatted(alloc)?, &[&SETATTR])?;
+    Ok(served.disk.calls().saturating_sub(calls_until_read(alloc)?))
+}
+
+#[test]
+fn a_group_makes_the_calls_of_the_log(rt: HostRuntime) -> Result<(), Fail> {
+    assert!(rt; calls_of_group(rt.alloc())? >= LOG_CALLS as u64);
+    Ok(())
+}
+
+// In the end of each comes the call behind the last, so that none fails.
+#[test]
+fn each_call_of_a_group_that_fails_is_answered(rt: HostRuntime) -> Result<(), Fail> {
+    let made = calls_of_group(rt.alloc())?;
+    for failed in 1..=made.saturating_add(1) {
+        assert_answered(&rt, failed)?;
+        assert_ended(&rt, failed, made)?;
+    }
     Ok(())
 }
 
 #[test]
-fn each_call_of_a_group_that_fails(rt: HostRuntime) -> Result<(), Fail> {
-    let alloc = rt.alloc();
-    let served = serve(alloc, formatted(alloc)?, &[&SETATTR])?;
-    let made = served.disk.calls().saturating_sub(calls_until_read(alloc)?);
-    assert!(rt; made >= LOG_CALLS as u64);
-    // and in the end the call behind the last, so that none fails
-    for failed in 1..=made.saturating_add(1) {
-        for digits in CHOICES {
-            assert_failed(&rt, failed, made, digits)?;
-        }
+fn each_call_of_a_group_that_fails_leaves_a_tree(rt: HostRuntime) -> Result<(), Fail> {
+    for failed in 1..=calls_of_group(rt.alloc())?.saturating_add(1) {
+        assert_crashes(&rt, failed)?;
     }
     Ok(())
 }

@@ -2,7 +2,7 @@
 
 use crate::tests::compared::{is_same_reply, is_tree_of};
 use crate::tests::plain::{DATA_BLOCKS, fresh, plain_reply_to, reply_in};
-use crate::tests::served::{Host, INODES, formatted, has_replies, reopened, serve};
+use crate::tests::served::{Host, INODES, Served, formatted, has_replies, reopened, serve};
 use disk::MemDisk;
 use limits::LEAST_BLOCKS;
 use nfs_types::{Procedure, Reply};
@@ -13,11 +13,17 @@ use std::test::Fail;
 use worked_messages::{GETATTR, GETATTR_FRESH, MADE, SETATTR, SETATTR_DONE};
 
 #[test]
-fn a_fresh_image(rt: HostRuntime) -> Result<(), Fail> {
+fn a_fresh_image_tells_its_data_blocks(rt: HostRuntime) -> Result<(), Fail> {
     let alloc = rt.alloc();
     let mut disk = MemDisk::new(alloc, LEAST_BLOCKS)?;
     assert_eq!(rt; store::format(alloc, &mut disk, INODES, MADE)?, DATA_BLOCKS);
-    let image = read_image(alloc, &disk)?;
+    Ok(())
+}
+
+#[test]
+fn a_fresh_image_has_the_root_alone(rt: HostRuntime) -> Result<(), Fail> {
+    let alloc = rt.alloc();
+    let image = read_image(alloc, &formatted(alloc)?)?;
     assert_eq!(rt; image.boot, 0);
     assert_eq!(rt; image.files.len(), 1);
     assert!(rt; is_tree_of(&image, &fresh(alloc)?));
@@ -38,6 +44,26 @@ fn is_plain_reply(
     Ok(is_same)
 }
 
+// Whether the plain server answers a call by the reply that was written, with which the tree goes on.
+fn is_plain_output(
+    alloc: Global,
+    tree: &mut PlainTree,
+    served: &Served,
+    procedure: Procedure,
+    call: &[u32],
+) -> Result<bool, Fail> {
+    let (xid, told) = reply_in(procedure, &served.output)?;
+    let is_same = is_plain_reply(alloc, tree, served.boot, call, &told);
+    drop(told);
+    Ok(is_same? && Some(&xid) == call.get(1))
+}
+
+// Whether the image has this tree once what is logged is home, at the second opening.
+fn is_left_in(alloc: Global, disk: MemDisk, tree: &PlainTree) -> Result<bool, Fail> {
+    let image = read_image(alloc, &reopened(alloc, disk)?)?;
+    Ok(image.boot == 2 && is_tree_of(&image, tree))
+}
+
 // Serves a call through both bodies, which have to agree, and with this reply.
 fn agrees(rt: &impl Host, procedure: Procedure, call: &[u32], reply: &[u32]) -> Result<(), Fail> {
     let alloc = rt.alloc();
@@ -46,14 +72,8 @@ fn agrees(rt: &impl Host, procedure: Procedure, call: &[u32], reply: &[u32]) -> 
     assert_eq!(rt; served.result, Ok(1));
     assert!(rt; has_replies(alloc, &served, &[reply])?);
     let mut tree = fresh(alloc)?;
-    let (xid, told) = reply_in(procedure, &served.output)?;
-    let is_same = is_plain_reply(alloc, &mut tree, served.boot, call, &told);
-    drop(told);
-    assert_eq!(rt; Some(&xid), call.get(1));
-    assert!(rt; is_same?);
-    let image = read_image(alloc, &reopened(alloc, served.disk)?)?;
-    assert_eq!(rt; image.boot, 2);
-    assert!(rt; is_tree_of(&image, &tree));
+    assert!(rt; is_plain_output(alloc, &mut tree, &served, procedure, call)?);
+    assert!(rt; is_left_in(alloc, served.disk, &tree)?);
     Ok(())
 }
 

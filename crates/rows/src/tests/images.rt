@@ -183,12 +183,30 @@ fn is_inode_of_file(file: &PlainFile) -> bool {
 }
 
 #[test]
-fn a_file_of_each_kind(rt: HostRuntime) -> Result<(), Fail> {
+fn three_files(rt: HostRuntime) -> Result<(), Fail> {
     let image = read_image(rt.alloc(), &laid_out(rt.alloc())?)?;
     assert_eq!(rt; image.geometry.data_blocks(), DATA_BLOCKS);
     assert_eq!(rt; image.files.len(), 3);
+    Ok(())
+}
+
+#[test]
+fn a_directory_with_names(rt: HostRuntime) -> Result<(), Fail> {
+    let image = read_image(rt.alloc(), &laid_out(rt.alloc())?)?;
     assert!(rt; image.file(1).is_some_and(|file| has_names(&file.content)));
+    Ok(())
+}
+
+#[test]
+fn a_regular_file_with_an_indirect_block(rt: HostRuntime) -> Result<(), Fail> {
+    let image = read_image(rt.alloc(), &laid_out(rt.alloc())?)?;
     assert!(rt; image.file(2).is_some_and(|file| has_bytes(&file.content)));
+    Ok(())
+}
+
+#[test]
+fn a_link_with_its_target(rt: HostRuntime) -> Result<(), Fail> {
+    let image = read_image(rt.alloc(), &laid_out(rt.alloc())?)?;
     assert!(rt; image.file(3).is_some_and(|file| has_target(&file.content)));
     Ok(())
 }
