@@ -1,6 +1,9 @@
 pub mod CallsLeft
+pub mod ComingHome
 pub mod FormatStops
 pub mod Formatted
 pub mod Made
+pub mod Later
+pub mod Raising
 pub mod LogMoves
 pub mod FewBlocks
