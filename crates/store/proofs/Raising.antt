@@ -1,8 +1,11 @@
 -- The super block is written beside an empty log, and settled.
 use Rattle.std.proofs.Common.{arith, ◌≡◌, ◌≢◌, ◌∙◌, refl, sym, ap, subst, ℕ, ◌<◌, ◌≤◌, ◌⊎◌, inl, inr, [], true, false}
 use Rattle.std.proofs.Common.{Bool, if◌then◌else◌, None, Ok, Err, Result, nat_eq}
+use Rattle.std.proofs.Common.{List, ◌∷◌, ◌++◌, ◌+◌, length}
+use Rattle.std.specs.Prelude.{IsErr, MatchResult}
 use Rattle.std.proofs.lemmas.Bool.Decides.{nat_tests}
-use Rattle.limits.specs.declared.TheConstants.{SUPER_BLOCK}
+use Rattle.std.proofs.lemmas.List.{append-nil, length-append}
+use Rattle.limits.specs.declared.TheConstants.{BLOCK_BYTES, SUPER_BLOCK}
 use Rattle.disk.specs.Crash.{Image, IsCrashImage}
 use Rattle.disk.specs.Device.{Content, Device, HasSettled, HasWritten, OneLater}
 use Rattle.disk.specs.declared.block.Side.TheVariants.{Home}
@@ -85,9 +88,25 @@ settled_stops before now next raised answer settle keeps = record {
         (keeps_settled now next Home answer block settle).within (image block)
         (is block (omega (arith, within, settle.later.size))))
 
--- what is known of the last two calls
-pub raises : (before now written later : Device) (log : Log) (raised : Content)
-    → BringsHome before raised now log → HasWritten now SUPER_BLOCK raised (Ok tt) written
-    → HasSettled written Home (Ok tt) later → HasRaised before raised later log
-raises before now written later log raised brings write settle =
+-- the super block is settled, or its barrier failed
+pub settled_or_not : (before now written later : Device) (log : Log) (raised : Content)
+    (answer : Result Unit Failed) → IsLawful log → log.changes ≡ [] → BringsHome before raised now log
+    → HasWritten now SUPER_BLOCK raised (Ok tt) written → HasSettled written Home answer later
+    → MatchResult answer (λ _. HasRaised before raised later log) (λ _. KeepsBlocks before later raised)
+settled_or_not before now written later log raised (Ok _) lawful none brings write settle =
     record { now = now; written = written; brings = brings; write = write; settle = settle }
+settled_or_not before now written later log raised (Err failed) lawful none brings write settle =
+    settled_stops before written later raised (Err failed) settle
+    (raised_stops before now log raised lawful none brings written (Ok tt) write)
+
+-- what is said of a failure is said
+pub said_of_err : {A E : Type 0} (result : Result A E) (P Q : Type 0) → IsErr result → Q
+    → MatchResult result (λ _. P) (λ _. Q)
+said_of_err (Ok _) P Q is q = cc
+said_of_err (Err _) P Q is q = q
+
+-- bytes that fill a block leave nothing behind them
+pub all_of : (bytes rest : List ℕ) → length (bytes ++ rest) ≡ BLOCK_BYTES → length bytes ≡ BLOCK_BYTES
+    → bytes ++ rest ≡ bytes
+all_of bytes [] whole full = append-nil bytes
+all_of bytes (x ∷ rest) whole full = absurd (omega (arith, sym (length-append bytes (x ∷ rest)) ∙ whole, full))

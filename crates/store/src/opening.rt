@@ -1,7 +1,7 @@
 //! Opening a store: what a crash left in the log is brought home, and the boot number rises.
-ghost use Rattle.std.specs.Prelude.{◌≡◌, ◌+◌, ◌^◌, ◌<◌, IfErr, IfOk, IsFalse, IsTrue, MatchResult, OnOk, [], ℕ};
+ghost use Rattle.std.specs.Prelude.{◌≡◌, ◌+◌, ◌^◌, ◌<◌, IfErr, IfOk, IsFalse, IsTrue, MatchResult, OnOk, [], ℕ, length};
 ghost use Rattle.std.specs.Prelude.{◌⊎◌, Ok, Err, true, false};
-ghost use Rattle.limits.specs.declared.TheConstants.{SUPER_BLOCK};
+ghost use Rattle.limits.specs.declared.TheConstants.{BLOCK_BYTES, SUPER_BLOCK};
 ghost use Rattle.disk.specs.Device.{Content, Device};
 ghost use Rattle.layout.specs.Geometry.{IsLawful};
 ghost use Rattle.layout.specs.SuperForm.{IsSuper, super_bytes};
@@ -207,9 +207,23 @@ fn raise<D: CrashDisk>(
         (λ cause. KeepsBlocks before (D.device disk.new) (super_bytes raised)) }
     ensures model { D.keeps_model disk.new → D.keeps_model disk.old }
 {
-    let bytes = raised.write(alloc).map_err(|_| OpenFault::NoMemory)?;
-    block.put(0, &bytes);
-    put_super(disk, block).map_err(|_| OpenFault::Device)
+    let Ok(bytes) = raised.write(alloc) else {
+        return Err(OpenFault::NoMemory);
+    };
+    put_whole(block, &bytes);
+    match put_super(disk, block) {
+        Ok(()) => Ok(()),
+        Err(Failed) => Err(OpenFault::Device),
+    }
+}
+
+// Makes a block these bytes.
+#[tactic(auto, using(crate::proofs::Raising::all_of))]
+fn put_whole(block: &mut Block, bytes: &[u8])
+    requires { length bytes.now ≡ BLOCK_BYTES }
+    ensures { block.new ≡ bytes.now }
+{
+    block.put(0, bytes);
 }
 
 // Writes a block as the super block, and settles it.
