@@ -5,5 +5,6 @@ pub mod Formatted
 pub mod Made
 pub mod Later
 pub mod Raising
+pub mod Refusing
 pub mod LogMoves
 pub mod FewBlocks

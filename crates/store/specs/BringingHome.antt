@@ -5,7 +5,8 @@ use Rattle.disk.specs.Crash.{Image}
 use Rattle.disk.specs.Device.{Content, Device, HasSettled, HasWritten}
 use Rattle.disk.specs.declared.block.Side.TheVariants.{Home}
 use Rattle.layout.specs.declared.super_block.Super.{Super}
-use Rattle.layout.specs.SuperForm.{IsSuper}
+use Rattle.layout.specs.declared.fault.LayoutFault.TheVariants as layout_fault
+use Rattle.layout.specs.SuperForm.{IsNoSuper, IsSuper}
 use Rattle.wal_law.specs.Calls.{AgreesBeside, idle}
 use Rattle.wal_law.specs.Law.{IsOutside, with_changes}
 use Rattle.wal_law.specs.Log.{Log, opened}
@@ -14,7 +15,7 @@ use Rattle.wal_law.specs.Recovery.{image_of}
 use Rattle.txn_law.specs.CoreWindow.{AreBlocks}
 use Rattle.store_promise.specs.declared.fault.OpenFault.{OpenFault}
 use Rattle.store_promise.specs.declared.fault.OpenFault.TheVariants as fault
-use Rattle.store_promise.specs.Openings.{AtEachStop, IsLater}
+use Rattle.store_promise.specs.Openings.{AtEachStop, IsLater, IsOfAnother}
 
 -- An image that can be opened, whose blocks, with its log laid over them, are those of a first image with the
 -- log of that laid over them, save for the super block, which is this.
@@ -74,3 +75,12 @@ CountsCause fault.Version before later = later.failures ≡ before.failures
 CountsCause fault.Range before later = later.failures ≡ before.failures
 CountsCause fault.Log before later = later.failures ≡ before.failures
 CountsCause fault.NoMemory before later = later.failures ≡ before.failures
+
+-- a block has no super block of an image of so many blocks that may be opened, and this is what is wrong with it
+abbrev pub HasNoSuper : OpenFault → ℕ → Content → Type 0
+HasNoSuper fault.Magic size content = IsNoSuper content layout_fault.Magic
+HasNoSuper fault.Version size content = IsNoSuper content layout_fault.Version
+HasNoSuper fault.Range size content = IsNoSuper content layout_fault.Range ⊎ IsOfAnother size content
+HasNoSuper fault.Log size content = ⊥
+HasNoSuper fault.Device size content = ⊥
+HasNoSuper fault.NoMemory size content = ⊥

@@ -11,7 +11,7 @@ ghost use Rattle.wal_law.specs.Installer.{may_install};
 ghost use Rattle.wal_law.specs.Log.{IsLawful as IsLawfulLog, Log};
 ghost use Rattle.wal_law.specs.Recovery.{HasOnlyRead, IsUnspoiled, image_of};
 ghost use Rattle.store_promise.specs.Openings.{IsLater, IsRefusedFor};
-ghost use Rattle.store.specs.BringingHome.{BringsHome, CountsCause, HasRaised, IsFound, KeepsBlocks};
+ghost use Rattle.store.specs.BringingHome.{BringsHome, CountsCause, HasNoSuper, HasRaised, IsFound, KeepsBlocks};
 ghost use Rattle.store.specs.Opening.{HasOpened, HoldsTree, Opens, store_of};
 ghost use Rattle.store.specs.Settling.{HasCalled, IsIdle, IsQuiet};
 
@@ -20,7 +20,7 @@ use disk::{Block, BlockNo, CrashDisk, Failed, Side};
 use layout::{LayoutFault, Super};
 use limits::SUPER_BLOCK;
 use procs::Done;
-use std::alloc::Global;
+use std::alloc::{AllocError, Global};
 use store_promise::OpenFault;
 use txn::Core;
 use wal::Wal;
@@ -80,6 +80,7 @@ fn recover<D: CrashDisk>(alloc: Global, disk: &mut D) -> Result<(Core<Done>, u64
 }
 
 // The super block and the log of an image that may be opened. It only reads.
+#[tactic(auto, using(crate::proofs::Refusing::read_later, wal_law::proofs::OnlyRead::reads_then))]
 fn find<D: CrashDisk>(
     alloc: Global,
     disk: &mut D,
@@ -100,12 +101,20 @@ fn find<D: CrashDisk>(
     ensures model { D.keeps_model disk.new → D.keeps_model disk.old }
 {
     let found = read_super(disk, block)?;
-    let log = circ::recover(alloc, disk).map_err(log_fault)?;
-    let wal = Wal::new(alloc, found.geometry.blocks, log).map_err(|_| OpenFault::NoMemory)?;
-    Ok((found, wal))
+    match circ::recover(alloc, disk) {
+        Ok(log) => match Wal::new(alloc, found.geometry.blocks, log) {
+            Ok(wal) => Ok((found, wal)),
+            Err(AllocError) => Err(OpenFault::NoMemory),
+        },
+        Err(LogFault::Range) => Err(OpenFault::Log),
+        Err(LogFault::Address) => Err(OpenFault::Log),
+        Err(LogFault::Device) => Err(OpenFault::Device),
+        Err(LogFault::NoMemory) => Err(OpenFault::NoMemory),
+    }
 }
 
 // The super block of an image that may be opened, as far as it shows. It only reads.
+#[tactic(auto, using(crate::proofs::Refusing::read_alone, crate::proofs::Refusing::no_read, crate::proofs::Refusing::read_later))]
 fn read_super<D: CrashDisk>(disk: &mut D, block: &mut Block) -> Result<Super, OpenFault>
     ensures reads { HasOnlyRead (D.device disk.old) (D.device disk.new) }
     ensures failure { MatchResult result (λ found. (D.device disk.new).failures ≡ (D.device disk.old).failures)
@@ -121,13 +130,30 @@ fn read_super<D: CrashDisk>(disk: &mut D, block: &mut Block) -> Result<Super, Op
     if disk.blocks() == 0 {
         return Err(OpenFault::Magic);
     }
-    disk.read(BlockNo(SUPER_BLOCK), block)
-        .map_err(|_| OpenFault::Device)?;
-    let found = Super::read(block.as_slice()).map_err(layout_fault)?;
-    if found.geometry.blocks != disk.blocks() || found.boot == u64::MAX {
-        return Err(OpenFault::Range);
+    match disk.read(BlockNo(SUPER_BLOCK), block) {
+        Ok(()) => super_in(block, disk.blocks()),
+        Err(Failed) => Err(OpenFault::Device),
     }
-    Ok(found)
+}
+
+// The super block that a block has, of an image of so many blocks that may be opened.
+fn super_in(block: &Block, blocks: u32) -> Result<Super, OpenFault>
+    ensures found { IfOk result (IsSuper block.now) }
+    ensures blocks { IfOk result (λ found. found.geometry.blocks ≡ blocks) }
+    ensures boot { IfOk result (λ found. found.boot + 1 < 2 ^ 64) }
+    ensures refused { IfErr result (λ cause. HasNoSuper cause blocks block.now) }
+{
+    match Super::read(block.as_slice()) {
+        Ok(found) => {
+            if found.geometry.blocks != blocks || found.boot == u64::MAX {
+                return Err(OpenFault::Range);
+            }
+            Ok(found)
+        }
+        Err(LayoutFault::Magic) => Err(OpenFault::Magic),
+        Err(LayoutFault::Version) => Err(OpenFault::Version),
+        Err(LayoutFault::Range) => Err(OpenFault::Range),
+    }
 }
 
 // Makes the calls of an installation of all that is logged.
@@ -240,20 +266,4 @@ fn put_super<D: CrashDisk>(disk: &mut D, block: &Block) -> Result<(), Failed>
 {
     disk.write(BlockNo(SUPER_BLOCK), block)?;
     disk.barrier(Side::Home)
-}
-
-fn layout_fault(fault: LayoutFault) -> OpenFault {
-    match fault {
-        LayoutFault::Magic => OpenFault::Magic,
-        LayoutFault::Version => OpenFault::Version,
-        LayoutFault::Range => OpenFault::Range,
-    }
-}
-
-fn log_fault(fault: LogFault) -> OpenFault {
-    match fault {
-        LogFault::Range | LogFault::Address => OpenFault::Log,
-        LogFault::Device => OpenFault::Device,
-        LogFault::NoMemory => OpenFault::NoMemory,
-    }
 }
