@@ -6,5 +6,6 @@ pub mod Made
 pub mod Later
 pub mod Raising
 pub mod Refusing
+pub mod Opens
 pub mod LogMoves
 pub mod FewBlocks
