@@ -4,7 +4,7 @@ use Rattle.std.proofs.Common.{List, [], ◌∷◌, ◌++◌, Bool, true, false, 
 use Rattle.std.proofs.Common.{length, nat_eq, nat_lt, nat_le}
 use Rattle.std.specs.List.{Contains}
 use Rattle.std.proofs.lemmas.Bool.Decides.{nat_tests}
-use Rattle.std.proofs.lemmas.List.Elements.{All-nil}
+use Rattle.std.proofs.lemmas.List.Elements.{Contains-append_left}
 use Rattle.limits.specs.declared.TheConstants.{BLOCK_BYTES, FIRST_HOME_BLOCK, LOG_HEADER_BLOCK, START_BLOCK}
 use Rattle.limits.specs.declared.TheConstants.{SUPER_BLOCK}
 use Rattle.disk.specs.Blocks.{AreBlocks}
@@ -56,8 +56,8 @@ none_home log lawful sound quiet may logged = empty log.changes (omega (arith, n
     none = grind (arith, nat_tests)
 
     empty : {A : Type 0} (xs : List A) → length xs ≡ 0 → xs ≡ []
-    empty [] no = refl
-    empty (x ∷ xs) no = absurd (omega (arith, no))
+    empty [] length_is = refl
+    empty (x ∷ xs) length_is = absurd (omega (arith, length_is))
 
 module _ (before : Device) (tree : Tree) (first : ℕ) (holds : HoldsTree before tree first) where
   pub good : IsGoodImage before.size (image_of before) tree first
@@ -104,11 +104,23 @@ module _ (before : Device) (tree : Tree) (first : ℕ) (holds : HoldsTree before
     because = cause_is keeps_model cause later kept counts shows;
   }
 
+  -- ---- what was found comes home
+
+  pub begins : (found : Super) (log : Log) (now : Device) (raised : Content) → HasOnlyRead before now
+      → IsFound before found log → IsLawful log → AreBlocks now → BringsHome before raised now log
+  begins found log now raised reads is lawful blocks =
+      let size : log.blocks ≡ before.size = ap (λ (l : Log). l.blocks) is.log_is in
+      let some = lawful.disk in
+      let coming = subst (IsComingHome (image_of before) now) (sym is.log_is)
+      (found_home before now reads holds.rest (omega (arith, some, size)) is.range blocks) in
+      record { coming = coming; keeps = found_stops before now reads holds.rest
+      (omega (arith, some, size)) is.range blocks raised log lawful coming }
+
   -- ---- the raised super block
 
   module _ (found raised : Super) (content : Content) (is_super : IsSuper (image_of before SUPER_BLOCK) found)
       (geometry : raised.geometry ≡ found.geometry) (boot : raised.boot ≡ found.boot + 1)
-      (is_raised : IsSuper content raised) where
+      (is_raised : IsSuper content raised) (full : length content ≡ BLOCK_BYTES) where
     same_geometry : raised.geometry ≡ good.super.geometry
     same_geometry = geometry ∙ one_geometry found.geometry good.super.geometry
         (is_super.blocks ∙ sym good.is_super.blocks) (is_super.inodes ∙ sym good.is_super.inodes)
@@ -254,3 +266,58 @@ module _ (before : Device) (tree : Tree) (first : ℕ) (holds : HoldsTree before
         settled = settled_good;
         empty = is_empty;
       }
+
+      whole_home : AreWhole log.blocks home
+      whole_home block within = by_test (nat_eq block SUPER_BLOCK)
+        where
+          by_test : (same : Bool) → length (if same then content else raises.brings.coming.base block) ≡ BLOCK_BYTES
+          by_test true = full
+          by_test false = raises.brings.coming.whole block within
+
+      clean : IsUnspoiled raises.now → IsUnspoiled later
+      clean before_clean block =
+          raises.settle.spoiled block ∙ raises.write.spoiled block ∙ none_more (raises.now.spoiled block) (before_clean block)
+        where
+          none_more : (old : Bool) → old ≡ false → (old || (false && nat_eq block SUPER_BLOCK)) ≡ false
+          none_more true is = cc
+          none_more false is = refl
+
+      inodes_are : (super : Super) → IsSuper content super → super.geometry.inodes ≡ raised.geometry.inodes
+      inodes_are super is = is.inodes ∙ sym is_raised.inodes
+
+      pub is_new : (core : CoreState) → core ≡ record {
+        log = log;
+        inodes = found.geometry.inodes;
+        begun = 0;
+        out = [];
+        holds = [];
+        present = [];
+        records = [];
+      } → AreTidy core → IsFresh log → log.broken ≡ false → IsUnspoiled raises.now
+          → (base : Image) × IsNewOver base later core
+      is_new core is tidy fresh sound spoiled =
+          subst (λ (c : CoreState). AreTidy c → (base : Image) × IsNewOver base later c) (sym is) (λ tidy. (
+            home,
+            record {
+              lawful = lawful;
+              agrees = agrees;
+              readable = record {
+                logged = λ block within is_spoiled unlogged_is. absurd (
+                  let clean_is = clean spoiled block in let yes : later.spoiled block ≡ true = is_spoiled in cc
+                );
+                stuck = λ block within is_spoiled. absurd (
+                  let clean_is = clean spoiled block in let yes : later.spoiled block ≡ true = is_spoiled in cc
+                );
+              };
+              tidy = tidy;
+              home = record { whole = whole_home; window = fresh_window home log lawful fresh };
+              changes = none;
+              records = refl;
+              present = refl;
+              begun = refl;
+              places = fresh.places;
+              sound = sound;
+              inodes = λ super is_super_of.
+                  inodes_are super is_super_of ∙ ap (λ (g : Geometry). g.inodes) geometry;
+            },
+          )) tidy

@@ -56,6 +56,7 @@ pub fn open<D: CrashDisk>(alloc: Global, disk: D) -> Result<Store<D>, (D, OpenFa
 }
 
 // Brings home what the log has, and settles the next boot number.
+#[tactic(auto, using(crate::proofs::Later::past_none, crate::proofs::Later::past_more, crate::proofs::Refusing::read_later))]
 fn recover<D: CrashDisk>(alloc: Global, disk: &mut D) -> Result<(Core<Done>, u64), OpenFault>
     ensures size { IfOk result (λ opened. (D.device disk.new).size ≡ opened.0.log.blocks) }
     ensures lawful { IfOk result (λ opened. IsLawful opened.0.log.blocks opened.0.inodes) }
@@ -68,15 +69,29 @@ fn recover<D: CrashDisk>(alloc: Global, disk: &mut D) -> Result<(Core<Done>, u64
         (λ cause. Opens (D.device disk.old) (Err (D.device disk.new, cause)) tree first) }
     ensures model { D.keeps_model disk.new → D.keeps_model disk.old }
 {
-    let mut block = Block::zeros(alloc).map_err(|_| OpenFault::NoMemory)?;
-    let (found, mut wal) = find(alloc, disk, &mut block)?;
-    install(disk, &mut wal)?;
+    let Ok(mut block) = Block::zeros(alloc) else {
+        return Err(OpenFault::NoMemory);
+    };
+    let (found, mut wal) = match find(alloc, disk, &mut block) {
+        Ok(found) => found,
+        Err(fault) => return Err(fault),
+    };
+    wal.lawful();
+    layout::a_super_block_is_its_bytes();
+    if let Err(fault) = install(disk, &mut wal) {
+        return Err(fault);
+    }
+    wal.lawful();
     let raised = Super {
         geometry: found.geometry,
         boot: found.boot + 1,
     };
-    raise(alloc, disk, &mut block, raised)?;
-    Ok((Core::new(alloc, wal, found.geometry.inodes), raised.boot))
+    if let Err(fault) = raise(alloc, disk, &mut block, raised) {
+        return Err(fault);
+    }
+    let core = Core::new(alloc, wal, found.geometry.inodes);
+    core.lawful();
+    Ok((core, raised.boot))
 }
 
 // The super block and the log of an image that may be opened. It only reads.
@@ -94,6 +109,7 @@ fn find<D: CrashDisk>(
     ensures boot { IfOk result (λ found. found.0.boot + 1 < 2 ^ 64) }
     ensures fresh { IfOk result (λ found. IsFresh found.1) }
     ensures quiet { IfOk result (λ found. IsQuiet found.1) }
+    ensures sound { IfOk result (λ found. found.1.broken ≡ false) }
     ensures found { D.keeps_model disk.new → IsUnspoiled (D.device disk.old)
         → IfOk result (λ found. IsFound (D.device disk.old) found.0 found.1) }
     ensures refused { IfErr result
@@ -167,6 +183,7 @@ fn install<D: CrashDisk>(disk: &mut D, wal: &mut Wal) -> Result<(), OpenFault>
     ensures blocks { wal.new.blocks ≡ wal.old.blocks }
     ensures fresh { IsFresh wal.new }
     ensures none { OnOk result ((wal.new.broken ≡ false) × (may_install wal.new ≡ false)) }
+    ensures clean { OnOk result (IsUnspoiled (D.device disk.old) → IsUnspoiled (D.device disk.new)) }
     ensures home { (before : Device) (raised : Content) → BringsHome before raised (D.device disk.old) wal.old
         → BringsHome before raised (D.device disk.new) wal.new }
     ensures failure { MatchResult result (λ _. (D.device disk.new).failures ≡ (D.device disk.old).failures)
@@ -184,7 +201,7 @@ fn install<D: CrashDisk>(disk: &mut D, wal: &mut Wal) -> Result<(), OpenFault>
 }
 
 // Makes the installer's next call, where it has one.
-#[tactic(auto, using(crate::proofs::Made::made_size, crate::proofs::Made::made_later))]
+#[tactic(auto, using(crate::proofs::Made::made_size, crate::proofs::Made::made_later, crate::proofs::Made::made_clean))]
 fn install_one<D: CrashDisk>(disk: &mut D, wal: &mut Wal) -> bool
     requires size { (D.device disk.old).size ≡ wal.old.blocks }
     requires fresh { IsFresh wal.old }
@@ -197,6 +214,7 @@ fn install_one<D: CrashDisk>(disk: &mut D, wal: &mut Wal) -> bool
     ensures called { IsTrue result
         → HasCalled wal.old (D.device disk.old) wal.new (D.device disk.new) }
     ensures counted { wal.new.broken ≡ false → (D.device disk.new).failures ≡ (D.device disk.old).failures }
+    ensures clean { wal.new.broken ≡ false → IsUnspoiled (D.device disk.old) → IsUnspoiled (D.device disk.new) }
     ensures none { IsFalse result
         → (wal.new ≡ wal.old) × (D.device disk.new ≡ D.device disk.old) }
     ensures home { (before : Device) (raised : Content) → BringsHome before raised (D.device disk.old) wal.old

@@ -1,5 +1,6 @@
 -- What each call keeps, all of them keep.
-use Rattle.std.proofs.Common.{arith, ◌∙◌, refl, sym}
+use Rattle.std.proofs.Common.{arith, ◌∙◌, refl, subst, sym}
+use Rattle.wal_law.specs.Recovery.{IsUnspoiled}
 use Rattle.store.proofs.Later.{past_more}
 use Rattle.store.proofs.opening.install.Goals as goal
 
@@ -23,5 +24,12 @@ calls-preserved g c =
       same = made.later.size ∙ old.same ∙ sym made.blocks;
       sound = λ still. made.counted still ∙ old.sound sound;
       failed = λ broken. omega (arith, called.failed broken, old.sound sound);
+      clean = λ still was. made.clean still (old.clean sound was);
       home = λ before raised brings. made.home before raised (old.home before raised brings);
     }
+
+pub returns-then-not-install_one-clause-clean : goal.returns-then-not-install_one-clause-clean
+returns-then-not-install_one-clause-clean g c = λ was.
+    let sound = sym c.broken.ensures ∙ c.if-broken.false in
+    subst IsUnspoiled (sym (c.install_one.ensures.none c.if-not-install_one.true).1)
+    (c.calls.invariant.clean sound was)

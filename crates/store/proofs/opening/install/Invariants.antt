@@ -2,6 +2,7 @@
 use Rattle.std.proofs.Common.{◌≡◌, ◌≤◌, ◌<◌, ◌+◌, true, false, if◌then◌else◌}
 use Rattle.disk.specs.Device.{Content, Device}
 use Rattle.txn.specs.CoreLaw.{IsFresh}
+use Rattle.wal_law.specs.Recovery.{IsUnspoiled}
 use Rattle.store_promise.specs.Openings.{IsLater}
 use Rattle.store.specs.BringingHome.{BringsHome}
 use Rattle.store.specs.Settling.{IsQuiet, calls_left}
@@ -17,6 +18,7 @@ invariant-calls g l = record {
   same : (g.D.CrashDisk.device l.disk).size ≡ l.wal.blocks;
   sound : l.wal.broken ≡ false → (g.D.CrashDisk.device l.disk).failures ≡ (g.D.CrashDisk.device l.fn.disk).failures;
   failed : l.wal.broken ≡ true → (g.D.CrashDisk.device l.fn.disk).failures < (g.D.CrashDisk.device l.disk).failures;
+  clean : l.wal.broken ≡ false → IsUnspoiled (g.D.CrashDisk.device l.fn.disk) → IsUnspoiled (g.D.CrashDisk.device l.disk);
   home : (before : Device) (raised : Content) → BringsHome before raised (g.D.CrashDisk.device l.fn.disk) l.fn.wal
       → BringsHome before raised (g.D.CrashDisk.device l.disk) l.wal;
 }
