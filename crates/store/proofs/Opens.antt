@@ -162,19 +162,19 @@ module _ (before : Device) (tree : Tree) (first : ℕ) (holds : HoldsTree before
 
     -- ---- once it is settled
 
-    module _ (later : Device) (log : Log) (lawful : IsLawful log) (none : log.changes ≡ [])
-        (raises : HasRaised before content later log) (blocks : AreBlocks later) where
+    module _ (now later : Device) (log : Log) (lawful : IsLawful log) (none : log.changes ≡ [])
+        (raises : HasRaised before content now later log) (blocks : AreBlocks later) where
       keeps : KeepsBlocks before later content
       keeps = settled_stops before raises.written later content (Ok tt) raises.settle
-          (raised_stops before raises.now log content lawful none raises.brings raises.written (Ok tt) raises.write)
+          (raised_stops before now log content lawful none raises.brings raises.written (Ok tt) raises.write)
 
       abbrev home : Image
-      home = under before raises.now log content lawful none raises.brings
+      home = under before now log content lawful none raises.brings
 
       agrees : AgreesBeside later home log idle idle
-      agrees = home_settled raises.now raises.written later raises.brings.coming.base log SUPER_BLOCK content idle idle
-          lawful (outside before raises.now log content lawful none raises.brings)
-          (unlogged before raises.now log content lawful none raises.brings) raises.write raises.settle
+      agrees = home_settled now raises.written later raises.brings.coming.base log SUPER_BLOCK content idle idle
+          lawful (outside before now log content lawful none raises.brings)
+          (unlogged before now log content lawful none raises.brings) raises.write raises.settle
           raises.brings.coming.agrees
 
       size_is : later.size ≡ before.size
@@ -188,11 +188,11 @@ module _ (before : Device) (tree : Tree) (first : ℕ) (holds : HoldsTree before
       settled_good image is =
           subst (λ (size : ℕ). IsGoodImage size image tree (first + 1)) (sym size_is)
           (new_good image (subst (λ (size : ℕ). HasBlocksOf size (image_of before) content image) blocks_are
-          (under_raised before raises.now log content lawful none raises.brings image
+          (under_raised before now log content lawful none raises.brings image
           (crash_boundary later home log image lawful agrees.agrees is))))
 
       -- before the last call, the old super block may still be there
-      written_holds : (image : Image) → IsCrashImage raises.now raises.now.clock image
+      written_holds : (image : Image) → IsCrashImage now now.clock image
           → IsCrashImage later (later.clock - 1) image
       written_holds image is = λ block within.
           subst (λ (cs : List Content). Contains cs (image block))
@@ -205,13 +205,13 @@ module _ (before : Device) (tree : Tree) (first : ℕ) (holds : HoldsTree before
           more cs one other (k, lt, at) = Contains-append_left cs (other ∷ []) one (k, lt, at)
 
           by_block : (block : ℕ) (same : Bool) → nat_eq block SUPER_BLOCK ≡ same
-              → Contains (current raises.now block) (image block)
+              → Contains (current now block) (image block)
               → Contains (current raises.written block) (image block)
           by_block block true at there =
               let here : block ≡ SUPER_BLOCK = grind (arith, nat_tests) in
-              subst (λ (b : ℕ). Contains (current raises.now b) (image b) → Contains (current raises.written b) (image b))
+              subst (λ (b : ℕ). Contains (current now b) (image b) → Contains (current raises.written b) (image b))
               (sym here) (λ is. subst (λ (cs : List Content). Contains cs (image SUPER_BLOCK))
-              (sym raises.write.written) (more (current raises.now SUPER_BLOCK) (image SUPER_BLOCK) content is)) there
+              (sym raises.write.written) (more (current now SUPER_BLOCK) (image SUPER_BLOCK) content is)) there
           by_block block false at there =
               subst (λ (cs : List Content). Contains cs (image block))
               (sym (raises.write.others block (λ (here : block ≡ SUPER_BLOCK). let eq = at in grind (arith, nat_tests))))
@@ -220,14 +220,14 @@ module _ (before : Device) (tree : Tree) (first : ℕ) (holds : HoldsTree before
       last_left : (image : Image) × IsCrashImage later (later.clock - 1) image
           × IsGoodImage later.size image tree first
       last_left =
-          let now_later : IsLater raises.now later = record {
+          let went_on : IsLater now later = record {
             size = raises.settle.later.size ∙ raises.write.later.size;
             clock = omega (arith, raises.settle.later.clock, raises.write.later.clock);
             past = λ clock block below.
                 raises.settle.later.past clock block (omega (arith, below, raises.write.later.clock))
                 ∙ raises.write.later.past clock block below;
           } in
-          let found = some_image before raises.now (blocks_before raises.now later now_later blocks) raises.now.clock
+          let found = some_image before now (blocks_before now later went_on blocks) now.clock
           raises.brings.keeps.past.clock (omega arith) in
           (
             found.0,
@@ -235,7 +235,7 @@ module _ (before : Device) (tree : Tree) (first : ℕ) (holds : HoldsTree before
             subst (λ (size : ℕ). IsGoodImage size found.0 tree first) (sym size_is)
             (old_good found.0 (subst (λ (size : ℕ). HasBlocksOf size (image_of before) (image_of before SUPER_BLOCK)
             found.0) raises.brings.keeps.past.size
-            (stop_blocks (image_of before) raises.now log found.0 lawful raises.brings.coming found.1))),
+            (stop_blocks (image_of before) now log found.0 lawful raises.brings.coming found.1))),
           )
 
       no_log : log.logged ≡ 0
@@ -274,9 +274,9 @@ module _ (before : Device) (tree : Tree) (first : ℕ) (holds : HoldsTree before
           by_test true = full
           by_test false = raises.brings.coming.whole block within
 
-      clean : IsUnspoiled raises.now → IsUnspoiled later
+      clean : IsUnspoiled now → IsUnspoiled later
       clean before_clean block =
-          raises.settle.spoiled block ∙ raises.write.spoiled block ∙ none_more (raises.now.spoiled block) (before_clean block)
+          raises.settle.spoiled block ∙ raises.write.spoiled block ∙ none_more (now.spoiled block) (before_clean block)
         where
           none_more : (old : Bool) → old ≡ false → (old || (false && nat_eq block SUPER_BLOCK)) ≡ false
           none_more true is = cc
@@ -293,7 +293,7 @@ module _ (before : Device) (tree : Tree) (first : ℕ) (holds : HoldsTree before
         holds = [];
         present = [];
         records = [];
-      } → AreTidy core → IsFresh log → log.broken ≡ false → IsUnspoiled raises.now
+      } → AreTidy core → IsFresh log → log.broken ≡ false → IsUnspoiled now
           → (base : Image) × IsNewOver base later core
       is_new core is tidy fresh sound spoiled =
           subst (λ (c : CoreState). AreTidy c → (base : Image) × IsNewOver base later c) (sym is) (λ tidy. (

@@ -92,9 +92,9 @@ settled_stops before now next raised answer settle keeps = record {
 pub settled_or_not : (before now written later : Device) (log : Log) (raised : Content)
     (answer : Result Unit Failed) → IsLawful log → log.changes ≡ [] → BringsHome before raised now log
     → HasWritten now SUPER_BLOCK raised (Ok tt) written → HasSettled written Home answer later
-    → MatchResult answer (λ _. HasRaised before raised later log) (λ _. KeepsBlocks before later raised)
+    → MatchResult answer (λ _. HasRaised before raised now later log) (λ _. KeepsBlocks before later raised)
 settled_or_not before now written later log raised (Ok _) lawful none brings write settle =
-    record { now = now; written = written; brings = brings; write = write; settle = settle }
+    record { written = written; brings = brings; write = write; settle = settle }
 settled_or_not before now written later log raised (Err failed) lawful none brings write settle =
     settled_stops before written later raised (Err failed) settle
     (raised_stops before now log raised lawful none brings written (Ok tt) write)

@@ -60,8 +60,7 @@ pub record BringsHome (before : Device) (raised : Content) (now : Device) (log :
   pub keeps : KeepsBlocks before now raised
 
 -- The last two calls of an opening: the super block was written, and settled.
-pub record HasRaised (before : Device) (raised : Content) (later : Device) (log : Log) : Type 0 where
-  pub now : Device
+pub record HasRaised (before : Device) (raised : Content) (now later : Device) (log : Log) : Type 0 where
   pub written : Device
   pub brings : BringsHome before raised now log
   pub write : HasWritten now SUPER_BLOCK raised (Ok tt) written

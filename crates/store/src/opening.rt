@@ -247,7 +247,7 @@ fn raise<D: CrashDisk>(
         ⊎ ((cause ≡ OpenFault.NoMemory) × (D.device disk.new ≡ D.device disk.old))) }
     ensures raised { (before : Device) (log : Log) → IsLawfulLog log → log.changes ≡ []
         → BringsHome before (super_bytes raised) (D.device disk.old) log
-        → MatchResult result (λ _. HasRaised before (super_bytes raised) (D.device disk.new) log)
+        → MatchResult result (λ _. HasRaised before (super_bytes raised) (D.device disk.old) (D.device disk.new) log)
         (λ cause. KeepsBlocks before (D.device disk.new) (super_bytes raised)) }
     ensures model { D.keeps_model disk.new → D.keeps_model disk.old }
 {
@@ -278,7 +278,7 @@ fn put_super<D: CrashDisk>(disk: &mut D, block: &Block) -> Result<(), Failed>
         (λ _. (D.device disk.old).failures < (D.device disk.new).failures) }
     ensures raised { (before : Device) (log : Log) → IsLawfulLog log → log.changes ≡ []
         → BringsHome before block.now (D.device disk.old) log
-        → MatchResult result (λ _. HasRaised before block.now (D.device disk.new) log)
+        → MatchResult result (λ _. HasRaised before block.now (D.device disk.old) (D.device disk.new) log)
         (λ _. KeepsBlocks before (D.device disk.new) block.now) }
     ensures model { D.keeps_model disk.new → D.keeps_model disk.old }
 {
