@@ -8,3 +8,9 @@ pub mod OneSetAttrOnly
 pub mod ToldOf
 pub mod ToldLog
 pub mod Opened
+pub mod HomesAfter
+pub mod Chains
+pub mod OpenSteps
+pub mod OpenCommits
+pub mod OpenInstalls
+pub mod Shown

@@ -1,12 +1,13 @@
 -- What an opening leaves, over what is at home.
 use Rattle.std.proofs.Common.{◌≡◌, ℕ, zero, suc, ◌+◌, ◌≤◌, ◌⊎◌, inl, inr, ap, sym, ◌∙◌, refl, subst, arith}
-use Rattle.std.proofs.Common.{Bool, true, false, cond, if◌then◌else◌, ◌&&◌, List, [], All, nat_eq, nat_le, nat_lt, take}
+use Rattle.std.proofs.Common.{Bool, true, false, cond, if◌then◌else◌, ◌&&◌, List, [], All, nat_eq, nat_le, nat_lt, take, drop}
 use Rattle.std.proofs.Common.{length, replicate}
 use Rattle.std.proofs.lemmas.Bool.Decides.{nat_tests}
 use Rattle.limits.specs.declared.TheConstants.{BLOCK_BYTES, FIRST_HOME_BLOCK, SUPER_BLOCK}
 use Rattle.disk.specs.Crash.{Image}
 use Rattle.disk.specs.Device.{Content, Device}
 use Rattle.model.specs.After.{after}
+use Rattle.model.specs.Sound.{IsMadeBy}
 use Rattle.model.specs.Tree.{Tree}
 use Rattle.layout.specs.declared.geometry.Geometry.{Geometry}
 use Rattle.layout.specs.declared.super_block.Super.{Super}
@@ -17,7 +18,7 @@ use Rattle.wal_law.specs.declared.change.LogChange.{LogChange}
 use Rattle.wal_law.specs.Grows.{recovered}
 use Rattle.wal_law.specs.Law.{IsAfter, IsBoundary, IsOutside, with_changes, with_home}
 use Rattle.wal_law.specs.Calls as pending
-use Rattle.wal_law.specs.Log.{Log}
+use Rattle.wal_law.specs.Log.{Log, installed_place, place_before}
 use Rattle.wal_law.specs.Overlay.{over}
 use Rattle.txn_law.specs.Core.{CoreState}
 use Rattle.txn_law.specs.CoreWindow.{AreBlocks, IsCoreWindow, held_of}
@@ -25,7 +26,8 @@ use Rattle.txn_law.specs.declared.present.Present.{Present}
 use Rattle.txn_law.specs.Window.{Follow, Footprint, IsCurrent, LeadsTo, after_commits, commits_among, now_of, opening}
 use Rattle.store_promise.specs.GoodImage.{IsGoodImage}
 use Rattle.store_promise.specs.Openings.{IsOpened}
-use Rattle.store_promise.specs.OpenStore.{HasFilesOver, IsChain, IsNewOver, IsOfBoot, IsOpenStore}
+use Rattle.store_promise.specs.OpenSince.{IsOpenSince}
+use Rattle.store_promise.specs.OpenStore.{HasFilesOver, IsChain, IsNewOver, IsOpenOver}
 use Rattle.store_promise.proofs.Stopped.{as_at_home, outside_of}
 
 -- ---- without changes, and without entries
@@ -46,9 +48,9 @@ no_entry : (tree left : Tree) (count : ℕ) → after tree (take count []) left 
 no_entry tree left zero led = led
 no_entry tree left (suc count) led = led
 
-of_boot : (boot : ℕ) (tree : Tree) → IsOfBoot boot tree → (count : ℕ) (left : Tree)
-    → after tree (take count []) left → IsOfBoot boot left
-of_boot boot tree all count left led = subst (IsOfBoot boot) (sym (no_entry tree left count led)) all
+pub of_boot : (boot : ℕ) (tree : Tree) → IsMadeBy boot tree → (count : ℕ) (left : Tree)
+    → after tree (take count []) left → IsMadeBy boot left
+of_boot boot tree all count left led = subst (IsMadeBy boot) (sym (no_entry tree left count led)) all
 
 stands_alone : (g : Geometry) (blocks : Image) (tree : Tree) (records : List Footprint) → records ≡ []
     → Stands g blocks tree → IsChain g blocks tree records [] tree
@@ -106,17 +108,26 @@ module _ (before opened : Device) (base : Image) (core : CoreState) (tree : Tree
     stamps = of_boot (first + 1) tree good.stamps;
   }
 
-  pub is_open : IsOpenStore opened core pending.idle pending.idle (first + 1) tree [] tree
-  is_open = (
-    base,
-    record {
-      lawful = new.lawful;
-      agrees = new.agrees;
-      readable = new.readable;
-      tidy = new.tidy;
-      files = files;
-    },
-  )
+  is_over : IsOpenOver base opened core pending.idle pending.idle (first + 1) tree [] tree
+  is_over = record {
+    lawful = new.lawful;
+    agrees = new.agrees;
+    readable = new.readable;
+    tidy = new.tidy;
+    files = files;
+  }
+
+  installed : installed_place core.log ≡ 0
+  installed = ap (λ (changes : List LogChange). place_before changes core.log.places) new.changes ∙ new.places
+
+  pub is_open : IsOpenSince base opened core pending.idle pending.idle (first + 1) tree [] tree
+  is_open = record {
+    counted = sym new.places;
+    home = tree;
+    leads = subst (λ (n : ℕ). after tree (take n []) tree) (sym installed) refl;
+    over = subst (λ (n : ℕ). IsOpenOver base opened core pending.idle pending.idle (first + 1) tree (drop n []) tree)
+        (sym installed) is_over;
+  }
 
 -- ---- a new super block
 

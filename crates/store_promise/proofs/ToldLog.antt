@@ -2,7 +2,7 @@
 use Rattle.std.proofs.Common.{◌≡◌, ◌↔◌, ℕ, zero, suc, ◌+◌, ◌-◌, ◌<◌, ◌≤◌, inl, inr, ap, sym, ◌∙◌, refl}
 use Rattle.std.proofs.Common.{subst, arith, Bool, true, false, not, if◌then◌else◌, ◌&&◌, ◌||◌, List, [], ◌∷◌}
 use Rattle.std.proofs.Common.{length, take, drop, nat_eq, nat_lt, nat_le, is_some, All}
-use Rattle.std.proofs.lemmas.List.{drop_all, length-drop, length-take-le, take-append-le}
+use Rattle.std.proofs.lemmas.List.{drop_all, length-drop, length-take-le}
 use Rattle.std.proofs.lemmas.Bool.{cases_lt}
 use Rattle.std.proofs.lemmas.Bool.Decides.{nat_tests}
 use Rattle.limits.specs.declared.TheConstants.{LOG_HEADER_BLOCK, LOG_SLOTS}
@@ -16,7 +16,7 @@ use Rattle.wal_law.specs.Calls as pending
 use Rattle.wal_law.specs.Installer.{IsNextInstCall, may_install, next_home, passed_over, with_inst_back}
 use Rattle.wal_law.specs.Installer.{with_inst_out, with_installed}
 use Rattle.wal_law.specs.Io.{Io}
-use Rattle.wal_law.specs.Log.{IsHomeOn, IsLawful, Log, changes_of, newest_of, place_before, settled_place}
+use Rattle.wal_law.specs.Log.{IsHomeOn, IsLawful, Log, newest_of, place_before, settled_place}
 use Rattle.wal_law.specs.Log.{tail_count}
 use Rattle.wal_law.specs.Logger.{IsNextLogCall, group_size, has_group, may_log, slot_block, with_log_back}
 use Rattle.wal_law.specs.Logger.{with_log_out}

@@ -13,3 +13,5 @@ pub mod Room
 pub mod OneSetAttr
 pub mod OpenStore
 pub mod ToldOf
+pub mod OpenSince
+pub mod Running

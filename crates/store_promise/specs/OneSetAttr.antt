@@ -1,6 +1,6 @@
 -- A run of one worker and one SETATTR of the mode, taken to its stable answer: what comes, what is told, and
 -- what the device and its images are to be.
-use Rattle.std.specs.Prelude.{◌≡◌, ℕ, ◌+◌, ◌≤◌, ◌⊎◌, true, List, [], ◌∷◌, ◌++◌, map, Option, Some, Ok}
+use Rattle.std.specs.Prelude.{◌≡◌, ℕ, zero, suc, ◌+◌, ◌≤◌, ◌⊎◌, true, List, [], ◌∷◌, ◌++◌, map, Option, Some, Ok}
 use Rattle.limits.specs.declared.TheConstants.{LOG_HEADER_BLOCK}
 use Rattle.disk.specs.Crash.{Image, IsCrashImage}
 use Rattle.disk.specs.Device.{Device}
@@ -29,7 +29,6 @@ use Rattle.store_promise.specs.declared.transcript.Answer.{Answer}
 use Rattle.store_promise.specs.declared.transcript.Committed.{Committed}
 use Rattle.store_promise.specs.GoodImage.{IsGoodImage}
 use Rattle.store_promise.specs.Openings.{IsLater, LeavesImages}
-use Rattle.store_promise.specs.Headline.{objects_at}
 use Rattle.store_promise.specs.Schedule.{Schedule, Setting}
 use Rattle.store_promise.specs.Transcript.{Transcript}
 
@@ -142,12 +141,16 @@ told_of boot one reply = told_with boot one reply (answer_at reply 19 5)
 abbrev pub told_too_early : ℕ → OneSetAttr → Reply → Transcript
 told_too_early boot one reply = told_with boot one reply (answer_at reply 6 1)
 
--- the blocks of the image have what it reads
-abbrev pub setting_of : Geometry → Image → OneSetAttr → Setting
-setting_of g blocks one = record {
+-- the blocks before its entry, and after it
+abbrev pub blocks_at : Image → Image → ℕ → Image
+blocks_at blocks changed zero = blocks
+blocks_at blocks changed (suc place) = changed
+
+abbrev pub setting_of : Geometry → Image → Image → OneSetAttr → Setting
+setting_of g blocks changed one = record {
   geometry = g;
   position = one.position;
-  reads = λ transaction. objects_at blocks (one.addr ∷ []);
+  blocks = blocks_at blocks changed;
 }
 
 -- ---- the device

@@ -1,12 +1,12 @@
 -- What holds of an open store at each moment: its device, its core, and the files that these are.
-use Rattle.std.specs.Prelude.{◌≡◌, ℕ, ◌-◌, ◌≤◌, false, List, [], ◌∷◌, Some, take}
+use Rattle.std.specs.Prelude.{◌≡◌, ℕ, ◌-◌, ◌≤◌, false, List, [], ◌∷◌, take}
 use Rattle.limits.specs.declared.TheConstants.{SUPER_BLOCK}
 use Rattle.disk.specs.Crash.{Image}
 use Rattle.disk.specs.Device.{Device}
 use Rattle.model.specs.After.{Entry, after}
-use Rattle.model.specs.Node.{Node}
+use Rattle.model.specs.Sound.{IsMadeBy}
 use Rattle.model.specs.Step.{step}
-use Rattle.model.specs.Tree.{Tree, node_at}
+use Rattle.model.specs.Tree.{Tree}
 use Rattle.layout.specs.declared.geometry.Geometry.{Geometry}
 use Rattle.layout.specs.declared.super_block.Super.{Super}
 use Rattle.layout.specs.Homes.{homes_of}
@@ -30,10 +30,6 @@ IsChain g blocks tree (commit ∷ commits) (entry ∷ entries) last =
 IsChain g blocks tree [] (entry ∷ entries) last = ⊥
 IsChain g blocks tree (commit ∷ commits) [] last = ⊥
 
--- no file was made in a later boot
-abbrev pub IsOfBoot : ℕ → Tree → Type 0
-IsOfBoot boot tree = (number : ℕ) (node : Node) → node_at tree number ≡ Some node → node.stamp.boot ≤ boot
-
 -- What the files are, over what is at home, which is whole: the commits that aren't installed lead on from there,
 -- and each has its entry; and the super block at home is that of this boot. The entries are those since the tree.
 pub record HasFilesOver (base : Image) (core : CoreState) (boot : ℕ) (tree : Tree) (entries : List Entry)
@@ -46,7 +42,7 @@ pub record HasFilesOver (base : Image) (core : CoreState) (boot : ℕ) (tree : T
   pub inodes_are : super.geometry.inodes ≡ core.inodes
   pub chain : IsChain super.geometry (homes_of core.log.blocks (opening base core.log)) tree core.records entries
       last
-  pub stamps : (count : ℕ) (left : Tree) → after tree (take count entries) left → IsOfBoot boot left
+  pub stamps : (count : ℕ) (left : Tree) → after tree (take count entries) left → IsMadeBy boot left
 
 -- A store is open over what is at home: the device agrees with the log beside the calls that are out, and what is
 -- held agrees with what is in memory.
@@ -57,11 +53,6 @@ pub record IsOpenOver (base : Image) (d : Device) (core : CoreState) (logging in
   pub readable : IsReadable d core.log installing
   pub tidy : AreTidy core
   pub files : HasFilesOver base core boot tree entries last
-
--- a store is open over something
-abbrev pub IsOpenStore : Device → CoreState → Pending → Pending → ℕ → Tree → List Entry → Tree → Type 0
-IsOpenStore d core logging installing boot tree entries last = (base : Image)
-    × IsOpenOver base d core logging installing boot tree entries last
 
 -- the boot number is this
 abbrev pub IsBoot : ℕ → ℕ → Type 0

@@ -3,6 +3,7 @@ use Rattle.std.specs.Prelude.{◌≡◌, ◌≢◌, ℕ, ◌+◌, ◌^◌, ◌<�
 use Rattle.std.specs.Prelude.{nat_le, List, [], ◌∷◌, map, take, Option, Some, None, Ok, Err, length, slice_get}
 use Rattle.std.specs.List.{zip, list_any}
 use Rattle.limits.specs.declared.TheConstants.{BLOCK_BYTES, LOG_SLOTS}
+use Rattle.disk.specs.Crash.{Image}
 use Rattle.disk.specs.declared.block.BlockNo.{BlockNo}
 use Rattle.objects.specs.declared.addr.Addr.{Addr}
 use Rattle.nfs_types.specs.declared.call.Call.{Call}
@@ -13,6 +14,7 @@ use Rattle.procs.specs.Asks.{Asks, Claims}
 use Rattle.procs.specs.MostChanged.{most_changed}
 use Rattle.procs.specs.Snap.{is_claimed, same_addr}
 use Rattle.txn.specs.Object.{ObjectBytes}
+use Rattle.txn.specs.Window.{object_at}
 use Rattle.txn.specs.declared.outcomes.BeginFault.TheVariants as fault
 use Rattle.wal_law.specs.declared.calls.IoCall.{IoCall}
 use Rattle.store_promise.specs.declared.events.Committing.{Committing}
@@ -114,33 +116,34 @@ IsStepOfCalled told true made = IsBeginning told made
 IsStepOfCalled told false made = made ≡ step.Replied
 
 -- What the steps of a run go by beside the steps themselves: where the parts of its image lie, the log position
--- at which the opening left the log, and what each transaction read, by its number, in the order of its steps.
+-- at which the opening left the log, and the blocks that stand for the files after so many procedures.
 pub record Setting : Type 0 where
   pub geometry : Geometry
   pub position : ℕ
-  pub reads : ℕ → List ObjectBytes
+  pub blocks : ℕ → Image
 
 -- an object is among these
 abbrev pub is_held : Addr → List Addr → Bool
 is_held addr held = list_any (λ other. same_addr addr other) held
 
--- the objects that a transaction holds, as it read them
-abbrev pub read_of : Setting → Begun → List ObjectBytes
-read_of o begun = take (length begun.held) (o.reads begun.number)
+-- what blocks have at these addresses
+abbrev pub objects_at : Image → List Addr → List ObjectBytes
+objects_at blocks addrs = map (λ addr. record { addr = addr; bytes = object_at blocks addr }) addrs
 
--- they are those that it was told
-abbrev pub AreHeld : Setting → Begun → Type 0
-AreHeld o begun = map (λ (object : ObjectBytes). object.addr) (read_of o begun) ≡ begun.held
+-- what a transaction has read, after so many procedures: nobody else changes it while it is held
+abbrev pub read_of : Setting → ℕ → Begun → List ObjectBytes
+read_of o places begun = objects_at (o.blocks places) begun.held
 
 -- the call asks for the object, by what its transaction read, and hasn't got it
-pub record IsAskedFor (o : Setting) (call : Call) (begun : Begun) (addr : Addr) : Type 0 where
+pub record IsAskedFor (o : Setting) (places : ℕ) (call : Call) (begun : Begun) (addr : Addr) : Type 0 where
   pub unheld : is_held addr begun.held ≡ false
-  pub asks : Asks o.geometry call (read_of o begun) addr
+  pub asks : Asks o.geometry call (read_of o places begun) addr
 
 -- it asks to claim the block
-pub record IsClaimAskedFor (o : Setting) (call : Call) (begun : Begun) (block : BlockNo) : Type 0 where
-  pub unclaimed : is_claimed block begun.claimed ≡ false
-  pub claims : Claims o.geometry call (read_of o begun) block
+pub record IsClaimAskedFor (o : Setting) (places : ℕ) (call : Call) (begun : Begun) (block : BlockNo) : Type 0
+  where
+    pub unclaimed : is_claimed block begun.claimed ≡ false
+    pub claims : Claims o.geometry call (read_of o places begun) block
 
 -- another worker is so
 pub record IsSoOfAnother (told : Told) (worker : ℕ) (is : Progress → Bool) : Type 0 where
@@ -187,19 +190,13 @@ IsCommitting o log blocks committing.NoMemory =
 -- no more blocks than the call changes, or finds no memory.
 abbrev pub IsStepByPlan : Setting → Told → ℕ → Call → Begun → Step → Type 0
 IsStepByPlan o told worker call begun (step.Wanted addr answer) =
-    IsAskedFor o call begun addr × IsWish told worker begun addr.block addr.offset addr.len answer
+    IsAskedFor o told.log.places call begun addr × IsWish told worker begun addr.block addr.offset addr.len answer
 IsStepByPlan o told worker call begun (step.Claimed block answer) =
-    IsClaimAskedFor o call begun block × IsClaimWish told worker begun block answer
+    IsClaimAskedFor o told.log.places call begun block × IsClaimWish told worker begun block answer
 IsStepByPlan o told worker call begun (step.Commit blocks answer) =
     (blocks ≤ most_changed call) × IsCommitting o told.log blocks answer
 IsStepByPlan o told worker call begun (step.Ended ending.NoMemory) = Unit {0}
 IsStepByPlan o told worker call begun _ = ⊥
-
--- it does so by what it read
-pub record IsStepOfPlan (o : Setting) (told : Told) (worker : ℕ) (call : Call) (begun : Begun)
-    (made : Step) : Type 0 where
-  pub held : AreHeld o begun
-  pub by_plan : IsStepByPlan o told worker call begun made
 
 -- the place is found settled where it is
 abbrev pub IsStepOfWaiting : LogTold → ℕ → Step → Type 0
@@ -210,7 +207,7 @@ IsStepOfWaiting log place _ = ⊥
 -- a worker with a call, of which no read is due, goes on with it
 abbrev pub IsStepWith : Setting → Told → ℕ → Call → Stage → Step → Type 0
 IsStepWith o told worker call Called made = IsStepOfCalled told (has_rules call) made
-IsStepWith o told worker call (Planning begun) made = IsStepOfPlan o told worker call begun made
+IsStepWith o told worker call (Planning begun) made = IsStepByPlan o told worker call begun made
 IsStepWith o told worker call (Reading begun addr) made = ⊥
 IsStepWith o told worker call (Read begun addr true) made = made ≡ step.Fetched addr.block
 IsStepWith o told worker call (Read begun addr false) made = made ≡ step.FetchFailed addr.block

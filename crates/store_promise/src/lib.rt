@@ -8,8 +8,11 @@ mod fault;
 mod fresh;
 mod log_steps;
 mod one_setattr;
+mod open_steps;
 mod open_store;
 mod promises;
+mod refusals;
+mod running;
 mod steps_made;
 mod told_log;
 mod transcript;
@@ -24,22 +27,35 @@ pub use one_setattr::{
     a_run_that_loses_its_setattr_breaks_the_promise, a_setattr_is_not_settled_without_the_log,
     a_setattr_that_shows_too_early_breaks_the_promise, the_steps_of_one_setattr_tell_its_run,
 };
+pub use open_steps::{
+    a_commit_leaves_the_store_open, a_read_leaves_the_store_open, a_stop_leaves_a_beginning,
+    a_transaction_leaves_the_store_open, an_open_store_keeps_its_files,
+    the_installer_leaves_the_store_open, the_logger_leaves_the_store_open,
+};
 pub use open_store::{
     a_stop_leaves_a_good_image, an_opening_leaves_an_open_store,
     the_files_stay_under_a_new_super_block, whole_groups_are_a_good_image,
 };
 pub use promises::{
     a_failure_that_is_told_was_counted, a_run_of_no_events_keeps_the_promise,
-    a_stop_leaves_an_image, an_entry_was_called, half_a_group_breaks_the_promise,
+    a_stop_leaves_an_image, an_entry_was_called, each_procedure_has_a_number_of_its_own,
+    half_a_group_breaks_the_promise, no_procedure_is_answered_twice,
     no_stable_answer_bears_place_0, no_stable_answer_comes_with_its_commit,
     the_boot_number_stays_raised, the_history_is_in_order, what_a_commit_covers_is_kept,
     what_is_stable_is_kept, what_is_told_as_settled_is_kept,
+};
+pub use refusals::{
+    a_good_image_is_refused_for_a_cause, a_good_image_shows_no_cause, an_image_shows_one_cause,
+    what_shows_a_cause_is_not_opened,
+};
+pub use running::{
+    a_device_counts_the_calls_of_its_steps, an_opening_begins_a_run, what_was_read_is_at_home,
 };
 pub use steps_made::{
     a_call_changes_no_more_than_it_may, a_call_that_is_out_is_made, a_full_log_is_full,
     a_worker_goes_by_its_plan, a_worker_passes_over_no_event, nothing_is_asked_for_twice,
     one_worker_is_never_busy, the_installer_comes_to_an_end, the_log_passes_over_no_event,
-    the_log_takes_its_next_call, what_is_asked_for_goes_by_the_files,
+    the_log_takes_its_next_call, what_is_asked_for_goes_by_the_files, what_was_made_stays,
 };
 pub use told_log::{
     the_installer_stands_at_a_home, the_installers_next_call_is_told,

@@ -11,8 +11,8 @@ ghost use Rattle.wal_law.specs.Calls.{Pending, idle};
 ghost use Rattle.wal_law.specs.Law.{IsBoundary, with_home};
 ghost use Rattle.wal_law.specs.Log.{IsLawful};
 ghost use Rattle.txn_law.specs.Core.{CoreState};
-ghost use Rattle.store_promise.specs.OpenStore.{HasFilesOver, IsBoot, IsNewOver, IsOpenStore};
-ghost use Rattle.store_promise.specs.OpenStore.{IsSettledOf};
+ghost use Rattle.store_promise.specs.OpenSince.{IsOpenSince};
+ghost use Rattle.store_promise.specs.OpenStore.{HasFilesOver, IsBoot, IsNewOver, IsOpenOver, IsSettledOf};
 ghost use Rattle.store_promise.specs.Openings.{IsOpened};
 ghost use Rattle.store_promise.specs.Prefix.{HasPrefix};
 
@@ -30,9 +30,9 @@ pub fn whole_groups_are_a_good_image()
 
 /// Whatever a stop leaves of an open store is such an image.
 pub fn a_stop_leaves_a_good_image()
-    ensures { (d : Device) (core : CoreState) (logging installing : Pending) (boot : ℕ) (tree last : Tree)
-        (entries : List Entry) (image : Image)
-        → IsOpenStore d core logging installing boot tree entries last → IsCrashImage d d.clock image
+    ensures { (d : Device) (base : Image) (core : CoreState) (logging installing : Pending) (boot : ℕ)
+        (tree last : Tree) (entries : List Entry) (image : Image)
+        → IsOpenOver base d core logging installing boot tree entries last → IsCrashImage d d.clock image
         → HasPrefix d.size (IsBoot boot) tree entries (length entries) (IsSettledOf core.log) image }
 {
     wal_law::law::a_crash_leaves_whole_groups();
@@ -43,7 +43,7 @@ pub fn a_stop_leaves_a_good_image()
 pub fn an_opening_leaves_an_open_store()
     ensures { (before opened : Device) (base : Image) (core : CoreState) (tree : Tree) (first position : ℕ)
         → IsOpened before opened tree first position → IsNewOver base opened core
-        → IsOpenStore opened core idle idle (first + 1) tree [] tree }
+        → IsOpenSince base opened core idle idle (first + 1) tree [] tree }
 {
     wal_law::law::a_crash_leaves_whole_groups();
 }

@@ -17,17 +17,18 @@ ghost use Rattle.wal_law.specs.declared.calls.IoCall.{IoCall};
 ghost use Rattle.wal_law.specs.declared.calls.IoCall.TheVariants.{Write};
 ghost use Rattle.store_promise.specs.declared.events.Committing.{Committing};
 ghost use Rattle.store_promise.specs.declared.events.Committing.TheVariants as committing;
+ghost use Rattle.store_promise.specs.declared.events.Event.{Event};
 ghost use Rattle.store_promise.specs.declared.events.Event.TheVariants as event;
 ghost use Rattle.store_promise.specs.declared.events.Step.{Step};
 ghost use Rattle.store_promise.specs.declared.events.Step.TheVariants as step;
 ghost use Rattle.store_promise.specs.declared.events.Wish.{Wish};
 ghost use Rattle.store_promise.specs.declared.events.Wish.TheVariants as wish;
-ghost use Rattle.store_promise.specs.declared.transcript.Committed.{Committed};
-ghost use Rattle.store_promise.specs.Headline.{KeepsPromise, objects_at};
+ghost use Rattle.store_promise.specs.Headline.{KeepsPromise};
 ghost use Rattle.store_promise.specs.LogTold.{idle, may_install_told, may_log_told, out};
 ghost use Rattle.store_promise.specs.NextCall.{next_log_call, taken_home};
 ghost use Rattle.store_promise.specs.Progress.{Begun, Job, At, Planning, Reading, Stage};
-ghost use Rattle.store_promise.specs.Schedule.{Schedule, is_held, progress_before, told_before};
+ghost use Rattle.store_promise.specs.Schedule.{IsTaken, Schedule, Setting, Told, is_held, objects_at};
+ghost use Rattle.store_promise.specs.Schedule.{progress_before, told_before};
 ghost use Rattle.store_promise.specs.Transcript.{Transcript, entries_of};
 
 /// A log, or an installer, that passes over an event which applies breaks the promise.
@@ -111,18 +112,26 @@ pub fn a_worker_goes_by_its_plan()
         → KeepsPromise before later tree first workers events t → ⊥ }
 {}
 
-/// A call for which something is asked that its files don't lead to, as they were just before it, breaks the
-/// promise.
+/// A transaction for which something is asked that its files don't lead to, as they are then, breaks the promise,
+/// whether or not it is committed later.
 pub fn what_is_asked_for_goes_by_the_files()
-    ensures { (before later : Device) (tree : Tree) (first workers place index worker : ℕ) (events : Schedule)
-        (t : Transcript) (c : Committed) (job : Job) (begun : Begun) (addr : Addr) (answer : Wish)
-        → slice_get t.history place ≡ Some c → begun.number ≡ c.ctx.transaction
+    ensures { (before later : Device) (tree : Tree) (first workers index worker : ℕ) (events : Schedule)
+        (t : Transcript) (job : Job) (begun : Begun) (addr : Addr) (answer : Wish)
         → slice_get events index ≡ Some (event.Work worker) → worker < workers
         → slice_get t.steps index ≡ Some (Some (step.Wanted addr answer))
         → progress_before events t.steps worker index ≡ At job (Planning begun)
-        → ((g : Geometry) (blocks : Image) (left : Tree) → after tree (take place (entries_of t)) left
-        → Stands g blocks left → Asks g job.call (objects_at blocks begun.held) addr → ⊥)
+        → ((g : Geometry) (blocks : Image) (left : Tree)
+        → after tree (take (told_before events t.steps index).log.places (entries_of t)) left → Stands g blocks left
+        → Asks g job.call (objects_at blocks begun.held) addr → ⊥)
         → KeepsPromise before later tree first workers events t → ⊥ }
+{}
+
+/// What an event made stays what it may make, whatever blocks stand for the files after later procedures: it goes by
+/// those of its own moment.
+pub fn what_was_made_stays()
+    ensures { (o : Setting) (workers : ℕ) (told : Told) (event : Event) (made : Option Step) (later : ℕ → Image)
+        → later told.log.places ≡ o.blocks told.log.places → IsTaken o workers told event made
+        → IsTaken (record o { blocks = later }) workers told event made }
 {}
 
 /// A worker that asks for an object which it holds breaks the promise.

@@ -10,7 +10,7 @@ use objects::Addr;
 use procs::{Done, Plan, is_answered_stable, plan, refused_reply};
 use std::alloc::{AllocError, Global};
 use store_promise::{Cause, Committing, Ending, Entry, Step, Verdict, Wish};
-use txn::{Change, Claim, Commit, Core, Seq, Tx, Want, added_blocks};
+use txn::{Change, Claim, Commit, Core, Seq, Tx, Want};
 
 impl Worker {
     ghost use Rattle.store.specs.declared.workers.Phase.TheVariants.{Planning, Waiting};
@@ -175,7 +175,7 @@ impl Worker {
         let Ok((told, kept)) = twice(done.reply()) else {
             return self.lack(core, tx);
         };
-        let blocks = added_blocks(done.written());
+        let blocks = core.added_blocks(done.written());
         done.finished();
         let answer = match core.commit(alloc, tx, done) {
             Commit::Committed(place) => {

@@ -3,7 +3,7 @@ ghost use Rattle.std.specs.Prelude.{◌≡◌, Some, None, true};
 
 use super::{Phase, Worker};
 use crate::options::put;
-use layout::Geometry;
+use layout::{FormatVersion, Geometry};
 use nfs_types::{Call, Status};
 use procs::{Done, Snap, has_rules, refused_reply};
 use std::alloc::Global;
@@ -40,7 +40,12 @@ impl Worker {
                 let number = tx.number();
                 job.ctx.transaction = number;
                 let (blocks, inodes) = core.counts();
-                self.work.snap = Some(Snap::new(alloc, Geometry { blocks, inodes }));
+                let geometry = Geometry {
+                    version: FormatVersion::First,
+                    blocks,
+                    inodes,
+                };
+                self.work.snap = Some(Snap::new(alloc, geometry));
                 self.go_on(tx, Phase::Planning);
                 Step::Begun(Ok(number))
             }

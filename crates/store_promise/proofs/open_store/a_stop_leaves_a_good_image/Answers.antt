@@ -5,9 +5,7 @@ use Rattle.store_promise.specs.Prefix.{HasPrefix}
 use Rattle.store_promise.proofs.open_store.a_stop_leaves_a_good_image.Goals as goal
 
 pub returns : goal.returns
-returns c = λ d core logging installing boot tree last entries image opened crash.
-    let base = opened.0 in
-    let over = opened.1 in
+returns c = λ d base core logging installing boot tree last entries image over crash.
     let boundary = c.a_crash_leaves_whole_groups.ensures d base core.log image over.lawful over.agrees.agrees
     crash in
     subst (λ n. HasPrefix n (IsBoot boot) tree entries (length entries) (IsSettledOf core.log) image)

@@ -1,25 +1,23 @@
 -- Its homes under the log are those after a beginning of the commits, its super block is the one at home.
-use Rattle.std.proofs.Common.{◌≡◌, ℕ, ◌-◌, ◌≤◌, inl, ap, sym, ◌∙◌, refl, subst, arith}
-use Rattle.std.proofs.Common.{Bool, true, false, cond, List, None, length, take, drop, replicate, All}
-use Rattle.limits.specs.declared.TheConstants.{BLOCK_BYTES, SUPER_BLOCK}
+use Rattle.std.proofs.Common.{◌≡◌, ℕ, ◌-◌, ◌≤◌, inl, sym, refl, subst, arith, List, length, take}
+use Rattle.limits.specs.declared.TheConstants.{SUPER_BLOCK}
 use Rattle.disk.specs.Crash.{Image}
 use Rattle.model.specs.After.{Entry, after}
 use Rattle.model.specs.Tree.{Tree}
-use Rattle.layout.specs.Homes.{homes_of, is_home}
+use Rattle.layout.specs.Homes.{homes_of}
 use Rattle.layout.specs.Stands.{Stands}
 use Rattle.layout.specs.SuperForm.{IsSuper}
-use Rattle.wal_law.specs.declared.change.LogChange.{LogChange}
 use Rattle.wal_law.specs.Law.{IsBoundary, IsOutside}
-use Rattle.wal_law.specs.Log.{IsLawful, installed_place, newest_of, settled_place}
+use Rattle.wal_law.specs.Log.{IsLawful, installed_place, settled_place}
 use Rattle.wal_law.specs.Overlay.{over}
 use Rattle.txn_law.specs.Core.{CoreState}
 use Rattle.txn_law.specs.CoreWindow.{held_of}
-use Rattle.txn_law.specs.Window.{AreInLog, after_commits, at_first, opening}
+use Rattle.txn_law.specs.Window.{after_commits, opening}
 use Rattle.store_promise.specs.GoodImage.{IsGoodImage}
 use Rattle.store_promise.specs.OpenStore.{HasFilesOver, IsBoot, IsSettledOf}
 use Rattle.store_promise.specs.Prefix.{HasPrefix}
-use Rattle.store_promise.proofs.Stopped.{after_same, as_at_home, chain_long, chain_to, commits_aside, no_change}
-use Rattle.store_promise.proofs.Stopped.{not_home, outside_of, take_len}
+use Rattle.store_promise.proofs.HomesAfter.{homes_after}
+use Rattle.store_promise.proofs.Stopped.{as_at_home, chain_long, chain_to}
 use Rattle.store_promise.proofs.open_store.whole_groups_are_a_good_image.Goals as goal
 
 module _ (base : Image) (core : CoreState) (boot : ℕ) (tree last : Tree) (entries : List Entry)
@@ -32,40 +30,6 @@ module _ (base : Image) (core : CoreState) (boot : ℕ) (tree last : Tree) (entr
   super_is = let some = lawful.disk in
       as_at_home core.log base image SUPER_BLOCK (λ from _. omega (arith, from))
       (omega (arith, some), inl (omega arith)) lawful boundary
-
-  -- ---- its homes are those after the first commits
-
-  writes : All (AreInLog core.log.changes) core.records
-  writes =
-      let none : installed_place core.log - installed_place core.log ≡ 0 = omega arith in
-      subst (λ n. All (AreInLog core.log.changes) (drop n core.records)) none
-      (files.home.window.written 0 (at_first refl))
-
-  module _ (k : ℕ) (there : (block : ℕ) → IsOutside size block
-      → over image block ≡ after_commits (opening base core.log) (take k core.records) block) where
-    abbrev first : Image
-    first = opening base core.log
-
-    at_home : (number : ℕ) (home : Bool) → is_home size number ≡ home
-        → cond home (over image number) (replicate BLOCK_BYTES 0)
-        ≡ after_commits (homes_of size first) (take k core.records) number
-    at_home number true is =
-        there number (outside_of size number is)
-        ∙ after_same (take k core.records) first (homes_of size first) number
-        (sym (ap (λ b. cond b (first number) (replicate BLOCK_BYTES 0)) is))
-    at_home number false is =
-        sym (ap (λ b. cond b (first number) (replicate BLOCK_BYTES 0)) is)
-        ∙ sym (commits_aside core.log.changes number (no_newest number is) core.records k (homes_of size first)
-        writes)
-      where
-        no_newest : (number : ℕ) → is_home size number ≡ false → newest_of core.log.changes number ≡ None
-        no_newest number is =
-            subst (λ (changes : List LogChange). newest_of changes number ≡ None) (take_len core.log.changes)
-            (no_change size number (not_home size number is) core.log.changes (length core.log.changes)
-            lawful.homes)
-
-    homes_are : homes_of size (over image) ≡ after_commits (homes_of size first) (take k core.records)
-    homes_are = λ i number. at_home number (is_home size number) refl i
 
   -- ---- so it is good
 
@@ -86,7 +50,7 @@ module _ (base : Image) (core : CoreState) (boot : ℕ) (tree last : Tree) (entr
       boot_is = files.boot_is;
       range = boundary.range;
       homes = boundary.homes;
-      stands = subst (λ (blocks : Image). Stands files.super.geometry blocks found.0) (sym (homes_are k there))
+      stands = subst (λ (blocks : Image). Stands files.super.geometry blocks found.0) (sym (homes_after base core lawful files.home k (over image) there))
           found.2;
       stamps = files.stamps k found.0 found.1;
     }

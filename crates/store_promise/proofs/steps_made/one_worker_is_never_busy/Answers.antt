@@ -19,9 +19,9 @@ returns c = λ before later tree first index worker events t job begun addr is_e
     let step = planned_step kept.setting 1 events t.steps kept.taken index worker job begun _ is_event less
     is_step planning in
     takes_nothing addr.block addr.offset addr.len _
-    (idle_beyond kept.setting 1 events t.steps kept.taken step.by_plan.1.other
-    (beyond worker step.by_plan.1.other less step.by_plan.1.differs) index)
-    step.by_plan.1.so
+    (idle_beyond kept.setting 1 events t.steps kept.taken step.1.other
+    (beyond worker step.1.other less step.1.differs) index)
+    step.1.so
   where
     beyond : (worker other : ℕ) → worker < 1 → (other ≡ worker → ⊥) → 1 ≤ other
     beyond worker other less differs = elim (cases_lt other 1) [

@@ -1,0 +1,130 @@
+-- Its log begins at the position that each image tells, and has no changes.
+use Rattle.std.proofs.Common.{◌≡◌, ℕ, zero, suc, ◌+◌, ◌-◌, ◌≤◌, ap, ◌∙◌, refl, arith}
+use Rattle.std.proofs.Common.{List, [], length, take, drop}
+use Rattle.limits.specs.declared.TheConstants.{START_BLOCK}
+use Rattle.disk.specs.Crash.{Image}
+use Rattle.disk.specs.Device.{Device}
+use Rattle.model.specs.Tree.{Tree}
+use Rattle.txn_law.specs.Core.{CoreState}
+use Rattle.wal_law.specs.declared.change.LogChange.{LogChange}
+use Rattle.wal_law.specs.Installer.{next_home, passed_over}
+use Rattle.wal_law.specs.Log.{Log, tail_count}
+use Rattle.store_promise.specs.LogTold.{empty_log, idle}
+use Rattle.store_promise.specs.OpenStore.{IsNewOver}
+use Rattle.store_promise.specs.Openings.{IsOpened}
+use Rattle.store_promise.specs.Running.{at_rest, told_of}
+use Rattle.store_promise.specs.ToldOf.{first_of, newest_among}
+use Rattle.store_promise.proofs.running.an_opening_begins_a_run.Goals as goal
+
+take_none : (n : ℕ) → take {A = LogChange} n [] ≡ []
+take_none zero = refl
+take_none (suc n) = refl
+
+drop_none : (n : ℕ) → drop {A = LogChange} n [] ≡ []
+drop_none zero = refl
+drop_none (suc n) = refl
+
+none_among : (n : ℕ) → newest_among [] n ≡ 0
+none_among zero = refl
+none_among (suc n) = refl
+
+module _ (before opened : Device) (base : Image) (core : CoreState) (tree : Tree) (first position : ℕ)
+    (opens : IsOpened before opened tree first position) (new : IsNewOver base opened core) where
+  abbrev log : Log
+  log = core.log
+
+  -- where the log begins
+  position_is : log.start ≡ position
+  position_is =
+      let left = opens.left opened.clock opens.past.clock (omega arith) in
+      let size = new.agrees.agrees.size in
+      let disk = new.lawful.disk in
+      let rests = new.lawful.inst_step in
+      let early : log.inst_step ≤ log.installing = (let idle = new.lawful.inst_idle none_installing in
+      let step = idle.0 in omega (arith, step)) in
+      let behind = new.agrees.agrees.homes.start early (left.0 START_BLOCK)
+      (left.1 START_BLOCK (omega (arith, size, disk))) in
+      let tells = (opens.empty left.0 left.1).0 in
+      omega (arith, behind, tells)
+    where
+      none_installing : log.installing ≡ 0
+      none_installing =
+          let a = new.lawful.installing in
+          let b = new.lawful.taken_within in
+          let c = ap (λ (xs : List LogChange). length xs) new.changes in
+          omega (arith, a, b, c)
+
+  long : length log.changes ≡ 0
+  long = ap (λ (xs : List LogChange). length xs) new.changes
+
+  none_logged : log.logged ≡ 0
+  none_logged = let a = new.lawful.taken_within in let b = long in omega (arith, a, b)
+
+  none_taken : log.taken ≡ 0
+  none_taken = let a = new.lawful.taken_within in let b = long in omega (arith, a, b)
+
+  none_installing : log.installing ≡ 0
+  none_installing = let a = new.lawful.installing in let b = none_logged in omega (arith, a, b)
+
+  stands : next_home log.changes log.installing log.inst_step ≡ log.inst_step
+  stands =
+      let none = ap passed_over (ap (λ (xs : List LogChange). drop log.inst_step xs)
+      (ap (λ (xs : List LogChange). take log.installing xs) new.changes ∙ take_none log.installing)
+      ∙ drop_none log.inst_step) in
+      omega (arith, none)
+
+  appended : log.start + length log.changes - position ≡ 0
+  appended = let a = position_is in let b = long in omega (arith, a, b)
+
+  tail : tail_count log ≡ 0
+  tail = let b = long in omega (arith, b)
+
+  tail_first : first_of (drop (log.logged + log.taken) log.changes) ≡ 0
+  tail_first = ap (λ (xs : List LogChange). first_of (drop (log.logged + log.taken) xs)) new.changes
+      ∙ ap first_of (drop_none (log.logged + log.taken))
+
+  taken_first : first_of (take log.taken (drop log.logged log.changes)) ≡ 0
+  taken_first = ap (λ (xs : List LogChange). first_of (take log.taken (drop log.logged xs))) new.changes
+      ∙ ap (λ (xs : List LogChange). first_of (take log.taken xs)) (drop_none log.logged)
+      ∙ ap first_of (take_none log.taken)
+
+  homes : newest_among (take log.installing log.changes) log.inst_step ≡ 0
+  homes = ap (λ (xs : List LogChange). newest_among (take log.installing xs) log.inst_step) new.changes
+      ∙ ap (λ (xs : List LogChange). newest_among xs log.inst_step) (take_none log.installing)
+      ∙ none_among log.inst_step
+
+  log_step : log.log_step ≡ 0
+  log_step = (new.lawful.log_idle none_taken).0
+
+  behind : log.inst_step - log.installing ≡ 0
+  behind = let step = (new.lawful.inst_idle none_installing).0 in omega (arith, step)
+
+  told_is : told_of position (at_rest opened core) ≡ empty_log
+  told_is = λ i. record {
+    places = new.places i;
+    appended = appended i;
+    tail = tail i;
+    tail_first = tail_first i;
+    taken = none_taken i;
+    taken_first = taken_first i;
+    log_step = log_step i;
+    logged = none_logged i;
+    installing = none_installing i;
+    homes = homes i;
+    behind = behind i;
+    broken = new.sound i;
+    log_call = idle;
+    inst_call = idle;
+  }
+
+pub returns-clause-runs : goal.returns-clause-runs
+returns-clause-runs c = λ before opened base core tree first o opens new blocks. record {
+  since = c.an_opening_leaves_an_open_store.ensures before opened base core tree first o.position opens new;
+  position = (let at = position_is before opened base core tree first o.position opens new in omega (arith, at));
+  blocks = blocks ∙ new.agrees.agrees.size;
+  stands = stands before opened base core tree first o.position opens new;
+  fetched = λ k fetch less. absurd (omega (arith, less));
+}
+
+pub returns-clause-told : goal.returns-clause-told
+returns-clause-told c = told_is

@@ -1,0 +1,76 @@
+-- A store that has been open for some entries, some of which are home by now; and what a step of it may rest on.
+use Rattle.std.specs.Prelude.{◌≡◌, ℕ, ◌<◌, ◌≤◌, List, length, take, drop}
+use Rattle.disk.specs.Crash.{Image, IsCrashImage}
+use Rattle.disk.specs.Device.{Device}
+use Rattle.model.specs.After.{Entry, after}
+use Rattle.model.specs.Sound.{SoundTime}
+use Rattle.model.specs.Tree.{Tree}
+use Rattle.layout.specs.declared.geometry.Geometry.{Geometry}
+use Rattle.nfs_types.specs.declared.reply.Reply.{Reply}
+use Rattle.procs.specs.Outcome.{Outcome}
+use Rattle.procs.specs.Steps.{IsStepOf}
+use Rattle.wal_law.specs.Calls.{Pending}
+use Rattle.wal_law.specs.Log.{IsLawful, installed_place}
+use Rattle.txn_law.specs.Commit.{Planned}
+use Rattle.txn_law.specs.Core.{CoreState}
+use Rattle.txn_law.specs.CoreWindow.{IsHomeOf}
+use Rattle.txn_law.specs.Tidy.{AreTidy}
+use Rattle.store_promise.specs.Openings.{AtEachStop}
+use Rattle.store_promise.specs.OpenStore.{IsBoot, IsOpenOver}
+use Rattle.store_promise.specs.Prefix.{HasPrefix}
+
+-- The files were a tree when the store was opened, and each commit since has its entry. Those that are home lead
+-- to the tree at home, over which the store is open with the others.
+pub record IsOpenSince (base : Image) (d : Device) (core : CoreState) (logging installing : Pending) (boot : ℕ)
+    (first : Tree) (entries : List Entry) (last : Tree) : Type 0 where
+  pub counted : length entries ≡ core.log.places
+  pub home : Tree
+  pub leads : after first (take (installed_place core.log) entries) home
+  pub over : IsOpenOver base d core logging installing boot home (drop (installed_place core.log) entries) last
+
+-- a core is sound over what is at home: so its type keeps it, and each of its methods leads from home to home
+pub record IsSoundCore (base : Image) (core : CoreState) : Type 0 where
+  pub lawful : IsLawful core.log
+  pub tidy : AreTidy core
+  pub home : IsHomeOf base core
+
+-- a step has left the log, the commits and the counts as they were
+pub record StandsBeside (old new : CoreState) : Type 0 where
+  pub log : new.log ≡ old.log
+  pub inodes : new.inodes ≡ old.inodes
+  pub records : new.records ≡ old.records
+
+-- what comes of a call, by the change that is committed and the reply
+abbrev pub outcome_of : Planned → Reply → Outcome
+outcome_of plan reply = record {
+  reply = reply;
+  read = plan.read;
+  written = plan.written;
+  blocks = plan.blocks;
+  inodes = plan.inodes;
+}
+
+-- An entry tells of this change: its call was made in this boot, at a sound time, and what comes of it is a step
+-- of the sequential server, in an image of the change's counts.
+pub record TellsOf (boot : ℕ) (plan : Planned) (entry : Entry) : Type 0 where
+  pub boot_is : entry.ctx.boot ≡ boot
+  pub timely : SoundTime entry.ctx.moment
+  pub geometry : Geometry
+  pub blocks : plan.blocks ≡ geometry.blocks
+  pub inodes : plan.inodes ≡ geometry.inodes
+  pub step : IsStepOf geometry entry.ctx entry.call (outcome_of plan entry.reply)
+
+-- What a stop leaves is good, and has the files after a beginning of the entries, in which is each settled place.
+abbrev pub LeavesBeginning : ℕ → ℕ → Tree → List Entry → ℕ → Image → Type 0
+LeavesBeginning size boot first entries settled image =
+    HasPrefix size (IsBoot boot) first entries (length entries) (λ place. place ≤ settled) image
+
+-- so it was whenever a call of the device was next, from one device on, but for what is next now
+abbrev pub HasKeptFiles : Device → Device → ℕ → Tree → List Entry → ℕ → Type 0
+HasKeptFiles before d boot first entries settled = (clock : ℕ) (image : Image) → before.clock ≤ clock
+    → clock < d.clock → IsCrashImage d clock image → LeavesBeginning d.size boot first entries settled image
+
+-- and so it is now
+abbrev pub KeepsFiles : Device → Device → ℕ → Tree → List Entry → ℕ → Type 0
+KeepsFiles before d boot first entries settled =
+    AtEachStop before d (λ clock image. LeavesBeginning d.size boot first entries settled image)

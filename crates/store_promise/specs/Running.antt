@@ -1,0 +1,107 @@
+-- What holds of a run that goes on, and what a step of it does to the device and to what transactions have.
+use Rattle.std.specs.Prelude.{◌≡◌, ℕ, ◌+◌, ◌≤◌, Bool, if◌then◌else◌, List, Option, Some, None, length, All}
+use Rattle.std.specs.Prelude.{count_by}
+use Rattle.disk.specs.Crash.{Image}
+use Rattle.disk.specs.Device.{Device}
+use Rattle.disk.specs.declared.block.BlockNo.{BlockNo}
+use Rattle.objects.specs.declared.addr.Addr.{Addr}
+use Rattle.model.specs.After.{Entry}
+use Rattle.model.specs.Tree.{Tree}
+use Rattle.wal_law.specs.Calls.{Pending, home_after, idle}
+use Rattle.wal_law.specs.Log.{Log}
+use Rattle.txn_law.specs.Core.{CoreState}
+use Rattle.txn_law.specs.CoreWindow.{IsPending, KeepsReads}
+use Rattle.txn_law.specs.Fetch.{Fetch}
+use Rattle.txn_law.specs.Leaves.{is_fetching, taken_by}
+use Rattle.store_promise.specs.declared.events.Step.{Step}
+use Rattle.store_promise.specs.declared.events.Step.TheVariants as step
+use Rattle.store_promise.specs.LogTold.{LogTold, log_moved}
+use Rattle.store_promise.specs.Openings.{IsLater}
+use Rattle.store_promise.specs.OpenSince.{IsOpenSince}
+use Rattle.store_promise.specs.Schedule.{Setting}
+use Rattle.store_promise.specs.ToldOf.{StandsAtHome, log_told}
+use Rattle.store_promise.specs.Transcript.{calls_device, fails}
+
+-- the device and the core, with the calls that the log and the installer have out
+pub record StoreSide : Type 0 where
+  pub device : Device
+  pub core : CoreState
+  pub logging : Pending
+  pub installing : Pending
+
+-- no call is out
+abbrev pub at_rest : Device → CoreState → StoreSide
+at_rest d core = record { device = d; core = core; logging = idle; installing = idle }
+
+-- what was read of a block whose fetch is pending is what is at home
+abbrev pub IsFetchOver : Image → CoreState → Fetch → Type 0
+IsFetchOver base core fetch = IsPending core fetch.block → fetch.content ≡ base fetch.block.0
+
+-- A run goes on over what is at home: its store is open since its opening, with these entries; the log has gone on
+-- from where the opening left it, and its installer stands at a home; and each fetch that was made well, and isn't
+-- given back yet, has brought what is at home.
+pub record IsRunningOver (o : Setting) (base : Image) (side : StoreSide) (fetches : List Fetch) (boot : ℕ)
+    (first : Tree) (entries : List Entry) (last : Tree) : Type 0 where
+  pub since : IsOpenSince base side.device side.core side.logging side.installing boot first entries last
+  pub position : o.position ≤ side.core.log.start + length side.core.log.changes
+  pub blocks : o.geometry.blocks ≡ side.core.log.blocks
+  pub stands : StandsAtHome side.core.log
+  pub fetched : All (IsFetchOver base side.core) fetches
+
+-- ---- a step
+
+-- how many device calls a step makes, and how many of these fail
+abbrev pub one_if : Bool → ℕ
+one_if is = if is then 1 else 0
+
+-- the device after a step: one call later where the step is one, and one failure more where that failed
+pub record IsMovedBy (old : Device) (made : Option Step) (new : Device) : Type 0 where
+  pub past : IsLater old new
+  pub calls : new.clock ≡ old.clock + one_if (calls_device made)
+  pub failures : new.failures ≡ old.failures + one_if (fails made)
+
+-- the device after steps
+pub record IsMovedAlong (old : Device) (steps : List (Option Step)) (new : Device) : Type 0 where
+  pub past : IsLater old new
+  pub calls : new.clock ≡ old.clock + count_by calls_device steps
+  pub failures : new.failures ≡ old.failures + count_by fails steps
+
+-- what transactions have taken, read and are fetching is what it was
+pub record KeepsTransactions (old new : CoreState) : Type 0 where
+  pub begun : new.begun ≡ old.begun
+  pub out : new.out ≡ old.out
+  pub taken : (tx : ℕ) (addr : Addr) → taken_by new tx addr ≡ taken_by old tx addr
+  pub fetches : (block : BlockNo) → is_fetching new block ≡ is_fetching old block
+  pub reads : (tx : ℕ) → KeepsReads old new tx
+
+-- what is told of a log, where an opening left it at a position
+abbrev pub told_of : ℕ → StoreSide → LogTold
+told_of position side = log_told position side.core.log side.logging side.installing
+
+-- what is told after a step, or after none
+abbrev pub told_next : LogTold → Option Step → LogTold
+told_next log None = log
+told_next log (Some made) = log_moved log made
+
+-- what is at home after it
+abbrev pub home_next : Image → Log → Option Step → Image
+home_next base log (Some (step.InstDone ok)) = home_after base log ok
+home_next base log _ = base
+
+-- A step of the log or of the installer is one that may be made, leads from what is told to what is told next, and
+-- the run goes on with the entries that there were.
+pub record GoesOnBy (MayMake : Setting → LogTold → Option Step → Type 0) (o : Setting) (base : Image)
+    (old : StoreSide) (made : Option Step) (new : StoreSide) (fetches : List Fetch) (boot : ℕ) (first : Tree)
+    (entries : List Entry) (last : Tree) : Type 0 where
+  pub may : MayMake o (told_of o.position old) made
+  pub told : told_of o.position new ≡ told_next (told_of o.position old) made
+  pub running : IsRunningOver o (home_next base old.core.log made) new fetches boot first entries last
+
+-- so it does whatever is at home, and what transactions have stays
+pub record IsLogStep (MayMake : Setting → LogTold → Option Step → Type 0) (old : StoreSide) (made : Option Step)
+    (new : StoreSide) : Type 0 where
+  pub device : IsMovedBy old.device made new.device
+  pub core : KeepsTransactions old.core new.core
+  pub runs : (o : Setting) (base : Image) (fetches : List Fetch) (boot : ℕ) (first last : Tree)
+      (entries : List Entry) → IsRunningOver o base old fetches boot first entries last
+      → GoesOnBy MayMake o base old made new fetches boot first entries last

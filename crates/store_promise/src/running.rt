@@ -1,0 +1,71 @@
+//! Laws on a run that goes on: what its device has counted, and what its reads have brought.
+ghost use Rattle.std.specs.Prelude.{◌≡◌, ◌+◌, ◌++◌, ◌∷◌, [], All, Contains, List, Option, Result, is_err, ℕ, Bool, false, true};
+ghost use Rattle.disk.specs.Crash.{Image};
+ghost use Rattle.disk.specs.Device.{CountsFailure, Device, OneLater, current, newest};
+ghost use Rattle.disk.specs.declared.block.BlockNo.{BlockNo};
+ghost use Rattle.disk.specs.declared.device.Failed.{Failed};
+ghost use Rattle.model.specs.After.{Entry};
+ghost use Rattle.model.specs.Tree.{Tree};
+ghost use Rattle.wal_law.specs.Calls.{Pending, home_after};
+ghost use Rattle.txn_law.specs.Core.{CoreState};
+ghost use Rattle.txn_law.specs.CoreWindow.{IsPending};
+ghost use Rattle.txn_law.specs.Fetch.{Fetch};
+ghost use Rattle.txn_law.specs.HomeRead.{HasContents};
+ghost use Rattle.txn_law.specs.Leaves.{is_fetching, with_fetch};
+ghost use Rattle.store_promise.specs.declared.events.Step.{Step};
+ghost use Rattle.store_promise.specs.OpenSince.{IsOpenSince};
+ghost use Rattle.store_promise.specs.LogTold.{empty_log};
+ghost use Rattle.store_promise.specs.OpenStore.{IsNewOver};
+ghost use Rattle.store_promise.specs.Openings.{IsOpened};
+ghost use Rattle.store_promise.specs.Schedule.{Setting};
+ghost use Rattle.store_promise.specs.Running.{IsFetchOver, IsMovedAlong, IsMovedBy, IsRunningOver, at_rest, told_of};
+ghost use Rattle.store_promise.specs.Transcript.{calls_device, fails};
+
+/// What an opening leaves begins a run, over what is at home: with the files that were found, no entry, no read that is
+/// out, and a log of which nothing is told yet.
+pub fn an_opening_begins_a_run()
+    ensures runs { (before opened : Device) (base : Image) (core : CoreState) (tree : Tree) (first : ℕ) (o : Setting)
+        → IsOpened before opened tree first o.position → IsNewOver base opened core
+        → o.geometry.blocks ≡ opened.size
+        → IsRunningOver o base (at_rest opened core) [] (first + 1) tree [] tree }
+    ensures told { (before opened : Device) (base : Image) (core : CoreState) (tree : Tree) (first position : ℕ)
+        → IsOpened before opened tree first position → IsNewOver base opened core
+        → told_of position (at_rest opened core) ≡ empty_log }
+{
+    crate::an_opening_leaves_an_open_store();
+}
+
+/// The device of a run has counted its steps' calls and their failures: at first none, and with each step its own.
+pub fn a_device_counts_the_calls_of_its_steps()
+    ensures first { (d : Device) → IsMovedAlong d [] d }
+    ensures none { (d : Device) (made : Option Step) → calls_device made ≡ false → IsMovedBy d made d }
+    ensures call { (old new : Device) (made : Option Step) (answer : Result Unit Failed)
+        → calls_device made ≡ true → fails made ≡ is_err answer → OneLater old new
+        → CountsFailure old new answer → IsMovedBy old made new }
+    ensures step { (opened old new : Device) (steps : List (Option Step)) (made : Option Step)
+        → IsMovedAlong opened steps old → IsMovedBy old made new
+        → IsMovedAlong opened (steps ++ made ∷ []) new }
+{}
+
+/// What was read of a block whose fetch is pending is what is at home, until it is given back: a read brings it, a
+/// step that makes no more fetches pending keeps it, so does a fetch of another block, and so does an installation.
+pub fn what_was_read_is_at_home()
+    ensures read { (base : Image) (d : Device) (core : CoreState) (logging installing : Pending) (boot : ℕ)
+        (first last : Tree) (entries : List Entry) (fetch : Fetch)
+        → IsOpenSince base d core logging installing boot first entries last → HasContents d
+        → fetch.content ≡ newest (current d fetch.block.0) → IsFetchOver base core fetch }
+    ensures kept { (base : Image) (old new : CoreState) (fetches : List Fetch)
+        → ((block : BlockNo) → IsPending new block → IsPending old block)
+        → All (IsFetchOver base old) fetches → All (IsFetchOver base new) fetches }
+    ensures wanted { (base : Image) (old new : CoreState) (fetches : List Fetch) (block : BlockNo)
+        → ((other : BlockNo) → is_fetching new other ≡ with_fetch block (is_fetching old) other)
+        → ((fetch : Fetch) → Contains fetches fetch → fetch.block.0 ≡ block.0 → ⊥)
+        → All (IsFetchOver base old) fetches → All (IsFetchOver base new) fetches }
+    ensures installed { (base : Image) (d : Device) (old new : CoreState) (logging installing : Pending) (ok : Bool)
+        (boot : ℕ) (first last : Tree) (entries : List Entry) (fetches : List Fetch)
+        → IsOpenSince base d old logging installing boot first entries last
+        → ((block : BlockNo) → IsPending new block → IsPending old block)
+        → All (IsFetchOver base old) fetches → All (IsFetchOver (home_after base old.log ok) new) fetches }
+{
+    txn_law::a_fetch_keeps_the_window_of_the_core();
+}
