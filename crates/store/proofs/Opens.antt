@@ -15,6 +15,7 @@ use Rattle.layout.specs.declared.geometry.Geometry.{Geometry}
 use Rattle.layout.specs.declared.super_block.Super.{Super}
 use Rattle.layout.specs.SuperForm.{IsSuper}
 use Rattle.layout.proofs.OneGeometry.{one_geometry}
+use Rattle.layout.proofs.Versions.{one_version}
 use Rattle.wal_law.specs.declared.change.LogChange.{LogChange}
 use Rattle.wal_law.specs.Calls.{AgreesBeside, idle}
 use Rattle.wal_law.specs.Installer.{may_install}
@@ -34,6 +35,7 @@ use Rattle.store_promise.specs.declared.fault.OpenFault.TheVariants as fault
 use Rattle.store_promise.specs.GoodImage.{IsGoodImage}
 use Rattle.store_promise.specs.Openings.{HasTree, IsCauseOf, IsLater, IsOpened, IsRefused, IsRefusedFor, KeepsTree}
 use Rattle.store_promise.specs.OpenStore.{IsNewOver}
+use Rattle.store_promise.proofs.Shown.{has_blocks, not_magic, not_range, not_version}
 use Rattle.store.specs.BringingHome.{BringsHome, CountsCause, HasBlocksOf, HasBlocksWith, HasRaised, IsComingHome}
 use Rattle.store.specs.BringingHome.{IsFound, KeepsBlocks}
 use Rattle.store.specs.Opening.{HoldsTree}
@@ -80,19 +82,19 @@ module _ (before : Device) (tree : Tree) (first : ℕ) (holds : HoldsTree before
   cause_is keeps_model fault.Device later kept counts shows = counts
   cause_is keeps_model fault.NoMemory later kept counts shows = tt
   cause_is keeps_model fault.Magic later kept counts shows = elim (shows.1 kept holds.rest.unspoiled) [
-    | inl none ↦ let some = good.super.geometry.lawful.0.0 in absurd (omega (arith, none, some, good.size_is))
-    | inr other ↦ other good.is_super.magic
+    | inl none ↦ absurd (has_blocks before.size (image_of before SUPER_BLOCK) good.super good.is_super good.size_is none)
+    | inr other ↦ not_magic (image_of before SUPER_BLOCK) good.super good.is_super other
   ]
   cause_is keeps_model fault.Version later kept counts shows =
-      (shows.1 kept holds.rest.unspoiled).1 good.is_super.version
+      not_version (image_of before SUPER_BLOCK) good.super good.is_super (shows.1 kept holds.rest.unspoiled)
   cause_is keeps_model fault.Range later kept counts shows = elim (shows.1 kept holds.rest.unspoiled) [
-    | inl other ↦ absurd (other.2 good.is_super.sizes)
+    | inl other ↦ absurd (not_range (image_of before SUPER_BLOCK) good.super good.is_super other)
     | inr (super, is, inl other) ↦ absurd (other (is.blocks ∙ sym good.is_super.blocks ∙ good.size_is))
     | inr (super, is, inr last) ↦
         let same : super.boot ≡ first = is.boot ∙ sym good.is_super.boot ∙ good.boot_is in omega (arith, last, same)
   ]
   cause_is keeps_model fault.Log later kept counts shows =
-      (shows.1 kept holds.rest.unspoiled).3 (good.range, good.homes)
+      (shows.1 kept holds.rest.unspoiled).1 (good.range, good.homes)
 
   pub read_refused : (keeps_model : Type 0) (cause : OpenFault) (later : Device) → keeps_model → AreBlocks later
       → HasOnlyRead before later → CountsCause cause before later → IsRefusedFor keeps_model cause before later
@@ -123,6 +125,7 @@ module _ (before : Device) (tree : Tree) (first : ℕ) (holds : HoldsTree before
       (is_raised : IsSuper content raised) (full : length content ≡ BLOCK_BYTES) where
     same_geometry : raised.geometry ≡ good.super.geometry
     same_geometry = geometry ∙ one_geometry found.geometry good.super.geometry
+        (one_version found.geometry.version good.super.geometry.version)
         (is_super.blocks ∙ sym good.is_super.blocks) (is_super.inodes ∙ sym good.is_super.inodes)
 
     pub next_boot : raised.boot ≡ first + 1

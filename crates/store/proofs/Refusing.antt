@@ -1,5 +1,5 @@
 -- An opening that has only read, and what it refuses.
-use Rattle.std.proofs.Common.{arith, ◌≡◌, ◌∙◌, refl, sym, ap, subst, ℕ, ◌+◌, ◌<◌, ◌≤◌, ◌⊎◌, inl, inr, Ok, Err, Result, List}
+use Rattle.std.proofs.Common.{arith, ◌≡◌, ◌∙◌, refl, sym, ap, subst, ℕ, ◌+◌, ◌<◌, ◌≤◌, ◌^◌, ◌⊎◌, inl, inr, Ok, Err, Result, List}
 use Rattle.std.specs.Prelude.{IfErr}
 use Rattle.std.proofs.lemmas.Bool.{cases_lt}
 use Rattle.limits.specs.declared.TheConstants.{SUPER_BLOCK}
@@ -14,7 +14,8 @@ use Rattle.wal_law.specs.Recovery.{HasOnlyRead, IsUnspoiled, image_of}
 use Rattle.wal_law.proofs.OnlyRead.{image_then, reads_then, unspoiled_then}
 use Rattle.store_promise.specs.declared.fault.OpenFault.{OpenFault}
 use Rattle.store_promise.specs.declared.fault.OpenFault.TheVariants as fault
-use Rattle.store_promise.specs.Openings.{IsLater, IsRefusedFor, WasOnlyRead}
+use Rattle.store_promise.specs.Openings.{IsLater, IsRefusedFor, ShowsNoCause, WasOnlyRead}
+use Rattle.store_promise.proofs.Shown.{has_blocks, not_another, not_magic, not_range, not_version}
 use Rattle.store.specs.BringingHome.{HasNoSuper, IsFound}
 
 -- one read alone
@@ -79,6 +80,7 @@ refused_by keeps_model (Err cause) before later size content none reads same siz
 
 module _ (keeps_model : Type 0) (before middle later : Device) (found : Super) (first : HasOnlyRead before middle)
     (second : HasOnlyRead middle later) (blocks : found.geometry.blocks ≡ before.size)
+    (left : found.boot + 1 < 2 ^ 64)
     (is_super : keeps_model → IsUnspoiled before → IsSuper (image_of before SUPER_BLOCK) found) where
   image_is : image_of middle ≡ image_of before
   image_is = λ i block. image_then before middle first block i
@@ -91,9 +93,7 @@ module _ (keeps_model : Type 0) (before middle later : Device) (found : Super) (
   no_log same none = (
     record { only = reads_then before middle later first second; failures = same },
     λ kept clean. (
-      found,
-      is_super kept clean,
-      blocks,
+      (found, is_super kept clean, blocks, left),
       λ is. none kept (unspoiled_then before middle first clean) (
         subst IsInRange (sym image_is) is.0,
         subst (λ (size : ℕ). HasHomes size (image_of middle)) (sym first.size)
@@ -121,3 +121,18 @@ module _ (keeps_model : Type 0) (before middle later : Device) (found : Super) (
             ∙ ap (λ (n : ℕ). opened before.size n logged) (all.0 ∙ ap start_in image_is)
             ∙ ap (opened before.size (start_in (image_of before))) (all.1 ∙ ap logged_in image_is);
       }
+
+  -- and then the image shows no cause
+  pub shows_none : (log : Log) → IsFound before found log → ShowsNoCause before.size (image_of before)
+  shows_none log is fault.Magic shown = elim shown [
+    | inl none ↦ has_blocks before.size (image_of before SUPER_BLOCK) found is.is_super blocks none
+    | inr other ↦ not_magic (image_of before SUPER_BLOCK) found is.is_super other
+  ]
+  shows_none log is fault.Version shown = not_version (image_of before SUPER_BLOCK) found is.is_super shown
+  shows_none log is fault.Range shown = elim shown [
+    | inl other ↦ not_range (image_of before SUPER_BLOCK) found is.is_super other
+    | inr other ↦ not_another before.size (image_of before SUPER_BLOCK) found is.is_super blocks left other
+  ]
+  shows_none log is fault.Log shown = shown.1 (is.range, is.homes)
+  shows_none log is fault.Device shown = shown
+  shows_none log is fault.NoMemory shown = shown

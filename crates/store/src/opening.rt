@@ -1,6 +1,6 @@
 //! Opening a store: what a crash left in the log is brought home, and the boot number rises.
 ghost use Rattle.std.specs.Prelude.{◌≡◌, ◌+◌, ◌^◌, ◌<◌, IfErr, IfOk, IsFalse, IsTrue, MatchResult, OnOk, [], ℕ, length};
-ghost use Rattle.std.specs.Prelude.{◌⊎◌, Ok, Err, true, false};
+ghost use Rattle.std.specs.Prelude.{◌⊎◌, Ok, Err, Some, None, true, false};
 ghost use Rattle.limits.specs.declared.TheConstants.{BLOCK_BYTES, SUPER_BLOCK};
 ghost use Rattle.disk.specs.Device.{Content, Device};
 ghost use Rattle.layout.specs.Geometry.{IsLawful};
@@ -10,7 +10,7 @@ ghost use Rattle.txn.specs.CoreLaw.{IsFresh};
 ghost use Rattle.wal_law.specs.Installer.{may_install};
 ghost use Rattle.wal_law.specs.Log.{IsLawful as IsLawfulLog, Log};
 ghost use Rattle.wal_law.specs.Recovery.{HasOnlyRead, IsUnspoiled, image_of};
-ghost use Rattle.store_promise.specs.Openings.{IsLater, IsRefusedFor};
+ghost use Rattle.store_promise.specs.Openings.{IsAnsweredFor, IsLater, IsRefusedFor, ShowsNoCause};
 ghost use Rattle.store.specs.BringingHome.{BringsHome, CountsCause, HasNoSuper, HasRaised, IsFound, KeepsBlocks};
 ghost use Rattle.store.specs.Opening.{HasOpened, HoldsTree, Opens, store_of};
 ghost use Rattle.store.specs.Settling.{HasCalled, IsIdle, IsQuiet};
@@ -38,8 +38,9 @@ pub fn open<D: CrashDisk>(alloc: Global, disk: D) -> Result<Store<D>, (D, OpenFa
     ensures opened { MatchResult result
         (λ store. HasOpened (D.device disk) (Ok (store_of (D.device store.disk) store.core store.boot)))
         (λ refused. HasOpened (D.device disk) (Err (D.device refused.0, refused.1))) }
-    ensures refused { IfErr result
-        (λ refused. IsRefusedFor (D.keeps_model refused.0) refused.1 (D.device disk) (D.device refused.0)) }
+    ensures answered { MatchResult result
+        (λ store. IsAnsweredFor (D.keeps_model store.disk) None (D.device disk) (D.device store.disk))
+        (λ refused. IsAnsweredFor (D.keeps_model refused.0) (Some refused.1) (D.device disk) (D.device refused.0)) }
     ensures keeps { (tree : Tree) (first : ℕ) → HoldsTree (D.device disk) tree first → MatchResult result
         (λ store. D.keeps_model store.disk → Opens (D.device disk)
         (Ok (store_of (D.device store.disk) store.core store.boot)) tree first)
@@ -61,8 +62,9 @@ fn recover<D: CrashDisk>(alloc: Global, disk: &mut D) -> Result<(Core<Done>, u64
     ensures size { IfOk result (λ opened. (D.device disk.new).size ≡ opened.0.log.blocks) }
     ensures lawful { IfOk result (λ opened. IsLawful opened.0.log.blocks opened.0.inodes) }
     ensures idle { IfOk result (λ opened. IsIdle opened.0) }
-    ensures refused { IfErr result
-        (λ cause. IsRefusedFor (D.keeps_model disk.new) cause (D.device disk.old) (D.device disk.new)) }
+    ensures answered { MatchResult result
+        (λ _. IsAnsweredFor (D.keeps_model disk.new) None (D.device disk.old) (D.device disk.new))
+        (λ cause. IsAnsweredFor (D.keeps_model disk.new) (Some cause) (D.device disk.old) (D.device disk.new)) }
     ensures keeps { (tree : Tree) (first : ℕ) → HoldsTree (D.device disk.old) tree first → D.keeps_model disk.new
         → MatchResult result (λ opened. Opens (D.device disk.old)
         (Ok (store_of (D.device disk.new) opened.0 opened.1)) tree first)
@@ -112,6 +114,8 @@ fn find<D: CrashDisk>(
     ensures sound { IfOk result (λ found. found.1.broken ≡ false) }
     ensures found { D.keeps_model disk.new → IsUnspoiled (D.device disk.old)
         → IfOk result (λ found. IsFound (D.device disk.old) found.0 found.1) }
+    ensures none { D.keeps_model disk.new → IsUnspoiled (D.device disk.old)
+        → IfOk result (λ _. ShowsNoCause (D.device disk.old).size (image_of (D.device disk.old))) }
     ensures refused { IfErr result
         (λ cause. IsRefusedFor (D.keeps_model disk.new) cause (D.device disk.old) (D.device disk.new)) }
     ensures model { D.keeps_model disk.new → D.keeps_model disk.old }

@@ -11,6 +11,7 @@ returns-in-Err-Range-clause-refused g c =
     let is = c.in-Err-Range.is ∙ ap Err c.in-Err-Range.field-0-is in
     no_log (g.D.CrashDisk.keeps_model c.recover.new.disk) (g.D.CrashDisk.device c.args.disk.now) middle later
     c.in_ok-found.found c.in_ok-found.ensures.reads c.recover.ensures.reads c.in_ok-found.ensures.blocks
+    c.in_ok-found.ensures.boot
     (λ kept clean. c.in_ok-found.ensures.found (c.recover.ensures.model kept) clean)
     (subst (CountsFault middle later) is c.recover.ensures.failure ∙ c.in_ok-found.ensures.failure)
     (λ kept clean log. subst (IsRecovered middle.size (image_of middle)) is (c.recover.ensures.found kept clean) log.0)
@@ -22,6 +23,7 @@ returns-in-Err-Address-clause-refused g c =
     let is = c.in-Err-Address.is ∙ ap Err c.in-Err-Address.field-0-is in
     no_log (g.D.CrashDisk.keeps_model c.recover.new.disk) (g.D.CrashDisk.device c.args.disk.now) middle later
     c.in_ok-found.found c.in_ok-found.ensures.reads c.recover.ensures.reads c.in_ok-found.ensures.blocks
+    c.in_ok-found.ensures.boot
     (λ kept clean. c.in_ok-found.ensures.found (c.recover.ensures.model kept) clean)
     (subst (CountsFault middle later) is c.recover.ensures.failure ∙ c.in_ok-found.ensures.failure)
     (λ kept clean log.
