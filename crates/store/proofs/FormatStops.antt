@@ -24,6 +24,7 @@ use Rattle.wal_law.proofs.Contents.{one_member}
 use Rattle.store_promise.specs.Openings.{HasFailedToFormat, IsFormatted, IsLater, IsLeftByFormat}
 use Rattle.store_promise.specs.Openings.{IsMaking, LeavesImages}
 use Rattle.store.specs.Formatting.{HasWrittenUpTo, IsBlank, IsMade, IsMadeBehind, LeavesSuper, Stops, is_slot}
+use Rattle.store.proofs.Later.{blocks_before, earlier, one_stop_more, past_more, past_none, past_one, some_image}
 use Rattle.store.proofs.Formatted.{made_behind, made_on, made_still, settles}
 
 abbrev zeros : Content
@@ -35,32 +36,6 @@ no_magic content is magic = zeros_have_none (subst HasMagic is magic)
   where
     zeros_have_none : HasMagic zeros → ⊥
     zeros_have_none magic = cc
-
--- one call later
-past_one : (now next : Device) → OneLater now next → IsLater now next
-past_one now next later = record {
-  size = later.size;
-  clock = omega (arith, later.clock);
-  past = λ clock block below. later.past clock block below;
-}
-
-past_more : (before now next : Device) → IsLater before now → IsLater now next → IsLater before next
-past_more before now next first then_ = record {
-  size = then_.size ∙ first.size;
-  clock = omega (arith, first.clock, then_.clock);
-  past = λ clock block below.
-      then_.past clock block (omega (arith, below, first.clock)) ∙ first.past clock block below;
-}
-
-past_none : (now : Device) → IsLater now now
-past_none now = record { size = refl; clock = omega arith; past = λ clock block below. refl }
-
--- what a stop in the past leaves, it left then
-earlier : (now later : Device) → IsLater now later → (clock : ℕ) (image : Image) → clock ≤ now.clock
-    → IsCrashImage later clock image → IsCrashImage now clock image
-earlier now later past clock image below is = λ block within.
-    subst (λ (cs : List Content). Contains cs (image block)) (past.past clock block below)
-    (is block (omega (arith, within, past.size)))
 
 -- ---- the super block stays
 
@@ -106,12 +81,7 @@ module _ (before : Device) (g : Geometry) (moment : Moment) where
       → Stops before next g moment
   one_more_stop now next so later left = record {
     past = past_more before now next so.past (past_one now next later);
-    stops = λ clock image above below is. elim (cases_order clock (now.clock + 1)) [
-      | inl at ↦ left image (subst (λ (n : ℕ). IsCrashImage next n image) (at ∙ sym later.clock) is)
-      | inr (inl past) ↦ so.stops clock image above (omega (arith, past))
-          (earlier now next (past_one now next later) clock image (omega (arith, past)) is)
-      | inr (inr after) ↦ absurd (omega (arith, after, below, later.clock))
-    ];
+    stops = one_stop_more (IsLeftByFormat before g moment) before now next later so.stops left;
   }
 
   -- the super block's place stays blank
@@ -297,26 +267,6 @@ module _ (before : Device) (g : Geometry) (moment : Moment) where
       (is SUPER_BLOCK (omega (arith, sizes, rules.3))))))))
   super_settled now next (Err f) so sizes blocks rest settled made =
       same_stop now next so settled.later settled.contents
-
--- each stop leaves some image
-pub some_image : (before now : Device) → AreBlocks now → LeavesImages before now
-some_image before now blocks = λ clock above below. (
-  λ block. slice_index_or (now.contents clock block) 0 [],
-  λ block within. first_of (now.contents clock block) (blocks.some clock block below within),
-)
-  where
-    first_of : (cs : List Content) → 0 < length cs → Contains cs (slice_index_or cs 0 [])
-    first_of [] none = absurd (omega (arith, none))
-    first_of (c ∷ cs) some = (0, some, refl)
-
--- what is known of a device's blocks now was true at each moment before
-pub blocks_before : (now later : Device) → IsLater now later → AreBlocks later → AreBlocks now
-blocks_before now later past blocks = record {
-  some = λ clock block below within. subst (λ (cs : List Content). 0 < length cs) (past.past clock block below)
-      (blocks.some clock block (omega (arith, below, past.clock)) (omega (arith, within, past.size)));
-  blocks = λ clock block below within. subst (λ (cs : List Content). All IsBlock cs) (past.past clock block below)
-      (blocks.blocks clock block (omega (arith, below, past.clock)) (omega (arith, within, past.size)));
-}
 
 -- ---- the first step: the super block's place is blank
 

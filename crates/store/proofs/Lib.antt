@@ -1,8 +1,13 @@
 pub mod AfterCommit
 pub mod CallsLeft
+pub mod ComingHome
 pub mod FormatStops
 pub mod Formatted
+pub mod Later
 pub mod LogMoves
 pub mod LogSteps
 pub mod Made
+pub mod Opens
 pub mod OutCalls
+pub mod Raising
+pub mod Refusing

@@ -1,5 +1,6 @@
 -- A device call of the log or of the installer is one call of the device.
-use Rattle.std.specs.Prelude.{◌≡◌, Result}
+use Rattle.std.proofs.Common.{◌≡◌, ◌∙◌, ◌||◌, ◌&&◌, Bool, true, false, refl, Result, Ok, Err, is_ok, nat_eq}
+use Rattle.wal_law.specs.Recovery.{IsUnspoiled}
 use Rattle.disk.specs.Device.{Content, Device, OneLater}
 use Rattle.disk.specs.declared.device.Failed.{Failed}
 use Rattle.wal.specs.Io.{Io, HasMade, HasMadeCall}
@@ -19,3 +20,19 @@ made_later old io result new made = call_later old io.call io.content result new
 pub made_size : (old : Device) (io : Io) (result : Result Unit Failed) (new : Device)
     → HasMade old io result new → new.size ≡ old.size
 made_size old io result new made = (made_later old io result new made).size
+
+-- a call that was made well spoils no block
+pub made_clean : (old : Device) (io : Io) (result : Result Unit Failed) (new : Device)
+    → HasMade old io result new → is_ok result ≡ true → IsUnspoiled old → IsUnspoiled new
+made_clean old io result new made ok clean block = by_call io.call result made ok
+  where
+    no_more : (was same : Bool) → was ≡ false → (was || (false && same)) ≡ false
+    no_more true same is = cc
+    no_more false same is = refl
+
+    by_call : (call : IoCall) (result : Result Unit Failed) → HasMadeCall old call io.content result new
+        → is_ok result ≡ true → new.spoiled block ≡ false
+    by_call (Write at) (Ok _) made ok =
+        made.spoiled block ∙ no_more (old.spoiled block) (nat_eq block at.0) (clean block)
+    by_call (Write at) (Err _) made ok = cc
+    by_call (Barrier side) result made ok = made.spoiled block ∙ clean block

@@ -1,3 +1,4 @@
+pub mod BringingHome
 pub mod Counts
 pub mod Formatting
 pub mod LogSide
