@@ -21,4 +21,4 @@ more blocks (o ∷ os) =
     )
 
 pub no_more_blocks : (objects : List ObjectBytes) → length (blocks_of objects) ≤ length objects
-no_more_blocks objects = more [] objects
+no_more_blocks objects = omega (arith, more [] objects)

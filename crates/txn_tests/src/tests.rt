@@ -68,14 +68,14 @@ impl Change for Toy {
 fn toy_of(read: Vec<Object>, written: Vec<Object>) -> Result<Toy, Fail>
     ensures { IfOk result (λ toy. toy.inodes ≡ INODES) }
 {
-    if written.len() > CHANGED_BLOCKS {
-        Err("too many objects")?;
+    if written.len() <= CHANGED_BLOCKS {
+        return Ok(Toy {
+            read,
+            written,
+            inodes: INODES,
+        });
     }
-    Ok(Toy {
-        read,
-        written,
-        inodes: INODES,
-    })
+    Err("too many objects")?
 }
 
 // A core over an empty log that begins at a position.

@@ -2,7 +2,7 @@
 ghost use Rattle.std.specs.Prelude.{◌≡◌, [], ◌∷◌, IfOk};
 
 use crate::tests::{
-    BLOCKS, Ended, Seen, Toy, at_home, change_of, core, eight, install_all, log_all, want,
+    BLOCKS, Ended, Seen, Toy, change_of, commit, core, eight, install_all, log_all, want,
 };
 use disk::{CrashDisk, MemDisk};
 use objects::Addr;
@@ -33,43 +33,39 @@ fn want_again<D: CrashDisk>(
     (tx, seen)
 }
 
-// Commits a change, and again where memory was refused. Tells its place, if it has one.
-fn commit_again(alloc: Global, core: &mut Core<Toy>, tx: Tx, toy: Toy) -> Option<Seq>
+// Ends a transaction whose change was refused.
+fn give_up(core: &mut Core<Toy>, tx: Tx, why: Ended) -> Ended
     requires { core.old.out ≡ tx ∷ [] }
     ensures blocks { core.new.log.blocks ≡ core.old.log.blocks }
     ensures idle { core.new.out ≡ [] }
 {
-    let (tx, toy) = match core.commit(alloc, tx, toy) {
-        Commit::Committed(place) => return Some(place),
-        Commit::NoMemory(tx, toy) => (tx, toy),
-        Commit::Full(tx, toy)
-        | Commit::Foreign(tx, toy)
-        | Commit::Broken(tx, toy)
-        | Commit::Spent(tx, toy) => {
-            core.abort(tx);
-            let _ = toy;
-            return None;
-        }
-    };
-    let tx = match core.commit(alloc, tx, toy) {
-        Commit::Committed(place) => return Some(place),
-        Commit::NoMemory(tx, _)
-        | Commit::Full(tx, _)
-        | Commit::Foreign(tx, _)
-        | Commit::Broken(tx, _)
-        | Commit::Spent(tx, _) => tx,
-    };
     core.abort(tx);
-    None
+    why
 }
 
-// Changes an object to 7, asking once more where memory was refused. Tells what was read, and the place.
+// Commits a change, and again where memory was refused.
+fn commit_again(alloc: Global, core: &mut Core<Toy>, tx: Tx, toy: Toy) -> Ended
+    requires { core.old.out ≡ tx ∷ [] }
+    ensures blocks { core.new.log.blocks ≡ core.old.log.blocks }
+    ensures idle { core.new.out ≡ [] }
+{
+    match core.commit(alloc, tx, toy) {
+        Commit::Committed(place) => Ended::Place(place),
+        Commit::NoMemory(tx, toy) => commit(alloc, core, tx, toy),
+        Commit::Full(tx, _toy) => give_up(core, tx, Ended::Full),
+        Commit::Foreign(tx, _toy) => give_up(core, tx, Ended::Foreign),
+        Commit::Broken(tx, _toy) => give_up(core, tx, Ended::Broken),
+        Commit::Spent(tx, _toy) => give_up(core, tx, Ended::Spent),
+    }
+}
+
+// Changes an object to 7, asking once more where memory was refused. Tells what was read, and what came of the commit.
 fn change_again<D: CrashDisk>(
     alloc: Global,
     core: &mut Core<Toy>,
     disk: &mut D,
     toy: Toy,
-) -> Result<(Seen, Option<Seq>), Fail>
+) -> Result<(Seen, Ended), Fail>
     requires size { (D.device disk.old).size ≡ core.old.log.blocks }
     requires idle { core.old.out ≡ [] }
     ensures size { (D.device disk.new).size ≡ core.new.log.blocks }
@@ -89,9 +85,9 @@ fn a_refused_allocation_changes_nothing(rt: HostRuntime) -> Result<(), Fail> {
     let mut disk = MemDisk::new(alloc, BLOCKS)?;
     let mut core = core(alloc, 0)?;
     let toy = change_of(alloc, eight(0), 0, 7)?;
-    let (seen, place) = change_again(alloc, &mut core, &mut disk, toy)?;
+    let (seen, ended) = change_again(alloc, &mut core, &mut disk, toy)?;
     assert_eq!(rt; seen, Seen::Bytes(0));
-    assert_eq!(rt; place, Some(Seq(1)));
+    assert_eq!(rt; ended, Ended::Place(Seq(1)));
     assert_eq!(rt; log_all(&mut core, &mut disk), 4);
     assert_eq!(rt; install_all(&mut core, &mut disk), 4);
     Ok(())
