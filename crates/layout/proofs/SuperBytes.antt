@@ -27,7 +27,8 @@ module _ (bytes : List ℕ) (s : Super) (are : AreBytes bytes) (long : length by
       (followed bytes are 0 20 4 _ _
       (followed bytes are 0 16 4 _ _
       (followed bytes are 0 12 4 _ _
-      (followed bytes are 0 8 4 _ _ (sym is.magic) (four 8 _ (omega arith) (number_is (four_at 8 bytes) s.geometry.version is.version)))
+      (followed bytes are 0 8 4 _ _ (sym is.magic)
+      (four 8 _ (omega arith) (number_is (four_at 8 bytes) s.geometry.version is.version)))
       (four 12 s.geometry.blocks (omega arith) is.blocks))
       (four 16 s.geometry.inodes (omega arith) is.inodes))
       (four 20 0 (omega arith) (sym (same_number (four_at 20 bytes) 0 unused.0))))

@@ -38,8 +38,9 @@ pub struct Geometry {
 impl Geometry {
     ghost use Rattle.layout.specs.Places.{is_data, inode_block, inode_offset};
 
-    /// The geometry of an image of this version and these sizes. Blocks below 1024 or above 1048576 are refused first (Size); then
-    /// inodes below 32, above 65536 or no multiple of 32, and what leaves fewer than 64 data blocks (Inodes).
+    /// The geometry of an image of this version and these sizes. Blocks below 1024 or above 1048576 are refused
+    /// first (Size); then inodes below 32, above 65536 or no multiple of 32, and what leaves fewer than 64 data
+    /// blocks (Inodes).
     pub fn new(version: FormatVersion, blocks: u32, inodes: u32) -> Result<Geometry, GeometryFault>
         ensures ok { IfOk result (λ g. (g.version ≡ version) × (g.blocks ≡ blocks) × (g.inodes ≡ inodes)
             × IsLawful blocks inodes) }

@@ -1,5 +1,6 @@
 //! All files of an image.
-ghost use Rattle.std.specs.Prelude.{◌≡◌, ◌≢◌, Contains, IfSome, IfNone, ◌<◌, ◌≤◌, ◌/◌, ◌++◌, length, IfOk, IfErr, OnOk, All};
+ghost use Rattle.std.specs.Prelude.{◌≡◌, ◌≢◌, ◌<◌, ◌≤◌, ◌/◌, ◌++◌, Contains, IfSome, IfNone, IfOk, IfErr, OnOk};
+ghost use Rattle.std.specs.Prelude.{length, All};
 ghost use Rattle.limits.specs.declared.TheConstants.{LARGEST_DIRECTORY, SUPER_BLOCK};
 ghost use Rattle.disk.specs.Memory.{image_of, memory_device};
 ghost use Rattle.layout.specs.Decode.{SLOT_SIZE, inode_at};
@@ -165,9 +166,9 @@ fn super_of(disk: &MemDisk) -> Result<Super, ImageFault>
     Ok(found)
 }
 
-/// Reads all files of an image, or says what stands in the way: first that the device has no block or the first one is
-/// no super block, then that the device has fewer blocks than the image, then that a file shows something wrong.
-/// It doesn't look at the bitmaps.
+/// Reads all files of an image, or says what stands in the way: first that the device has no block, or the first
+/// one is no super block; then that the device has fewer blocks than the image; then that an inode, the number of a
+/// block or a directory slot is none. It doesn't look at the bitmaps.
 pub fn read_image(alloc: Global, disk: &MemDisk) -> Result<PlainImage, ImageFault>
     ensures head { IfOk result
         (λ image. IsSuper (image_of disk.now SUPER_BLOCK) (record {
