@@ -6,6 +6,8 @@ use Rattle.model.specs.After.{Entry, after}
 use Rattle.model.specs.Sound.{SoundTime}
 use Rattle.model.specs.Tree.{Tree}
 use Rattle.layout.specs.declared.geometry.Geometry.{Geometry}
+use Rattle.layout.specs.Homes.{homes_of}
+use Rattle.layout.specs.Stands.{Stands}
 use Rattle.nfs_types.specs.declared.reply.Reply.{Reply}
 use Rattle.procs.specs.Outcome.{Outcome}
 use Rattle.procs.specs.Steps.{IsStepOf}
@@ -15,6 +17,7 @@ use Rattle.txn_law.specs.Commit.{Planned}
 use Rattle.txn_law.specs.Core.{CoreState}
 use Rattle.txn_law.specs.CoreWindow.{IsHomeOf}
 use Rattle.txn_law.specs.Tidy.{AreTidy}
+use Rattle.txn_law.specs.Window.{after_commits, opening}
 use Rattle.store_promise.specs.Openings.{AtEachStop}
 use Rattle.store_promise.specs.OpenStore.{IsBoot, IsOpenOver}
 use Rattle.store_promise.specs.Prefix.{HasPrefix}
@@ -27,6 +30,18 @@ pub record IsOpenSince (base : Image) (d : Device) (core : CoreState) (logging i
   pub home : Tree
   pub leads : after first (take (installed_place core.log) entries) home
   pub over : IsOpenOver base d core logging installing boot home (drop (installed_place core.log) entries) last
+
+-- The blocks that stand for the files: what is at home under the log that the opening found, and after the commits
+-- since.
+abbrev pub file_blocks : Image → CoreState → Image
+file_blocks base core = after_commits (homes_of core.log.blocks (opening base core.log)) core.records
+
+-- they stand for this tree, in an image of the core's counts
+pub record HasFileBlocks (base : Image) (core : CoreState) (tree : Tree) : Type 0 where
+  pub geometry : Geometry
+  pub blocks : geometry.blocks ≡ core.log.blocks
+  pub inodes : geometry.inodes ≡ core.inodes
+  pub stands : Stands geometry (file_blocks base core) tree
 
 -- a core is sound over what is at home: so its type keeps it, and each of its methods leads from home to home
 pub record IsSoundCore (base : Image) (core : CoreState) : Type 0 where
