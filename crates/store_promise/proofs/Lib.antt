@@ -14,3 +14,4 @@ pub mod OpenSteps
 pub mod OpenCommits
 pub mod OpenInstalls
 pub mod Shown
+pub mod FileBlocks

@@ -12,9 +12,9 @@ use Rattle.model.specs.Tree.{Tree}
 use Rattle.store_promise.specs.declared.transcript.Answer.{Answer}
 use Rattle.store_promise.specs.declared.transcript.Committed.{Committed}
 use Rattle.store_promise.specs.GoodImage.{IsGoodImage}
-use Rattle.store_promise.specs.Headline.{LeavesPrefix, WasPromised, by_answer, by_commit, by_steps}
-use Rattle.store_promise.specs.OneSetAttr.{OneSetAttr, LeavesTrees, WentOnByFive, answer_at, asked}
-use Rattle.store_promise.specs.OneSetAttr.{ctx_in, entry_in, events_of, told_of}
+use Rattle.store_promise.specs.Headline.{LeavesFiles, WasPromised, by_answer, by_commit, by_steps}
+use Rattle.store_promise.specs.OneSetAttr.{HasFilesIn, OneSetAttr, LeavesTrees, WentOnByFive, answer_at, asked}
+use Rattle.store_promise.specs.OneSetAttr.{blocks_at, ctx_in, entry_in, events_of, told_of}
 use Rattle.store_promise.specs.Openings.{AtEachStop, IsLater, IsOpened, LeavesImages}
 use Rattle.store_promise.specs.Transcript.{commits_by}
 use Rattle.store_promise.specs.Verdicts.{is_write}
@@ -85,10 +85,11 @@ crash_still before later clock image past to crash = λ block less.
 
 module _ (before opened later : Device) (tree next : Tree) (first position : ℕ) (one : OneSetAttr)
     (reply : Reply) (opens : IsOpened before opened tree first position) (went : WentOnByFive opened later)
-    (trees : LeavesTrees opened later (first + 1) tree next)
+    (blocks changed : Image) (trees : LeavesTrees opened later (first + 1) tree next blocks changed)
     (steps : step tree (ctx_in (first + 1) one) (asked one) reply next) where
   abbrev Holds : ℕ → Image → Type 0
-  Holds = LeavesPrefix later.size first tree (events_of one) opened.clock (told_of (first + 1) one reply)
+  Holds = LeavesFiles later.size first tree (events_of one) opened.clock (told_of (first + 1) one reply)
+      (blocks_at blocks changed)
 
   -- before the opening's end
   while_opening : (clock : ℕ) (image : Image) → before.clock ≤ clock → clock < opened.clock
@@ -97,49 +98,58 @@ module _ (before opened later : Device) (tree next : Tree) (first position : ℕ
       let found = opens.keeps clock image from (omega (arith, less))
       (same_crash opened later clock image went.past (omega (arith, less)) crash) in
       record {
-        boot = found.boot;
-        boot_is = record {
-          either = found.boot_is;
-          raised = λ reached. absurd (omega (arith, reached, less));
+        prefix = record {
+          boot = found.boot;
+          boot_is = record {
+            either = found.boot_is;
+            raised = λ reached. absurd (omega (arith, reached, less));
+          };
+          left = tree;
+          good = subst (λ size. IsGoodImage size image tree found.boot) (sym went.past.size) found.good;
+          count = 0;
+          few = omega arith;
+          prefix = refl;
+          lasts = lasts_none (first + 1) one reply opened.clock clock (omega (arith, less));
         };
-        left = tree;
-        good = subst (λ size. IsGoodImage size image tree found.boot) (sym went.past.size) found.good;
-        count = 0;
-        few = omega arith;
-        prefix = refl;
-        lasts = lasts_none (first + 1) one reply opened.clock clock (omega (arith, less));
+        homes = λ reached. absurd (omega (arith, reached, less));
       }
 
   -- with the old tree
   with_old : (clock : ℕ) (image : Image) → clock < opened.clock + 5
-      → IsGoodImage later.size image tree (first + 1) → Holds clock image
-  with_old clock image less good = record {
-    boot = first + 1;
-    boot_is = record { either = inr refl; raised = λ reached. refl };
-    left = tree;
-    good = good;
-    count = 0;
-    few = omega arith;
-    prefix = refl;
-    lasts = lasts_none (first + 1) one reply opened.clock clock less;
+      → HasFilesIn later.size (first + 1) tree blocks image → Holds clock image
+  with_old clock image less has = record {
+    prefix = record {
+      boot = first + 1;
+      boot_is = record { either = inr refl; raised = λ reached. refl };
+      left = tree;
+      good = has.good;
+      count = 0;
+      few = omega arith;
+      prefix = refl;
+      lasts = lasts_none (first + 1) one reply opened.clock clock less;
+    };
+    homes = λ reached. has.homes;
   }
 
   -- with the new one
   with_new : (clock : ℕ) (image : Image) → opened.clock + 1 ≤ clock
-      → IsGoodImage later.size image next (first + 1) → Holds clock image
-  with_new clock image by good = record {
-    boot = first + 1;
-    boot_is = record { either = inr refl; raised = λ reached. refl };
-    left = next;
-    good = good;
-    count = 1;
-    few = committed (first + 1) one reply opened.clock clock by;
-    prefix = (next, steps, refl);
-    lasts = lasts_one (first + 1) one reply opened.clock clock;
+      → HasFilesIn later.size (first + 1) next changed image → Holds clock image
+  with_new clock image by has = record {
+    prefix = record {
+      boot = first + 1;
+      boot_is = record { either = inr refl; raised = λ reached. refl };
+      left = next;
+      good = has.good;
+      count = 1;
+      few = committed (first + 1) one reply opened.clock clock by;
+      prefix = (next, steps, refl);
+      lasts = lasts_one (first + 1) one reply opened.clock clock;
+    };
+    homes = λ reached. has.homes;
   }
 
   by_header : (image : Image) → IsCrashImage later (opened.clock + 4) image
-      → IsGoodImage later.size image tree (first + 1) ⊎ IsGoodImage later.size image next (first + 1)
+      → HasFilesIn later.size (first + 1) tree blocks image ⊎ HasFilesIn later.size (first + 1) next changed image
       → Holds (opened.clock + 4) image
   by_header image crash (inl old) = with_old (opened.clock + 4) image (omega arith) old
   by_header image crash (inr new) = with_new (opened.clock + 4) image (omega arith) new

@@ -1,12 +1,10 @@
 -- A commit leaves a store open, with its entry.
-use Rattle.std.proofs.Common.{◌≡◌, ℕ, ◌+◌, ◌<◌, ◌≤◌, ap, sym, ◌∙◌, refl, subst, arith}
-use Rattle.std.proofs.Common.{Bool, true, false, cond, if◌then◌else◌, ◌&&◌, List, [], ◌∷◌, ◌++◌, Option, Some, None}
-use Rattle.std.proofs.Common.{length, length-append, take, drop, replicate, nat_eq, nat_le, nat_lt, All}
-use Rattle.std.proofs.lemmas.Bool.{eqb-true}
+use Rattle.std.proofs.Common.{◌≡◌, ℕ, ◌+◌, ◌<◌, ◌≤◌, ◌⊎◌, inl, inr, ap, sym, ◌∙◌, refl, subst, arith}
+use Rattle.std.proofs.Common.{Bool, true, false, if◌then◌else◌, ◌&&◌, List, [], ◌∷◌, ◌++◌}
+use Rattle.std.proofs.Common.{length, length-append, take, drop, nat_eq, nat_lt}
 use Rattle.std.proofs.lemmas.Bool.Decides.{nat_tests}
 use Rattle.std.proofs.lemmas.List.{drop-append-le, drop_all, length-drop, take-append-le, take_all}
 use Rattle.std.proofs.lemmas.List.Elements.{All-contains}
-use Rattle.limits.specs.declared.TheConstants.{BLOCK_BYTES, FIRST_HOME_BLOCK}
 use Rattle.disk.specs.Crash.{Image}
 use Rattle.disk.specs.Device.{Content, Device}
 use Rattle.disk.specs.declared.block.BlockNo.{BlockNo}
@@ -19,7 +17,7 @@ use Rattle.model.specs.Step.{step}
 use Rattle.model.specs.Tree.{Tree}
 use Rattle.model.proofs.Joined.{push}
 use Rattle.layout.specs.declared.geometry.Geometry.{Geometry}
-use Rattle.layout.specs.Homes.{homes_of, is_home}
+use Rattle.layout.specs.Homes.{homes_of}
 use Rattle.layout.specs.Stands.{Stands}
 use Rattle.procs.specs.Steps.{AreAsRead}
 use Rattle.txn.specs.Outcomes.{TakesPlace}
@@ -27,50 +25,30 @@ use Rattle.wal_law.specs.declared.change.LogChange.{LogChange}
 use Rattle.wal_law.specs.Calls.{Pending}
 use Rattle.wal_law.specs.Effects.{is_all_home}
 use Rattle.wal_law.specs.Law.{with_changes}
-use Rattle.wal_law.specs.Log.{IsHomeOn, blocks_of, installed_place, place_before}
+use Rattle.wal_law.specs.Log.{blocks_of, installed_place, place_before}
 use Rattle.wal_law.proofs.Ends.{empty_list, place_le}
 use Rattle.txn_law.specs.Commit.{IsReadBy, Planned, with_record}
 use Rattle.txn_law.specs.Core.{CoreState}
-use Rattle.txn_law.specs.CoreWindow.{held_of}
 use Rattle.txn_law.specs.Group as group
 use Rattle.txn_law.specs.HomeRead.{IsReadable}
 use Rattle.txn_law.specs.Object.{ObjectBytes}
-use Rattle.txn_law.specs.Present.{content_in, present_of}
-use Rattle.txn_law.specs.Tidy.{IsPlaced}
-use Rattle.txn_law.specs.Window.{Footprint, IsCurrent, after_commits, now_of, opening, part, with_objects}
-use Rattle.txn_law.specs.declared.present.Present.{Present}
-use Rattle.txn_law.proofs.Claims.{found_by}
-use Rattle.txn_law.proofs.CoreCommits.{found_in}
-use Rattle.txn_law.proofs.Entries.{is_of, same_block}
-use Rattle.store_promise.specs.OpenSince.{IsOpenSince, IsSoundCore, TellsOf}
+use Rattle.txn_law.specs.Window.{Footprint, after_commits, opening, with_objects}
+use Rattle.txn_law.proofs.Commits.{after_commits-append}
+use Rattle.store_promise.specs.OpenSince.{IsOpenSince, IsSoundCore, TellsOf, file_blocks}
 use Rattle.store_promise.specs.OpenStore.{HasFilesOver, IsChain, IsOpenOver}
-use Rattle.store_promise.proofs.Chains.{after_both, chain_end, chain_leads, chain_more, stamps_more}
+use Rattle.store_promise.proofs.FileBlocks.{held_now, less, stands_now}
+use Rattle.store_promise.proofs.Chains.{after_both, chain_leads, chain_more, stamps_more}
 use Rattle.store_promise.proofs.Opened.{of_boot}
-use Rattle.store_promise.proofs.Stopped.{after_same}
 
 -- ---- small facts
 
-less : (a b : ℕ) → a < b → nat_lt a b ≡ true
-less a b is = grind (arith, nat_tests)
-
 not_less : (a b : ℕ) → a ≡ b → nat_lt a b ≡ false
 not_less a b is = grind (arith, nat_tests)
-
-both : (a b : Bool) → a ≡ true → b ≡ true → (a && b) ≡ true
-both true true x y = refl
-both true false x y = cc
-both false b x y = cc
 
 pub all_both : (a b : Bool) → (a && b) ≡ true → (a ≡ true) × (b ≡ true)
 all_both true true h = (refl, refl)
 all_both true false h = cc
 all_both false b h = cc
-
-home_is : (size : ℕ) (block : BlockNo) → IsHomeOn size block → is_home size block.0 ≡ true
-home_is size block home =
-    let from = home.0 in
-    let to = home.1 in
-    both (nat_le FIRST_HOME_BLOCK block.0) (nat_lt block.0 size) (grind (arith, nat_tests)) (less block.0 size to)
 
 no_entries : {X : Type 0} (xs : List X) → length xs ≡ 0 → xs ≡ []
 no_entries [] none = refl
@@ -96,26 +74,12 @@ no_writes (o ∷ os) none =
     let zero = ap (λ (blocks : List BlockNo). length blocks) none in
     absurd (omega (arith, some, zero))
 
--- what is in memory lies at home
-in_memory_home : (blocks : ℕ) (present : List Present) (block : BlockNo) (content : Content)
-    → All (IsPlaced blocks) present → content_in (present_of present block) ≡ Some content → IsHomeOn blocks block
-in_memory_home blocks present block content placed is = go (present_of present block) refl is
-  where
-    go : (found : Option Present) → present_of present block ≡ found → content_in found ≡ Some content
-        → IsHomeOn blocks block
-    go None at is = absurd (cc)
-    go (Some entry) at is =
-        let (same, there) = found_by (is_of block) present entry at in
-        subst (IsHomeOn blocks) (same_block entry.block block (eqb-true entry.block.0 block.0 same))
-        (All-contains (IsPlaced blocks) present entry placed there)
-
--- ---- the plan is a step from the files as they are
+-- ---- what a commit leaves, and the plan of it is a step from the files as they are
 
 module _ (base : Image) (d : Device) (old new : CoreState) (logging installing : Pending) (boot : ℕ)
-    (first last : Tree) (entries : List Entry) (tx place : ℕ) (plan : Planned) (entry : Entry)
+    (first last : Tree) (entries : List Entry) (tx place : ℕ) (plan : Planned)
     (since : IsOpenSince base d old logging installing boot first entries last)
-    (took : TakesPlace old tx plan place new) (tells : TellsOf boot plan entry)
-    (one_geometry : (g h : Geometry) → g.blocks ≡ h.blocks → g.inodes ≡ h.inodes → g ≡ h) where
+    (took : TakesPlace old tx plan place new) where
   abbrev pub files : HasFilesOver base old boot since.home (drop (installed_place old.log) entries) last
   files = since.over.files
 
@@ -126,166 +90,183 @@ module _ (base : Image) (d : Device) (old new : CoreState) (logging installing :
   homes = homes_of old.log.blocks (opening base old.log)
 
   abbrev pub now : Image
-  now = after_commits homes old.records
+  now = file_blocks base old
 
-  stands : Stands g now last
-  stands = chain_end g homes since.home old.records (drop (installed_place old.log) entries) last files.chain
-
-  geometry_is : tells.geometry ≡ g
-  geometry_is = one_geometry tells.geometry g (sym tells.blocks ∙ took.tried.own.blocks ∙ sym files.blocks_are)
-      (sym tells.inodes ∙ took.tried.own.inodes ∙ sym files.inodes_are)
-
-  at_home : (block : BlockNo) → IsHomeOn old.log.blocks block
-      → now block.0 ≡ now_of base old.log old.records block.0
-  at_home block home = after_same old.records homes (opening base old.log) block.0
-      (ap (λ b. cond b (opening base old.log block.0) (replicate BLOCK_BYTES 0))
-      (home_is old.log.blocks block home))
-
-  as_read : AreAsRead now plan.read
-  as_read object there =
-      let read = All-contains (IsReadBy old tx) plan.read object took.tried.own.read there in
-      let content = read.current.content in
-      let home = in_memory_home old.log.blocks old.present object.addr.block content since.over.tidy.placed
-      read.current.there in
-      let current : content ≡ now_of base old.log old.records object.addr.block.0 =
-      All-contains (IsCurrent (now_of base old.log old.records)) (held_of old.present)
-      (object.addr.block.0, content) files.home.window.memory
-      (found_in old.present object.addr.block content read.current.there) in
-      ap (λ (c : Content). part c object.addr) (at_home object.addr.block home ∙ sym current) ∙ read.current.same
-
-  pub led : (next : Tree) × step last entry.ctx entry.call entry.reply next
-      × Stands g (with_objects now plan.written) next
-  led = subst (λ (h : Geometry). (next : Tree) × step last entry.ctx entry.call entry.reply next
-      × Stands h (with_objects now plan.written) next) geometry_is
-      (tells.step now last tells.timely (subst (λ (h : Geometry). Stands h now last) (sym geometry_is) stands)
-      as_read)
-
-  -- ---- so the store is open with one entry more
+  abbrev commit : Footprint
+  commit = record { place = new.log.places; read = plan.read; written = plan.written }
 
   homes_are : homes ≡ homes_of new.log.blocks (opening base new.log)
   homes_are = sym (ap (λ (n : ℕ). homes_of n (opening base new.log)) took.still.blocks
       ∙ ap (λ (changes : List LogChange). homes_of old.log.blocks (with_changes base changes))
       (took.group.grown.opened 0 (omega arith)))
 
-  module _ (sound : IsSoundCore base new) (makes_none : (tree next : Tree) (ctx : Ctx) (asked : Call) (reply : Reply)
-      → IsMadeBy boot tree → ctx.boot ≤ boot → step tree ctx asked reply next → IsMadeBy boot next)
-      (readable : IsReadable d new.log installing) where
-    abbrev more : List Entry
-    more = entries ++ entry ∷ []
+  within : installed_place old.log ≤ length entries
+  within = let a = place_le old.log.changes old.log.places 0 since.over.lawful.rising in
+      let b = since.counted in omega (arith, a, b)
 
-    abbrev commit : Footprint
-    commit = record { place = new.log.places; read = plan.read; written = plan.written }
+  records_are : new.records ≡ with_record new.log new.log.places plan old.records
+  records_are = ap (λ (core : CoreState). core.records) took.only
 
-    early : entry.ctx.boot ≤ boot
-    early = let is = tells.boot_is in omega (arith, is)
+  -- it has a change that isn't home
+  pub record HasChange : Type 0 where
+    pub same : installed_place new.log ≡ installed_place old.log
+    pub records : new.records ≡ old.records ++ commit ∷ []
 
-    within : installed_place old.log ≤ length entries
-    within = let a = place_le old.log.changes old.log.places 0 since.over.lawful.rising in
-        let b = since.counted in omega (arith, a, b)
+  -- it has none, and all before it is home
+  pub record IsHomeAtOnce : Type 0 where
+    pub all : installed_place new.log ≡ new.log.places
+    pub none : old.log.changes ≡ []
+    pub writes : plan.written ≡ []
+    pub records : new.records ≡ old.records
 
-    counted : length more ≡ new.log.places
-    counted = let a = length-append entries (entry ∷ []) in let b = since.counted in let c = took.places in
-        omega (arith, a, b, c)
+  by_test : (t : Bool) → (is_all_home old.log && nat_eq (length took.group.group) 0) ≡ t
+      → HasChange ⊎ IsHomeAtOnce
+  by_test true is =
+      let tests = all_both (is_all_home old.log) (nat_eq (length took.group.group) 0) is in
+      let empty = empty_list took.group.group tests.1 in
+      let all : installed_place new.log ≡ new.log.places =
+      took.group.seen.installed ∙ ap (λ (t : Bool). if t then new.log.places else installed_place old.log) is in
+      inr (record {
+        all = all;
+        none = empty_list old.log.changes tests.0;
+        writes = no_writes plan.written
+            (sym took.group.blocks ∙ ap (λ (xs : List (BlockNo × Content)). blocks_of xs) empty);
+        records = records_are ∙ ap (λ (t : Bool). if t then old.records ++ commit ∷ [] else old.records)
+            (not_less (installed_place new.log) new.log.places all);
+      })
+  by_test false is =
+      let same : installed_place new.log ≡ installed_place old.log =
+      took.group.seen.installed ∙ ap (λ (t : Bool). if t then new.log.places else installed_place old.log) is in
+      let below : installed_place new.log < new.log.places =
+      (let a = within in let b = since.counted in let c = took.places in omega (arith, a, b, c, same)) in
+      inl (record {
+        same = same;
+        records = records_are ∙ ap (λ (t : Bool). if t then old.records ++ commit ∷ [] else old.records)
+            (less (installed_place new.log) new.log.places below);
+      })
 
-    build : (home : Tree) (rs : List Footprint) (left : List Entry) → new.records ≡ rs
-        → drop (installed_place new.log) more ≡ left → after first (take (installed_place new.log) more) home
-        → IsChain g homes home rs left led.0
-        → ((count : ℕ) (tree : Tree) → after home (take count left) tree → IsMadeBy boot tree)
-        → IsOpenSince base d new logging installing boot first more led.0
-    build home rs left records rest leads chain stamps = record {
-      counted = counted;
-      home = home;
-      leads = leads;
-      over = subst (λ (es : List Entry). IsOpenOver base d new logging installing boot home es led.0) (sym rest)
-          (record {
-            lawful = sound.lawful;
-            agrees = took.law d base logging installing since.over.agrees;
-            readable = readable;
-            tidy = sound.tidy;
-            files = record {
-              home = sound.home;
-              super = files.super;
-              is_super = files.is_super;
-              boot_is = files.boot_is;
-              blocks_are = files.blocks_are ∙ sym took.still.blocks;
-              inodes_are = files.inodes_are ∙ sym (ap (λ (core : CoreState). core.inodes) took.only);
-              chain = subst (λ (xs : List Footprint). IsChain g (homes_of new.log.blocks (opening base new.log)) home xs
-                  left led.0) (sym records)
-                  (subst (λ (image : Image). IsChain g image home rs left led.0) homes_are chain);
-              stamps = stamps;
-            };
-          });
-    }
+  pub either : HasChange ⊎ IsHomeAtOnce
+  either = by_test (is_all_home old.log && nat_eq (length took.group.group) 0) refl
 
-    records_are : new.records ≡ with_record new.log new.log.places plan old.records
-    records_are = ap (λ (core : CoreState). core.records) took.only
+  -- the files' blocks after it
+  after_it : HasChange ⊎ IsHomeAtOnce → after_commits homes new.records ≡ with_objects now plan.written
+  after_it (inl has) = ap (λ (rs : List Footprint). after_commits homes rs) has.records
+      ∙ after_commits-append homes old.records (commit ∷ [])
+  after_it (inr at_once) = ap (λ (rs : List Footprint). after_commits homes rs) at_once.records
+      ∙ sym (ap (λ (os : List ObjectBytes). with_objects now os) at_once.writes)
 
-    -- it has a change that isn't home
-    with_change : installed_place new.log ≡ installed_place old.log
-        → IsOpenSince base d new logging installing boot first more led.0
-    with_change same =
-        let n = installed_place old.log in
-        let below : installed_place new.log < new.log.places =
-        (let a = within in let b = since.counted in let c = took.places in omega (arith, a, b, c, same)) in
-        build since.home (old.records ++ commit ∷ []) (drop n entries ++ entry ∷ [])
-        (records_are ∙ ap (λ (t : Bool). if t then old.records ++ commit ∷ [] else old.records)
-        (less (installed_place new.log) new.log.places below))
-        (ap (λ (k : ℕ). drop k more) same ∙ drop-append-le n entries (entry ∷ []) within)
-        (subst (λ (es : List Entry). after first es since.home)
-        (sym (ap (λ (k : ℕ). take k more) same ∙ take-append-le n entries (entry ∷ []) within)) since.leads)
-        (chain_more g homes since.home old.records (drop n entries) last led.0 commit entry files.chain led.1 led.2)
-        (stamps_more boot makes_none (drop n entries) since.home entry early files.stamps)
+  pub blocks_after : file_blocks base new ≡ with_objects now plan.written
+  blocks_after = ap (λ (image : Image). after_commits image new.records) (sym homes_are) ∙ after_it either
 
-    -- it has none, and all before it is home
-    without_change : installed_place new.log ≡ new.log.places → old.log.changes ≡ [] → plan.written ≡ []
-        → IsOpenSince base d new logging installing boot first more led.0
-    without_change all none writes =
-        let n = installed_place old.log in
-        let there : n ≡ old.log.places = ap (λ (xs : List LogChange). place_before xs old.log.places) none in
-        let few = files.home.window.all in
-        let kept : old.records ≡ [] = no_entries old.records (omega (arith, there, few)) in
-        let through : after first (take (n + length entries) entries) last =
-        after_both first since.home last n (length entries) entries since.leads
-        (subst (λ (es : List Entry). after since.home es last)
-        (sym (take_all (length entries) (drop n entries) (short n)))
-        (chain_leads g homes since.home old.records (drop n entries) last files.chain)) in
-        let whole : after first entries last =
-        subst (λ (es : List Entry). after first es last) (take_all (n + length entries) entries (omega arith))
-        through in
-        let made : IsMadeBy boot last = files.stamps (length entries) last
-        (subst (λ (es : List Entry). after since.home es last)
-        (sym (take_all (length entries) (drop n entries) (short n)))
-        (chain_leads g homes since.home old.records (drop n entries) last files.chain)) in
-        let long = counted in
-        build led.0 [] []
-        (records_are ∙ ap (λ (t : Bool). if t then old.records ++ commit ∷ [] else old.records)
-        (not_less (installed_place new.log) new.log.places all) ∙ kept)
-        (drop_all (installed_place new.log) more (omega (arith, all, long)))
-        (subst (λ (es : List Entry). after first es led.0)
-        (sym (take_all (installed_place new.log) more (omega (arith, all, long))))
-        (push first last led.0 entries entry whole led.1)) (
-          subst (λ (image : Image). Stands g image led.0)
-              (ap (λ (xs : List Footprint). with_objects (after_commits homes xs) plan.written) kept
-              ∙ ap (λ (os : List ObjectBytes). with_objects homes os) writes) led.2,
-          refl,
-        )
-        (of_boot boot led.0 (makes_none last led.0 entry.ctx entry.call entry.reply made early led.1))
-      where
-        short : (n : ℕ) → length (drop n entries) ≤ length entries
-        short n = let a = length-drop n entries in omega (arith, a)
+  module _ (entry : Entry) (tells : TellsOf boot plan entry)
+      (one_geometry : (g h : Geometry) → g.blocks ≡ h.blocks → g.inodes ≡ h.inodes → g ≡ h) where
+    geometry_is : tells.geometry ≡ g
+    geometry_is = one_geometry tells.geometry g (sym tells.blocks ∙ took.tried.own.blocks ∙ sym files.blocks_are)
+        (sym tells.inodes ∙ took.tried.own.inodes ∙ sym files.inodes_are)
 
-    by_test : (t : Bool) → (is_all_home old.log && nat_eq (length took.group.group) 0) ≡ t
-        → IsOpenSince base d new logging installing boot first more led.0
-    by_test true is =
-        let tests = all_both (is_all_home old.log) (nat_eq (length took.group.group) 0) is in
-        let empty = empty_list took.group.group tests.1 in
-        without_change
-        (took.group.seen.installed ∙ ap (λ (t : Bool). if t then new.log.places else installed_place old.log) is)
-        (empty_list old.log.changes tests.0)
-        (no_writes plan.written (sym took.group.blocks
-        ∙ ap (λ (xs : List (BlockNo × Content)). blocks_of xs) empty))
-    by_test false is = with_change
-        (took.group.seen.installed ∙ ap (λ (t : Bool). if t then new.log.places else installed_place old.log) is)
+    as_read : AreAsRead now plan.read
+    as_read object there = held_now base d old logging installing boot first last entries since tx object
+        (All-contains (IsReadBy old tx) plan.read object took.tried.own.read there)
 
-    pub open_with : IsOpenSince base d new logging installing boot first more led.0
-    open_with = by_test (is_all_home old.log && nat_eq (length took.group.group) 0) refl
+    pub led : (next : Tree) × step last entry.ctx entry.call entry.reply next
+        × Stands g (with_objects now plan.written) next
+    led = subst (λ (h : Geometry). (next : Tree) × step last entry.ctx entry.call entry.reply next
+        × Stands h (with_objects now plan.written) next) geometry_is
+        (tells.step now last tells.timely (subst (λ (h : Geometry). Stands h now last) (sym geometry_is)
+        (stands_now base d old logging installing boot first last entries since)) as_read)
+
+    module _ (sound : IsSoundCore base new) (makes_none : (tree next : Tree) (ctx : Ctx) (asked : Call) (reply : Reply)
+        → IsMadeBy boot tree → ctx.boot ≤ boot → step tree ctx asked reply next → IsMadeBy boot next)
+        (readable : IsReadable d new.log installing) where
+      abbrev more : List Entry
+      more = entries ++ entry ∷ []
+
+      early : entry.ctx.boot ≤ boot
+      early = let is = tells.boot_is in omega (arith, is)
+
+      counted : length more ≡ new.log.places
+      counted = let a = length-append entries (entry ∷ []) in let b = since.counted in let c = took.places in
+          omega (arith, a, b, c)
+
+      build : (home : Tree) (rs : List Footprint) (left : List Entry) → new.records ≡ rs
+          → drop (installed_place new.log) more ≡ left → after first (take (installed_place new.log) more) home
+          → IsChain g homes home rs left led.0
+          → ((count : ℕ) (tree : Tree) → after home (take count left) tree → IsMadeBy boot tree)
+          → IsOpenSince base d new logging installing boot first more led.0
+      build home rs left records rest leads chain stamps = record {
+        counted = counted;
+        home = home;
+        leads = leads;
+        over = subst (λ (es : List Entry). IsOpenOver base d new logging installing boot home es led.0) (sym rest)
+            (record {
+              lawful = sound.lawful;
+              agrees = took.law d base logging installing since.over.agrees;
+              readable = readable;
+              tidy = sound.tidy;
+              files = record {
+                home = sound.home;
+                super = files.super;
+                is_super = files.is_super;
+                boot_is = files.boot_is;
+                blocks_are = files.blocks_are ∙ sym took.still.blocks;
+                inodes_are = files.inodes_are ∙ sym (ap (λ (core : CoreState). core.inodes) took.only);
+                chain = subst (λ (xs : List Footprint). IsChain g (homes_of new.log.blocks (opening base new.log)) home xs
+                    left led.0) (sym records)
+                    (subst (λ (image : Image). IsChain g image home rs left led.0) homes_are chain);
+                stamps = stamps;
+              };
+            });
+      }
+
+      with_change : HasChange → IsOpenSince base d new logging installing boot first more led.0
+      with_change has =
+          let n = installed_place old.log in
+          build since.home (old.records ++ commit ∷ []) (drop n entries ++ entry ∷ []) has.records
+          (ap (λ (k : ℕ). drop k more) has.same ∙ drop-append-le n entries (entry ∷ []) within)
+          (subst (λ (es : List Entry). after first es since.home)
+          (sym (ap (λ (k : ℕ). take k more) has.same ∙ take-append-le n entries (entry ∷ []) within)) since.leads)
+          (chain_more g homes since.home old.records (drop n entries) last led.0 commit entry files.chain led.1 led.2)
+          (stamps_more boot makes_none (drop n entries) since.home entry early files.stamps)
+
+      without_change : IsHomeAtOnce → IsOpenSince base d new logging installing boot first more led.0
+      without_change at_once =
+          let all = at_once.all in
+          let n = installed_place old.log in
+          let there : n ≡ old.log.places = ap (λ (xs : List LogChange). place_before xs old.log.places) at_once.none in
+          let few = files.home.window.all in
+          let kept : old.records ≡ [] = no_entries old.records (omega (arith, there, few)) in
+          let through : after first (take (n + length entries) entries) last =
+          after_both first since.home last n (length entries) entries since.leads
+          (subst (λ (es : List Entry). after since.home es last)
+          (sym (take_all (length entries) (drop n entries) (short n)))
+          (chain_leads g homes since.home old.records (drop n entries) last files.chain)) in
+          let whole : after first entries last =
+          subst (λ (es : List Entry). after first es last) (take_all (n + length entries) entries (omega arith))
+          through in
+          let made : IsMadeBy boot last = files.stamps (length entries) last
+          (subst (λ (es : List Entry). after since.home es last)
+          (sym (take_all (length entries) (drop n entries) (short n)))
+          (chain_leads g homes since.home old.records (drop n entries) last files.chain)) in
+          let long = counted in
+          build led.0 [] []
+          (at_once.records ∙ kept)
+          (drop_all (installed_place new.log) more (omega (arith, all, long)))
+          (subst (λ (es : List Entry). after first es led.0)
+          (sym (take_all (installed_place new.log) more (omega (arith, all, long))))
+          (push first last led.0 entries entry whole led.1)) (
+            subst (λ (image : Image). Stands g image led.0)
+                (ap (λ (xs : List Footprint). with_objects (after_commits homes xs) plan.written) kept
+                ∙ ap (λ (os : List ObjectBytes). with_objects homes os) at_once.writes) led.2,
+            refl,
+          )
+          (of_boot boot led.0 (makes_none last led.0 entry.ctx entry.call entry.reply made early led.1))
+        where
+          short : (n : ℕ) → length (drop n entries) ≤ length entries
+          short n = let a = length-drop n entries in omega (arith, a)
+
+      go_on : HasChange ⊎ IsHomeAtOnce → IsOpenSince base d new logging installing boot first more led.0
+      go_on (inl has) = with_change has
+      go_on (inr at_once) = without_change at_once
+
+      pub open_with : IsOpenSince base d new logging installing boot first more led.0
+      open_with = go_on either

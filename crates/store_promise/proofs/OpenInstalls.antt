@@ -4,7 +4,7 @@ use Rattle.std.proofs.Common.{◌≡◌, ℕ, zero, suc, ◌+◌, ◌-◌, ◌<�
 use Rattle.std.proofs.Common.{Bool, true, false, if◌then◌else◌, ◌&&◌, List, [], Option}
 use Rattle.std.proofs.Common.{length, take, drop, nat_le, nat_lt}
 use Rattle.std.proofs.lemmas.Bool.{ltb-true, ltb-false, le-leb, lt-leb}
-use Rattle.std.proofs.lemmas.List.{drop-drop}
+use Rattle.std.proofs.lemmas.List.{drop-drop, take-append-drop}
 use Rattle.limits.specs.declared.TheConstants.{SUPER_BLOCK}
 use Rattle.disk.specs.Crash.{Image}
 use Rattle.disk.specs.Device.{Content, Device}
@@ -27,8 +27,8 @@ use Rattle.txn_law.specs.Core.{CoreState, past}
 use Rattle.txn_law.specs.CoreWindow.{held_of}
 use Rattle.txn_law.specs.HomeRead.{IsReadable}
 use Rattle.txn_law.specs.Window.{Footprint, IsWindowOver, after_commits, at_installed, opening}
-use Rattle.txn_law.proofs.Commits.{past-drop}
-use Rattle.store_promise.specs.OpenSince.{IsOpenSince, IsSoundCore}
+use Rattle.txn_law.proofs.Commits.{after_commits-append, past-drop}
+use Rattle.store_promise.specs.OpenSince.{IsOpenSince, IsSoundCore, file_blocks}
 use Rattle.store_promise.specs.OpenStore.{HasFilesOver, IsChain, IsOpenOver}
 use Rattle.store_promise.proofs.Chains.{after_both, chain_past, stamps_past}
 use Rattle.store_promise.proofs.HomesAfter.{homes_after}
@@ -113,7 +113,7 @@ module _ (base : Image) (d : Device) (old new : CoreState) (logging installing :
     (first last : Tree) (entries : List Entry)
     (since : IsOpenSince base d old logging installing boot first entries last)
     (back : new.log ≡ with_inst_back old.log ok)
-    (records : new.records ≡ past (installed_place new.log) old.records) (inodes : new.inodes ≡ old.inodes) where
+    (records : new.records ≡ past (installed_place new.log) old.records) where
   abbrev files : HasFilesOver base old boot since.home (drop (installed_place old.log) entries) last
   files = since.over.files
 
@@ -133,7 +133,32 @@ module _ (base : Image) (d : Device) (old new : CoreState) (logging installing :
   gone : HasGoneOn old.log new.log
   gone = subst (λ (log : Log). HasGoneOn old.log log) (sym back) (seen_inst_done old.log true ok since.over.lawful)
 
-  module _ (sound : IsSoundCore home new) (agrees : AgreesBeside d home new.log logging idle)
+  records_are : new.records ≡ drop n old.records
+  records_are =
+      let same : (installed_place new.log + 1) - (installed_place old.log + 1) ≡ n = omega arith in
+      records ∙ past-drop (installed_place old.log + 1) (installed_place new.log) old.records files.home.window.placed
+      ∙ ap (λ (k : ℕ). drop k old.records) same
+
+  there : (block : ℕ) → IsOutside old.log.blocks block
+      → opening home new.log block ≡ after_commits (opening base old.log) (take n old.records) block
+  there block outside =
+      subst (λ (log : Log). opening home log block
+      ≡ after_commits (opening base old.log) (take (installed_place log - installed_place old.log) old.records) block)
+      (sym back)
+      (home_moves base old.log old.records (held_of old.present) since.over.lawful files.home.window block ok)
+
+  homes_are : after_commits homes (take n old.records) ≡ homes_of new.log.blocks (opening home new.log)
+  homes_are =
+      sym (ap (λ (k : ℕ). homes_of k (opening home new.log)) gone.blocks
+      ∙ homes_after base old since.over.lawful files.home n (opening home new.log) there)
+
+  pub blocks_then : file_blocks home new ≡ file_blocks base old
+  blocks_then = ap (λ (image : Image). after_commits image new.records) (sym homes_are)
+      ∙ ap (λ (rs : List Footprint). after_commits (after_commits homes (take n old.records)) rs) records_are
+      ∙ sym (after_commits-append homes (take n old.records) (drop n old.records))
+      ∙ ap (λ (rs : List Footprint). after_commits homes rs) (take-append-drop n old.records)
+
+  module _ (inodes : new.inodes ≡ old.inodes) (sound : IsSoundCore home new) (agrees : AgreesBeside d home new.log logging idle)
       (readable : IsReadable d new.log idle) where
     further : installed_place old.log + n ≡ installed_place new.log
     further = let a = gone.installed in omega (arith, a)
@@ -144,25 +169,6 @@ module _ (base : Image) (d : Device) (old new : CoreState) (logging installing :
         let b = files.home.window.all in
         let c = gone.places in
         omega (arith, a, b, c)
-
-    records_are : new.records ≡ drop n old.records
-    records_are =
-        let same : (installed_place new.log + 1) - (installed_place old.log + 1) ≡ n = omega arith in
-        records ∙ past-drop (installed_place old.log + 1) (installed_place new.log) old.records files.home.window.placed
-        ∙ ap (λ (k : ℕ). drop k old.records) same
-
-    there : (block : ℕ) → IsOutside old.log.blocks block
-        → opening home new.log block ≡ after_commits (opening base old.log) (take n old.records) block
-    there block outside =
-        subst (λ (log : Log). opening home log block
-        ≡ after_commits (opening base old.log) (take (installed_place log - installed_place old.log) old.records) block)
-        (sym back)
-        (home_moves base old.log old.records (held_of old.present) since.over.lawful files.home.window block ok)
-
-    homes_are : after_commits homes (take n old.records) ≡ homes_of new.log.blocks (opening home new.log)
-    homes_are =
-        sym (ap (λ (k : ℕ). homes_of k (opening home new.log)) gone.blocks
-        ∙ homes_after base old since.over.lawful files.home n (opening home new.log) there)
 
     abbrev left : List Entry
     left = drop (installed_place old.log) entries

@@ -16,8 +16,8 @@ use Rattle.wal_law.specs.Logger.{with_log_back, with_log_out}
 use Rattle.txn_law.specs.Core.{CoreState}
 use Rattle.txn_law.specs.CoreWindow.{IsHomeOf}
 use Rattle.txn_law.specs.HomeRead.{IsReadable}
-use Rattle.txn_law.specs.Window.{Footprint, opening}
-use Rattle.store_promise.specs.OpenSince.{IsOpenSince, IsSoundCore}
+use Rattle.txn_law.specs.Window.{Footprint, after_commits, opening}
+use Rattle.store_promise.specs.OpenSince.{IsOpenSince, IsSoundCore, file_blocks}
 use Rattle.store_promise.specs.OpenStore.{HasFilesOver, IsChain, IsOpenOver}
 
 -- ---- a log with the same changes
@@ -43,7 +43,7 @@ log_made_same : (log : Log) (t : Bool) → HasSameChanges log (if t
 log_made_same log true = record { blocks = refl; changes = refl; places = refl }
 log_made_same log false = record { blocks = refl; changes = refl; places = refl }
 
-log_back_same : (log : Log) (ok : Bool) → HasSameChanges log (with_log_back log ok)
+pub log_back_same : (log : Log) (ok : Bool) → HasSameChanges log (with_log_back log ok)
 log_back_same log true = log_made_same log (nat_eq log.log_step (log.taken + 2))
 log_back_same log false = record { blocks = refl; changes = refl; places = refl }
 
@@ -93,6 +93,10 @@ module _ (base : Image) (old new : CoreState) (same : HasSame old new) where
         files.chain);
     stamps = files.stamps;
   }
+
+  pub blocks_same : file_blocks base new ≡ file_blocks base old
+  blocks_same = ap (λ (image : Image). after_commits image new.records) (sym homes_same)
+      ∙ ap (λ (rs : List Footprint). after_commits (homes_of old.log.blocks (opening base old.log)) rs) same.records
 
   installed_same : installed_place new.log ≡ installed_place old.log
   installed_same = ap (λ (changes : List LogChange). place_before changes new.log.places) same.log.changes

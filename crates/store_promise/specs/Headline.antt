@@ -4,9 +4,11 @@ use Rattle.std.specs.Prelude.{Result, Ok, Err}
 use Rattle.disk.specs.Crash.{Image, IsAtRest, IsCrashImage}
 use Rattle.disk.specs.Device.{Device}
 use Rattle.layout.specs.declared.geometry.Geometry.{Geometry}
+use Rattle.layout.specs.Homes.{homes_of}
 use Rattle.layout.specs.Stands.{Stands}
 use Rattle.model.specs.After.{Entry, after}
 use Rattle.model.specs.Tree.{Tree}
+use Rattle.wal_law.specs.Overlay.{over}
 use Rattle.store_promise.specs.declared.fault.OpenFault.{OpenFault}
 use Rattle.store_promise.specs.declared.transcript.Answer.{Answer}
 use Rattle.store_promise.specs.GoodImage.{IsGoodImage}
@@ -40,6 +42,12 @@ LeavesPrefix size first tree events start t clock image =
     HasPrefix size (IsBootBy first start clock) tree (entries_of t) (commits_by start t clock)
     (WasPromised events start t clock) image
 
+-- And once the opening has ended its homes are the blocks that stand for those files.
+pub record LeavesFiles (size first : ℕ) (tree : Tree) (events : Schedule) (start : ℕ) (t : Transcript)
+    (blocks : ℕ → Image) (clock : ℕ) (image : Image) : Type 0 where
+  pub prefix : LeavesPrefix size first tree events start t clock image
+  pub homes : start ≤ clock → homes_of size (over image) ≡ blocks prefix.count
+
 -- the geometry of an image of so many blocks that has this tree
 pub record IsGeometryOf (size : ℕ) (tree : Tree) (g : Geometry) : Type 0 where
   pub blocks : g.blocks ≡ size
@@ -66,7 +74,8 @@ pub record KeepsPromise (before later : Device) (tree : Tree) (first workers : �
   -- a stop leaves some image, and whatever it leaves has the tree of a prefix, which holds what was promised to
   -- last
   pub left : LeavesImages before later
-  pub stops : AtEachStop before later (LeavesPrefix later.size first tree events opened.clock t)
+  pub stops : AtEachStop before later
+      (LeavesFiles later.size first tree events opened.clock t setting.blocks)
   -- the replies are the sequential server's
   pub last : Tree
   pub leads : after tree (entries_of t) last

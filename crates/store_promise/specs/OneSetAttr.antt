@@ -15,11 +15,13 @@ use Rattle.nfs_types.specs.declared.ctx.Ctx.{Ctx}
 use Rattle.nfs_types.specs.declared.ctx.Moment.{Moment}
 use Rattle.nfs_types.specs.declared.handle.Handle.{Handle}
 use Rattle.nfs_types.specs.declared.reply.Reply.{Reply}
+use Rattle.layout.specs.Homes.{homes_of}
 use Rattle.layout.specs.declared.geometry.Geometry.{Geometry}
 use Rattle.model.specs.Tree.{Tree}
 use Rattle.wal_law.specs.declared.calls.IoCall.{IoCall}
 use Rattle.wal_law.specs.declared.calls.IoCall.TheVariants.{Write, Barrier}
 use Rattle.wal_law.specs.Logger.{slot_block}
+use Rattle.wal_law.specs.Overlay.{over}
 use Rattle.store_promise.specs.declared.answers.Verdict.TheVariants as verdict
 use Rattle.store_promise.specs.declared.events.Committing.TheVariants as committing
 use Rattle.store_promise.specs.declared.events.Event.TheVariants as event
@@ -163,12 +165,18 @@ pub record WentOnByFive (opened later : Device) : Type 0 where
   pub failures : later.failures ≡ opened.failures
   pub left : LeavesImages opened later
 
+-- an image is good with this tree, and has these homes
+pub record HasFilesIn (size boot : ℕ) (tree : Tree) (blocks image : Image) : Type 0 where
+  pub good : IsGoodImage size image tree boot
+  pub homes : homes_of size (over image) ≡ blocks
+
 -- What a stop leaves is good: before the header's write with the old tree, after it and before the barrier
 -- with the old tree or the new one, and after that with the new one.
-pub record LeavesTrees (opened later : Device) (boot : ℕ) (tree next : Tree) : Type 0 where
-  pub before : (clock : ℕ) (image : Image) → opened.clock ≤ clock → clock ≤ opened.clock + 3
-      → IsCrashImage later clock image → IsGoodImage later.size image tree boot
-  pub within : (image : Image) → IsCrashImage later (opened.clock + 4) image
-      → IsGoodImage later.size image tree boot ⊎ IsGoodImage later.size image next boot
-  pub after : (image : Image) → IsCrashImage later (opened.clock + 5) image
-      → IsGoodImage later.size image next boot
+pub record LeavesTrees (opened later : Device) (boot : ℕ) (tree next : Tree) (blocks changed : Image) : Type 0
+  where
+    pub before : (clock : ℕ) (image : Image) → opened.clock ≤ clock → clock ≤ opened.clock + 3
+        → IsCrashImage later clock image → HasFilesIn later.size boot tree blocks image
+    pub within : (image : Image) → IsCrashImage later (opened.clock + 4) image
+        → HasFilesIn later.size boot tree blocks image ⊎ HasFilesIn later.size boot next changed image
+    pub after : (image : Image) → IsCrashImage later (opened.clock + 5) image
+        → HasFilesIn later.size boot next changed image

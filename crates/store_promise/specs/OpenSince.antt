@@ -1,20 +1,24 @@
 -- A store that has been open for some entries, some of which are home by now; and what a step of it may rest on.
-use Rattle.std.specs.Prelude.{◌≡◌, ℕ, ◌<◌, ◌≤◌, List, length, take, drop}
+use Rattle.std.specs.Prelude.{◌≡◌, ℕ, ◌-◌, ◌<◌, ◌≤◌, List, length, take, drop}
 use Rattle.disk.specs.Crash.{Image, IsCrashImage}
 use Rattle.disk.specs.Device.{Device}
 use Rattle.model.specs.After.{Entry, after}
 use Rattle.model.specs.Sound.{SoundTime}
 use Rattle.model.specs.Tree.{Tree}
 use Rattle.layout.specs.declared.geometry.Geometry.{Geometry}
+use Rattle.layout.specs.Homes.{homes_of}
+use Rattle.layout.specs.Stands.{Stands}
 use Rattle.nfs_types.specs.declared.reply.Reply.{Reply}
 use Rattle.procs.specs.Outcome.{Outcome}
 use Rattle.procs.specs.Steps.{IsStepOf}
 use Rattle.wal_law.specs.Calls.{Pending}
-use Rattle.wal_law.specs.Log.{IsLawful, installed_place}
+use Rattle.wal_law.specs.Overlay.{over}
+use Rattle.wal_law.specs.Log.{IsLawful, installed_place, settled_place}
 use Rattle.txn_law.specs.Commit.{Planned}
 use Rattle.txn_law.specs.Core.{CoreState}
 use Rattle.txn_law.specs.CoreWindow.{IsHomeOf}
 use Rattle.txn_law.specs.Tidy.{AreTidy}
+use Rattle.txn_law.specs.Window.{after_commits, opening}
 use Rattle.store_promise.specs.Openings.{AtEachStop}
 use Rattle.store_promise.specs.OpenStore.{IsBoot, IsOpenOver}
 use Rattle.store_promise.specs.Prefix.{HasPrefix}
@@ -27,6 +31,23 @@ pub record IsOpenSince (base : Image) (d : Device) (core : CoreState) (logging i
   pub home : Tree
   pub leads : after first (take (installed_place core.log) entries) home
   pub over : IsOpenOver base d core logging installing boot home (drop (installed_place core.log) entries) last
+
+-- The blocks that stand for the files: what is at home under the log that the opening found, and after the commits
+-- since.
+abbrev pub file_blocks : Image → CoreState → Image
+file_blocks base core = after_commits (homes_of core.log.blocks (opening base core.log)) core.records
+
+-- the blocks after so many of the commits that aren't home
+abbrev pub blocks_after : Image → CoreState → ℕ → Image
+blocks_after base core count =
+    after_commits (homes_of core.log.blocks (opening base core.log)) (take count core.records)
+
+-- they stand for this tree, in an image of the core's counts
+pub record HasFileBlocks (base : Image) (core : CoreState) (tree : Tree) : Type 0 where
+  pub geometry : Geometry
+  pub blocks : geometry.blocks ≡ core.log.blocks
+  pub inodes : geometry.inodes ≡ core.inodes
+  pub stands : Stands geometry (file_blocks base core) tree
 
 -- a core is sound over what is at home: so its type keeps it, and each of its methods leads from home to home
 pub record IsSoundCore (base : Image) (core : CoreState) : Type 0 where
@@ -64,6 +85,13 @@ pub record TellsOf (boot : ℕ) (plan : Planned) (entry : Entry) : Type 0 where
 abbrev pub LeavesBeginning : ℕ → ℕ → Tree → List Entry → ℕ → Image → Type 0
 LeavesBeginning size boot first entries settled image =
     HasPrefix size (IsBoot boot) first entries (length entries) (λ place. place ≤ settled) image
+
+-- what a stop leaves of an open store has besides the blocks after those entries
+pub record LeavesBlocks (base : Image) (core : CoreState) (boot : ℕ) (first : Tree) (entries : List Entry)
+    (image : Image) : Type 0 where
+  pub files : LeavesBeginning core.log.blocks boot first entries (settled_place core.log) image
+  pub behind : installed_place core.log ≤ files.count
+  pub homes : homes_of core.log.blocks (over image) ≡ blocks_after base core (files.count - installed_place core.log)
 
 -- so it was whenever a call of the device was next, from one device on, but for what is next now
 abbrev pub HasKeptFiles : Device → Device → ℕ → Tree → List Entry → ℕ → Type 0

@@ -18,7 +18,7 @@ use Rattle.store_promise.specs.declared.events.Step.TheVariants as step
 use Rattle.store_promise.specs.LogTold.{LogTold, log_moved}
 use Rattle.store_promise.specs.Openings.{IsLater}
 use Rattle.store_promise.specs.OpenSince.{IsOpenSince}
-use Rattle.store_promise.specs.Schedule.{Setting}
+use Rattle.store_promise.specs.Schedule.{Setting, Told}
 use Rattle.store_promise.specs.ToldOf.{StandsAtHome, log_told}
 use Rattle.store_promise.specs.Transcript.{calls_device, fails}
 
@@ -77,6 +77,11 @@ pub record KeepsTransactions (old new : CoreState) : Type 0 where
 -- what is told of a log, where an opening left it at a position
 abbrev pub told_of : ℕ → StoreSide → LogTold
 told_of position side = log_told position side.core.log side.logging side.installing
+
+-- What is told of the log, and of the count of transactions, is what the store has.
+pub record IsTold (o : Setting) (told : Told) (side : StoreSide) : Type 0 where
+  pub log : told.log ≡ told_of o.position side
+  pub begun : told.begun ≡ side.core.begun
 
 -- what is told after a step, or after none
 abbrev pub told_next : LogTold → Option Step → LogTold

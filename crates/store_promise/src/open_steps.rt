@@ -18,7 +18,7 @@ ghost use Rattle.wal_law.specs.Io.{HasMade, Io};
 ghost use Rattle.wal_law.specs.Log.{installed_place, settled_place};
 ghost use Rattle.wal_law.specs.Logger.{is_log_out, with_log_back, with_log_out};
 ghost use Rattle.store_promise.specs.OpenSince.{HasKeptFiles, IsOpenSince, IsSoundCore, KeepsFiles};
-ghost use Rattle.store_promise.specs.OpenSince.{LeavesBeginning, StandsBeside, TellsOf};
+ghost use Rattle.store_promise.specs.OpenSince.{LeavesBeginning, LeavesBlocks, StandsBeside, TellsOf};
 
 /// What a transaction takes, reads and lets go of leaves the store open: it changes neither log nor commits.
 pub fn a_transaction_leaves_the_store_open()
@@ -109,7 +109,11 @@ pub fn the_installer_leaves_the_store_open()
 /// Whatever a stop leaves of a store that is open since then is good, and has the files after a beginning of the
 /// entries, in which is each settled place.
 pub fn a_stop_leaves_a_beginning()
-    ensures { (base : Image) (d : Device) (core : CoreState) (logging installing : Pending) (boot : ℕ)
+    ensures blocks { (base : Image) (d : Device) (core : CoreState) (logging installing : Pending) (boot : ℕ)
+        (first last : Tree) (entries : List Entry) (image : Image)
+        → IsOpenSince base d core logging installing boot first entries last → IsCrashImage d d.clock image
+        → LeavesBlocks base core boot first entries image }
+    ensures files { (base : Image) (d : Device) (core : CoreState) (logging installing : Pending) (boot : ℕ)
         (first last : Tree) (entries : List Entry) (image : Image)
         → IsOpenSince base d core logging installing boot first entries last → IsCrashImage d d.clock image
         → LeavesBeginning d.size boot first entries (settled_place core.log) image }

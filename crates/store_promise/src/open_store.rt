@@ -10,20 +10,23 @@ ghost use Rattle.layout.specs.SuperForm.{IsSuper};
 ghost use Rattle.wal_law.specs.Calls.{Pending, idle};
 ghost use Rattle.wal_law.specs.Law.{IsBoundary, with_home};
 ghost use Rattle.wal_law.specs.Log.{IsLawful};
+ghost use Rattle.wal_law.specs.Overlay.{over};
+ghost use Rattle.layout.specs.Homes.{homes_of};
 ghost use Rattle.txn_law.specs.Core.{CoreState};
-ghost use Rattle.store_promise.specs.OpenSince.{IsOpenSince};
+ghost use Rattle.store_promise.specs.OpenSince.{IsOpenSince, blocks_after};
 ghost use Rattle.store_promise.specs.OpenStore.{HasFilesOver, IsBoot, IsNewOver, IsOpenOver, IsSettledOf};
 ghost use Rattle.store_promise.specs.Openings.{IsOpened};
 ghost use Rattle.store_promise.specs.Prefix.{HasPrefix};
 
 /// An image that has whole groups over what is at home is good, and has the tree after the first so many of the
-/// entries, not fewer than are settled. It needs no device that agrees, and so holds within the write of a super
+/// entries, not fewer than are settled, and the blocks after their commits. It needs no device that agrees, and so holds within the write of a super
 /// block too.
 pub fn whole_groups_are_a_good_image()
     ensures { (base : Image) (core : CoreState) (boot : ℕ) (tree last : Tree) (entries : List Entry)
         (image : Image)
         → IsLawful core.log → HasFilesOver base core boot tree entries last → IsBoundary base core.log image
-        → HasPrefix core.log.blocks (IsBoot boot) tree entries (length entries) (IsSettledOf core.log) image }
+        → (left : HasPrefix core.log.blocks (IsBoot boot) tree entries (length entries) (IsSettledOf core.log) image)
+        × (homes_of core.log.blocks (over image) ≡ blocks_after base core left.count) }
 {
     txn_law::a_crash_leaves_a_prefix();
 }
@@ -33,7 +36,8 @@ pub fn a_stop_leaves_a_good_image()
     ensures { (d : Device) (base : Image) (core : CoreState) (logging installing : Pending) (boot : ℕ)
         (tree last : Tree) (entries : List Entry) (image : Image)
         → IsOpenOver base d core logging installing boot tree entries last → IsCrashImage d d.clock image
-        → HasPrefix d.size (IsBoot boot) tree entries (length entries) (IsSettledOf core.log) image }
+        → (left : HasPrefix core.log.blocks (IsBoot boot) tree entries (length entries) (IsSettledOf core.log) image)
+        × (homes_of core.log.blocks (over image) ≡ blocks_after base core left.count) }
 {
     wal_law::law::a_crash_leaves_whole_groups();
     whole_groups_are_a_good_image();

@@ -5,6 +5,8 @@ ghost use Rattle.disk.specs.Crash.{Image, IsCrashImage};
 ghost use Rattle.disk.specs.Device.{Device};
 ghost use Rattle.model.specs.After.{after};
 ghost use Rattle.model.specs.Tree.{Tree};
+ghost use Rattle.layout.specs.Homes.{homes_of};
+ghost use Rattle.wal_law.specs.Overlay.{over};
 ghost use Rattle.store_promise.specs.declared.events.Committing.TheVariants as committing;
 ghost use Rattle.store_promise.specs.declared.events.Event.TheVariants as event;
 ghost use Rattle.store_promise.specs.declared.events.Step.TheVariants as step;
@@ -18,10 +20,11 @@ ghost use Rattle.store_promise.specs.Schedule.{Schedule, told_before};
 ghost use Rattle.store_promise.specs.Transcript.{Transcript, device_calls, entries_of, fails, step_at};
 ghost use Rattle.store_promise.specs.Verdicts.{IsCoveredWrite, IsStableAnswer};
 
-/// A run of no events keeps the promise, where its opening is one.
+/// A run of no events keeps the promise, where its opening is one that leaves the same homes at each stop.
 pub fn a_run_of_no_events_keeps_the_promise()
-    ensures { (before later : Device) (tree : Tree) (first position workers : ℕ)
+    ensures { (before later : Device) (tree : Tree) (first position workers : ℕ) (blocks : Image)
         → IsOpened before later tree first position
+        → ((image : Image) → IsCrashImage later later.clock image → homes_of later.size (over image) ≡ blocks)
         → KeepsPromise before later tree first workers [] (record {
           boot = first + 1;
           history = [];

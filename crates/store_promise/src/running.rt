@@ -14,11 +14,10 @@ ghost use Rattle.txn_law.specs.HomeRead.{HasContents};
 ghost use Rattle.txn_law.specs.Leaves.{is_fetching, with_fetch};
 ghost use Rattle.store_promise.specs.declared.events.Step.{Step};
 ghost use Rattle.store_promise.specs.OpenSince.{IsOpenSince};
-ghost use Rattle.store_promise.specs.LogTold.{empty_log};
 ghost use Rattle.store_promise.specs.OpenStore.{IsNewOver};
 ghost use Rattle.store_promise.specs.Openings.{IsOpened};
-ghost use Rattle.store_promise.specs.Schedule.{Setting};
-ghost use Rattle.store_promise.specs.Running.{IsFetchOver, IsMovedAlong, IsMovedBy, IsRunningOver, at_rest, told_of};
+ghost use Rattle.store_promise.specs.Schedule.{Setting, at_first};
+ghost use Rattle.store_promise.specs.Running.{IsFetchOver, IsMovedAlong, IsMovedBy, IsRunningOver, IsTold, at_rest};
 ghost use Rattle.store_promise.specs.Transcript.{calls_device, fails};
 
 /// What an opening leaves begins a run, over what is at home: with the files that were found, no entry, no read that is
@@ -28,9 +27,9 @@ pub fn an_opening_begins_a_run()
         → IsOpened before opened tree first o.position → IsNewOver base opened core
         → o.geometry.blocks ≡ opened.size
         → IsRunningOver o base (at_rest opened core) [] (first + 1) tree [] tree }
-    ensures told { (before opened : Device) (base : Image) (core : CoreState) (tree : Tree) (first position : ℕ)
-        → IsOpened before opened tree first position → IsNewOver base opened core
-        → told_of position (at_rest opened core) ≡ empty_log }
+    ensures told { (before opened : Device) (base : Image) (core : CoreState) (tree : Tree) (first : ℕ) (o : Setting)
+        → IsOpened before opened tree first o.position → IsNewOver base opened core
+        → IsTold o at_first (at_rest opened core) }
 {
     crate::an_opening_leaves_an_open_store();
 }

@@ -19,7 +19,7 @@ same_tree count tree left entry none led = subst (λ n. after tree (take n (entr
 
 pub returns : goal.returns
 returns c = λ before later tree first clock one reply image from early crash not_old kept.
-    let found = kept.stops clock image from (omega (arith, early)) crash in
+    let found = (kept.stops clock image from (omega (arith, early)) crash).prefix in
     let before_all : clock ≤ kept.opened.clock = omega (arith, early, kept.calls) in
     let none = none_by kept.opened.clock clock found.count before_all found.few in
     not_old found.boot

@@ -1,27 +1,70 @@
-use Rattle.std.proofs.Common.{◌+◌, ◌-◌, arith}
+-- Those that are home come first, and then those of the commits that it has.
+use Rattle.std.proofs.Common.{◌≡◌, ℕ, ◌+◌, ◌-◌, ap, sym, ◌∙◌, subst, arith, List, length, drop}
 use Rattle.std.proofs.lemmas.List.{length-drop}
-use Rattle.wal_law.specs.Log.{installed_place}
-use Rattle.store_promise.proofs.Chains.{after_both}
+use Rattle.disk.specs.Crash.{Image}
+use Rattle.disk.specs.Device.{Device}
+use Rattle.layout.specs.Homes.{homes_of}
+use Rattle.model.specs.After.{Entry}
+use Rattle.model.specs.Tree.{Tree}
+use Rattle.txn_law.specs.Core.{CoreState}
+use Rattle.wal_law.specs.Calls.{Pending}
+use Rattle.wal_law.specs.Log.{installed_place, settled_place}
+use Rattle.wal_law.specs.Overlay.{over}
 use Rattle.wal_law.proofs.Ends.{place_le}
+use Rattle.store_promise.specs.OpenSince.{IsOpenSince, LeavesBeginning, LeavesBlocks, blocks_after}
+use Rattle.store_promise.specs.OpenStore.{IsBoot, IsSettledOf}
+use Rattle.store_promise.specs.Prefix.{HasPrefix}
+use Rattle.store_promise.proofs.Chains.{after_both}
 use Rattle.store_promise.proofs.open_steps.a_stop_leaves_a_beginning.Goals as goal
 
-pub returns : goal.returns
-returns c = λ base d core logging installing boot first last entries image since crash.
-    let n = installed_place core.log in
-    let left = c.a_stop_leaves_a_good_image.ensures d base core logging installing boot since.home last _ image since.over
-    crash in
-    let few = left.few in
-    let long = length-drop n entries in
-    let within = place_le core.log.changes core.log.places 0 since.over.lawful.rising in
-    let counted = since.counted in
-    record {
-      boot = left.boot;
-      boot_is = left.boot_is;
-      left = left.left;
-      good = left.good;
-      count = n + left.count;
-      few = omega (arith, few, long, within, counted);
-      prefix = after_both first since.home left.left n left.count entries since.leads left.prefix;
-      lasts = λ place settled. (let there = left.lasts (place - n) (omega (arith, settled)) in
-          omega (arith, there));
-    }
+module _ (base : Image) (d : Device) (core : CoreState) (logging installing : Pending) (boot : ℕ)
+    (first last : Tree) (entries : List Entry) (image : Image)
+    (since : IsOpenSince base d core logging installing boot first entries last) where
+  abbrev n : ℕ
+  n = installed_place core.log
+
+  abbrev rest : List Entry
+  rest = drop n entries
+
+  module _ (left : HasPrefix core.log.blocks (IsBoot boot) since.home rest (length rest) (IsSettledOf core.log) image)
+      (homes : homes_of core.log.blocks (over image) ≡ blocks_after base core left.count) where
+    abbrev beginning : LeavesBeginning core.log.blocks boot first entries (settled_place core.log) image
+    beginning =
+        let few = left.few in
+        let long = length-drop n entries in
+        let within = place_le core.log.changes core.log.places 0 since.over.lawful.rising in
+        let counted = since.counted in
+        record {
+          boot = left.boot;
+          boot_is = left.boot_is;
+          left = left.left;
+          good = left.good;
+          count = n + left.count;
+          few = omega (arith, few, long, within, counted);
+          prefix = after_both first since.home left.left n left.count entries since.leads left.prefix;
+          lasts = λ place settled. (let there = left.lasts (place - n) (omega (arith, settled)) in
+              omega (arith, there));
+        }
+
+    has_blocks : LeavesBlocks base core boot first entries image
+    has_blocks =
+        let same : left.count ≡ n + left.count - n = omega arith in
+        record {
+          files = beginning;
+          behind = omega arith;
+          homes = homes ∙ ap (λ (k : ℕ). blocks_after base core k) same;
+        }
+
+pub returns-clause-blocks : goal.returns-clause-blocks
+returns-clause-blocks c = λ base d core logging installing boot first last entries image since crash.
+    let left = c.a_stop_leaves_a_good_image.ensures d base core logging installing boot since.home last _ image
+    since.over crash in
+    has_blocks base d core logging installing boot first last entries image since left.0 left.1
+
+pub returns-clause-files : goal.returns-clause-files
+returns-clause-files c = λ base d core logging installing boot first last entries image since crash.
+    let left = c.a_stop_leaves_a_good_image.ensures d base core logging installing boot since.home last _ image
+    since.over crash in
+    subst (λ (size : ℕ). LeavesBeginning size boot first entries (settled_place core.log) image)
+    (sym since.over.agrees.agrees.size)
+    (beginning base d core logging installing boot first last entries image since left.0 left.1)

@@ -76,13 +76,13 @@ returns-clause-call c = λ before old new base core logging installing boot sett
     let early : clock ≤ old.clock = omega (arith, past, to) in
     subst (λ (size : ℕ). LeavesBeginning size boot first entries settled image) (sym later.size)
     (by_clock before old boot settled (settled_place core.log) first entries kept
-    (λ left at. c.a_stop_leaves_a_beginning.ensures base old core logging installing boot first last entries left since
+    (λ left at. c.a_stop_leaves_a_beginning.ensures.files base old core logging installing boot first last entries left since
     at) low clock image from early (as_before old new clock image later early crash))
 
 pub returns-clause-now : goal.returns-clause-now
 returns-clause-now c = λ before d base core logging installing boot settled first last entries kept since low.
     by_clock before d boot settled (settled_place core.log) first entries kept
-    (λ left at. c.a_stop_leaves_a_beginning.ensures base d core logging installing boot first last entries left since
+    (λ left at. c.a_stop_leaves_a_beginning.ensures.files base d core logging installing boot first last entries left since
     at) low
 
 pub returns-clause-longer : goal.returns-clause-longer

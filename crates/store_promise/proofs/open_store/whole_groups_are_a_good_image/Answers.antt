@@ -14,6 +14,7 @@ use Rattle.txn_law.specs.Core.{CoreState}
 use Rattle.txn_law.specs.CoreWindow.{held_of}
 use Rattle.txn_law.specs.Window.{after_commits, opening}
 use Rattle.store_promise.specs.GoodImage.{IsGoodImage}
+use Rattle.store_promise.specs.OpenSince.{blocks_after}
 use Rattle.store_promise.specs.OpenStore.{HasFilesOver, IsBoot, IsSettledOf}
 use Rattle.store_promise.specs.Prefix.{HasPrefix}
 use Rattle.store_promise.proofs.HomesAfter.{homes_after}
@@ -55,20 +56,23 @@ module _ (base : Image) (core : CoreState) (boot : ℕ) (tree last : Tree) (entr
       stamps = files.stamps k found.0 found.1;
     }
 
-    pub left : HasPrefix size (IsBoot boot) tree entries (length entries) (IsSettledOf core.log) image
+    pub left : (left : HasPrefix size (IsBoot boot) tree entries (length entries) (IsSettledOf core.log) image)
+        × (homes_of size (over image) ≡ blocks_after base core left.count)
     left =
         let long = chain_long files.super.geometry (homes_of size (opening base core.log)) tree core.records
-        entries last files.chain in
-        record {
-          boot = boot;
-          boot_is = refl;
-          left = found.0;
-          good = good;
-          count = k;
-          few = omega (arith, few, long);
-          prefix = found.1;
-          lasts = λ place held. omega (arith, held, settled);
-        }
+        entries last files.chain in (
+          record {
+            boot = boot;
+            boot_is = refl;
+            left = found.0;
+            good = good;
+            count = k;
+            few = omega (arith, few, long);
+            prefix = found.1;
+            lasts = λ place held. omega (arith, held, settled);
+          },
+          homes_after base core lawful files.home k (over image) there,
+        )
 
 pub returns : goal.returns
 returns c = λ base core boot tree last entries image lawful files boundary.

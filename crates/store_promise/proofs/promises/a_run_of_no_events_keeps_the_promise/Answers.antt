@@ -6,9 +6,10 @@ use Rattle.disk.specs.Device.{Device}
 use Rattle.model.specs.After.{after}
 use Rattle.model.specs.Tree.{Tree}
 use Rattle.layout.specs.Homes.{homes_of}
+use Rattle.layout.specs.Stands.{Stands}
 use Rattle.wal.specs.Overlay.{over}
 use Rattle.model.specs.Tree as model
-use Rattle.store_promise.specs.Headline.{IsGeometryOf, LeavesPrefix, WasPromised, by_answer, by_commit, by_steps}
+use Rattle.store_promise.specs.Headline.{IsGeometryOf, LeavesFiles, WasPromised, by_answer, by_commit, by_steps}
 use Rattle.store_promise.specs.GoodImage.{IsGoodImage}
 use Rattle.store_promise.specs.Openings.{IsOpened, IsLater}
 use Rattle.store_promise.specs.LogTold.{settled_told}
@@ -38,52 +39,65 @@ lasts start clock first place (by_steps index from by told) = none_told index fr
     none_told zero from told = told
     none_told (suc index) from told = absurd (no-less index (omega (arith, from)))
 
+-- whatever a stop now leaves has these homes
+abbrev HasHomes : Device → Image → Type 0
+HasHomes later blocks = (image : Image) → IsCrashImage later later.clock image
+    → homes_of later.size (over image) ≡ blocks
+
 -- a stop before the opening's end
-before_end : (before later : Device) (tree : Tree) (first position clock : ℕ) (image : Image)
+before_end : (before later : Device) (tree : Tree) (first position clock : ℕ) (image blocks : Image)
     → IsOpened before later tree first position
     → before.clock ≤ clock → clock < later.clock → IsCrashImage later clock image
-    → LeavesPrefix later.size first tree [] later.clock (nothing first) clock image
-before_end before later tree first position clock image opened from less crash =
+    → LeavesFiles later.size first tree [] later.clock (nothing first) (λ place. blocks) clock image
+before_end before later tree first position clock image blocks opened from less crash =
     let found = opened.keeps clock image from (omega (arith, less)) crash in
     record {
-      boot = found.boot;
-      boot_is = record {
-        either = found.boot_is;
-        raised = λ reached. absurd (no-less 0 (omega (arith, reached, less)));
+      prefix = record {
+        boot = found.boot;
+        boot_is = record {
+          either = found.boot_is;
+          raised = λ reached. absurd (no-less 0 (omega (arith, reached, less)));
+        };
+        left = tree;
+        good = found.good;
+        count = 0;
+        few = omega arith;
+        prefix = refl;
+        lasts = lasts later.clock clock first;
       };
-      left = tree;
-      good = found.good;
-      count = 0;
-      few = omega arith;
-      prefix = refl;
-      lasts = lasts later.clock clock first;
+      homes = λ reached. absurd (no-less 0 (omega (arith, reached, less)));
     }
 
 -- a stop at its end
-at_end : (before later : Device) (tree : Tree) (first position clock : ℕ) (image : Image)
-    → IsOpened before later tree first position
+at_end : (before later : Device) (tree : Tree) (first position clock : ℕ) (image blocks : Image)
+    → IsOpened before later tree first position → HasHomes later blocks
     → clock ≡ later.clock → IsCrashImage later clock image
-    → LeavesPrefix later.size first tree [] later.clock (nothing first) clock image
-at_end before later tree first position clock image opened same crash = record {
-  boot = first + 1;
-  boot_is = record { either = inr refl; raised = λ _. refl };
-  left = tree;
-  good = opened.settled image (subst (λ m. IsCrashImage later m image) same crash);
-  count = 0;
-  few = omega arith;
-  prefix = refl;
-  lasts = lasts later.clock clock first;
-}
+    → LeavesFiles later.size first tree [] later.clock (nothing first) (λ place. blocks) clock image
+at_end before later tree first position clock image blocks opened whole same crash =
+    let now = subst (λ m. IsCrashImage later m image) same crash in
+    record {
+      prefix = record {
+        boot = first + 1;
+        boot_is = record { either = inr refl; raised = λ _. refl };
+        left = tree;
+        good = opened.settled image now;
+        count = 0;
+        few = omega arith;
+        prefix = refl;
+        lasts = lasts later.clock clock first;
+      };
+      homes = λ _. whole image now;
+    }
 
-either : (before later : Device) (tree : Tree) (first position clock : ℕ) (image : Image)
-    → IsOpened before later tree first position
+either : (before later : Device) (tree : Tree) (first position clock : ℕ) (image blocks : Image)
+    → IsOpened before later tree first position → HasHomes later blocks
     → before.clock ≤ clock → clock ≤ later.clock → IsCrashImage later clock image → (clock < later.clock)
     ⊎ (later.clock ≤ clock)
-    → LeavesPrefix later.size first tree [] later.clock (nothing first) clock image
-either before later tree first position clock image opened from to crash (inl less) =
-    before_end before later tree first position clock image opened from less crash
-either before later tree first position clock image opened from to crash (inr reached) =
-    at_end before later tree first position clock image opened (omega (arith, to, reached)) crash
+    → LeavesFiles later.size first tree [] later.clock (nothing first) (λ place. blocks) clock image
+either before later tree first position clock image blocks opened whole from to crash (inl less) =
+    before_end before later tree first position clock image blocks opened from less crash
+either before later tree first position clock image blocks opened whole from to crash (inr reached) =
+    at_end before later tree first position clock image blocks opened whole (omega (arith, to, reached)) crash
 
 geometry_of_image : (size boot : ℕ) (tree : Tree) (image : Image) (good : IsGoodImage size image tree boot)
     → IsGeometryOf size tree good.super.geometry
@@ -97,43 +111,46 @@ no_entry_after tree zero = refl
 no_entry_after tree (suc place) = refl
 
 pub returns : goal.returns
-returns c = λ before later tree first position workers opened. record {
-  opened = later;
-  setting = record {
-    geometry = opened.last.2.super.geometry;
-    position = position;
-    blocks = λ place. homes_of later.size (over opened.last.0);
-  };
-  opens = opened;
-  geometry = geometry_of_image later.size first tree opened.last.0 opened.last.2;
-  past = itself later;
-  calls = omega arith;
-  failures = omega arith;
-  left = opened.left;
-  stops = λ clock image from to crash. either before later tree first position clock image opened from to
-      crash (cases_lt clock later.clock);
-  last = tree;
-  leads = refl;
-  boot = refl;
-  history = record {
-    each = λ index entry same. absurd (no-some entry same);
-    whole = λ at place tail same. absurd (no-some _ same);
-    ordered = λ one other a b same _ _. absurd (no-some a same);
-    numbers = λ one other a b same _ _. absurd (no-some a same);
-  };
-  answers = record {
-    each = λ index a same. absurd (no-some a same);
-    placed_once = λ one other place a b same _ _ _. absurd (no-some a same);
-    ordered = λ one other a b same _ _. absurd (no-some a same);
-    whole = λ index worker event same _ _ _ _. absurd (no-some event same);
-  };
-  taken = record {
-    fewer = omega arith;
-    each = λ index event made same _. absurd (no-some event same);
-  };
-  files = λ place. record {
-    left = tree;
-    leads = no_entry_after tree place;
-    stands = opened.last.2.stands;
-  };
-}
+returns c = λ before later tree first position workers blocks opened whole.
+    let there = opened.left later.clock opened.past.clock (omega arith) in
+    let good = opened.settled there.0 there.1 in
+    record {
+      opened = later;
+      setting = record {
+        geometry = good.super.geometry;
+        position = position;
+        blocks = λ place. blocks;
+      };
+      opens = opened;
+      geometry = geometry_of_image later.size (first + 1) tree there.0 good;
+      past = itself later;
+      calls = omega arith;
+      failures = omega arith;
+      left = opened.left;
+      stops = λ clock image from to crash. either before later tree first position clock image blocks opened whole from to
+          crash (cases_lt clock later.clock);
+      last = tree;
+      leads = refl;
+      boot = refl;
+      history = record {
+        each = λ index entry same. absurd (no-some entry same);
+        whole = λ at place tail same. absurd (no-some _ same);
+        ordered = λ one other a b same _ _. absurd (no-some a same);
+        numbers = λ one other a b same _ _. absurd (no-some a same);
+      };
+      answers = record {
+        each = λ index a same. absurd (no-some a same);
+        placed_once = λ one other place a b same _ _ _. absurd (no-some a same);
+        ordered = λ one other a b same _ _. absurd (no-some a same);
+        whole = λ index worker event same _ _ _ _. absurd (no-some event same);
+      };
+      taken = record {
+        fewer = omega arith;
+        each = λ index event made same _. absurd (no-some event same);
+      };
+      files = λ place. record {
+        left = tree;
+        leads = no_entry_after tree place;
+        stands = subst (λ (image : Image). Stands good.super.geometry image tree) (whole there.0 there.1) good.stands;
+      };
+    }

@@ -1,5 +1,5 @@
 -- Its log begins at the position that each image tells, and has no changes.
-use Rattle.std.proofs.Common.{◌≡◌, ℕ, zero, suc, ◌+◌, ◌-◌, ◌≤◌, ap, ◌∙◌, refl, arith}
+use Rattle.std.proofs.Common.{◌≡◌, ℕ, zero, suc, ◌+◌, ◌-◌, ◌≤◌, ap, sym, ◌∙◌, refl, arith}
 use Rattle.std.proofs.Common.{List, [], length, take, drop}
 use Rattle.limits.specs.declared.TheConstants.{START_BLOCK}
 use Rattle.disk.specs.Crash.{Image}
@@ -127,4 +127,7 @@ returns-clause-runs c = λ before opened base core tree first o opens new blocks
 }
 
 pub returns-clause-told : goal.returns-clause-told
-returns-clause-told c = told_is
+returns-clause-told c = λ before opened base core tree first o opens new. record {
+  log = sym (told_is before opened base core tree first o.position opens new);
+  begun = sym new.begun;
+}

@@ -1,0 +1,61 @@
+//! Laws on the blocks that stand for the files of an open store: what is held for reading is theirs, and only a commit
+//! changes them.
+ghost use Rattle.std.specs.Prelude.{◌≡◌, ℕ, ◌≤◌, Bool, List, if◌then◌else◌};
+ghost use Rattle.disk.specs.Crash.{Image};
+ghost use Rattle.disk.specs.Device.{Device};
+ghost use Rattle.model.specs.After.{Entry};
+ghost use Rattle.model.specs.Tree.{Tree};
+ghost use Rattle.txn.specs.Outcomes.{TakesPlace};
+ghost use Rattle.txn_law.specs.Commit.{IsReadBy, Planned};
+ghost use Rattle.txn_law.specs.Core.{CoreState, past};
+ghost use Rattle.txn_law.specs.Object.{ObjectBytes};
+ghost use Rattle.txn_law.specs.Window.{IsAsRead, with_objects};
+ghost use Rattle.wal_law.specs.Calls.{Pending, home_after};
+ghost use Rattle.wal_law.specs.Installer.{with_inst_back, with_inst_out};
+ghost use Rattle.wal_law.specs.Log.{IsLawful, Log, installed_place, settled_place};
+ghost use Rattle.wal_law.specs.Logger.{with_log_back, with_log_out};
+ghost use Rattle.store_promise.specs.OpenSince.{HasFileBlocks, IsOpenSince, StandsBeside, file_blocks};
+
+/// The blocks stand for the files as they are, and have what any transaction holds for reading.
+pub fn what_is_held_is_what_the_files_are()
+    ensures stands { (base : Image) (d : Device) (core : CoreState) (logging installing : Pending) (boot : ℕ)
+        (first last : Tree) (entries : List Entry)
+        → IsOpenSince base d core logging installing boot first entries last → HasFileBlocks base core last }
+    ensures read { (base : Image) (d : Device) (core : CoreState) (logging installing : Pending) (boot : ℕ)
+        (first last : Tree) (entries : List Entry) (tx : ℕ) (object : ObjectBytes)
+        → IsOpenSince base d core logging installing boot first entries last → IsReadBy core tx object
+        → IsAsRead (file_blocks base core) object }
+{}
+
+/// A commit lays over them what it writes, and no other step changes them: neither what transactions take and read,
+/// nor the logger, nor the installer, also where it has brought blocks home.
+pub fn only_a_commit_changes_the_files()
+    ensures commit { (base : Image) (d : Device) (old new : CoreState) (logging installing : Pending) (boot : ℕ)
+        (first last : Tree) (entries : List Entry) (tx place : ℕ) (plan : Planned)
+        → IsOpenSince base d old logging installing boot first entries last → TakesPlace old tx plan place new
+        → file_blocks base new ≡ with_objects (file_blocks base old) plan.written }
+    ensures beside { (base : Image) (old new : CoreState) → StandsBeside old new
+        → file_blocks base new ≡ file_blocks base old }
+    ensures logger { (base : Image) (core : CoreState) (ok : Bool)
+        → (file_blocks base (record core { log = with_log_out core.log }) ≡ file_blocks base core)
+        × (file_blocks base (record core { log = with_log_back core.log ok }) ≡ file_blocks base core) }
+    ensures installer { (base : Image) (core : CoreState)
+        → file_blocks base (record core { log = with_inst_out core.log }) ≡ file_blocks base core }
+    ensures installed { (base : Image) (d : Device) (old new : CoreState) (logging installing : Pending) (ok : Bool)
+        (boot : ℕ) (first last : Tree) (entries : List Entry)
+        → IsOpenSince base d old logging installing boot first entries last
+        → new.log ≡ with_inst_back old.log ok → new.records ≡ past (installed_place new.log) old.records
+        → file_blocks (home_after base old.log ok) new ≡ file_blocks base old }
+{}
+
+/// What is settled stays settled: no step takes a settled place back.
+pub fn what_is_settled_stays_settled()
+    ensures commit { (old new : CoreState) (tx place : ℕ) (plan : Planned) → IsLawful old.log
+        → TakesPlace old tx plan place new → settled_place old.log ≤ settled_place new.log }
+    ensures logger { (log : Log) (is_out ok : Bool) → IsLawful log
+        → (settled_place log ≤ settled_place (with_log_out log))
+        × (settled_place log ≤ settled_place (if is_out then with_log_back log ok else log)) }
+    ensures installer { (log : Log) (is_out ok : Bool) → IsLawful log
+        → (settled_place log ≤ settled_place (with_inst_out log))
+        × (settled_place log ≤ settled_place (if is_out then with_inst_back log ok else log)) }
+{}
