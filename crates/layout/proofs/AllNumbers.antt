@@ -18,14 +18,14 @@ use Rattle.layout.proofs.NumbersAt.{numbers-length}
 use Rattle.layout.proofs.Respelled.{all_two, all_three}
 
 -- a sound inode names data blocks alone
-pub map_is : (blocks inodes : ℕ) (kind : InodeKind) (inode : Inode)
-    → is_sound_kind blocks inodes kind inode ≡ true → is_sound_map blocks inodes inode ≡ true
-map_is blocks inodes Regular inode e =
-    (all_three (is_sound_file inode) (is_sound_map blocks inodes inode) (is_sound_regular inode) e).1
-map_is blocks inodes Directory inode e =
-    (all_three (is_sound_file inode) (is_sound_map blocks inodes inode) (is_sound_directory inodes inode) e).1
-map_is blocks inodes Link inode e =
-    (all_three (is_sound_file inode) (is_sound_map blocks inodes inode) (is_sound_link inode) e).1
+pub map_is : (g : Geometry) (kind : InodeKind) (inode : Inode)
+    → is_sound_kind g kind inode ≡ true → is_sound_map g inode ≡ true
+map_is g Regular inode e =
+    (all_three (is_sound_file inode) (is_sound_map g inode) (is_sound_regular inode) e).1
+map_is g Directory inode e =
+    (all_three (is_sound_file inode) (is_sound_map g inode) (is_sound_directory g inode) e).1
+map_is g Link inode e =
+    (all_three (is_sound_file inode) (is_sound_map g inode) (is_sound_link inode) e).1
 
 far-length : (content : Image) (indirect : ℕ) (none : Bool)
     → length (cond none (replicate INDIRECT_INDEXES 0) (numbers_at INDIRECT_INDEXES 0 (content indirect)))
@@ -45,7 +45,7 @@ all-length content inode direct =
 
 module _ (g : Geometry) where
   abbrev are_placed : List ℕ → Bool
-  are_placed = list_all (is_data_block_or_none g.blocks g.inodes)
+  are_placed = list_all (is_data_block_or_none g)
 
   none_placed : (count : ℕ) → are_placed (replicate count 0) ≡ true
   none_placed zero = refl
@@ -56,20 +56,20 @@ module _ (g : Geometry) where
   far_placed true far placed = none_placed INDIRECT_INDEXES
   far_placed false far placed = placed refl
 
-  pub maps : (inode : Inode) → SoundInode g.blocks g.inodes inode
-      → (are_placed inode.direct ≡ true) × (is_data_block_or_none g.blocks g.inodes inode.indirect ≡ true)
+  pub maps : (inode : Inode) → SoundInode g inode
+      → (are_placed inode.direct ≡ true) × (is_data_block_or_none g inode.indirect ≡ true)
   unfolding is_sound_inode
-  maps inode sound = all_two (are_placed inode.direct) (is_data_block_or_none g.blocks g.inodes inode.indirect)
-      (map_is g.blocks g.inodes inode.kind inode sound.good)
+  maps inode sound = all_two (are_placed inode.direct) (is_data_block_or_none g inode.indirect)
+      (map_is g inode.kind inode sound.good)
 
   -- all numbers are those of data blocks, where the indirect block's are
-  pub all_placed : (content : Image) (inode : Inode) → SoundInode g.blocks g.inodes inode
+  pub all_placed : (content : Image) (inode : Inode) → SoundInode g inode
       → (nat_eq inode.indirect 0 ≡ false
       → are_placed (numbers_at INDIRECT_INDEXES 0 (content inode.indirect)) ≡ true)
       → are_placed (numbers_of content inode) ≡ true
   unfolding numbers_of
   all_placed content inode sound placed =
-      list_all-append (is_data_block_or_none g.blocks g.inodes) inode.direct
+      list_all-append (is_data_block_or_none g) inode.direct
       (cond (nat_eq inode.indirect 0) (replicate INDIRECT_INDEXES 0)
       (numbers_at INDIRECT_INDEXES 0 (content inode.indirect)))
       ∙ (λ i. (maps inode sound).0 i

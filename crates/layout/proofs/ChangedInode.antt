@@ -24,7 +24,8 @@ use Rattle.layout.specs.InodeForm.{Touch, touched, SoundTouch, FitsInode, SoundI
 use Rattle.layout.specs.InodeForm.{is_sound_file}
 use Rattle.layout.specs.Owners.{IsMarked, owned, owned_by, is_used}
 use Rattle.layout.specs.Parts.{Parts, parts_of, put, table_of, content_in, with_bytes, with_inode}
-use Rattle.layout.specs.Geometry.{inode_block, inode_offset, data_at}
+use Rattle.layout.specs.Geometry.{data_at}
+use Rattle.layout.specs.Places.{inode_block, inode_offset}
 use Rattle.layout.specs.Stands.{Stands, PartsStand, HasFiles}
 use Rattle.layout.proofs.Fits.{read_fits, part-length}
 use Rattle.layout.proofs.Frame.{ChangesOne, changed_files, same_owners, same_used, same_marks}
@@ -32,7 +33,7 @@ use Rattle.layout.proofs.FreshFiles.{not_equal}
 use Rattle.layout.proofs.Retouched.{same_blocks, rules, body_is, file, shape, sound_file, sound_node}
 use Rattle.layout.proofs.Retouched.{touched_fits, touched_sound}
 use Rattle.layout.proofs.Spelled.{read_back, written-length}
-use Rattle.layout.proofs.Splices.{spliced-length}
+use Rattle.objects.proofs.Splices.{spliced-length}
 use Rattle.layout.proofs.Written.{not_same, elsewhere, here, parts_written}
 use Rattle.layout.proofs.WrittenBytes.{spliced-bytes, inode_are, taken, dropped}
 
@@ -91,7 +92,7 @@ module _ (g : Geometry) (blocks : Image) (tree : Tree) (n : ℕ) (inode : Inode)
   whole = let is = stands.parts.sound.geometry.whole_blocks in ap (λ k. k % INODES_PER_BLOCK) (sym inodes_are)
       ∙ is
 
-  on_disk : inode_block g.blocks g.inodes n < g.blocks
+  on_disk : inode_block g n < g.blocks
   on_disk =
       let room = stands.parts.sound.geometry.blocks in
       let are : tree.geometry.data_blocks ≡ g.blocks - data_at g.blocks g.inodes =
@@ -109,30 +110,30 @@ module _ (g : Geometry) (blocks : Image) (tree : Tree) (n : ℕ) (inode : Inode)
   node_is : node_with inode node.body ≡ node
   node_is = body_is g old.content inode t g.inodes node file_is
 
-  bytes_there : AreBytes (take INODE_BYTES (drop (inode_offset n) (blocks (inode_block g.blocks g.inodes n))))
+  bytes_there : AreBytes (take INODE_BYTES (drop (inode_offset n) (blocks (inode_block g n))))
   bytes_there =
-      part_bytes INODE_BYTES (inode_offset n) (blocks (inode_block g.blocks g.inodes n))
-      (stands.bytes (inode_block g.blocks g.inodes n) on_disk).1
+      part_bytes INODE_BYTES (inode_offset n) (blocks (inode_block g n))
+      (stands.bytes (inode_block g n) on_disk).1
     where
       part_bytes : (len from : ℕ) (bytes : List ℕ) → AreBytes bytes → AreBytes (take len (drop from bytes))
       part_bytes len from bytes are = (taken len (dropped from (record { are = are }))).are
 
-  long : length (blocks (inode_block g.blocks g.inodes n)) ≡ BLOCK_BYTES
-  long = (stands.bytes (inode_block g.blocks g.inodes n) on_disk).0
+  long : length (blocks (inode_block g n)) ≡ BLOCK_BYTES
+  long = (stands.bytes (inode_block g n) on_disk).0
 
-  is_read : SoundInode g.blocks g.inodes inode
+  is_read : SoundInode g inode
   unfolding inode_at
-  is_read = read_fits g.blocks g.inodes
-      (take INODE_BYTES (drop (inode_offset n) (blocks (inode_block g.blocks g.inodes n)))) bytes_there
-      (part-length INODE_BYTES (inode_offset n) (blocks (inode_block g.blocks g.inodes n))
+  is_read = read_fits g
+      (take INODE_BYTES (drop (inode_offset n) (blocks (inode_block g n)))) bytes_there
+      (part-length INODE_BYTES (inode_offset n) (blocks (inode_block g n))
       (omega (arith, long))) inode read
 
   fits : FitsInode new_inode
   fits = touched_fits inode t good is_read.fits
 
-  new_good : is_sound_inode g.blocks g.inodes new_inode ≡ true
+  new_good : is_sound_inode g new_inode ≡ true
   unfolding is_sound_inode
-  new_good = touched_sound g.blocks g.inodes inode.kind inode t good is_read.good
+  new_good = touched_sound g inode.kind inode t good is_read.good
 
   old_file : node_at tree n ≡ Some (node_with inode node.body)
   old_file = was ∙ ap (λ (one : Node). Some one) (sym node_is)
@@ -183,8 +184,8 @@ module _ (g : Geometry) (blocks : Image) (tree : Tree) (n : ℕ) (inode : Inode)
     where
       new_file_good : is_sound_file new_inode ≡ true
       new_file_good =
-          sound_file g.blocks g.inodes inode.kind new_inode
-          (touched_sound g.blocks g.inodes inode.kind inode t good is_read.good)
+          sound_file g inode.kind new_inode
+          (touched_sound g inode.kind inode t good is_read.good)
 
   parts_stand : PartsStand g new next
   parts_stand = record { geometry = stands.parts.geometry; sound = next_sound; has = has; marked = marked }
@@ -192,30 +193,30 @@ module _ (g : Geometry) (blocks : Image) (tree : Tree) (n : ℕ) (inode : Inode)
   -- ---- the blocks
 
   abbrev written : Image
-  written = with_bytes blocks (inode_block g.blocks g.inodes n) (inode_offset n) (inode_bytes new_inode)
+  written = with_bytes blocks (inode_block g n) (inode_offset n) (inode_bytes new_inode)
 
   size : length (inode_bytes new_inode) ≡ INODE_BYTES
   size = written-length new_inode fits
 
   parts_are : parts_of g written ≡ new
   parts_are = parts_written g blocks n (inode_bytes new_inode) (Some new_inode) whole less long size
-      (read_back new_inode fits g.blocks g.inodes new_good)
+      (read_back new_inode fits g new_good)
 
   abbrev IsBlock : List ℕ → Type 0
   IsBlock bytes = (length bytes ≡ BLOCK_BYTES) × AreBytes bytes
 
   each_block : (number : ℕ) → number < g.blocks → IsBlock (written number)
-  each_block number inside = elim (cases_eq number (inode_block g.blocks g.inodes n)) [
+  each_block number inside = elim (cases_eq number (inode_block g n)) [
     | inl is ↦ subst (λ k. IsBlock (written k)) (sym is)
         (subst IsBlock
-        (sym (here blocks (inode_block g.blocks g.inodes n) (inode_offset n) (inode_bytes new_inode))) (
-          spliced-length (blocks (inode_block g.blocks g.inodes n)) (inode_bytes new_inode) (inode_offset n)
+        (sym (here blocks (inode_block g n) (inode_offset n) (inode_bytes new_inode))) (
+          spliced-length (blocks (inode_block g n)) (inode_bytes new_inode) (inode_offset n)
               (omega (arith, long, size)) ∙ long,
-          spliced-bytes (blocks (inode_block g.blocks g.inodes n)) (inode_bytes new_inode) (inode_offset n)
-              (stands.bytes (inode_block g.blocks g.inodes n) on_disk).1 (inode_are new_inode fits),
+          spliced-bytes (blocks (inode_block g n)) (inode_bytes new_inode) (inode_offset n)
+              (stands.bytes (inode_block g n) on_disk).1 (inode_are new_inode fits),
         ))
     | inr not ↦ subst IsBlock
-        (sym (elsewhere blocks (inode_block g.blocks g.inodes n) (inode_offset n) (inode_bytes new_inode)
+        (sym (elsewhere blocks (inode_block g n) (inode_offset n) (inode_bytes new_inode)
         number
         not)) (stands.bytes number inside)
   ]

@@ -8,6 +8,7 @@ use Rattle.limits.specs.declared.TheConstants.{DIRECT_INDEXES, INODE_BYTES}
 use Rattle.nfs_types.specs.declared.verifier.TheConstants.{VERIFIER_BYTES}
 use Rattle.nfs_types.specs.declared.verifier.Verifier.{Verifier}
 use Rattle.nfs_types.specs.Fits.{AreBytes, VerifierFits}
+use Rattle.layout.specs.declared.geometry.Geometry.{Geometry}
 use Rattle.layout.specs.declared.fault.LayoutFault.TheVariants.{Range}
 use Rattle.layout.specs.declared.inode.Inode.{Inode}
 use Rattle.layout.specs.declared.inode.InodeKind.{InodeKind}
@@ -91,27 +92,27 @@ pub part-length : (count offset : ℕ) (bytes : List ℕ) → offset + count ≤
 part-length count offset bytes inside =
     omega (arith, inside, length-take count (drop offset bytes), length-drop offset bytes)
 
-module _ (blocks inodes : ℕ) (bytes : List ℕ) (are : AreBytes bytes) (long : length bytes ≡ INODE_BYTES)
+module _ (g : Geometry) (bytes : List ℕ) (are : AreBytes bytes) (long : length bytes ≡ INODE_BYTES)
     (inode : Inode) where
-  of_kind : (kind : Option InodeKind) → inode_of_kind blocks inodes kind bytes ≡ Ok (Some inode)
-      → SoundInode blocks inodes inode
+  of_kind : (kind : Option InodeKind) → inode_of_kind g kind bytes ≡ Ok (Some inode)
+      → SoundInode g inode
   of_kind None e = cc
   of_kind (Some kind) e =
-      let is = chosen (rest_is_zero bytes && is_sound_inode blocks inodes (fields_of kind bytes))
+      let is = chosen (rest_is_zero bytes && is_sound_inode g (fields_of kind bytes))
       (fields_of kind bytes) inode e in
       record {
         fits = subst FitsInode is.1 (fields_fit bytes are kind (omega (arith, long)));
-        good = ap (is_sound_inode blocks inodes) (sym is.1)
-            ∙ and_right (rest_is_zero bytes) (is_sound_inode blocks inodes (fields_of kind bytes)) is.0;
+        good = ap (is_sound_inode g) (sym is.1)
+            ∙ and_right (rest_is_zero bytes) (is_sound_inode g (fields_of kind bytes)) is.0;
       }
 
   used : (free : Bool)
-      → cond free (Ok None) (inode_of_kind blocks inodes (kind_of_number (four_at 0 bytes)) bytes)
+      → cond free (Ok None) (inode_of_kind g (kind_of_number (four_at 0 bytes)) bytes)
       ≡ Ok (Some inode)
-      → SoundInode blocks inodes inode
+      → SoundInode g inode
   used true e = cc
   used false e = of_kind (kind_of_number (four_at 0 bytes)) e
 
-  pub read_fits : read_inode blocks inodes bytes ≡ Ok (Some inode) → SoundInode blocks inodes inode
+  pub read_fits : read_inode g bytes ≡ Ok (Some inode) → SoundInode g inode
   unfolding read_inode
   read_fits e = used (is_zeros bytes) e

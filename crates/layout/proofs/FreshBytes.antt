@@ -18,6 +18,7 @@ use Rattle.layout.specs.Fresh.{IsFresh, fresh, bit, byte_of, bitmap_block, is_ou
 use Rattle.layout.specs.InodeForm.{inode_bytes, head_bytes, middle_bytes, tail_bytes}
 use Rattle.layout.specs.Geometry.{bitmap_blocks, inode_bitmap_at, table_at, data_at}
 use Rattle.layout.specs.SuperForm.{MAGIC_BYTES, super_head, super_bytes}
+use Rattle.layout.specs.Version.{number_of_version}
 
 -- each item is a byte
 pub record IsBytes (bytes : List ℕ) : Type 0 where
@@ -91,7 +92,9 @@ super_block s = record {
   long = length-append (super_head s) (replicate (BLOCK_BYTES - 32) 0)
       ∙ ap (λ n. 32 + n) (length-replicate {A = ℕ} (BLOCK_BYTES - 32) 0);
   each = join (join
-      (join (join (join (join magic (four 1)) (four s.geometry.blocks)) (four s.geometry.inodes)) (four 0))
+      (join (join (join
+      (join magic (four (number_of_version s.geometry.version)))
+      (four s.geometry.blocks)) (four s.geometry.inodes)) (four 0))
       (eight s.boot)) (zeros (BLOCK_BYTES - 32));
 }
 

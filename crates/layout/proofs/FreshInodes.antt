@@ -17,13 +17,14 @@ use Rattle.layout.specs.Fields.{four_at, eight_at, numbers_at, four_bytes, eight
 use Rattle.layout.specs.Fresh.{HasFreshHomes, root_inode, root_block}
 use Rattle.layout.specs.InodeForm.{read_inode, fields_of, is_sound_inode, inode_bytes, head_bytes}
 use Rattle.layout.specs.InodeForm.{middle_bytes, tail_bytes, rest_is_zero, kind_of_number}
-use Rattle.layout.specs.Geometry.{IsLawful, inode_block, inode_offset, table_at}
+use Rattle.layout.specs.Geometry.{IsLawful, table_at}
+use Rattle.layout.specs.Places.{inode_block, inode_offset}
 use Rattle.layout.proofs.ReadInode.{sound}
 
 -- zeros are a free inode
-pub free : (blocks inodes : ℕ) → read_inode blocks inodes (replicate INODE_BYTES 0) ≡ Ok None
+pub free : (g : Geometry) → read_inode g (replicate INODE_BYTES 0) ≡ Ok None
 unfolding read_inode
-free blocks inodes = refl
+free g = refl
 
 module _ (moment : Moment) (now : SoundTime moment) where
   abbrev bytes : List ℕ
@@ -58,16 +59,16 @@ module _ (moment : Moment) (now : SoundTime moment) where
   unfolding four_at eight_at head_bytes middle_bytes tail_bytes four_bytes eight_bytes
   rest = refl
 
-  is_sound : (blocks inodes : ℕ) → 1 < inodes → is_sound_inode blocks inodes (root_inode moment) ≡ true
+  is_sound : (g : Geometry) → 1 < g.inodes → is_sound_inode g (root_inode moment) ≡ true
   unfolding is_sound_inode
-  is_sound blocks inodes more =
-      rw (lt-ltb 1 inodes more, lt-ltb moment.nanoseconds NANOSECONDS now.nanoseconds) refl
+  is_sound g more =
+      rw (lt-ltb 1 g.inodes more, lt-ltb moment.nanoseconds NANOSECONDS now.nanoseconds) refl
 
   -- the root's bytes are the root
-  pub root : (blocks inodes : ℕ) → 1 < inodes → read_inode blocks inodes bytes ≡ Ok (Some (root_inode moment))
-  root blocks inodes more =
-      sym (sound blocks inodes bytes Directory (root_inode moment) some_bytes kind (sym fields) rest
-      (is_sound blocks inodes more))
+  pub root : (g : Geometry) → 1 < g.inodes → read_inode g bytes ≡ Ok (Some (root_inode moment))
+  root g more =
+      sym (sound g bytes Directory (root_inode moment) some_bytes kind (sym fields) rest
+      (is_sound g more))
 
   -- ---- the parts of the table
 
@@ -126,21 +127,21 @@ above n some not = elim (cases_lt 1 n) [
 module _ (g : Geometry) (moment : Moment) (image : Image) (lawful : IsLawful g.blocks g.inodes)
     (now : SoundTime moment) (fresh : HasFreshHomes g moment image) where
   abbrev at : ℕ → List ℕ
-  at number = take INODE_BYTES (drop (inode_offset number) (image (inode_block g.blocks g.inodes number)))
+  at number = take INODE_BYTES (drop (inode_offset number) (image (inode_block g number)))
 
-  at_is : (number : ℕ) (content : List ℕ) (index : ℕ) → image (inode_block g.blocks g.inodes number) ≡ content
+  at_is : (number : ℕ) (content : List ℕ) (index : ℕ) → image (inode_block g number) ≡ content
       → inode_offset number ≡ index
       → at number ≡ take INODE_BYTES (drop index content)
   at_is number content index there here = λ i. take INODE_BYTES (drop (here i) (there i))
 
   in_first : (number : ℕ) → number < INODES_PER_BLOCK
-      → image (inode_block g.blocks g.inodes number) ≡ root_block moment
+      → image (inode_block g number) ≡ root_block moment
   in_first number less =
-      let here : inode_block g.blocks g.inodes number ≡ table_at g.blocks g.inodes = omega (arith, less) in
+      let here : inode_block g number ≡ table_at g.blocks g.inodes = omega (arith, less) in
       ap image here ∙ fresh.root
 
   in_later : (number : ℕ) → INODES_PER_BLOCK ≤ number → number < g.inodes
-      → image (inode_block g.blocks g.inodes number) ≡ replicate BLOCK_BYTES 0
+      → image (inode_block g number) ≡ replicate BLOCK_BYTES 0
   in_later number more less =
       let whole = lawful.1.2 in
       fresh.free (number / INODES_PER_BLOCK) (omega (arith, more)) (omega (arith, less, whole))
@@ -149,10 +150,10 @@ module _ (g : Geometry) (moment : Moment) (image : Image) (lawful : IsLawful g.b
   unfolding inode_at
   root_at =
       let few = lawful.1.0 in
-      ap (read_inode g.blocks g.inodes)
+      ap (read_inode g)
       (at_is 1 (root_block moment) (INODE_BYTES + 0) (in_first 1 (omega arith)) (omega arith)
       ∙ second moment now)
-      ∙ root moment now g.blocks g.inodes (omega (arith, few))
+      ∙ root moment now g (omega (arith, few))
 
   zero_part : (number : ℕ) → number < g.inodes → (number ≡ 1 → ⊥) → at number ≡ replicate INODE_BYTES 0
   zero_part number less not = elim (cases_lt number INODES_PER_BLOCK) [
@@ -172,5 +173,5 @@ module _ (g : Geometry) (moment : Moment) (image : Image) (lawful : IsLawful g.b
 
   pub free_at : (number : ℕ) → number < g.inodes → (number ≡ 1 → ⊥) → inode_at g image number ≡ Ok None
   unfolding inode_at
-  free_at number less not = ap (read_inode g.blocks g.inodes) (zero_part number less not)
-      ∙ free g.blocks g.inodes
+  free_at number less not = ap (read_inode g) (zero_part number less not)
+      ∙ free g

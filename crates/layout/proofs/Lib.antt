@@ -10,7 +10,6 @@ pub mod Local
 pub mod Frame
 pub mod Spelled
 pub mod Fits
-pub mod Splices
 pub mod Written
 pub mod WrittenBytes
 pub mod Retouched
@@ -27,4 +26,5 @@ pub mod SlotBytes
 pub mod NumbersBytes
 pub mod SuperBytes
 pub mod OneGeometry
+pub mod Versions
 pub mod AllNumbers

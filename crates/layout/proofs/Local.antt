@@ -15,7 +15,7 @@ use Rattle.layout.specs.declared.inode.InodeKind.{InodeKind}
 use Rattle.layout.specs.declared.inode.InodeKind.TheVariants.{Regular, Directory, Link}
 use Rattle.layout.specs.Decode.{numbers_of, content_of, bytes_of, mapped_of, span_of, SLOT_SIZE, slot_bytes}
 use Rattle.layout.specs.Decode.{slots_of, entry_in, named_in, node_with, body_of, file_of, IsMapped}
-use Rattle.layout.specs.Decode.{IsOfKind, IsFile}
+use Rattle.layout.specs.Decode.{IsOfKind, IsFile, pointer_blocks}
 use Rattle.layout.specs.Fields.{numbers_at, is_zeros}
 use Rattle.layout.specs.InodeForm.{is_data_block_or_none, names_first}
 use Rattle.layout.specs.Owners.{owned_by}
@@ -113,7 +113,7 @@ module _ (a b : Image) where
 
     mapped : (g : Geometry) → IsMapped g a inode → IsMapped g b inode
     mapped g m = record {
-      numbers = ap (list_all (is_data_block_or_none g.blocks g.inodes)) numbers ∙ m.numbers;
+      numbers = ap (list_all (is_data_block_or_none g)) numbers ∙ m.numbers;
       used = ap (λ ns. nat_eq inode.indirect 0
           || list_any (λ number. not (nat_eq number 0)) (drop (length inode.direct) ns)) numbers ∙ m.used;
     }
@@ -139,7 +139,7 @@ module _ (a b : Image) where
     body inodes Link = λ i. model.Link (take inode.size (target i))
 
     owned_same : owned_by b (Ok (Some inode)) ≡ owned_by a (Ok (Some inode))
-    owned_same = ap (λ ns. some (inode.indirect ∷ ns)) numbers
+    owned_same = ap (λ ns. some (pointer_blocks inode ++ ns)) numbers
 
   -- its rules, its node and its blocks, where its blocks are the same
   pub same_rules : (g : Geometry) (read : Result (Option Inode) LayoutFault) → AreSame (owned_by a read)

@@ -42,7 +42,7 @@ module _ (g : Geometry) (bytes : List ℕ) (are : AreBytes bytes) (long : length
   all = numbers_at INDIRECT_INDEXES 0 bytes
 
   pub are_numbers : (list : List ℕ) → list ≡ all
-      → list_all (is_data_block_or_none g.blocks g.inodes) list ≡ true → IsNumbers g bytes list
+      → list_all (is_data_block_or_none g) list ≡ true → IsNumbers g bytes list
   are_numbers list is places = record {
     spelled = sym (ap number_bytes is ∙ numbers_back bytes are INDIRECT_INDEXES 0 (omega (arith, long))
         ∙ take_all BLOCK_BYTES bytes (omega (arith, long)));
@@ -57,8 +57,8 @@ module _ (g : Geometry) (bytes : List ℕ) (are : AreBytes bytes) (long : length
   numbers_are list is = sym (ap (λ count. numbers_at count 0 bytes) (sym is.sound.count)
       ∙ written_back list bytes 0 is.sound.small is.spelled)
 
-  pub refused : list_all (is_data_block_or_none g.blocks g.inodes) all ≡ false
+  pub refused : list_all (is_data_block_or_none g) all ≡ false
       → (list : List ℕ) → IsNumbers g bytes list → ⊥
   refused no_place list is =
       let clash : true ≡ false = sym is.sound.places
-      ∙ ap (list_all (is_data_block_or_none g.blocks g.inodes)) (numbers_are list is) ∙ no_place in cc
+      ∙ ap (list_all (is_data_block_or_none g)) (numbers_are list is) ∙ no_place in cc

@@ -12,8 +12,9 @@ use Rattle.layout.specs.Decode.{inode_at}
 use Rattle.layout.specs.InodeForm.{read_inode}
 use Rattle.objects.specs.Spliced.{spliced}
 use Rattle.layout.specs.Parts.{parts_of, put, table_of, content_in, bits_of, with_bytes}
-use Rattle.layout.specs.Geometry.{bitmap_blocks, inode_bitmap_at, table_at, data_at, is_data, inode_block}
-use Rattle.layout.specs.Geometry.{inode_offset}
+use Rattle.layout.specs.Geometry.{bitmap_blocks, inode_bitmap_at, table_at, data_at}
+use Rattle.layout.specs.Places.{is_data, inode_block}
+use Rattle.layout.specs.Places.{inode_offset}
 use Rattle.layout.proofs.Written.{not_same, elsewhere, here, same_bits, same_bits_below}
 
 module _ (g : Geometry) (blocks : Image) (at offset : ℕ) (bytes : List ℕ) (whole : g.inodes % INODES_PER_BLOCK
@@ -23,15 +24,15 @@ module _ (g : Geometry) (blocks : Image) (at offset : ℕ) (bytes : List ℕ) (w
 
   -- the block isn't of the table
   abbrev IsNoTable : Type 0
-  IsNoTable = (m : ℕ) → m < g.inodes → inode_block g.blocks g.inodes m ≡ at → ⊥
+  IsNoTable = (m : ℕ) → m < g.inodes → inode_block g m ≡ at → ⊥
 
   one_inode : IsNoTable → (m : ℕ) (low : Bool) → nat_lt m g.inodes ≡ low
       → cond low (inode_at g written m) (Err Range) ≡ cond low (inode_at g blocks m) (Err Range)
   unfolding inode_at
   one_inode no_table m false is = refl
   one_inode no_table m true is =
-      ap (λ content. read_inode g.blocks g.inodes (take INODE_BYTES (drop (inode_offset m) content)))
-      (elsewhere blocks at offset bytes (inode_block g.blocks g.inodes m)
+      ap (λ content. read_inode g (take INODE_BYTES (drop (inode_offset m) content)))
+      (elsewhere blocks at offset bytes (inode_block g m)
       (no_table m (elim (cases_lt m g.inodes) [
         | inl less ↦ less
         | inr past ↦ absurd (clash m g.inodes past is)
@@ -48,7 +49,7 @@ module _ (g : Geometry) (blocks : Image) (at offset : ℕ) (bytes : List ℕ) (w
   same_table no_table = λ i m. one_inode no_table m (nat_lt m g.inodes) refl i
 
   one_block : at < data_at g.blocks g.inodes → (block : ℕ) (lies : Bool)
-      → is_data g.blocks g.inodes block ≡ lies
+      → is_data g block ≡ lies
       → cond lies (written block) (replicate BLOCK_BYTES 0)
       ≡ cond lies (blocks block) (replicate BLOCK_BYTES 0)
   one_block low block false isnt = refl
@@ -59,11 +60,11 @@ module _ (g : Geometry) (blocks : Image) (at offset : ℕ) (bytes : List ℕ) (w
       ])
 
   same_content : at < data_at g.blocks g.inodes → content_in g written ≡ content_in g blocks
-  same_content low = λ i block. one_block low block (is_data g.blocks g.inodes block) refl i
+  same_content low = λ i block. one_block low block (is_data g block) refl i
 
   -- ---- a data block
 
-  data_content : is_data g.blocks g.inodes at ≡ true → (block : ℕ)
+  data_content : is_data g at ≡ true → (block : ℕ)
       → content_in g written block ≡ put (content_in g blocks) at (spliced (blocks at) offset bytes) block
   data_content is block = elim (cases_eq block at) [
     | inl same ↦ subst (λ k. content_in g written k
@@ -72,7 +73,7 @@ module _ (g : Geometry) (blocks : Image) (at offset : ℕ) (bytes : List ℕ) (w
         ∙ sym (ap (λ b. cond b (spliced (blocks at) offset bytes) (content_in g blocks at))
         (eq-eqb at at refl)))
     | inr not ↦
-        ap (λ content. cond (is_data g.blocks g.inodes block) content (replicate BLOCK_BYTES 0))
+        ap (λ content. cond (is_data g block) content (replicate BLOCK_BYTES 0))
         (elsewhere blocks at offset bytes block not)
         ∙ sym (ap (λ b. cond b (spliced (blocks at) offset bytes) (content_in g blocks block))
         (not_same block at not))
@@ -81,7 +82,7 @@ module _ (g : Geometry) (blocks : Image) (at offset : ℕ) (bytes : List ℕ) (w
   past_table : (data_at g.blocks g.inodes) ≤ at → IsNoTable
   past_table past m less same = omega (arith, past, less, same, whole)
 
-  pub data_written : data_at g.blocks g.inodes ≤ at → is_data g.blocks g.inodes at ≡ true
+  pub data_written : data_at g.blocks g.inodes ≤ at → is_data g at ≡ true
       → parts_of g written
       ≡ record (parts_of g blocks) {
         content = put (content_in g blocks) at (spliced (blocks at) offset bytes);

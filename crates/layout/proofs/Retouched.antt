@@ -90,17 +90,17 @@ no_more a b e = grind (arith, nat_tests)
 time_below : (m : Moment) → is_time m ≡ true → m.nanoseconds < NANOSECONDS
 time_below m e = grind (arith, nat_tests)
 
-pub sound_file : (blocks inodes : ℕ) (kind : InodeKind) (i : Inode)
-    → is_sound_kind blocks inodes kind i ≡ true → is_sound_file i ≡ true
-sound_file blocks inodes Regular i e =
-    left (is_sound_file i) (is_sound_map blocks inodes i)
-    (left (is_sound_file i && is_sound_map blocks inodes i) (is_sound_regular i) e)
-sound_file blocks inodes Directory i e =
-    left (is_sound_file i) (is_sound_map blocks inodes i)
-    (left (is_sound_file i && is_sound_map blocks inodes i) (is_sound_directory inodes i) e)
-sound_file blocks inodes Link i e =
-    left (is_sound_file i) (is_sound_map blocks inodes i)
-    (left (is_sound_file i && is_sound_map blocks inodes i) (is_sound_link i) e)
+pub sound_file : (g : Geometry) (kind : InodeKind) (i : Inode)
+    → is_sound_kind g kind i ≡ true → is_sound_file i ≡ true
+sound_file g Regular i e =
+    left (is_sound_file i) (is_sound_map g i)
+    (left (is_sound_file i && is_sound_map g i) (is_sound_regular i) e)
+sound_file g Directory i e =
+    left (is_sound_file i) (is_sound_map g i)
+    (left (is_sound_file i && is_sound_map g i) (is_sound_directory g i) e)
+sound_file g Link i e =
+    left (is_sound_file i) (is_sound_map g i)
+    (left (is_sound_file i && is_sound_map g i) (is_sound_link i) e)
 
 -- a sound inode with a sound body makes a sound file
 pub sound_node : (i : Inode) (node : Node) → FitsInode i → is_sound_file i ≡ true
@@ -180,15 +180,15 @@ swap_first true b true false e all = cc
 swap_first true b false d e all = cc
 swap_first false b c d e all = cc
 
-pub touched_sound : (blocks inodes : ℕ) (kind : InodeKind) (i : Inode) (t : Touch) → SoundTouch t
-    → is_sound_kind blocks inodes kind i ≡ true
-    → is_sound_kind blocks inodes kind (touched i t) ≡ true
-touched_sound blocks inodes Regular i t good e =
-    swap_first (is_sound_file i) (is_sound_file (touched i t)) (is_sound_map blocks inodes i)
-    (is_sound_regular i) (touched_file i t good (sound_file blocks inodes Regular i e)) e
-touched_sound blocks inodes Directory i t good e =
-    swap_first (is_sound_file i) (is_sound_file (touched i t)) (is_sound_map blocks inodes i)
-    (is_sound_directory inodes i) (touched_file i t good (sound_file blocks inodes Directory i e)) e
-touched_sound blocks inodes Link i t good e =
-    swap_first (is_sound_file i) (is_sound_file (touched i t)) (is_sound_map blocks inodes i)
-    (is_sound_link i) (touched_file i t good (sound_file blocks inodes Link i e)) e
+pub touched_sound : (g : Geometry) (kind : InodeKind) (i : Inode) (t : Touch) → SoundTouch t
+    → is_sound_kind g kind i ≡ true
+    → is_sound_kind g kind (touched i t) ≡ true
+touched_sound g Regular i t good e =
+    swap_first (is_sound_file i) (is_sound_file (touched i t)) (is_sound_map g i)
+    (is_sound_regular i) (touched_file i t good (sound_file g Regular i e)) e
+touched_sound g Directory i t good e =
+    swap_first (is_sound_file i) (is_sound_file (touched i t)) (is_sound_map g i)
+    (is_sound_directory g i) (touched_file i t good (sound_file g Directory i e)) e
+touched_sound g Link i t good e =
+    swap_first (is_sound_file i) (is_sound_file (touched i t)) (is_sound_map g i)
+    (is_sound_link i) (touched_file i t good (sound_file g Link i e)) e

@@ -8,6 +8,7 @@ use Rattle.nfs_types.specs.declared.ctx.Moment.{Moment}
 use Rattle.nfs_types.specs.declared.verifier.TheConstants.{VERIFIER_BYTES}
 use Rattle.nfs_types.specs.declared.verifier.Verifier.{Verifier}
 use Rattle.nfs_types.specs.Fits.{VerifierFits}
+use Rattle.layout.specs.declared.geometry.Geometry.{Geometry}
 use Rattle.layout.specs.declared.inode.Inode.{Inode}
 use Rattle.layout.specs.declared.inode.InodeKind.{InodeKind}
 use Rattle.layout.specs.declared.inode.InodeKind.TheVariants.{Regular, Directory, Link}
@@ -170,9 +171,9 @@ module _ (inode : Inode) (fits : FitsInode inode) where
   pub written-length : length (inode_bytes inode) ≡ INODE_BYTES
   written-length = bytes-length inode.verifier fits.verifier inode.direct fits.count
 
-  pub read_back : (blocks inodes : ℕ) → is_sound_inode blocks inodes inode ≡ true
-      → read_inode blocks inodes (inode_bytes inode) ≡ Ok (Some inode)
-  read_back blocks inodes good =
-      sym (sound blocks inodes (inode_bytes inode) inode.kind inode (some_kind inode.kind) kind_is
+  pub read_back : (g : Geometry) → is_sound_inode g inode ≡ true
+      → read_inode g (inode_bytes inode) ≡ Ok (Some inode)
+  read_back g good =
+      sym (sound g (inode_bytes inode) inode.kind inode (some_kind inode.kind) kind_is
       (sym (fields inode.verifier fits.verifier inode.direct fits.count fits.direct))
       (zero_rest inode.verifier fits.verifier inode.direct fits.count) good)

@@ -8,6 +8,7 @@ use Rattle.layout.specs.declared.super_block.Super.{Super}
 use Rattle.layout.specs.Fields.{four_at, four_bytes, eight_bytes, is_zeros}
 use Rattle.layout.specs.SuperForm.{IsSuper, super_head, super_bytes}
 use Rattle.layout.proofs.Respelled.{all_two, same_number, all_zeros, first_four, first_eight, followed, part}
+use Rattle.layout.proofs.Versions.{number_is}
 
 module _ (bytes : List ℕ) (s : Super) (are : AreBytes bytes) (long : length bytes ≡ BLOCK_BYTES)
     (is : IsSuper bytes s) where
@@ -24,7 +25,7 @@ module _ (bytes : List ℕ) (s : Super) (are : AreBytes bytes) (long : length by
       (followed bytes are 0 20 4 _ _
       (followed bytes are 0 16 4 _ _
       (followed bytes are 0 12 4 _ _
-      (followed bytes are 0 8 4 _ _ (sym is.magic) (four 8 _ (omega arith) (sym is.version)))
+      (followed bytes are 0 8 4 _ _ (sym is.magic) (four 8 _ (omega arith) (number_is (four_at 8 bytes) s.geometry.version is.version)))
       (four 12 s.geometry.blocks (omega arith) is.blocks))
       (four 16 s.geometry.inodes (omega arith) is.inodes))
       (four 20 0 (omega arith) (sym (same_number (four_at 20 bytes) 0 unused.0))))

@@ -15,8 +15,9 @@ use Rattle.layout.specs.Decode.{inode_at}
 use Rattle.layout.specs.InodeForm.{read_inode}
 use Rattle.objects.specs.Spliced.{spliced}
 use Rattle.layout.specs.Parts.{parts_of, put, table_of, bits_of, bit_at, with_bytes}
-use Rattle.layout.specs.Geometry.{bitmap_blocks, inode_bitmap_at, data_at, is_data, inode_block, inode_offset}
-use Rattle.layout.proofs.Splices.{there, ahead, behind}
+use Rattle.objects.proofs.Splices.{there, ahead, behind}
+use Rattle.layout.specs.Geometry.{bitmap_blocks, inode_bitmap_at, data_at}
+use Rattle.layout.specs.Places.{is_data, inode_block, inode_offset}
 
 pub not_same : (a b : ℕ) → (a ≡ b → ⊥) → nat_eq a b ≡ false
 not_same a b not = elim (eqb_tells a b) [ inl is ↦ absurd (not is.1) | inr isnt ↦ isnt.0 ]
@@ -71,11 +72,11 @@ part_of blocks block number = take INODE_BYTES (drop (inode_offset number) (bloc
 
 module _ (g : Geometry) (blocks : Image) (n : ℕ) (bytes : List ℕ) (one : Option Inode)
     (whole : g.inodes % INODES_PER_BLOCK ≡ 0) (less : n < g.inodes)
-    (long : length (blocks (inode_block g.blocks g.inodes n)) ≡ BLOCK_BYTES) (size : length bytes
+    (long : length (blocks (inode_block g n)) ≡ BLOCK_BYTES) (size : length bytes
     ≡ INODE_BYTES)
-    (reads : read_inode g.blocks g.inodes bytes ≡ Ok one) where
+    (reads : read_inode g bytes ≡ Ok one) where
   abbrev at : ℕ
-  at = inode_block g.blocks g.inodes n
+  at = inode_block g n
 
   abbrev written : Image
   written = with_bytes blocks at (inode_offset n) bytes
@@ -86,15 +87,15 @@ module _ (g : Geometry) (blocks : Image) (n : ℕ) (bytes : List ℕ) (one : Opt
   itself : inode_at g written n ≡ Ok one
   unfolding inode_at
   itself =
-      ap (λ content. read_inode g.blocks g.inodes (take INODE_BYTES (drop (inode_offset n) content)))
+      ap (λ content. read_inode g (take INODE_BYTES (drop (inode_offset n) content)))
       (here blocks at (inode_offset n) bytes)
-      ∙ ap (λ k. read_inode g.blocks g.inodes
+      ∙ ap (λ k. read_inode g
       (take k (drop (inode_offset n) (spliced (blocks at) (inode_offset n) bytes)))) (sym size)
-      ∙ ap (read_inode g.blocks g.inodes) (there (blocks at) bytes (inode_offset n) room)
+      ∙ ap (read_inode g) (there (blocks at) bytes (inode_offset n) room)
       ∙ reads
 
   -- another inode of the same block
-  beside : (m : ℕ) → (m ≡ n → ⊥) → inode_block g.blocks g.inodes m ≡ at
+  beside : (m : ℕ) → (m ≡ n → ⊥) → inode_block g m ≡ at
       → part_of written at m ≡ part_of blocks at m
   beside m not same =
       ap (λ content. take INODE_BYTES (drop (inode_offset m) content)) (here blocks at (inode_offset n) bytes)
@@ -118,14 +119,14 @@ module _ (g : Geometry) (blocks : Image) (n : ℕ) (bytes : List ℕ) (one : Opt
 
   others : (m : ℕ) → (m ≡ n → ⊥) → inode_at g written m ≡ inode_at g blocks m
   unfolding inode_at
-  others m not = elim (cases_eq (inode_block g.blocks g.inodes m) at) [
+  others m not = elim (cases_eq (inode_block g m) at) [
     | inl same ↦
-        ap (λ block. read_inode g.blocks g.inodes (part_of written block m)) same
-        ∙ ap (read_inode g.blocks g.inodes) (beside m not same)
-        ∙ ap (λ block. read_inode g.blocks g.inodes (part_of blocks block m)) (sym same)
+        ap (λ block. read_inode g (part_of written block m)) same
+        ∙ ap (read_inode g) (beside m not same)
+        ∙ ap (λ block. read_inode g (part_of blocks block m)) (sym same)
     | inr other ↦ ap
-        (λ content. read_inode g.blocks g.inodes (take INODE_BYTES (drop (inode_offset m) content)))
-        (elsewhere blocks at (inode_offset n) bytes (inode_block g.blocks g.inodes m) other)
+        (λ content. read_inode g (take INODE_BYTES (drop (inode_offset m) content)))
+        (elsewhere blocks at (inode_offset n) bytes (inode_block g m) other)
   ]
 
   table : (m : ℕ) → table_of g written m ≡ put (table_of g blocks) n (Ok one) m
@@ -140,7 +141,7 @@ module _ (g : Geometry) (blocks : Image) (n : ℕ) (bytes : List ℕ) (one : Opt
   ]
 
   -- no data block is of the table
-  one_block : (block : ℕ) (lies : Bool) → is_data g.blocks g.inodes block ≡ lies
+  one_block : (block : ℕ) (lies : Bool) → is_data g block ≡ lies
       → cond lies (written block) (replicate BLOCK_BYTES 0)
       ≡ cond lies (blocks block) (replicate BLOCK_BYTES 0)
   one_block block false isnt = refl
@@ -155,7 +156,7 @@ module _ (g : Geometry) (blocks : Image) (n : ℕ) (bytes : List ℕ) (one : Opt
       ≡ record (parts_of g blocks) { table = put (table_of g blocks) n (Ok one) }
   parts_written = λ i. record {
     table = λ m. table m i;
-    content = λ block. one_block block (is_data g.blocks g.inodes block) refl i;
+    content = λ block. one_block block (is_data g block) refl i;
     block_bits = same_bits_below blocks at (inode_offset n) bytes FIRST_HOME_BLOCK (bitmap_blocks g.blocks)
         (omega arith) i;
     inode_bits = same_bits_below blocks at (inode_offset n) bytes (inode_bitmap_at g.blocks)

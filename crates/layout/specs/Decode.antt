@@ -1,5 +1,5 @@
 -- The file that an inode and its blocks are.
-use Rattle.std.specs.Prelude.{◌≡◌, ℕ, ◌*◌, ◌/◌, true, cond, not, ◌||◌, List, ◌++◌, nat_eq, take, drop, length}
+use Rattle.std.specs.Prelude.{◌≡◌, ℕ, ◌*◌, ◌/◌, true, cond, not, ◌||◌, List, [], ◌∷◌, ◌++◌, nat_eq, take, drop, length}
 use Rattle.std.specs.Prelude.{replicate, get_or, filter, All, IsOk, Option, Some, None, Result, Ok, Err}
 use Rattle.std.specs.List.{flat_map, filter_map, list_all, list_any, range_with_len}
 use Rattle.std.specs.Ordering.{nat_cmp}
@@ -17,8 +17,12 @@ use Rattle.layout.specs.declared.inode.InodeKind.TheVariants as kinds
 use Rattle.layout.specs.declared.slot.Slot.{Slot}
 use Rattle.layout.specs.Fields.{numbers_at, is_zeros}
 use Rattle.layout.specs.InodeForm.{read_inode, is_data_block_or_none, names_first}
-use Rattle.layout.specs.Geometry.{inode_block, inode_offset}
+use Rattle.layout.specs.Places.{inode_block, inode_offset}
 use Rattle.layout.specs.SlotForm.{read_slot}
+
+-- the numbers of the blocks that hold numbers themselves, 0 where there is none: the indirect block
+abbrev pub pointer_blocks : Inode → List ℕ
+pointer_blocks inode = inode.indirect ∷ []
 
 -- the numbers of the blocks of all indexes, 0 where no block is mapped: the direct ones, then those of the
 -- indirect block
@@ -115,12 +119,12 @@ file_of inodes blocks (Err fault) = None
 -- the inode of a number
 unfoldable pub inode_at : Geometry → Image → ℕ → Result (Option Inode) LayoutFault
 inode_at g blocks number =
-    read_inode g.blocks g.inodes
-    (take INODE_BYTES (drop (inode_offset number) (blocks (inode_block g.blocks g.inodes number))))
+    read_inode g
+    (take INODE_BYTES (drop (inode_offset number) (blocks (inode_block g number))))
 
 -- The numbers in an indirect block are those of data blocks, and it is used only where it has one.
 pub record IsMapped (g : Geometry) (blocks : Image) (inode : Inode) : Type 0 where
-  pub numbers : list_all (is_data_block_or_none g.blocks g.inodes) (numbers_of blocks inode) ≡ true
+  pub numbers : list_all (is_data_block_or_none g) (numbers_of blocks inode) ≡ true
   pub used : nat_eq inode.indirect 0
       || list_any (λ number. not (nat_eq number 0)) (drop (length inode.direct) (numbers_of blocks inode))
       ≡ true

@@ -1,8 +1,8 @@
 -- Where the parts of an image lie, by how many blocks and inodes it has. Blocks 0 to 513 are the super block
 -- and the log; behind them lie the bitmap of blocks, the bitmap of inodes, the table of inodes and the data.
-use Rattle.std.specs.Prelude.{◌≡◌, ℕ, ◌+◌, ◌-◌, ◌*◌, ◌/◌, ◌%◌, ◌≤◌, Bool, ◌&&◌, nat_le, nat_lt}
+use Rattle.std.specs.Prelude.{◌≡◌, ℕ, ◌+◌, ◌-◌, ◌/◌, ◌%◌, ◌≤◌}
 use Rattle.limits.specs.declared.TheConstants.{BITS_PER_BLOCK, FIRST_HOME_BLOCK, INODES_PER_BLOCK}
-use Rattle.limits.specs.declared.TheConstants.{INODE_BYTES, LEAST_BLOCKS, LEAST_DATA_BLOCKS, LEAST_INODES}
+use Rattle.limits.specs.declared.TheConstants.{LEAST_BLOCKS, LEAST_DATA_BLOCKS, LEAST_INODES}
 use Rattle.limits.specs.declared.TheConstants.{MOST_BLOCKS, MOST_INODES}
 
 -- the blocks of a bitmap of so many items
@@ -33,14 +33,3 @@ IsLawfulCount blocks inodes =
 
 abbrev pub IsLawful : ℕ → ℕ → Type 0
 IsLawful blocks inodes = IsLawfulSize blocks × IsLawfulCount blocks inodes
-
--- a block of data
-abbrev pub is_data : ℕ → ℕ → ℕ → Bool
-is_data blocks inodes number = nat_le (data_at blocks inodes) number && nat_lt number blocks
-
--- the block of the table in which an inode lies, and its offset there
-abbrev pub inode_block : ℕ → ℕ → ℕ → ℕ
-inode_block blocks inodes number = table_at blocks inodes + number / INODES_PER_BLOCK
-
-abbrev pub inode_offset : ℕ → ℕ
-inode_offset number = INODE_BYTES * (number % INODES_PER_BLOCK)

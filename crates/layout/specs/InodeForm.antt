@@ -14,6 +14,7 @@ use Rattle.nfs_types.specs.Fits.{VerifierFits}
 use Rattle.model.specs.Sound.{SoundTime}
 use Rattle.layout.specs.declared.fault.LayoutFault.{LayoutFault}
 use Rattle.layout.specs.declared.fault.LayoutFault.TheVariants.{Range}
+use Rattle.layout.specs.declared.geometry.Geometry.{Geometry}
 use Rattle.layout.specs.declared.inode.Inode.{Inode}
 use Rattle.layout.specs.declared.inode.InodeKind.{InodeKind}
 use Rattle.layout.specs.declared.inode.InodeKind.TheVariants.{Regular, Directory, Link}
@@ -23,7 +24,7 @@ use Rattle.layout.specs.declared.inode_fields.TheConstants.{BOOT_AT, TRANSACTION
 use Rattle.layout.specs.declared.inode_fields.TheConstants.{VERIFIER_AT, DIRECT_AT, INDIRECT_AT, END_GAP_AT}
 use Rattle.layout.specs.Fields.{four_at, eight_at, numbers_at, four_bytes, eight_bytes, number_bytes}
 use Rattle.layout.specs.Fields.{is_zeros}
-use Rattle.layout.specs.Geometry.{is_data}
+use Rattle.layout.specs.Places.{is_data}
 
 -- the kind of a number, as RFC 1813 numbers them in section 2.6
 abbrev pub kind_of_number : ℕ → Option InodeKind
@@ -76,8 +77,8 @@ rest_is_zero bytes =
     && nat_eq (eight_at VERIFIER_AT bytes) 0)
 
 -- no block, or a data block
-abbrev pub is_data_block_or_none : ℕ → ℕ → ℕ → Bool
-is_data_block_or_none blocks inodes number = nat_eq number 0 || is_data blocks inodes number
+abbrev pub is_data_block_or_none : Geometry → ℕ → Bool
+is_data_block_or_none g number = nat_eq number 0 || is_data g number
 
 abbrev pub is_time : Moment → Bool
 is_time time = nat_lt time.nanoseconds NANOSECONDS
@@ -95,20 +96,20 @@ is_sound_file inode =
     && is_time inode.atime && is_time inode.mtime && is_time inode.ctime
 
 -- each block that it names is a data block
-abbrev pub is_sound_map : ℕ → ℕ → Inode → Bool
-is_sound_map blocks inodes inode =
-    list_all (is_data_block_or_none blocks inodes) inode.direct
-    && is_data_block_or_none blocks inodes inode.indirect
+abbrev pub is_sound_map : Geometry → Inode → Bool
+is_sound_map g inode =
+    list_all (is_data_block_or_none g) inode.direct
+    && is_data_block_or_none g inode.indirect
 
 -- a regular file has any blocks, up to the size of the largest
 abbrev pub is_sound_regular : Inode → Bool
 is_sound_regular inode = nat_le inode.size LARGEST_FILE && nat_eq inode.parent 0
 
 -- a directory has two links at least, each block that it spans and no other, and no create verifier
-abbrev pub is_sound_directory : ℕ → Inode → Bool
-is_sound_directory inodes inode =
+abbrev pub is_sound_directory : Geometry → Inode → Bool
+is_sound_directory g inode =
     nat_le 2 inode.nlink && nat_le inode.size LARGEST_DIRECTORY && nat_eq (inode.size % BLOCK_BYTES) 0
-    && nat_lt 0 inode.parent && nat_lt inode.parent inodes
+    && nat_lt 0 inode.parent && nat_lt inode.parent g.inodes
     && names_first (min (inode.size / BLOCK_BYTES) DIRECT_INDEXES) inode.direct
     && (cond (nat_lt DIRECT_INDEXES (inode.size / BLOCK_BYTES)) (not (nat_eq inode.indirect 0))
     (nat_eq inode.indirect 0))
@@ -121,28 +122,29 @@ is_sound_link inode =
     && names_first 1 inode.direct && nat_eq inode.indirect 0 && is_none inode.verifier
 
 -- an inode of a kind that shows nothing wrong by itself
-abbrev pub is_sound_kind : ℕ → ℕ → InodeKind → Inode → Bool
-is_sound_kind blocks inodes Regular inode = is_sound_file inode && is_sound_map blocks inodes inode
+abbrev pub is_sound_kind : Geometry → InodeKind → Inode → Bool
+is_sound_kind g Regular inode = is_sound_file inode && is_sound_map g inode
     && is_sound_regular inode
-is_sound_kind blocks inodes Directory inode =
-    is_sound_file inode && is_sound_map blocks inodes inode && is_sound_directory inodes inode
-is_sound_kind blocks inodes Link inode = is_sound_file inode && is_sound_map blocks inodes inode
+is_sound_kind g Directory inode =
+    is_sound_file inode && is_sound_map g inode && is_sound_directory g inode
+is_sound_kind g Link inode = is_sound_file inode && is_sound_map g inode
     && is_sound_link inode
 
-unfoldable pub is_sound_inode : ℕ → ℕ → Inode → Bool
-is_sound_inode blocks inodes inode = is_sound_kind blocks inodes inode.kind inode
+unfoldable pub is_sound_inode : Geometry → Inode → Bool
+is_sound_inode g inode = is_sound_kind g inode.kind inode
 
-abbrev pub inode_of_kind : ℕ → ℕ → Option InodeKind → List ℕ → Result (Option Inode) LayoutFault
-inode_of_kind blocks inodes None bytes = Err Range
-inode_of_kind blocks inodes (Some kind) bytes =
-    cond (rest_is_zero bytes && is_sound_inode blocks inodes (fields_of kind bytes))
+abbrev pub inode_of_kind : Geometry → Option InodeKind → List ℕ → Result (Option Inode) LayoutFault
+inode_of_kind g None bytes = Err Range
+inode_of_kind g (Some kind) bytes =
+    cond (rest_is_zero bytes && is_sound_inode g (fields_of kind bytes))
     (Ok (Some (fields_of kind bytes))) (Err Range)
 
--- the inode that 128 bytes are in an image of these sizes; a free one is nothing but zeros
-unfoldable pub read_inode : ℕ → ℕ → List ℕ → Result (Option Inode) LayoutFault
-read_inode blocks inodes bytes =
+-- The inode that 128 bytes are in an image of this geometry, by the reading of its version, which is one so far;
+-- a free one is nothing but zeros.
+unfoldable pub read_inode : Geometry → List ℕ → Result (Option Inode) LayoutFault
+read_inode g bytes =
     cond (is_zeros bytes) (Ok None)
-    (inode_of_kind blocks inodes (kind_of_number (four_at KIND_AT bytes)) bytes)
+    (inode_of_kind g (kind_of_number (four_at KIND_AT bytes)) bytes)
 
 abbrev pub time_bytes : Moment → List ℕ
 time_bytes time = four_bytes time.seconds ++ four_bytes time.nanoseconds
@@ -193,20 +195,20 @@ pub record FitsInode (inode : Inode) : Type 0 where
   pub direct : AllByRecursion (λ number. number < 2 ^ 32) inode.direct
   pub indirect : inode.indirect < 2 ^ 32
 
--- its fields have room, and it shows nothing wrong by itself in an image of these sizes
-pub record SoundInode (blocks inodes : ℕ) (inode : Inode) : Type 0 where
+-- its fields have room, and it shows nothing wrong by itself in an image of this geometry
+pub record SoundInode (g : Geometry) (inode : Inode) : Type 0 where
   pub fits : FitsInode inode
-  pub good : is_sound_inode blocks inodes inode ≡ true
+  pub good : is_sound_inode g inode ≡ true
 
 -- these are the bytes of this inode
-pub record IsInode (blocks inodes : ℕ) (bytes : List ℕ) (inode : Inode) : Type 0 where
+pub record IsInode (g : Geometry) (bytes : List ℕ) (inode : Inode) : Type 0 where
   pub spelled : bytes ≡ inode_bytes inode
-  pub sound : SoundInode blocks inodes inode
+  pub sound : SoundInode g inode
 
 -- what 128 bytes of the table are: zeros where the inode is free, and else the bytes of a file's inode
-abbrev pub IsInTable : ℕ → ℕ → List ℕ → Option Inode → Type 0
-IsInTable blocks inodes bytes None = bytes ≡ replicate INODE_BYTES 0
-IsInTable blocks inodes bytes (Some inode) = IsInode blocks inodes bytes inode
+abbrev pub IsInTable : Geometry → List ℕ → Option Inode → Type 0
+IsInTable g bytes None = bytes ≡ replicate INODE_BYTES 0
+IsInTable g bytes (Some inode) = IsInode g bytes inode
 
 -- what of an inode is no matter of its blocks, its kind or its links, nor of how its file was made
 pub record Touch : Type 0 where

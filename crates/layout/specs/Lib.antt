@@ -4,9 +4,11 @@ pub mod InodeForm
 pub mod Owners
 pub mod Parts
 pub mod Geometry
+pub mod Places
 pub mod NumbersForm
 pub mod SlotForm
 pub mod Stands
 pub mod SuperForm
+pub mod Version
 pub mod Fresh
 pub mod Homes

@@ -10,7 +10,7 @@ use Rattle.layout.specs.InodeForm.{is_data_block_or_none}
 pub record AreSoundNumbers (g : Geometry) (numbers : List ℕ) : Type 0 where
   pub count : length numbers ≡ INDIRECT_INDEXES
   pub small : AllByRecursion (λ number. number < 2 ^ 32) numbers
-  pub places : list_all (is_data_block_or_none g.blocks g.inodes) numbers ≡ true
+  pub places : list_all (is_data_block_or_none g) numbers ≡ true
 
 -- these are the bytes of these numbers
 pub record IsNumbers (g : Geometry) (bytes : List ℕ) (numbers : List ℕ) : Type 0 where

@@ -1,5 +1,5 @@
 -- Which blocks and inodes are in use, and how the bitmaps mark them.
-use Rattle.std.specs.Prelude.{◌≡◌, ℕ, ◌*◌, ◌<◌, ◌≤◌, Bool, true, false, not, ◌||◌, List, [], ◌∷◌, nat_eq}
+use Rattle.std.specs.Prelude.{◌≡◌, ℕ, ◌*◌, ◌<◌, ◌≤◌, Bool, true, false, not, ◌||◌, List, [], ◌++◌, nat_eq}
 use Rattle.std.specs.Prelude.{nat_le, nat_lt, filter, count_by, Option, Some, None, Result, Ok, Err}
 use Rattle.std.specs.List.{flat_map, list_any, range_with_len}
 use Rattle.limits.specs.declared.TheConstants.{BITS_PER_BLOCK}
@@ -7,14 +7,14 @@ use Rattle.disk.specs.Crash.{Image}
 use Rattle.layout.specs.declared.fault.LayoutFault.{LayoutFault}
 use Rattle.layout.specs.declared.geometry.Geometry.{Geometry}
 use Rattle.layout.specs.declared.inode.Inode.{Inode}
-use Rattle.layout.specs.Decode.{numbers_of}
+use Rattle.layout.specs.Decode.{numbers_of, pointer_blocks}
 use Rattle.layout.specs.Parts.{Parts}
 use Rattle.layout.specs.Geometry.{bitmap_blocks, data_at}
 
--- the blocks of an inode: those of its indexes, and the indirect block
+-- the blocks of an inode: those that hold numbers, and those of its indexes
 abbrev pub owned_by : Image → Result (Option Inode) LayoutFault → List ℕ
 owned_by blocks (Ok (Some inode)) =
-    filter (λ number. not (nat_eq number 0)) (inode.indirect ∷ numbers_of blocks inode)
+    filter (λ number. not (nat_eq number 0)) (pointer_blocks inode ++ numbers_of blocks inode)
 owned_by blocks (Ok None) = []
 owned_by blocks (Err fault) = []
 

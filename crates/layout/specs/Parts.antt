@@ -11,7 +11,8 @@ use Rattle.layout.specs.declared.geometry.Geometry.{Geometry}
 use Rattle.layout.specs.declared.inode.Inode.{Inode}
 use Rattle.layout.specs.Decode.{inode_at}
 use Rattle.layout.specs.InodeForm.{inode_bytes}
-use Rattle.layout.specs.Geometry.{bitmap_blocks, inode_bitmap_at, inode_block, inode_offset, is_data}
+use Rattle.layout.specs.Geometry.{bitmap_blocks, inode_bitmap_at}
+use Rattle.layout.specs.Places.{inode_block, inode_offset, is_data}
 
 -- a bit of the bitmap that begins with a block: the least bit of a byte comes first
 unfoldable pub bit_at : Image → ℕ → ℕ → Bool
@@ -37,7 +38,7 @@ abbrev pub table_of : Geometry → Image → Table
 table_of g blocks number = cond (nat_lt number g.inodes) (inode_at g blocks number) (Err Range)
 
 abbrev pub content_in : Geometry → Image → Image
-content_in g blocks number = cond (is_data g.blocks g.inodes number) (blocks number) (replicate BLOCK_BYTES 0)
+content_in g blocks number = cond (is_data g number) (blocks number) (replicate BLOCK_BYTES 0)
 
 abbrev pub bits_of : Image → ℕ → ℕ → ℕ → Bool
 bits_of blocks first count bit = nat_lt bit (BITS_PER_BLOCK * count) && bit_at blocks first bit
@@ -58,4 +59,4 @@ with_bytes blocks at offset bytes = λ block. if nat_eq block at then spliced (b
 -- the blocks with this inode under this number
 abbrev pub with_inode : Geometry → Image → ℕ → Inode → Image
 with_inode g blocks number inode =
-    with_bytes blocks (inode_block g.blocks g.inodes number) (inode_offset number) (inode_bytes inode)
+    with_bytes blocks (inode_block g number) (inode_offset number) (inode_bytes inode)

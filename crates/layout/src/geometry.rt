@@ -2,9 +2,9 @@
 ghost use Rattle.std.specs.Prelude.{◌≡◌, ◌+◌, ◌-◌, ◌<◌, ◌≤◌, IfOk, IfErr};
 ghost use Rattle.limits.specs.declared.TheConstants.{MOST_BLOCKS, INODE_BYTES};
 ghost use Rattle.layout.specs.Geometry.{IsLawful, IsLawfulSize, IsLawfulCount, bitmap_blocks};
-ghost use Rattle.layout.specs.Geometry.{inode_bitmap_at, table_at, data_at, is_data, inode_block};
-ghost use Rattle.layout.specs.Geometry.{inode_offset};
+ghost use Rattle.layout.specs.Geometry.{inode_bitmap_at, table_at, data_at};
 
+use crate::FormatVersion;
 use disk::BlockNo;
 use limits::{
     BITS_PER_BLOCK, FIRST_HOME_BLOCK, INODE_BYTES, INODES_PER_BLOCK, LEAST_BLOCKS,
@@ -24,20 +24,25 @@ pub enum GeometryFault {
     Inodes,
 }
 
-/// How many blocks and inodes an image has, from which follows where its parts lie: behind the log the bitmap
-/// of blocks, the bitmap of inodes, the table of inodes and the data.
+/// The version of an image's format, and how many blocks and inodes it has. From these follows where its parts
+/// lie and how they are read: behind the log the bitmap of blocks, the bitmap of inodes, the table of inodes and
+/// the data.
 #[derive(Clone, Copy, Debug, PartialEq, Eq)]
 pub struct Geometry {
+    pub version: FormatVersion,
     pub blocks: u32,
     pub inodes: u32,
     pub ghost lawful: { IsLawful blocks inodes },
 }
 
 impl Geometry {
-    /// The geometry of an image of these sizes. Blocks below 1024 or above 1048576 are refused first (Size); then
+    ghost use Rattle.layout.specs.Places.{is_data, inode_block, inode_offset};
+
+    /// The geometry of an image of this version and these sizes. Blocks below 1024 or above 1048576 are refused first (Size); then
     /// inodes below 32, above 65536 or no multiple of 32, and what leaves fewer than 64 data blocks (Inodes).
-    pub fn new(blocks: u32, inodes: u32) -> Result<Geometry, GeometryFault>
-        ensures ok { IfOk result (λ g. (g.blocks ≡ blocks) × (g.inodes ≡ inodes) × IsLawful blocks inodes) }
+    pub fn new(version: FormatVersion, blocks: u32, inodes: u32) -> Result<Geometry, GeometryFault>
+        ensures ok { IfOk result (λ g. (g.version ≡ version) × (g.blocks ≡ blocks) × (g.inodes ≡ inodes)
+            × IsLawful blocks inodes) }
         ensures err { IfErr result (λ _. IsLawful blocks inodes → ⊥) }
         ensures size { result ≡ Err GeometryFault.Size → IsLawfulSize blocks → ⊥ }
         ensures count { result ≡ Err GeometryFault.Inodes → IsLawfulSize blocks
@@ -52,7 +57,11 @@ impl Geometry {
         if data_at(blocks, inodes) + LEAST_DATA_BLOCKS > blocks {
             return Err(GeometryFault::Inodes);
         }
-        Ok(Geometry { blocks, inodes })
+        Ok(Geometry {
+            version,
+            blocks,
+            inodes,
+        })
     }
 
     /// The first block of the bitmap of blocks.
@@ -92,7 +101,7 @@ impl Geometry {
 
     /// Whether the number is that of a data block.
     pub fn is_data(&self, number: u32) -> bool
-        ensures { result ≡ is_data self.now.blocks self.now.inodes number }
+        ensures { result ≡ is_data self.now number }
     {
         data_at(self.blocks, self.inodes) <= number && number < self.blocks
     }
@@ -100,7 +109,7 @@ impl Geometry {
     /// Where an inode lies.
     pub fn inode_addr(&self, number: u32) -> Addr
         requires { number < self.now.inodes }
-        ensures block { result.block.0 ≡ inode_block self.now.blocks self.now.inodes number }
+        ensures block { result.block.0 ≡ inode_block self.now number }
         ensures offset { result.offset ≡ inode_offset number }
         ensures len { result.len ≡ INODE_BYTES }
     {

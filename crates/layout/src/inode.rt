@@ -48,11 +48,11 @@ impl Inode {
     /// has the bytes, and a free one neither.
     pub fn read(geometry: &Geometry, bytes: &[u8]) -> Result<Option<Inode>, LayoutFault>
         requires { length bytes.now ≡ INODE_BYTES }
-        ensures value { result ≡ read_inode geometry.now.blocks geometry.now.inodes bytes.now }
+        ensures value { result ≡ read_inode geometry.now bytes.now }
         ensures ok { IfOk result
-            (λ one. IsInTable geometry.now.blocks geometry.now.inodes bytes.now one) }
+            (λ one. IsInTable geometry.now bytes.now one) }
         ensures err { IfErr result (λ fault. (fault ≡ LayoutFault.Range)
-            × ((one : Option Inode) → IsInTable geometry.now.blocks geometry.now.inodes bytes.now one → ⊥)) }
+            × ((one : Option Inode) → IsInTable geometry.now bytes.now one → ⊥)) }
     {
         read_inode(geometry, bytes)
     }
@@ -91,7 +91,7 @@ impl Inode {
 // Reads an inode of an image of this geometry: None where it is free.
 fn read_inode(geometry: &Geometry, bytes: &[u8]) -> Result<Option<Inode>, LayoutFault>
     requires { length bytes.now ≡ INODE_BYTES }
-    ensures { result ≡ read_inode geometry.now.blocks geometry.now.inodes bytes.now }
+    ensures { result ≡ read_inode geometry.now bytes.now }
 {
     if is_zeros(bytes) {
         return Ok(None);

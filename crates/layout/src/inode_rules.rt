@@ -14,7 +14,7 @@ use nfs_types::Moment;
 
 /// Whether the number is that of no block, or of a data block.
 pub(crate) fn is_data_block_or_none(geometry: &Geometry, number: u32) -> bool
-    ensures { result ≡ is_data_block_or_none geometry.now.blocks geometry.now.inodes number }
+    ensures { result ≡ is_data_block_or_none geometry.now number }
 {
     number == 0 || geometry.is_data(number)
 }
@@ -27,7 +27,7 @@ fn is_time(time: &Moment) -> bool
 
 /// Whether each number is that of no block, or of a data block.
 pub(crate) fn are_data_blocks_or_none(geometry: &Geometry, numbers: &[u32]) -> bool
-    ensures { result ≡ list_all (is_data_block_or_none geometry.now.blocks geometry.now.inodes) numbers.now }
+    ensures { result ≡ list_all (is_data_block_or_none geometry.now) numbers.now }
 {
     for number in numbers {
         if !is_data_block_or_none(geometry, *number) {
@@ -72,7 +72,7 @@ impl Inode {
     }
 
     fn is_sound_map(&self, geometry: &Geometry) -> bool
-        ensures { result ≡ is_sound_map geometry.now.blocks geometry.now.inodes self.now }
+        ensures { result ≡ is_sound_map geometry.now self.now }
     {
         are_data_blocks_or_none(geometry, &self.direct)
             && is_data_block_or_none(geometry, self.indirect)
@@ -85,7 +85,7 @@ impl Inode {
     }
 
     fn is_sound_directory(&self, geometry: &Geometry) -> bool
-        ensures { result ≡ is_sound_directory geometry.now.inodes self.now }
+        ensures { result ≡ is_sound_directory geometry.now self.now }
     {
         let span = self.size / BLOCK_BYTES as u64;
         self.nlink >= 2
@@ -115,13 +115,13 @@ impl Inode {
 
     /// Whether it shows nothing wrong by itself.
     pub(crate) fn is_sound(&self, geometry: &Geometry) -> bool
-        ensures { result ≡ is_sound_inode geometry.now.blocks geometry.now.inodes self.now }
+        ensures { result ≡ is_sound_inode geometry.now self.now }
     {
         self.is_sound_kind(geometry)
     }
 
     fn is_sound_kind(&self, geometry: &Geometry) -> bool
-        ensures { result ≡ is_sound_kind geometry.now.blocks geometry.now.inodes self.now.kind self.now }
+        ensures { result ≡ is_sound_kind geometry.now self.now.kind self.now }
     {
         match self.kind {
             InodeKind::Regular => {

@@ -16,6 +16,7 @@ mod numbers;
 mod slot;
 mod spellings;
 mod super_block;
+mod version;
 
 pub use fault::LayoutFault;
 pub use fresh::{
@@ -33,3 +34,4 @@ pub use spellings::{
     other_bytes_are_no_indirect_block, other_bytes_are_no_inode, other_bytes_are_no_slot,
 };
 pub use super_block::Super;
+pub use version::FormatVersion;

@@ -40,11 +40,11 @@ impl Numbers {
         requires { length bytes.now ≡ BLOCK_BYTES }
         ensures ok { IfOk result (λ read. IfOk read (λ n. n ≡ numbers_at INDIRECT_INDEXES 0 bytes.now)) }
         ensures places { IfOk result
-            (λ read. IfOk read (λ n. list_all (is_data_block_or_none geometry.now.blocks geometry.now.inodes)
+            (λ read. IfOk read (λ n. list_all (is_data_block_or_none geometry.now)
             n ≡ true)) }
         ensures refused { IfOk result
             (λ read. IfErr read (λ fault. (fault ≡ LayoutFault.Range)
-            × (list_all (is_data_block_or_none geometry.now.blocks geometry.now.inodes)
+            × (list_all (is_data_block_or_none geometry.now)
             (numbers_at INDIRECT_INDEXES 0 bytes.now) ≡ false))) }
     {
         let mut numbers = Vec::with_capacity(alloc, INDIRECT_INDEXES)?;

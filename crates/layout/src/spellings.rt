@@ -18,23 +18,23 @@ ghost use Rattle.layout.specs.InodeForm.{is_data_block_or_none, read_inode, inod
 
 /// Bytes are read as an inode, or as a free one, exactly where they are its bytes.
 pub fn an_inode_is_its_bytes()
-    ensures { (blocks inodes : ℕ) (bytes : List ℕ) (one : Option Inode)
+    ensures { (g : Geometry) (bytes : List ℕ) (one : Option Inode)
         → AreBytes bytes → length bytes ≡ INODE_BYTES
-        → read_inode blocks inodes bytes ≡ Ok one ↔ IsInTable blocks inodes bytes one }
+        → read_inode g bytes ≡ Ok one ↔ IsInTable g bytes one }
 {}
 
 /// The bytes that a sound inode gets are read as this inode.
 pub fn a_written_inode_is_read()
-    ensures { (blocks inodes : ℕ) (inode : Inode) → SoundInode blocks inodes inode
-        → read_inode blocks inodes (inode_bytes inode) ≡ Ok (Some inode) }
+    ensures { (g : Geometry) (inode : Inode) → SoundInode g inode
+        → read_inode g (inode_bytes inode) ≡ Ok (Some inode) }
 {}
 
 /// Bytes are refused exactly where they are those of no inode, and not of a free one.
 pub fn other_bytes_are_no_inode()
-    ensures { (blocks inodes : ℕ) (bytes : List ℕ) (fault : LayoutFault)
+    ensures { (g : Geometry) (bytes : List ℕ) (fault : LayoutFault)
         → AreBytes bytes → length bytes ≡ INODE_BYTES
-        → read_inode blocks inodes bytes ≡ Err fault
-        ↔ (fault ≡ Range) × ((one : Option Inode) → IsInTable blocks inodes bytes one → ⊥) }
+        → read_inode g bytes ≡ Err fault
+        ↔ (fault ≡ Range) × ((one : Option Inode) → IsInTable g bytes one → ⊥) }
 {}
 
 /// Bytes are read as a slot, or as a free one, exactly where they are its bytes.
@@ -56,7 +56,7 @@ pub fn an_indirect_block_is_its_bytes()
     ensures { (g : Geometry) (bytes : List ℕ) (numbers : List ℕ) → AreBytes bytes
         → length bytes ≡ BLOCK_BYTES
         → (numbers ≡ numbers_at INDIRECT_INDEXES 0 bytes)
-        × (list_all (is_data_block_or_none g.blocks g.inodes) numbers ≡ true)
+        × (list_all (is_data_block_or_none g) numbers ≡ true)
         ↔ IsNumbers g bytes numbers }
 {}
 
@@ -64,7 +64,7 @@ pub fn an_indirect_block_is_its_bytes()
 pub fn other_bytes_are_no_indirect_block()
     ensures { (g : Geometry) (bytes : List ℕ) (numbers : List ℕ) → AreBytes bytes
         → length bytes ≡ BLOCK_BYTES
-        → list_all (is_data_block_or_none g.blocks g.inodes) (numbers_at INDIRECT_INDEXES 0 bytes) ≡ false
+        → list_all (is_data_block_or_none g) (numbers_at INDIRECT_INDEXES 0 bytes) ≡ false
         → IsNumbers g bytes numbers → ⊥ }
 {}
 
@@ -74,7 +74,7 @@ pub fn a_super_block_has_one_spelling()
         → bytes ≡ super_bytes s }
 {}
 
-/// Geometries of the same counts are one.
+/// Geometries of the same counts are one, as there is one version so far.
 pub fn counts_make_one_geometry()
     ensures { (g h : Geometry) → g.blocks ≡ h.blocks → g.inodes ≡ h.inodes → g ≡ h }
 {}

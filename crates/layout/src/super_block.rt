@@ -7,8 +7,8 @@ ghost use Rattle.layout.specs.Fields.{four_at};
 ghost use Rattle.layout.specs.declared.super_block.TheConstants.{VERSION_AT, BLOCKS_AT, INODES_AT, REST_AT};
 
 use crate::fields::{eight_at, four_at, is_zeros, put_eight, put_four};
-use crate::{Geometry, LayoutFault};
-use limits::{BLOCK_BYTES, FORMAT_VERSION};
+use crate::{FormatVersion, Geometry, LayoutFault};
+use limits::BLOCK_BYTES;
 use std::alloc::{AllocError, Global};
 
 /// The bytes that an image of this format begins with.
@@ -28,7 +28,7 @@ const BOOT_AT: usize = 24;
 // From here on no field has a byte.
 const REST_AT: usize = 32;
 
-/// What the super block says: how large the image is, and how often it was opened.
+/// What the super block says: of which version the image is, how large it is, and how often it was opened.
 #[derive(Clone, Copy, Debug, PartialEq, Eq)]
 pub struct Super {
     pub geometry: Geometry,
@@ -39,7 +39,7 @@ impl Super {
     ghost use Rattle.layout.specs.SuperForm.{IsNoSuper, IsSuper, super_bytes};
 
     /// Reads a super block. It is refused by the first of these that holds: it doesn't begin with the magic
-    /// bytes (Magic), its version isn't the format's (Version), its sizes aren't lawful or a byte that no
+    /// bytes (Magic), its version is none of the format's (Version), its sizes aren't lawful or a byte that no
     /// field has isn't zero (Range).
     pub fn read(bytes: &[u8]) -> Result<Super, LayoutFault>
         requires { length bytes.now ≡ BLOCK_BYTES }
@@ -49,10 +49,10 @@ impl Super {
         if !has_magic(bytes) {
             return Err(LayoutFault::Magic);
         }
-        if four_at(bytes, VERSION_AT) != FORMAT_VERSION {
+        let Some(version) = FormatVersion::of_number(four_at(bytes, VERSION_AT)) else {
             return Err(LayoutFault::Version);
-        }
-        let Some(geometry) = geometry_in(bytes) else {
+        };
+        let Some(geometry) = geometry_in(version, bytes) else {
             return Err(LayoutFault::Range);
         };
         let boot = eight_at(bytes, BOOT_AT);
@@ -72,13 +72,19 @@ impl Super {
 }
 
 // The sizes, if they are lawful and what isn't used is zero.
-fn geometry_in(bytes: &[u8]) -> Option<Geometry>
+fn geometry_in(version: FormatVersion, bytes: &[u8]) -> Option<Geometry>
     requires { length bytes.now ≡ BLOCK_BYTES }
+    ensures version { IfSome result (λ g. g.version ≡ version) }
     ensures some { IfSome result (λ g. HasSizes bytes.now × (g.blocks ≡ four_at BLOCKS_AT bytes.now)
         × (g.inodes ≡ four_at INODES_AT bytes.now)) }
     ensures none { IfNone result (HasSizes bytes.now → ⊥) }
 {
-    let geometry = Geometry::new(four_at(bytes, BLOCKS_AT), four_at(bytes, INODES_AT)).ok()?;
+    let geometry = Geometry::new(
+        version,
+        four_at(bytes, BLOCKS_AT),
+        four_at(bytes, INODES_AT),
+    )
+    .ok()?;
     if is_unused_zero(bytes) {
         Some(geometry)
     } else {
@@ -109,7 +115,7 @@ fn put_head(bytes: &mut Vec<u8>, super_block: &Super) -> Result<(), AllocError>
     ensures len { OnOk result (length bytes.new.items ≡ length bytes.old.items + REST_AT) }
 {
     bytes.extend_from_slice(&MAGIC)?;
-    put_four(bytes, FORMAT_VERSION)?;
+    put_four(bytes, super_block.geometry.version.number())?;
     put_four(bytes, super_block.geometry.blocks)?;
     put_four(bytes, super_block.geometry.inodes)?;
     put_four(bytes, 0)?;

@@ -1,2 +1,3 @@
 pub mod Addr
+pub mod Mode
 pub mod Spliced

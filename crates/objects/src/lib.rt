@@ -2,5 +2,7 @@
 #![tactic(auto)]
 
 mod addr;
+mod mode;
 
 pub use addr::Addr;
+pub use mode::Mode;

@@ -35,21 +35,21 @@ second true true c d e f all = refl
 second true false c d e f all = cc
 second false b c d e f all = cc
 
-module _ (g : Geometry) (image : Image) (inode : Inode) (sound : SoundInode g.blocks g.inodes inode)
+module _ (g : Geometry) (image : Image) (inode : Inode) (sound : SoundInode g inode)
     (whole : AreWhole image (numbers_of image inode)) (bytes : List ℕ)
     (is : bytes ≡ resized inode.size (bytes_of image (numbers_of image inode))) where
-  of_kind : (k : InodeKind) → is_sound_kind g.blocks g.inodes k inode ≡ true → (content : PlainContent)
+  of_kind : (k : InodeKind) → is_sound_kind g k inode ≡ true → (content : PlainContent)
       → IsContent g.inodes k bytes content → HasBody content (body_of g.inodes image k inode)
   of_kind kind.Regular good (Bytes held) same =
-      let three = all_three (is_sound_file inode) (is_sound_map g.blocks g.inodes inode)
+      let three = all_three (is_sound_file inode) (is_sound_map g inode)
       (is_sound_regular inode) good in
       regular_bytes image inode sound.fits.count whole
       (no_more inode.size LARGEST_FILE (all_two (nat_le inode.size LARGEST_FILE) (nat_eq inode.parent 0)
       three.2).0)
       ∙ sym is ∙ sym same
   of_kind kind.Directory good (Names names) same =
-      let three = all_three (is_sound_file inode) (is_sound_map g.blocks g.inodes inode)
-      (is_sound_directory g.inodes inode) good in
+      let three = all_three (is_sound_file inode) (is_sound_map g inode)
+      (is_sound_directory g inode) good in
       let rules = second_third (nat_le 2 inode.nlink) (nat_le inode.size LARGEST_DIRECTORY)
       (nat_eq (inode.size % BLOCK_BYTES) 0) _ _ _ _ _ three.2 in
       ap finmap.from_entries
@@ -57,7 +57,7 @@ module _ (g : Geometry) (image : Image) (inode : Inode) (sound : SoundInode g.bl
       (no_more inode.size LARGEST_DIRECTORY rules.0) (same_number (inode.size % BLOCK_BYTES) 0 rules.1)
       ∙ ap (entries_in g.inodes) (sym is) ∙ sym same)
   of_kind kind.Link good (Target target) same =
-      let three = all_three (is_sound_file inode) (is_sound_map g.blocks g.inodes inode)
+      let three = all_three (is_sound_file inode) (is_sound_map g inode)
       (is_sound_link inode) good in
       link_bytes image inode sound.fits.count whole
       (no_more inode.size TARGET_BYTES (second (nat_le 1 inode.size) (nat_le inode.size TARGET_BYTES) _ _ _ _

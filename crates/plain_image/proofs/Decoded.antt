@@ -12,7 +12,7 @@ use Rattle.layout.specs.declared.inode.Inode.{Inode}
 use Rattle.layout.specs.Decode.{bytes_of, content_of, inode_at, numbers_of}
 use Rattle.layout.specs.Fields.{numbers_at}
 use Rattle.layout.specs.InodeForm.{read_inode}
-use Rattle.layout.specs.Geometry.{inode_block, inode_offset}
+use Rattle.layout.specs.Places.{inode_block, inode_offset}
 use Rattle.model.specs.Node.{DirectoryEntry}
 use Rattle.layout.specs.Decode.{SLOT_SIZE}
 use Rattle.plain_image.specs.PlainFile.{if_used, used_below}
@@ -21,8 +21,8 @@ use Rattle.plain_image.specs.PlainName.{entries_below, one_entry}
 -- what is read at the inode's offset
 pub inode_there : (g : Geometry) (image : Image) (number : ℕ)
     → inode_at g image number
-    ≡ read_inode g.blocks g.inodes
-    (take INODE_BYTES (drop (inode_offset number) (image (inode_block g.blocks g.inodes number))))
+    ≡ read_inode g
+    (take INODE_BYTES (drop (inode_offset number) (image (inode_block g number))))
 unfolding inode_at
 inode_there g image number = refl
 

@@ -1,6 +1,6 @@
 -- What is read of an inode's blocks is the file that the blocks have.
 use Rattle.std.proofs.Common.{◌≡◌, ℕ, ◌<◌, sym, ap, ◌∙◌, refl, Bool, true, false, cond, not, ◌&&◌, ◌||◌, List}
-use Rattle.std.proofs.Common.{[], ◌∷◌, filter, nat_eq, replicate, Some, Ok, Err}
+use Rattle.std.proofs.Common.{[], ◌∷◌, ◌++◌, filter, nat_eq, replicate, Some, Ok, Err}
 use Rattle.std.specs.List.{list_all, AllByRecursion}
 use Rattle.std.proofs.lemmas.Bool.{lt-ltb}
 use Rattle.limits.specs.declared.TheConstants.{BLOCK_BYTES}
@@ -8,9 +8,9 @@ use Rattle.disk.specs.Crash.{Image}
 use Rattle.layout.specs.declared.fault.LayoutFault.TheVariants.{Range}
 use Rattle.layout.specs.declared.geometry.Geometry.{Geometry}
 use Rattle.layout.specs.declared.inode.Inode.{Inode}
-use Rattle.layout.specs.Decode.{body_of, file_of, inode_at, node_with, numbers_of}
+use Rattle.layout.specs.Decode.{body_of, file_of, inode_at, node_with, numbers_of, pointer_blocks}
 use Rattle.layout.specs.Fields.{count_of}
-use Rattle.layout.specs.Geometry.{is_data}
+use Rattle.layout.specs.Places.{is_data}
 use Rattle.layout.specs.InodeForm.{is_data_block_or_none}
 use Rattle.layout.specs.InodeForm.{SoundInode}
 use Rattle.layout.specs.Owners.{owned_by}
@@ -27,30 +27,30 @@ module _ (g : Geometry) (image : Image) where
   IsSame number = content_in g image number ≡ image number
 
   one_same : (number : ℕ) (none : Bool) → nat_eq number 0 ≡ none
-      → (none || is_data g.blocks g.inodes number) ≡ true
+      → (none || is_data g number) ≡ true
       → (rest : List ℕ) → AllByRecursion IsSame rest → AllByRecursion IsSame (cond (not none) (number ∷ rest) rest)
   one_same number true is place rest all = all
   one_same number false is place rest all =
       (ap (λ b. cond b (image number) (replicate BLOCK_BYTES 0)) place, all)
 
-  all_same : (numbers : List ℕ) → list_all (is_data_block_or_none g.blocks g.inodes) numbers ≡ true
+  all_same : (numbers : List ℕ) → list_all (is_data_block_or_none g) numbers ≡ true
       → AllByRecursion IsSame (filter (λ number. not (nat_eq number 0)) numbers)
   all_same [] places = tt
   all_same (n ∷ numbers) places =
-      let both = all_two (is_data_block_or_none g.blocks g.inodes n)
-      (list_all (is_data_block_or_none g.blocks g.inodes) numbers) places in
+      let both = all_two (is_data_block_or_none g n)
+      (list_all (is_data_block_or_none g) numbers) places in
       one_same n (nat_eq n 0) refl both.0 (filter (λ number. not (nat_eq number 0)) numbers)
       (all_same numbers both.1)
 
   both_true : (a b : Bool) → a ≡ true → b ≡ true → (a && b) ≡ true
   both_true a b one two = λ i. one i && two i
 
-  module _ (inode : Inode) (sound : SoundInode g.blocks g.inodes inode)
-      (places : list_all (is_data_block_or_none g.blocks g.inodes) (numbers_of image inode) ≡ true) where
+  module _ (inode : Inode) (sound : SoundInode g inode)
+      (places : list_all (is_data_block_or_none g) (numbers_of image inode) ≡ true) where
     owned_same : AllByRecursion IsSame (owned_by image (Ok (Some inode)))
-    owned_same = all_same (inode.indirect ∷ numbers_of image inode)
-        (both_true (is_data_block_or_none g.blocks g.inodes inode.indirect)
-        (list_all (is_data_block_or_none g.blocks g.inodes) (numbers_of image inode)) (maps g inode sound).1 places)
+    owned_same = all_same (pointer_blocks inode ++ numbers_of image inode)
+        (both_true (is_data_block_or_none g inode.indirect)
+        (list_all (is_data_block_or_none g) (numbers_of image inode)) (maps g inode sound).1 places)
 
     pub file_is : (number : ℕ) → number < g.inodes → inode_at g image number ≡ Ok (Some inode)
         → file_at g (parts_of g image) number
@@ -61,7 +61,7 @@ module _ (g : Geometry) (image : Image) where
         ∙ same_file image (content_in g image) g.inodes (Ok (Some inode)) owned_same
 
   pub is_decoded : (number : ℕ) (inode : Inode) (file : PlainFile) → number < g.inodes
-      → inode_at g image number ≡ Ok (Some inode) → SoundInode g.blocks g.inodes inode
+      → inode_at g image number ≡ Ok (Some inode) → SoundInode g inode
       → IsFileOf g image number inode file → IsDecoded g image file
   is_decoded number inode file less read sound is = record {
     body = body_of g.inodes image inode.kind inode;

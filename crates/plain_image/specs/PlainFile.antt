@@ -39,7 +39,7 @@ IsContent inodes other bytes content = ⊥
 -- these are the numbers of an inode's blocks, each 0 or that of a data block
 pub record AreNumbersOf (g : Geometry) (blocks : Image) (inode : Inode) (numbers : List ℕ) : Type 0 where
   pub are : numbers ≡ numbers_of blocks inode
-  pub places : list_all (is_data_block_or_none g.blocks g.inodes) numbers ≡ true
+  pub places : list_all (is_data_block_or_none g) numbers ≡ true
 
 -- each of these blocks has all its bytes
 abbrev pub AreWhole : Image → List ℕ → Type 0
@@ -52,7 +52,7 @@ pub record IsFileOf (g : Geometry) (blocks : Image) (number : ℕ) (inode : Inod
     pub inode_is : file.inode ≡ inode
     pub mapped : file.blocks ≡ count_of (numbers_of blocks inode)
     pub content : HasBody file.content (body_of g.inodes blocks inode.kind inode)
-    pub places : list_all (is_data_block_or_none g.blocks g.inodes) (numbers_of blocks inode) ≡ true
+    pub places : list_all (is_data_block_or_none g) (numbers_of blocks inode) ≡ true
 
 -- It is the file that the blocks have under its number: its inode lies there, with what is in the file, and so
 -- many blocks are mapped.

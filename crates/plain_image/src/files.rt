@@ -75,7 +75,7 @@ fn file_of(
     number: u32,
     inode: Inode,
 ) -> Result<PlainFile, ImageFault>
-    requires { SoundInode geometry.now.blocks geometry.now.inodes inode }
+    requires { SoundInode geometry.now inode }
     ensures { IfOk result (λ file. IsFileOf geometry.now (image_of disk.now) number inode file) }
 {
     let numbers = numbers_of(alloc, disk, geometry, &inode)?;

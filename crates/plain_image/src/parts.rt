@@ -49,7 +49,7 @@ pub(crate) fn inode_of(
     requires { number < geometry.now.inodes }
     ensures at { IfOk result (λ found. inode_at geometry.now (image_of disk.now) number ≡ Ok found) }
     ensures sound { IfOk result (λ found. IfSome found
-        (λ inode. SoundInode geometry.now.blocks geometry.now.inodes inode)) }
+        (λ inode. SoundInode geometry.now inode)) }
 {
     let addr = geometry.inode_addr(number);
     let block = block_of(disk, addr.block.0)?;
@@ -66,7 +66,7 @@ fn indirect(
 ) -> Result<Numbers, ImageFault>
     ensures are { IfOk result (λ numbers. numbers ≡ numbers_at INDIRECT_INDEXES 0 (image_of disk.now number)) }
     ensures places { IfOk result
-        (λ numbers. list_all (is_data_block_or_none geometry.now.blocks geometry.now.inodes) numbers ≡ true) }
+        (λ numbers. list_all (is_data_block_or_none geometry.now) numbers ≡ true) }
 {
     let bytes = block_of(disk, number)?;
     let numbers = Numbers::read(alloc, geometry, bytes)??;
@@ -80,7 +80,7 @@ pub(crate) fn numbers_of(
     geometry: &Geometry,
     inode: &Inode,
 ) -> Result<Vec<u32>, ImageFault>
-    requires { SoundInode geometry.now.blocks geometry.now.inodes inode.now }
+    requires { SoundInode geometry.now inode.now }
     ensures { IfOk result
         (λ numbers. AreNumbersOf geometry.now (image_of disk.now) inode.now numbers.items) }
 {

@@ -11,7 +11,8 @@ use Rattle.disk.specs.declared.block.BlockNo.{BlockNo}
 use Rattle.objects.specs.Addr.{Overlap}
 use Rattle.objects.specs.declared.addr.Addr.{Addr}
 use Rattle.layout.specs.declared.geometry.Geometry.{Geometry}
-use Rattle.layout.specs.Geometry.{data_at, inode_block, inode_offset}
+use Rattle.layout.specs.Geometry.{data_at}
+use Rattle.layout.specs.Places.{inode_block, inode_offset}
 use Rattle.model.specs.Find.{number_in}
 use Rattle.txn.specs.Object.{ObjectBytes}
 use Rattle.procs.specs.Asks.{Asks, AsksOfFile, IsInodeAddr, NamesInode, WereAsked}
@@ -21,7 +22,7 @@ use Rattle.procs.proofs.AskedFor.{is_data_block}
 
 -- ---- addresses
 
-neither : (a b : Bool) → (a || b) ≡ false → (a ≡ false) × (b ≡ false)
+pub neither : (a b : Bool) → (a || b) ≡ false → (a ≡ false) × (b ≡ false)
 neither false false none = (refl, refl)
 neither true b none = cc
 neither false true none = cc
@@ -40,11 +41,11 @@ not_seen (first ∷ objects) addr (suc index) object is none =
 equal : (a b : ℕ) → a ≡ b → nat_eq a b ≡ true
 equal a b same = grind (arith, nat_tests)
 
-is_same : (a b : Addr) → a.block.0 ≡ b.block.0 → a.offset ≡ b.offset → a.len ≡ b.len → same_addr a b ≡ true
+pub is_same : (a b : Addr) → a.block.0 ≡ b.block.0 → a.offset ≡ b.offset → a.len ≡ b.len → same_addr a b ≡ true
 is_same a b block offset len = λ i.
     equal a.block.0 b.block.0 block i && equal a.offset b.offset offset i && equal a.len b.len len i
 
-never : true ≡ false → ⊥
+pub never : true ≡ false → ⊥
 never same = cc
 
 -- ---- what a handle's file is asked for
@@ -56,7 +57,7 @@ module _ (g : Geometry) (handle : List ℕ) where
   small : (number : ℕ) → number < g.inodes → number < 2 ^ 32
   small number within = let rules = g.lawful.1 in omega (arith, within, rules.1)
 
-  one_number : (n m : ℕ) → NamesInode g handle n → NamesInode g handle m → n ≡ m
+  pub one_number : (n m : ℕ) → NamesInode g handle n → NamesInode g handle m → n ≡ m
   one_number n m a b =
       sym (number_read n a.stamp (small n a.within)) ∙ ap number_in (sym a.spelled ∙ b.spelled)
       ∙ number_read m b.stamp (small m b.within)
@@ -66,10 +67,10 @@ module _ (g : Geometry) (handle : List ℕ) where
   in_table number addr within at =
       let rules = g.lawful.1 in omega (arith, at.block, within, rules.2)
 
-  one_inode : (n m : ℕ) (a b : Addr) → n ≡ m → IsInodeAddr g n a → IsInodeAddr g m b → same_addr a b ≡ true
+  pub one_inode : (n m : ℕ) (a b : Addr) → n ≡ m → IsInodeAddr g n a → IsInodeAddr g m b → same_addr a b ≡ true
   one_inode n m a b same at there =
       is_same a b
-      (at.block ∙ ap (λ k. inode_block g.blocks g.inodes k) same ∙ sym there.block)
+      (at.block ∙ ap (λ k. inode_block g k) same ∙ sym there.block)
       (at.offset ∙ ap inode_offset same ∙ sym there.offset) (at.len ∙ sym there.len)
 
   module _ (objects : List ObjectBytes) (addr : Addr) (new : is_seen addr objects ≡ false) where

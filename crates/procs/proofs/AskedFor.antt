@@ -13,7 +13,8 @@ use Rattle.wal_law.specs.Log.{IsHomeOn}
 use Rattle.layout.specs.declared.fault.LayoutFault.TheVariants.{Range}
 use Rattle.layout.specs.declared.geometry.Geometry.{Geometry}
 use Rattle.layout.specs.declared.inode.InodeKind.{InodeKind}
-use Rattle.layout.specs.Geometry.{data_at, is_data}
+use Rattle.layout.specs.Geometry.{data_at}
+use Rattle.layout.specs.Places.{is_data}
 use Rattle.layout.specs.InodeForm.{fields_of, inode_of_kind, is_data_block_or_none, is_sound_inode}
 use Rattle.layout.specs.InodeForm.{kind_of_number, read_inode, rest_is_zero}
 use Rattle.layout.specs.Fields.{four_at, is_zeros}
@@ -53,34 +54,34 @@ chosen : (b : Bool) (x y : Inode) → cond b (Ok (Some x)) (Err Range) ≡ Ok (S
 chosen true x y e = (refl, cc)
 chosen false x y e = cc
 
-sound_of_kind : (blocks inodes : ℕ) (bytes : List ℕ) (one : Inode) (kind : Option InodeKind)
-    → inode_of_kind blocks inodes kind bytes ≡ Ok (Some one) → is_sound_inode blocks inodes one ≡ true
-sound_of_kind blocks inodes bytes one None e = cc
-sound_of_kind blocks inodes bytes one (Some kind) e =
-    let is = chosen (rest_is_zero bytes && is_sound_inode blocks inodes (fields_of kind bytes))
+sound_of_kind : (g : Geometry) (bytes : List ℕ) (one : Inode) (kind : Option InodeKind)
+    → inode_of_kind g kind bytes ≡ Ok (Some one) → is_sound_inode g one ≡ true
+sound_of_kind g bytes one None e = cc
+sound_of_kind g bytes one (Some kind) e =
+    let is = chosen (rest_is_zero bytes && is_sound_inode g (fields_of kind bytes))
     (fields_of kind bytes) one e in
-    subst (λ i. is_sound_inode blocks inodes i ≡ true) is.1
-    (all_two (rest_is_zero bytes) (is_sound_inode blocks inodes (fields_of kind bytes)) is.0).1
+    subst (λ i. is_sound_inode g i ≡ true) is.1
+    (all_two (rest_is_zero bytes) (is_sound_inode g (fields_of kind bytes)) is.0).1
 
-read_sound : (blocks inodes : ℕ) (bytes : List ℕ) (one : Inode) → read_inode blocks inodes bytes ≡ Ok (Some one)
-    → is_sound_inode blocks inodes one ≡ true
+read_sound : (g : Geometry) (bytes : List ℕ) (one : Inode) → read_inode g bytes ≡ Ok (Some one)
+    → is_sound_inode g one ≡ true
 unfolding read_inode
-read_sound blocks inodes bytes one e = used (is_zeros bytes) e
+read_sound g bytes one e = used (is_zeros bytes) e
   where
     used : (free : Bool)
-        → cond free (Ok None) (inode_of_kind blocks inodes (kind_of_number (four_at 0 bytes)) bytes)
+        → cond free (Ok None) (inode_of_kind g (kind_of_number (four_at 0 bytes)) bytes)
         ≡ Ok (Some one)
-        → is_sound_inode blocks inodes one ≡ true
+        → is_sound_inode g one ≡ true
     used true e = cc
-    used false e = sound_of_kind blocks inodes bytes one (kind_of_number (four_at 0 bytes)) e
+    used false e = sound_of_kind g bytes one (kind_of_number (four_at 0 bytes)) e
 
-names_data : (blocks inodes : ℕ) (one : Inode) → is_sound_inode blocks inodes one ≡ true
-    → (one.indirect ≡ 0 → ⊥) → is_data blocks inodes one.indirect ≡ true
+names_data : (g : Geometry) (one : Inode) → is_sound_inode g one ≡ true
+    → (one.indirect ≡ 0 → ⊥) → is_data g one.indirect ≡ true
 unfolding is_sound_inode
-names_data blocks inodes one good some =
-    data_of (nat_eq one.indirect 0) (is_data blocks inodes one.indirect) (differs one.indirect 0 some)
-    (all_two (list_all (is_data_block_or_none blocks inodes) one.direct)
-    (is_data_block_or_none blocks inodes one.indirect) (map_is blocks inodes one.kind one good)).1
+names_data g one good some =
+    data_of (nat_eq one.indirect 0) (is_data g one.indirect) (differs one.indirect 0 some)
+    (all_two (list_all (is_data_block_or_none g) one.direct)
+    (is_data_block_or_none g one.indirect) (map_is g one.kind one good)).1
 
 -- ---- so what a call asks for is behind the log and within the image
 
@@ -90,8 +91,8 @@ module _ (g : Geometry) (handle : List ℕ) (objects : List ObjectBytes) (addr :
       → block.0 ≡ one.indirect → (block.0 ≡ 0 → ⊥) → IsWhole block addr
       → (data_at g.blocks g.inodes ≤ addr.block.0) × (addr.block.0 < g.blocks)
   is_data_block number one block read is some whole =
-      let lies = names_data g.blocks g.inodes one
-      (read_sound g.blocks g.inodes read.bytes one read.is_inode) (λ none. some (is ∙ none)) in
+      let lies = names_data g one
+      (read_sound g read.bytes one read.is_inode) (λ none. some (is ∙ none)) in
       let both = all_two (nat_le (data_at g.blocks g.inodes) one.indirect) (nat_lt one.indirect g.blocks)
       lies in
       let from = no_more (data_at g.blocks g.inodes) one.indirect both.0 in

@@ -23,10 +23,10 @@ module _ (g : Geometry) (content : Image) (found : FoundFile)
   abbrev i : Inode
   i = found.inode
 
-  pub has_body : (kind : InodeKind) → i.kind ≡ kind → is_sound_kind g.blocks g.inodes kind i ≡ true
+  pub has_body : (kind : InodeKind) → i.kind ≡ kind → is_sound_kind g kind i ≡ true
       → IsOfKind g content kind i → IsBodyOf found (body_of g.inodes content kind i)
   has_body Regular is good file =
-      let three = all_three (is_sound_file i) (is_sound_map g.blocks g.inodes i) (is_sound_regular i) good in
+      let three = all_three (is_sound_file i) (is_sound_map g i) (is_sound_regular i) good in
       let small = all_two (nat_le i.size LARGEST_FILE) (nat_eq i.parent 0) three.2 in
       record {
         kind = ap file_kind (sym is);
@@ -34,8 +34,8 @@ module _ (g : Geometry) (content : Image) (found : FoundFile)
         used = regular_counted g content i direct file.mapped ∙ sym used;
       }
   has_body Directory is good file =
-      let three = all_three (is_sound_file i) (is_sound_map g.blocks g.inodes i)
-      (is_sound_directory g.inodes i) good in
+      let three = all_three (is_sound_file i) (is_sound_map g i)
+      (is_sound_directory g i) good in
       let rules = all_seven (nat_le 2 i.nlink) (nat_le i.size LARGEST_DIRECTORY) (nat_eq (i.size % BLOCK_BYTES) 0)
       (nat_lt 0 i.parent) (nat_lt i.parent g.inodes)
       (names_first (min (i.size / BLOCK_BYTES) DIRECT_INDEXES) i.direct)
@@ -48,7 +48,7 @@ module _ (g : Geometry) (content : Image) (found : FoundFile)
             ∙ sym used;
       }
   has_body Link is good file =
-      let three = all_three (is_sound_file i) (is_sound_map g.blocks g.inodes i) (is_sound_link i) good in
+      let three = all_three (is_sound_file i) (is_sound_map g i) (is_sound_link i) good in
       let rules = all_five (nat_le 1 i.size) (nat_le i.size TARGET_BYTES) (nat_eq i.parent 0)
       (names_first 1 i.direct) (nat_eq i.indirect 0) (all_two _ (is_none i.verifier) three.2).0 in
       record {

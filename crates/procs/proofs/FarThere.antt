@@ -30,7 +30,7 @@ module _ (g : Geometry) (content : Image) (inode : Inode) (some : nat_eq inode.i
   far = numbers_at INDIRECT_INDEXES 0 (content inode.indirect)
 
   abbrev test : ℕ → Bool
-  test = is_data_block_or_none g.blocks g.inodes
+  test = is_data_block_or_none g
 
   mapped_far : IsMapped g content inode → list_all test far ≡ true
   unfolding numbers_of
@@ -39,12 +39,12 @@ module _ (g : Geometry) (content : Image) (inode : Inode) (some : nat_eq inode.i
       ∙ last_pass test inode.direct (cond (nat_eq inode.indirect 0) (replicate INDIRECT_INDEXES 0) far)
       mapped.numbers
 
-  pub far_pass : (kind : InodeKind) → is_sound_kind g.blocks g.inodes kind inode ≡ true
+  pub far_pass : (kind : InodeKind) → is_sound_kind g kind inode ≡ true
       → IsOfKind g content kind inode → list_all test far ≡ true
   far_pass Regular good file = mapped_far file.mapped
   far_pass Directory good file = mapped_far file.mapped
   far_pass Link good file =
-      let three = all_three (is_sound_file inode) (is_sound_map g.blocks g.inodes inode) (is_sound_link inode)
+      let three = all_three (is_sound_file inode) (is_sound_map g inode) (is_sound_link inode)
       good in
       let rules = all_five (nat_le 1 inode.size) (nat_le inode.size TARGET_BYTES) (nat_eq inode.parent 0)
       (names_first 1 inode.direct) (nat_eq inode.indirect 0)
@@ -64,9 +64,9 @@ none_name_others snap number inode stop.Io less there names = λ blocks tree sta
     let passed = far_pass snap.geometry (content_in snap.geometry blocks) inode told.0 inode.kind
     (is_sound snap.geometry blocks tree number inode stands less read)
     (is_of_kind snap.geometry blocks tree number inode stands less read) in
-    let same : list_all (is_data_block_or_none snap.geometry.blocks snap.geometry.inodes)
+    let same : list_all (is_data_block_or_none snap.geometry)
     (numbers_at INDIRECT_INDEXES 0 (blocks inode.indirect)) ≡ true =
-    ap (λ block. list_all (is_data_block_or_none snap.geometry.blocks snap.geometry.inodes)
+    ap (λ block. list_all (is_data_block_or_none snap.geometry)
     (numbers_at INDIRECT_INDEXES 0 block))
     (sym (indirect_is snap.geometry blocks tree number inode stands less read told.0)) ∙ passed in
     let clash : true ≡ false = sym same ∙ told.1 in cc

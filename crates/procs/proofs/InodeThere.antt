@@ -15,7 +15,8 @@ use Rattle.layout.specs.declared.inode.Inode.{Inode}
 use Rattle.layout.specs.Decode.{IsFile, IsOfKind, inode_at}
 use Rattle.layout.specs.InodeForm.{SoundInode, is_sound_inode, is_sound_kind}
 use Rattle.layout.specs.InodeForm.{is_data_block_or_none}
-use Rattle.layout.specs.Geometry.{inode_block, inode_offset, is_data, data_at}
+use Rattle.layout.specs.Geometry.{data_at}
+use Rattle.layout.specs.Places.{inode_block, inode_offset, is_data}
 use Rattle.layout.specs.Parts.{content_in}
 use Rattle.layout.specs.Stands.{Stands}
 use Rattle.layout.proofs.AllNumbers.{map_is}
@@ -43,30 +44,30 @@ module _ (g : Geometry) (blocks : Image) (tree : Tree) (n : ℕ) (inode : Inode)
   whole = let is = stands.parts.sound.geometry.whole_blocks in ap (λ k. k % INODES_PER_BLOCK) (sym inodes_are)
       ∙ is
 
-  on_disk : inode_block g.blocks g.inodes n < g.blocks
+  on_disk : inode_block g n < g.blocks
   on_disk =
       let room = stands.parts.sound.geometry.blocks in
       let are : tree.geometry.data_blocks ≡ g.blocks - data_at g.blocks g.inodes =
       ap (λ (one : model.Geometry). one.data_blocks) stands.parts.geometry in
       omega (arith, room, are, less, whole)
 
-  bytes_there : AreBytes (take INODE_BYTES (drop (inode_offset n) (blocks (inode_block g.blocks g.inodes n))))
+  bytes_there : AreBytes (take INODE_BYTES (drop (inode_offset n) (blocks (inode_block g n))))
   bytes_there =
-      part_bytes INODE_BYTES (inode_offset n) (blocks (inode_block g.blocks g.inodes n))
-      (stands.bytes (inode_block g.blocks g.inodes n) on_disk).1
+      part_bytes INODE_BYTES (inode_offset n) (blocks (inode_block g n))
+      (stands.bytes (inode_block g n) on_disk).1
     where
       part_bytes : (len from : ℕ) (bytes : List ℕ) → AreBytes bytes → AreBytes (take len (drop from bytes))
       part_bytes len from bytes are = (taken len (dropped from (record { are = are }))).are
 
-  pub is_read : SoundInode g.blocks g.inodes inode
+  pub is_read : SoundInode g inode
   unfolding inode_at
-  is_read = read_fits g.blocks g.inodes
-      (take INODE_BYTES (drop (inode_offset n) (blocks (inode_block g.blocks g.inodes n)))) bytes_there
-      (part-length INODE_BYTES (inode_offset n) (blocks (inode_block g.blocks g.inodes n))
-      (let whole = (stands.bytes (inode_block g.blocks g.inodes n) on_disk).0 in omega (arith, whole))) inode
+  is_read = read_fits g
+      (take INODE_BYTES (drop (inode_offset n) (blocks (inode_block g n)))) bytes_there
+      (part-length INODE_BYTES (inode_offset n) (blocks (inode_block g n))
+      (let whole = (stands.bytes (inode_block g n) on_disk).0 in omega (arith, whole))) inode
       read
 
-  pub is_sound : is_sound_kind g.blocks g.inodes inode.kind inode ≡ true
+  pub is_sound : is_sound_kind g inode.kind inode ≡ true
   unfolding is_sound_inode
   is_sound = is_read.good
 
@@ -79,21 +80,21 @@ module _ (g : Geometry) (blocks : Image) (tree : Tree) (n : ℕ) (inode : Inode)
   -- ---- its blocks
 
   pub long : (number : ℕ) → length (content_in g blocks number) ≡ BLOCK_BYTES
-  long number = filled (is_data g.blocks g.inodes number) (blocks number) (λ is.
+  long number = filled (is_data g number) (blocks number) (λ is.
       (stands.bytes number (is_less number g.blocks
       (all_two (nat_le (data_at g.blocks g.inodes) number) (nat_lt number g.blocks) is).1)).0)
 
-  maps : (list_all (is_data_block_or_none g.blocks g.inodes) inode.direct ≡ true)
-      × (is_data_block_or_none g.blocks g.inodes inode.indirect ≡ true)
-  maps = all_two (list_all (is_data_block_or_none g.blocks g.inodes) inode.direct)
-      (is_data_block_or_none g.blocks g.inodes inode.indirect)
-      (map_is g.blocks g.inodes inode.kind inode is_sound)
+  maps : (list_all (is_data_block_or_none g) inode.direct ≡ true)
+      × (is_data_block_or_none g inode.indirect ≡ true)
+  maps = all_two (list_all (is_data_block_or_none g) inode.direct)
+      (is_data_block_or_none g inode.indirect)
+      (map_is g inode.kind inode is_sound)
 
   pub indirect_is : nat_eq inode.indirect 0 ≡ false
       → content_in g blocks inode.indirect ≡ blocks inode.indirect
   indirect_is some =
       ap (λ b. cond b (blocks inode.indirect) (replicate BLOCK_BYTES 0))
-      (data_of (nat_eq inode.indirect 0) (is_data g.blocks g.inodes inode.indirect) some maps.1)
+      (data_of (nat_eq inode.indirect 0) (is_data g inode.indirect) some maps.1)
 
   pub indirect_long : length (blocks inode.indirect) ≡ BLOCK_BYTES
   indirect_long = by_test (nat_eq inode.indirect 0) refl

@@ -11,3 +11,4 @@ pub mod FoundThere
 pub mod FarThere
 pub mod StepsOf
 pub mod Apart
+pub mod FewAsked

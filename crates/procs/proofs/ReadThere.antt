@@ -15,7 +15,7 @@ use Rattle.layout.specs.declared.geometry.Geometry.{Geometry}
 use Rattle.layout.specs.Decode.{IsFile, inode_at}
 use Rattle.layout.specs.InodeForm.{read_inode}
 use Rattle.layout.specs.Parts.{content_in}
-use Rattle.layout.specs.Geometry.{inode_block, inode_offset}
+use Rattle.layout.specs.Places.{inode_block, inode_offset}
 use Rattle.layout.specs.Stands.{Stands}
 use Rattle.layout.specs.declared.inode.Inode.{Inode}
 use Rattle.txn.specs.Object.{ObjectBytes}
@@ -23,13 +23,13 @@ use Rattle.txn.specs.Window.{object_at}
 use Rattle.procs.specs.Asks.{IsInodeAddr, WasRead, WasReadInode}
 
 pub read_there : (g : Geometry) (blocks : Image) (number : ℕ) (addr : Addr) (bytes : List ℕ)
-    → addr.block.0 ≡ inode_block g.blocks g.inodes number → addr.offset ≡ inode_offset number
+    → addr.block.0 ≡ inode_block g number → addr.offset ≡ inode_offset number
     → addr.len ≡ INODE_BYTES
-    → object_at blocks addr ≡ bytes → inode_at g blocks number ≡ read_inode g.blocks g.inodes bytes
+    → object_at blocks addr ≡ bytes → inode_at g blocks number ≡ read_inode g bytes
 unfolding inode_at
 read_there g blocks number addr bytes block offset len there =
-    (λ i. read_inode g.blocks g.inodes (take (sym len i) (drop (sym offset i) (blocks (sym block i)))))
-    ∙ ap (read_inode g.blocks g.inodes) there
+    (λ i. read_inode g (take (sym len i) (drop (sym offset i) (blocks (sym block i)))))
+    ∙ ap (read_inode g) there
 
 pub no_fault : (g : Geometry) (blocks : Image) (tree : Tree) (number : ℕ) (fault : LayoutFault)
     → number < g.inodes → Stands g blocks tree → inode_at g blocks number ≡ Err fault → ⊥
@@ -60,7 +60,7 @@ held_there blocks indirect mapped addr bytes numbers block offset len there long
 -- an inode that was read, where it isn't free
 pub was_read : (g : Geometry) (objects : List ObjectBytes) (number : ℕ) (addr : Addr)
     → IsInodeAddr g number addr → (bytes : List ℕ) → WasRead objects addr bytes → (found : Option Inode)
-    → read_inode g.blocks g.inodes bytes ≡ Ok found
+    → read_inode g bytes ≡ Ok found
     → IfSome found (λ inode. WasReadInode g objects number inode)
 was_read g objects number addr at bytes read None is = tt
 was_read g objects number addr at bytes read (Some inode) is = record {

@@ -1,5 +1,5 @@
 -- What a call may ask to read, and to claim, by what was read for it so far.
-use Rattle.std.specs.Prelude.{◌≡◌, ◌≢◌, ℕ, ◌<◌, true, ◌⊎◌, Contains, List, Some, Ok, slice_get, take}
+use Rattle.std.specs.Prelude.{◌≡◌, ◌≢◌, ℕ, ◌<◌, true, false, ◌⊎◌, Contains, List, Some, Ok, slice_get, take}
 use Rattle.limits.specs.declared.TheConstants.{INODE_BYTES}
 use Rattle.nfs_types.specs.Handle.{handle_bytes}
 use Rattle.nfs_types.specs.declared.call.Call.{Call}
@@ -9,7 +9,7 @@ use Rattle.disk.specs.declared.block.BlockNo.{BlockNo}
 use Rattle.objects.specs.declared.addr.Addr.{Addr}
 use Rattle.layout.specs.declared.geometry.Geometry.{Geometry}
 use Rattle.layout.specs.declared.inode.Inode.{Inode}
-use Rattle.layout.specs.Geometry.{inode_block, inode_offset}
+use Rattle.layout.specs.Places.{inode_block, inode_offset}
 use Rattle.layout.specs.InodeForm.{read_inode}
 use Rattle.txn.specs.Object.{ObjectBytes}
 use Rattle.txn.specs.Wishes.{IsWhole}
@@ -20,7 +20,7 @@ use Rattle.procs.specs.Snap.{is_seen, is_claimed, same_addr}
 
 -- the address is that of an inode
 pub record IsInodeAddr (g : Geometry) (number : ℕ) (addr : Addr) : Type 0 where
-  pub block : addr.block.0 ≡ inode_block g.blocks g.inodes number
+  pub block : addr.block.0 ≡ inode_block g number
   pub offset : addr.offset ≡ inode_offset number
   pub len : addr.len ≡ INODE_BYTES
 
@@ -44,7 +44,7 @@ pub record WasReadInode (g : Geometry) (objects : List ObjectBytes) (number : �
     pub at : IsInodeAddr g number addr
     pub bytes : List ℕ
     pub read : WasRead objects addr bytes
-    pub is_inode : read_inode g.blocks g.inodes bytes ≡ Ok (Some inode)
+    pub is_inode : read_inode g bytes ≡ Ok (Some inode)
 
 -- Of the file that a handle names, the inode is asked for, and then the indirect block that the inode names.
 pub data AsksOfFile (g : Geometry) (handle : List ℕ) (objects : List ObjectBytes) (addr : Addr) : Type 0 where
@@ -83,6 +83,12 @@ Asks g (call.Commit file offset count) objects addr = ⊥
 abbrev pub WereAsked : Geometry → Call → List ObjectBytes → Type 0
 WereAsked g call objects = (index : ℕ) (object : ObjectBytes) → slice_get objects index ≡ Some object
     → Asks g call (take index objects) object.addr
+
+-- each was asked for by those before it, and has another address than they
+pub record WereAskedOnce (g : Geometry) (call : Call) (objects : List ObjectBytes) : Type 0 where
+  pub asked : WereAsked g call objects
+  pub once : (index : ℕ) (object : ObjectBytes) → slice_get objects index ≡ Some object
+      → is_seen object.addr (take index objects) ≡ false
 
 -- what a call may ask to claim: no call with rules claims a block yet
 abbrev pub Claims : Geometry → Call → List ObjectBytes → BlockNo → Type 0

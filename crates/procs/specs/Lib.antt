@@ -4,5 +4,6 @@ pub mod FoundFile
 pub mod Steps
 pub mod Asks
 pub mod MostChanged
+pub mod MostAsked
 pub mod Planned
 pub mod Finished

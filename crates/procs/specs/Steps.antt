@@ -20,7 +20,7 @@ use Rattle.layout.specs.declared.geometry.Geometry.{Geometry}
 use Rattle.layout.specs.declared.inode.Inode.{Inode}
 use Rattle.layout.specs.Decode.{inode_at, node_with}
 use Rattle.layout.specs.InodeForm.{inode_bytes, is_data_block_or_none}
-use Rattle.layout.specs.Geometry.{inode_block, inode_offset}
+use Rattle.layout.specs.Places.{inode_block, inode_offset}
 use Rattle.layout.specs.Stands.{Stands}
 use Rattle.model.specs.Tree.{Tree}
 use Rattle.txn.specs.Object.{ObjectBytes}
@@ -43,7 +43,7 @@ pub record IsSetFrom (moment : Moment) (wanted : NewAttributes) (old new : Inode
 
 -- the object is this inode under its number
 pub record IsInodeObject (g : Geometry) (number : ℕ) (inode : Inode) (object : ObjectBytes) : Type 0 where
-  pub block : object.addr.block.0 ≡ inode_block g.blocks g.inodes number
+  pub block : object.addr.block.0 ≡ inode_block g number
   pub offset : object.addr.offset ≡ inode_offset number
   pub bytes : object.bytes ≡ inode_bytes inode
 
@@ -74,7 +74,7 @@ abbrev pub NamesOthers : Snap → ℕ → Stop → Type 0
 NamesOthers snap indirect stop.Io = (blocks : Image) → Saw blocks snap
     → length (blocks indirect) ≡ BLOCK_BYTES
     → (nat_eq indirect 0 ≡ false)
-    × (list_all (is_data_block_or_none snap.geometry.blocks snap.geometry.inodes)
+    × (list_all (is_data_block_or_none snap.geometry)
     (numbers_at INDIRECT_INDEXES 0 (blocks indirect)) ≡ false)
 NamesOthers snap indirect stop.NoMemory = Unit {0}
 NamesOthers snap indirect (stop.Need addr) = Unit {0}

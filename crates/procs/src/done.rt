@@ -59,13 +59,12 @@ impl Done {
 }
 
 impl Change for Done {
-    ghost objects_read = { λ done. done.read };
-
-    ghost objects_written = { λ done. done.written };
-
-    ghost planned_blocks = { λ done. done.blocks };
-
-    ghost planned_inodes = { λ done. done.inodes };
+    ghost planned = { λ done. record {
+      read = done.read;
+      written = done.written;
+      blocks = done.blocks;
+      inodes = done.inodes;
+    } };
 
     ghost is_plan = { HasPlan };
 

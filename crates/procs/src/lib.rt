@@ -15,7 +15,10 @@ mod steps;
 mod stop;
 mod work;
 
-pub use asks::{what_is_asked_for_is_home, what_is_asked_for_lies_apart};
+pub use asks::{
+    a_call_asks_for_few, what_is_asked_for_is_home, what_is_asked_for_lies_apart,
+    what_is_asked_for_stays, what_is_read_was_asked_for,
+};
 pub use done::Done;
 pub use next::Plan;
 pub use refused::refused_reply;

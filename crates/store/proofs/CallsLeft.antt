@@ -82,7 +82,7 @@ may_is false false out is = absurd (true≢false (sym is))
 may_is true some out is = absurd (true≢false (sym is))
 
 -- a call was given back, of which is known that it is the one that is out
-given_back : (is_out : Bool) (made same new : Log) → is_out ≡ true → new ≡ (if is_out then made else same)
+pub given_back : (is_out : Bool) (made same new : Log) → is_out ≡ true → new ≡ (if is_out then made else same)
     → new ≡ made
 given_back true made same new is given = given
 given_back false made same new is given = absurd (true≢false (sym is))

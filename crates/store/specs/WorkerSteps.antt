@@ -4,8 +4,10 @@ use Rattle.std.specs.Prelude.{Option, Some, None, Ok, Err, List, [], ◌∷◌, 
 use Rattle.disk.specs.Crash.{Image}
 use Rattle.disk.specs.declared.block.BlockNo.{BlockNo}
 use Rattle.objects.specs.declared.addr.Addr.{Addr}
+use Rattle.objects.specs.declared.mode.Mode.TheVariants as modes
+use Rattle.layout.specs.declared.version.FormatVersion.TheVariants.{First}
 use Rattle.model.specs.Calls.{has_rules, unsupported}
-use Rattle.wal_law.specs.Log.{settled_place}
+use Rattle.wal_law.specs.Log.{added_blocks, settled_place}
 use Rattle.wal_law.specs.declared.outcomes.Seq.{Seq}
 use Rattle.procs.specs.Outcome.{Outcome}
 use Rattle.procs.specs.Planned.{IsPlanFor, IsStepPlan}
@@ -73,6 +75,7 @@ numbered number job = record job { ctx = record job.ctx { transaction = number }
 
 -- nothing was read yet, of the core's image
 pub record SawNothing (core : CoreState) (seen : Seen) : Type 0 where
+  pub version : seen.geometry.version ≡ First
   pub blocks : seen.geometry.blocks ≡ core.log.blocks
   pub inodes : seen.geometry.inodes ≡ core.inodes
   pub objects : seen.objects ≡ []
@@ -104,11 +107,11 @@ Begins old made new = IsSomeAnd old.worker.work.job (λ job. BeginsBy (has_rules
 
 -- ---- a plan
 
--- a wish to read an object is answered
+-- a wish to read an object, alone, is answered
 pub record HasWanted (tx : ℕ) (addr : Addr) (old : Side) (made : Step) (new : Side) : Type 0 where
   pub answer : Want
-  pub made_is : made ≡ step.Wanted addr (wish_of answer)
-  pub core : IsWanted old.core tx addr answer new.core
+  pub made_is : made ≡ step.Wanted addr modes.Exclusive (wish_of answer)
+  pub core : IsWanted old.core tx addr modes.Exclusive answer new.core
   pub worker : new.worker ≡ record (with_snap new.worker old.worker) {
     phase = phase_wanted answer;
     begun = begun_wanted answer;
@@ -140,7 +143,7 @@ planned_of done = record {
 pub record HasCommitted (job : Job) (tx : ℕ) (done : Outcome) (old : Side) (made : Step) (new : Side) : Type 0
   where
     pub answer : Commit Outcome
-    pub made_is : made ≡ step.Commit (length (blocks_of done.written)) (committing_of answer)
+    pub made_is : made ≡ step.Commit (added_blocks old.core.log (blocks_of done.written)) (committing_of answer)
     pub core : IsCommit old.core tx (planned_of done) done answer new.core
     pub sets : IsSetBy old.core (planned_of done) answer new.core
     pub worker : new.worker ≡ after_commit job done.reply answer

@@ -10,7 +10,7 @@ ghost use Rattle.store.specs.Formatting.{HasFormatted, HasWrittenUpTo, IsBlank, 
 ghost use Rattle.store.specs.Formatting.{LeavesByFormat, LeavesSuper, Stops};
 
 use disk::{Block, BlockNo, CrashDisk, Failed, Side};
-use layout::{FreshImage, Geometry, GeometryFault};
+use layout::{FormatVersion, FreshImage, Geometry, GeometryFault};
 use limits::{FIRST_HOME_BLOCK, LOG_HEADER_BLOCK, START_BLOCK, SUPER_BLOCK};
 use nfs_types::Moment;
 use std::alloc::{AllocError, Global};
@@ -54,7 +54,7 @@ pub fn format<D: CrashDisk>(
         → LeavesByFormat (D.device disk.old) inodes moment result (D.device disk.new) }
     ensures model { D.keeps_model disk.new → D.keeps_model disk.old }
 {
-    let geometry = match Geometry::new(disk.blocks(), inodes) {
+    let geometry = match Geometry::new(FormatVersion::First, disk.blocks(), inodes) {
         Ok(geometry) => geometry,
         Err(GeometryFault::Size) => return Err(FormatFault::Size),
         Err(GeometryFault::Inodes) => return Err(FormatFault::Inodes),

@@ -13,3 +13,4 @@ pub mod Chains
 pub mod OpenSteps
 pub mod OpenCommits
 pub mod OpenInstalls
+pub mod Shown

@@ -1,5 +1,5 @@
 -- The run of one SETATTR, event by event.
-use Rattle.std.proofs.Common.{◌≡◌, ℕ, zero, suc, ◌∷◌, Some, slice_get, subst, take, ◌+◌, ◌-◌, ◌<◌, ◌^◌, refl, ap, Bool, true, false, arith}
+use Rattle.std.proofs.Common.{◌≡◌, ℕ, zero, suc, take, ◌+◌, ◌-◌, ◌<◌, ◌^◌, refl, ap, Bool, true, false, arith}
 use Rattle.std.proofs.Common.{[], Option, Ok}
 use Rattle.std.specs.List.{zip}
 use Rattle.disk.specs.Crash.{Image}
@@ -13,16 +13,14 @@ use Rattle.store_promise.specs.declared.events.Step.{Step}
 use Rattle.store_promise.specs.declared.events.Step.TheVariants as step
 use Rattle.nfs_types.specs.declared.reply.Reply.{Reply}
 use Rattle.layout.specs.Stands.{Stands}
+use Rattle.model.specs.Step as server
 use Rattle.model.specs.Tree.{Tree}
-use Rattle.txn.specs.Window.{IsAsRead}
-use Rattle.store_promise.specs.declared.transcript.Committed.{Committed}
-use Rattle.store_promise.specs.Headline.{WasTrueOf, objects_at}
-use Rattle.store_promise.specs.OneSetAttr.{OneSetAttr, asked, events_of, setting_of, steps_of, told_of}
+use Rattle.store_promise.specs.Headline.{StandsAfter}
+use Rattle.store_promise.specs.OneSetAttr.{OneSetAttr, asked, blocks_at, ctx_in, events_of, setting_of, steps_of, told_of}
 use Rattle.store_promise.specs.Schedule.{AreTaken, IsOfOne, IsStepOf, IsStepOfCalled, IsTaken}
 use Rattle.store_promise.specs.Schedule.{Setting, Told, at_first, told_before, worker_of}
 use Rattle.store_promise.specs.Transcript.{entries_of}
-use Rattle.store_promise.proofs.OneSetAttrAlong.{Along, each, no-one, ◌then◌}
-use Rattle.store_promise.proofs.OneSetAttrTold.{only_contained}
+use Rattle.store_promise.proofs.OneSetAttrAlong.{Along, each, ◌then◌}
 
 -- ---- each step is one that may be made
 
@@ -39,10 +37,10 @@ is_taken : (o : Setting) (index : ℕ) (told : Told) (e : Event) (m : Option Ste
     → IsTaken o 1 told e m
 is_taken o index told e m may = record { own = λ _. may.1; others = λ no. absurd (no may.0) }
 
-module _ (g : Geometry) (blocks : Image) (one : OneSetAttr) (room : one.position + 1 < 2 ^ 64)
+module _ (g : Geometry) (blocks changed : Image) (one : OneSetAttr) (room : one.position + 1 < 2 ^ 64)
     (rules : sets_only_mode one.attributes ≡ true) (asks : Asks g (asked one) [] one.addr) where
   abbrev o : Setting
-  o = setting_of g blocks one
+  o = setting_of g blocks changed one
 
   less : 0 < 1
   less = omega arith
@@ -61,19 +59,13 @@ module _ (g : Geometry) (blocks : Image) (one : OneSetAttr) (room : one.position
   along =
       (less, refl)
       then (less, begins (told_before (events_of one) (steps_of one) 1) _ rules refl refl)
-      then (less, record { held = refl; by_plan = (record { unheld = refl; asks = asks }, refl) })
+      then (less, (record { unheld = refl; asks = asks; alone = refl }, refl))
       then (less, refl)
       then (less, refl)
-      then (less, record { held = refl; by_plan = (record { unheld = refl; asks = asks }, tt) })
+      then (less, (record { unheld = refl; asks = asks; alone = refl }, tt))
       then (
         less,
-        record {
-          held = refl;
-          by_plan = (
-            omega arith,
-            (refl, refl, record { place = omega arith; positions = within }, omega arith),
-          );
-        },
+        (omega arith, (refl, refl, record { place = omega arith; positions = within }, omega arith)),
       )
       then (tt, slot) then (tt, tt) then (tt, refl) then (tt, refl) then (tt, tt) then (tt, refl)
       then (tt, refl) then (tt, tt) then (tt, refl) then (tt, refl) then (tt, tt) then (tt, refl)
@@ -88,16 +80,13 @@ module _ (g : Geometry) (blocks : Image) (one : OneSetAttr) (room : one.position
         (each (MayMake o) at_first (events_of one) (steps_of one) along index e m is_event is_step);
   }
 
--- its object was read as it is in the blocks that stand for the tree, before anything was committed
-pub read_before : (g : Geometry) (blocks : Image) (tree : Tree) (boot : ℕ) (one : OneSetAttr) (reply : Reply)
-    → Stands g blocks tree → (index : ℕ) (c : Committed)
-    → slice_get (told_of boot one reply).history index ≡ Some c
-    → WasTrueOf g tree (take index (entries_of (told_of boot one reply))) (objects_at blocks (one.addr ∷ []))
-read_before g blocks tree boot one reply stands zero c is = record {
-  left = tree;
-  leads = refl;
-  blocks = blocks;
-  stands = stands;
-  as_read = λ object there. subst (IsAsRead blocks) (only_contained _ object there) refl;
-}
-read_before g blocks tree boot one reply stands (suc index) c is = absurd (no-one c is)
+-- the blocks stand for the tree before its entry, and after it for the next
+pub files_at : (g : Geometry) (blocks changed : Image) (tree next : Tree) (boot : ℕ) (one : OneSetAttr) (reply : Reply)
+    → Stands g blocks tree → Stands g changed next → server.step tree (ctx_in boot one) (asked one) reply next → (place : ℕ)
+    → StandsAfter g tree (take place (entries_of (told_of boot one reply))) (blocks_at blocks changed place)
+files_at g blocks changed tree next boot one reply stands after_it stepped zero =
+    record { left = tree; leads = refl; stands = stands }
+files_at g blocks changed tree next boot one reply stands after_it stepped (suc zero) =
+    record { left = next; leads = (next, stepped, refl); stands = after_it }
+files_at g blocks changed tree next boot one reply stands after_it stepped (suc (suc place)) =
+    record { left = next; leads = (next, stepped, refl); stands = after_it }

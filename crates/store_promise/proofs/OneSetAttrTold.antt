@@ -18,7 +18,8 @@ use Rattle.store_promise.specs.History.{IsHistory, WasCommitted}
 use Rattle.store_promise.specs.LogTold.{settled_told}
 use Rattle.store_promise.specs.OneSetAttr.{OneSetAttr, answer_at, asked, entry_in, events_of, steps_of}
 use Rattle.store_promise.specs.OneSetAttr.{told_of}
-use Rattle.store_promise.specs.Progress.{is_idle, Begun, Job, Waiting}
+use Rattle.objects.specs.declared.mode.Mode.TheVariants as modes
+use Rattle.store_promise.specs.Progress.{is_idle, Begun, Job, Taken, Waiting}
 use Rattle.store_promise.specs.Schedule.{Told, at_first, told_after, told_before, worker_of}
 use Rattle.store_promise.specs.Transcript.{Transcript, committed_at, device_calls, made}
 use Rattle.store_promise.specs.Verdicts.{AreAnswers, IsAnswer}
@@ -77,9 +78,13 @@ ends_there false false there passed busy idle = cc
 abbrev pub job_of : OneSetAttr → Job
 job_of one = record { credential = one.credential; moment = one.moment; call = asked one }
 
+-- the object, taken alone
+abbrev pub taken_of : OneSetAttr → Taken
+taken_of one = record { addr = one.addr; mode = modes.Exclusive }
+
 -- the first transaction, which has read the object
 abbrev pub with_read : OneSetAttr → Begun
-with_read one = record { number = 1; held = one.addr ∷ []; fetched = one.addr ∷ []; claimed = [] }
+with_read one = record { number = 1; held = taken_of one ∷ []; fetched = taken_of one ∷ []; claimed = [] }
 
 -- the steps alone
 abbrev bare : OneSetAttr → Transcript

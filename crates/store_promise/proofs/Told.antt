@@ -11,7 +11,7 @@ use Rattle.store_promise.specs.declared.events.Event.TheVariants as event
 use Rattle.store_promise.specs.declared.events.Step.{Step}
 use Rattle.store_promise.specs.Progress.{Begun, Job, Progress, Idle, At, Stage, Called, Planning, going_on, progressed}
 use Rattle.store_promise.specs.Schedule.{Schedule, Setting, Told, at_first, told_after, told_along, told_before}
-use Rattle.store_promise.specs.Schedule.{AreTaken, IsOfOne, IsStepOfPlan, IsStepOfWork, IsTaken}
+use Rattle.store_promise.specs.Schedule.{AreTaken, IsOfOne, IsStepByPlan, IsStepOfWork, IsTaken}
 use Rattle.store_promise.specs.Schedule.{progress_before, worker_of}
 use Rattle.store_promise.specs.Transcript.{Transcript, made, step_at}
 
@@ -207,7 +207,7 @@ module _ (o : Setting) (workers : ℕ) (events : Schedule) (steps : List (Option
       → slice_get events index ≡ Some (event.Work worker) → worker < workers
       → slice_get steps index ≡ Some (Some one)
       → progress_before events steps worker index ≡ At job (Planning begun)
-      → IsStepOfPlan o (told_before events steps index) worker job.call begun one
+      → IsStepByPlan o (told_before events steps index) worker job.call begun one
   planned_step index worker job begun one is_event less is_step planning =
       subst (λ p. IsStepOfWork o (told_before events steps index) worker p (Some one)) planning
       ((taken.each index (event.Work worker) (Some one) is_event is_step).own less)

@@ -1,5 +1,5 @@
 -- What a store promises of a whole run, on a device that keeps its model.
-use Rattle.std.specs.Prelude.{◌≡◌, ℕ, ◌+◌, ◌≤◌, List, map, take, length, count_by, slice_get, Some, Contains}
+use Rattle.std.specs.Prelude.{◌≡◌, ℕ, ◌+◌, ◌≤◌, List, take, length, count_by, Contains}
 use Rattle.std.specs.Prelude.{Result, Ok, Err}
 use Rattle.disk.specs.Crash.{Image, IsAtRest, IsCrashImage}
 use Rattle.disk.specs.Device.{Device}
@@ -7,13 +7,8 @@ use Rattle.layout.specs.declared.geometry.Geometry.{Geometry}
 use Rattle.layout.specs.Stands.{Stands}
 use Rattle.model.specs.After.{Entry, after}
 use Rattle.model.specs.Tree.{Tree}
-use Rattle.procs.specs.Steps.{AreAsRead}
-use Rattle.objects.specs.declared.addr.Addr.{Addr}
-use Rattle.txn.specs.Object.{ObjectBytes}
-use Rattle.txn.specs.Window.{object_at}
 use Rattle.store_promise.specs.declared.fault.OpenFault.{OpenFault}
 use Rattle.store_promise.specs.declared.transcript.Answer.{Answer}
-use Rattle.store_promise.specs.declared.transcript.Committed.{Committed}
 use Rattle.store_promise.specs.GoodImage.{IsGoodImage}
 use Rattle.store_promise.specs.History.{IsHistory}
 use Rattle.store_promise.specs.LogTold.{settled_told}
@@ -50,18 +45,11 @@ pub record IsGeometryOf (size : ℕ) (tree : Tree) (g : Geometry) : Type 0 where
   pub blocks : g.blocks ≡ size
   pub inodes : g.inodes ≡ tree.geometry.inodes
 
--- What was read is what files were: there are blocks that stand for the tree which the entries lead to, and have it.
-pub record WasTrueOf (g : Geometry) (tree : Tree) (entries : List Entry) (read : List ObjectBytes) : Type 0
-  where
-    pub left : Tree
-    pub leads : after tree entries left
-    pub blocks : Image
-    pub stands : Stands g blocks left
-    pub as_read : AreAsRead blocks read
-
--- what blocks have at these addresses
-abbrev pub objects_at : Image → List Addr → List ObjectBytes
-objects_at blocks addrs = map (λ addr. record { addr = addr; bytes = object_at blocks addr }) addrs
+-- the blocks stand for the tree that the entries lead to
+pub record StandsAfter (g : Geometry) (tree : Tree) (entries : List Entry) (blocks : Image) : Type 0 where
+  pub left : Tree
+  pub leads : after tree entries left
+  pub stands : Stands g blocks left
 
 -- The promise of a run with so many workers, which took events on a device whose image had this tree and this
 -- boot number, and left the device as it became:
@@ -85,11 +73,10 @@ pub record KeepsPromise (before later : Device) (tree : Tree) (first workers : �
   pub boot : t.boot ≡ first + 1
   pub history : IsHistory events t
   pub answers : AreAnswers events t
-  -- every event is taken
+  -- every event is taken,
   pub taken : AreTaken setting workers events t.steps
-  -- and what the transaction of a procedure had read is what the files were just before it
-  pub read : (index : ℕ) (c : Committed) → slice_get t.history index ≡ Some c
-      → WasTrueOf setting.geometry tree (take index (entries_of t)) (setting.reads c.ctx.transaction)
+  -- by what the files are after the procedures that were committed by then
+  pub files : (place : ℕ) → StandsAfter setting.geometry tree (take place (entries_of t)) (setting.blocks place)
 
 -- What a run stands on: the device keeps its model, is at rest, and holds a good image with this tree and this
 -- boot number; and calls are handed over at moments below a second.

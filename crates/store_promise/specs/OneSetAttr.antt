@@ -1,11 +1,12 @@
 -- A run of one worker and one SETATTR of the mode, taken to its stable answer: what comes, what is told, and
 -- what the device and its images are to be.
-use Rattle.std.specs.Prelude.{◌≡◌, ℕ, ◌+◌, ◌≤◌, ◌⊎◌, true, List, [], ◌∷◌, ◌++◌, map, Option, Some, Ok}
+use Rattle.std.specs.Prelude.{◌≡◌, ℕ, zero, suc, ◌+◌, ◌≤◌, ◌⊎◌, true, List, [], ◌∷◌, ◌++◌, map, Option, Some, Ok}
 use Rattle.limits.specs.declared.TheConstants.{LOG_HEADER_BLOCK}
 use Rattle.disk.specs.Crash.{Image, IsCrashImage}
 use Rattle.disk.specs.Device.{Device}
 use Rattle.disk.specs.declared.block.Side.TheVariants as side
 use Rattle.objects.specs.declared.addr.Addr.{Addr}
+use Rattle.objects.specs.declared.mode.Mode.TheVariants as modes
 use Rattle.nfs_types.specs.declared.attributes.NewAttributes.{NewAttributes}
 use Rattle.nfs_types.specs.declared.call.Call.{Call}
 use Rattle.nfs_types.specs.declared.call.Call.TheVariants as call
@@ -29,7 +30,6 @@ use Rattle.store_promise.specs.declared.transcript.Answer.{Answer}
 use Rattle.store_promise.specs.declared.transcript.Committed.{Committed}
 use Rattle.store_promise.specs.GoodImage.{IsGoodImage}
 use Rattle.store_promise.specs.Openings.{IsLater, LeavesImages}
-use Rattle.store_promise.specs.Headline.{objects_at}
 use Rattle.store_promise.specs.Schedule.{Schedule, Setting}
 use Rattle.store_promise.specs.Transcript.{Transcript}
 
@@ -74,8 +74,8 @@ events_to_commit one =
 
 abbrev pub steps_to_commit : OneSetAttr → List Step
 steps_to_commit one =
-    step.Called ∷ step.Begun (Ok 1) ∷ step.Wanted one.addr wish.Fetch ∷ step.Read one.addr.block true
-    ∷ step.Fetched one.addr.block ∷ step.Wanted one.addr wish.Held
+    step.Called ∷ step.Begun (Ok 1) ∷ step.Wanted one.addr modes.Exclusive wish.Fetch ∷ step.Read one.addr.block true
+    ∷ step.Fetched one.addr.block ∷ step.Wanted one.addr modes.Exclusive wish.Held
     ∷ step.Commit 1 (committing.Committed (record { 0 = 1 })) ∷ []
 
 -- the log's four device calls: the slot's write, a barrier, the header's write, a barrier
@@ -142,12 +142,16 @@ told_of boot one reply = told_with boot one reply (answer_at reply 19 5)
 abbrev pub told_too_early : ℕ → OneSetAttr → Reply → Transcript
 told_too_early boot one reply = told_with boot one reply (answer_at reply 6 1)
 
--- the blocks of the image have what it reads
-abbrev pub setting_of : Geometry → Image → OneSetAttr → Setting
-setting_of g blocks one = record {
+-- the blocks before its entry, and after it
+abbrev pub blocks_at : Image → Image → ℕ → Image
+blocks_at blocks changed zero = blocks
+blocks_at blocks changed (suc place) = changed
+
+abbrev pub setting_of : Geometry → Image → Image → OneSetAttr → Setting
+setting_of g blocks changed one = record {
   geometry = g;
   position = one.position;
-  reads = λ transaction. objects_at blocks (one.addr ∷ []);
+  blocks = blocks_at blocks changed;
 }
 
 -- ---- the device

@@ -1,5 +1,5 @@
 -- What an opening, and the making of an image, do to a device.
-use Rattle.std.specs.Prelude.{◌≡◌, ◌≢◌, ℕ, ◌+◌, ◌-◌, ◌^◌, ◌<◌, ◌≤◌, ◌⊎◌}
+use Rattle.std.specs.Prelude.{◌≡◌, ◌≢◌, ℕ, ◌+◌, ◌-◌, ◌^◌, ◌<◌, ◌≤◌, ◌⊎◌, Option, Some, None}
 use Rattle.limits.specs.declared.TheConstants.{SUPER_BLOCK}
 use Rattle.disk.specs.Crash.{Image, IsAtRest, IsCrashImage}
 use Rattle.disk.specs.Device.{Content, Device}
@@ -86,14 +86,20 @@ abbrev pub IsOfAnother : ℕ → Content → Type 0
 IsOfAnother size content = (super : Super) × IsSuper content super
     × ((super.geometry.blocks ≢ size) ⊎ (2 ^ 64 ≤ super.boot + 1))
 
--- an image of so many blocks shows why it isn't opened: by its super block first, then by its log's headers
+-- the super block is one of the device's size, and a boot number is left
+abbrev pub HasBootLeft : ℕ → Content → Type 0
+HasBootLeft size content = (super : Super) × IsSuper content super × (super.geometry.blocks ≡ size)
+    × (super.boot + 1 < 2 ^ 64)
+
+-- an image of so many blocks shows why it isn't opened: by its super block first, whose boot number is the last of it, then by its log's
+-- headers
 abbrev pub IsShownBy : OpenFault → ℕ → Image → Type 0
 IsShownBy fault.Magic size image = (size ≡ 0) ⊎ IsNoSuper (image SUPER_BLOCK) layout_fault.Magic
 IsShownBy fault.Version size image = IsNoSuper (image SUPER_BLOCK) layout_fault.Version
 IsShownBy fault.Range size image = IsNoSuper (image SUPER_BLOCK) layout_fault.Range
     ⊎ IsOfAnother size (image SUPER_BLOCK)
-IsShownBy fault.Log size image = (super : Super) × IsSuper (image SUPER_BLOCK) super
-    × (super.geometry.blocks ≡ size) × ((IsInRange image × HasHomes size image) → ⊥)
+IsShownBy fault.Log size image = HasBootLeft size (image SUPER_BLOCK)
+    × ((IsInRange image × HasHomes size image) → ⊥)
 IsShownBy fault.Device size image = ⊥
 IsShownBy fault.NoMemory size image = ⊥
 
@@ -110,6 +116,17 @@ IsRefusedFor keeps_model fault.Device before later = IsLater before later × (be
 IsRefusedFor keeps_model fault.NoMemory before later = IsLater before later
 IsRefusedFor keeps_model cause before later = WasOnlyRead before later
     × (keeps_model → IsUnspoiled before → IsShownBy cause before.size (image_of before))
+
+-- an image of so many blocks shows no cause
+abbrev pub ShowsNoCause : ℕ → Image → Type 0
+ShowsNoCause size image = (cause : OpenFault) → IsShownBy cause size image → ⊥
+
+-- What comes of an opening of any image, good or not: it is opened only where the image shows no cause and no call
+-- failed, and refused as said above.
+abbrev pub IsAnsweredFor : Type 0 → Option OpenFault → Device → Device → Type 0
+IsAnsweredFor keeps_model None before later = IsLater before later × (later.failures ≡ before.failures)
+    × (keeps_model → IsUnspoiled before → ShowsNoCause before.size (image_of before))
+IsAnsweredFor keeps_model (Some cause) before later = IsRefusedFor keeps_model cause before later
 
 -- what a stop may leave while an image is made: an image from before, one that has no super block, or the
 -- fresh one

@@ -1,10 +1,12 @@
 -- How far a worker is with its call, told from the steps of its own alone. The stages bear the names that the
 -- phases of a worker have.
 use Rattle.std.specs.Prelude.{ℕ, ◌+◌, Bool, true, false, ◌||◌, ◌&&◌, if◌then◌else◌, nat_eq, nat_lt, List, []}
-use Rattle.std.specs.Prelude.{◌∷◌, ◌++◌, Ok, Option, Some, None}
+use Rattle.std.specs.Prelude.{◌∷◌, ◌++◌, map, Ok, Option, Some, None}
 use Rattle.std.specs.List.{list_any}
 use Rattle.disk.specs.declared.block.BlockNo.{BlockNo}
+use Rattle.objects.specs.Mode.{is_exclusive}
 use Rattle.objects.specs.declared.addr.Addr.{Addr}
+use Rattle.objects.specs.declared.mode.Mode.{Mode}
 use Rattle.nfs_types.specs.declared.call.Call.{Call}
 use Rattle.nfs_types.specs.declared.ctx.Credential.{Credential}
 use Rattle.nfs_types.specs.declared.ctx.Moment.{Moment}
@@ -24,12 +26,21 @@ pub record Job : Type 0 where
   pub moment : Moment
   pub call : Call
 
+-- an object that a transaction has taken, and in which mode
+pub record Taken : Type 0 where
+  pub addr : Addr
+  pub mode : Mode
+
+-- the addresses of what was taken
+abbrev pub addrs_of : List Taken → List Addr
+addrs_of taken = map (λ (one : Taken). one.addr) taken
+
 -- A transaction that is out: its number, the objects that it was told, those whose block was read for it, and
 -- the blocks that it has claimed, each in the order of the steps.
 pub record Begun : Type 0 where
   pub number : ℕ
-  pub held : List Addr
-  pub fetched : List Addr
+  pub held : List Taken
+  pub fetched : List Taken
   pub claimed : List BlockNo
 
 -- how far a worker is with a call
@@ -39,9 +50,9 @@ pub data Stage : Type 0 where
   -- it has a transaction, in which it reads and claims what its plan asks for
   Planning : Begun → Stage
   -- a read of this object's block is due
-  Reading : Begun → Addr → Stage
+  Reading : Begun → Taken → Stage
   -- the read was made, well or not, and the block is to be given back
-  Read : Begun → Addr → Bool → Stage
+  Read : Begun → Taken → Bool → Stage
   -- its transaction is to be ended, and then the call is answered
   Refused : Begun → Cause → Stage
   -- its transaction is to be ended, and then the call begins again
@@ -58,23 +69,23 @@ abbrev pub is_idle : Progress → Bool
 is_idle Idle = true
 is_idle (At job stage) = false
 
-abbrev pub with_held : Begun → Addr → Begun
-with_held begun addr = record begun { held = begun.held ++ addr ∷ [] }
+abbrev pub with_held : Begun → Taken → Begun
+with_held begun taken = record begun { held = begun.held ++ taken ∷ [] }
 
-abbrev pub with_fetched : Begun → Addr → Begun
-with_fetched begun addr = record begun { fetched = begun.fetched ++ addr ∷ [] }
+abbrev pub with_fetched : Begun → Taken → Begun
+with_fetched begun taken = record begun { fetched = begun.fetched ++ taken ∷ [] }
 
 abbrev pub with_claimed : Begun → BlockNo → Begun
 with_claimed begun block = record begun { claimed = begun.claimed ++ block ∷ [] }
 
 -- what wasn't had yet is asked for again
-abbrev pub after_wanted : Begun → Addr → Wish → Stage
-after_wanted begun addr wish.Held = Planning (with_held begun addr)
-after_wanted begun addr wish.Fetch = Reading begun addr
-after_wanted begun addr wish.Busy = Planning begun
-after_wanted begun addr wish.Loading = Planning begun
-after_wanted begun addr wish.Outside = Refused begun cause.Io
-after_wanted begun addr wish.NoMemory = Refused begun cause.NoMemory
+abbrev pub after_wanted : Begun → Taken → Wish → Stage
+after_wanted begun taken wish.Held = Planning (with_held begun taken)
+after_wanted begun taken wish.Fetch = Reading begun taken
+after_wanted begun taken wish.Busy = Planning begun
+after_wanted begun taken wish.Loading = Planning begun
+after_wanted begun taken wish.Outside = Refused begun cause.Io
+after_wanted begun taken wish.NoMemory = Refused begun cause.NoMemory
 
 abbrev pub after_claimed : Begun → BlockNo → Wish → Stage
 after_claimed begun block wish.Held = Planning (with_claimed begun block)
@@ -94,7 +105,8 @@ after_commit stable begun committing.Broken = Some (Refused begun cause.Io)
 after_commit stable begun committing.Spent = Some (Refused begun cause.Spent)
 
 abbrev pub after_planning : Bool → Begun → Step → Option Stage
-after_planning stable begun (step.Wanted addr answer) = Some (after_wanted begun addr answer)
+after_planning stable begun (step.Wanted addr mode answer) =
+    Some (after_wanted begun (record { addr = addr; mode = mode }) answer)
 after_planning stable begun (step.Claimed block answer) = Some (after_claimed begun block answer)
 after_planning stable begun (step.Commit blocks answer) = after_commit stable begun answer
 after_planning stable begun (step.Ended why) = None
@@ -106,9 +118,9 @@ after_called (step.Begun (Ok number)) =
     Some (Planning (record { number = number; held = []; fetched = []; claimed = [] }))
 after_called _ = None
 
-abbrev pub after_reading : Begun → Addr → Step → Option Stage
-after_reading begun addr (step.Read block ok) = Some (Read begun addr ok)
-after_reading begun addr _ = Some (Reading begun addr)
+abbrev pub after_reading : Begun → Taken → Step → Option Stage
+after_reading begun taken (step.Read block ok) = Some (Read begun taken ok)
+after_reading begun taken _ = Some (Reading begun taken)
 
 -- one that waits is answered once its place is settled, or once the store is broken
 abbrev pub after_waiting : Bool → ℕ → Step → Option Stage
@@ -121,9 +133,9 @@ after_waiting broken place _ = Some (Waiting place)
 abbrev pub stage_after : Bool → Bool → Step → Stage → Option Stage
 stage_after broken stable made Called = after_called made
 stage_after broken stable made (Planning begun) = after_planning stable begun made
-stage_after broken stable made (Reading begun addr) = after_reading begun addr made
-stage_after broken stable made (Read begun addr true) = Some (Planning (with_fetched begun addr))
-stage_after broken stable made (Read begun addr false) = Some (Refused (with_fetched begun addr) cause.Io)
+stage_after broken stable made (Reading begun taken) = after_reading begun taken made
+stage_after broken stable made (Read begun taken true) = Some (Planning (with_fetched begun taken))
+stage_after broken stable made (Read begun taken false) = Some (Refused (with_fetched begun taken) cause.Io)
 stage_after broken stable made (Refused begun why) = None
 stage_after broken stable made (Again begun) = Some Called
 stage_after broken stable made (Waiting place) = after_waiting broken place made
@@ -138,39 +150,52 @@ progressed broken made Idle = Idle
 progressed broken made (At job stage) =
     going_on job (stage_after broken (is_answered_stable job.call) made stage)
 
--- an object and so many bytes of a block, from an offset on, share one
-abbrev pub shares : BlockNo → ℕ → ℕ → Addr → Bool
-shares block offset len addr =
-    nat_eq addr.block.0 block.0 && nat_lt addr.offset (offset + len) && nat_lt offset (addr.offset + addr.len)
+-- so many bytes of a block, from an offset on, and the mode in which they are wished
+pub record Wished : Type 0 where
+  pub block : BlockNo
+  pub offset : ℕ
+  pub len : ℕ
+  pub mode : Mode
 
--- a transaction has taken one of the bytes
-abbrev pub takes : BlockNo → ℕ → ℕ → Begun → Bool
-takes block offset len begun =
-    list_any (shares block offset len) begun.held || list_any (shares block offset len) begun.fetched
-    || list_any (λ claim. nat_eq claim.0 block.0) begun.claimed
+-- an object shares a byte with what is wished
+abbrev pub shares : Wished → Addr → Bool
+shares wished addr =
+    nat_eq addr.block.0 wished.block.0 && nat_lt addr.offset (wished.offset + wished.len)
+    && nat_lt wished.offset (addr.offset + addr.len)
 
-abbrev pub stage_takes : BlockNo → ℕ → ℕ → Stage → Bool
-stage_takes block offset len Called = false
-stage_takes block offset len (Planning begun) = takes block offset len begun
-stage_takes block offset len (Reading begun addr) = takes block offset len (with_fetched begun addr)
-stage_takes block offset len (Read begun addr ok) = takes block offset len (with_fetched begun addr)
-stage_takes block offset len (Refused begun why) = takes block offset len begun
-stage_takes block offset len (Again begun) = takes block offset len begun
-stage_takes block offset len (Waiting place) = false
+-- what is taken keeps it off: they share a byte, and one of the two is exclusive
+abbrev pub keeps_off : Wished → Taken → Bool
+keeps_off wished taken =
+    shares wished taken.addr && (is_exclusive taken.mode || is_exclusive wished.mode)
+
+-- something that a transaction has taken does; a claim is exclusive
+abbrev pub takes : Wished → Begun → Bool
+takes wished begun =
+    list_any (keeps_off wished) begun.held || list_any (keeps_off wished) begun.fetched
+    || list_any (λ claim. nat_eq claim.0 wished.block.0) begun.claimed
+
+abbrev pub stage_takes : Wished → Stage → Bool
+stage_takes wished Called = false
+stage_takes wished (Planning begun) = takes wished begun
+stage_takes wished (Reading begun taken) = takes wished (with_fetched begun taken)
+stage_takes wished (Read begun taken ok) = takes wished (with_fetched begun taken)
+stage_takes wished (Refused begun why) = takes wished begun
+stage_takes wished (Again begun) = takes wished begun
+stage_takes wished (Waiting place) = false
 
 -- a worker's transaction has
-abbrev pub has_taken : BlockNo → ℕ → ℕ → Progress → Bool
-has_taken block offset len Idle = false
-has_taken block offset len (At job stage) = stage_takes block offset len stage
+abbrev pub has_taken : Wished → Progress → Bool
+has_taken wished Idle = false
+has_taken wished (At job stage) = stage_takes wished stage
 
 -- a worker has a fetch of the block out
 abbrev pub is_fetching : BlockNo → Progress → Bool
-is_fetching block (At job (Reading begun addr)) = nat_eq addr.block.0 block.0
-is_fetching block (At job (Read begun addr ok)) = nat_eq addr.block.0 block.0
+is_fetching block (At job (Reading begun taken)) = nat_eq taken.addr.block.0 block.0
+is_fetching block (At job (Read begun taken ok)) = nat_eq taken.addr.block.0 block.0
 is_fetching block _ = false
 
 -- an object of the block was told or fetched, so that the block is in memory until the transaction ends
 abbrev pub is_loaded : BlockNo → Begun → Bool
 is_loaded block begun =
-    list_any (λ (addr : Addr). nat_eq addr.block.0 block.0) begun.held
-    || list_any (λ (addr : Addr). nat_eq addr.block.0 block.0) begun.fetched
+    list_any (λ (taken : Taken). nat_eq taken.addr.block.0 block.0) begun.held
+    || list_any (λ (taken : Taken). nat_eq taken.addr.block.0 block.0) begun.fetched

@@ -3,8 +3,11 @@ use Rattle.std.specs.Prelude.{◌≡◌, ◌≢◌, ℕ, ◌+◌, ◌^◌, ◌<�
 use Rattle.std.specs.Prelude.{nat_le, List, [], ◌∷◌, map, take, Option, Some, None, Ok, Err, length, slice_get}
 use Rattle.std.specs.List.{zip, list_any}
 use Rattle.limits.specs.declared.TheConstants.{BLOCK_BYTES, LOG_SLOTS}
+use Rattle.disk.specs.Crash.{Image}
 use Rattle.disk.specs.declared.block.BlockNo.{BlockNo}
 use Rattle.objects.specs.declared.addr.Addr.{Addr}
+use Rattle.objects.specs.declared.mode.Mode.{Mode}
+use Rattle.objects.specs.declared.mode.Mode.TheVariants as modes
 use Rattle.nfs_types.specs.declared.call.Call.{Call}
 use Rattle.layout.specs.declared.geometry.Geometry.{Geometry}
 use Rattle.model.specs.Calls.{has_rules}
@@ -13,6 +16,7 @@ use Rattle.procs.specs.Asks.{Asks, Claims}
 use Rattle.procs.specs.MostChanged.{most_changed}
 use Rattle.procs.specs.Snap.{is_claimed, same_addr}
 use Rattle.txn.specs.Object.{ObjectBytes}
+use Rattle.txn.specs.Window.{object_at}
 use Rattle.txn.specs.declared.outcomes.BeginFault.TheVariants as fault
 use Rattle.wal_law.specs.declared.calls.IoCall.{IoCall}
 use Rattle.store_promise.specs.declared.events.Committing.{Committing}
@@ -29,7 +33,7 @@ use Rattle.store_promise.specs.LogTold.{may_log_told, may_install_told, settled_
 use Rattle.store_promise.specs.NextCall.{IsNextOfInstalling, next_log_call}
 use Rattle.store_promise.specs.Progress.{Begun, Progress, Idle, At, Stage, Called, Planning, Reading, Read}
 use Rattle.store_promise.specs.Progress.{Refused, Again, Waiting, progressed, has_taken, is_fetching}
-use Rattle.store_promise.specs.Progress.{is_loaded}
+use Rattle.store_promise.specs.Progress.{Taken, Wished, addrs_of, is_loaded}
 
 -- a schedule is any list of events
 abbrev pub Schedule : Type 0
@@ -114,33 +118,37 @@ IsStepOfCalled told true made = IsBeginning told made
 IsStepOfCalled told false made = made ≡ step.Replied
 
 -- What the steps of a run go by beside the steps themselves: where the parts of its image lie, the log position
--- at which the opening left the log, and what each transaction read, by its number, in the order of its steps.
+-- at which the opening left the log, and the blocks that stand for the files after so many procedures.
 pub record Setting : Type 0 where
   pub geometry : Geometry
   pub position : ℕ
-  pub reads : ℕ → List ObjectBytes
+  pub blocks : ℕ → Image
 
 -- an object is among these
-abbrev pub is_held : Addr → List Addr → Bool
-is_held addr held = list_any (λ other. same_addr addr other) held
+abbrev pub is_held : Addr → List Taken → Bool
+is_held addr held = list_any (λ (other : Taken). same_addr addr other.addr) held
 
--- the objects that a transaction holds, as it read them
-abbrev pub read_of : Setting → Begun → List ObjectBytes
-read_of o begun = take (length begun.held) (o.reads begun.number)
+-- what blocks have at these addresses
+abbrev pub objects_at : Image → List Addr → List ObjectBytes
+objects_at blocks addrs = map (λ addr. record { addr = addr; bytes = object_at blocks addr }) addrs
 
--- they are those that it was told
-abbrev pub AreHeld : Setting → Begun → Type 0
-AreHeld o begun = map (λ (object : ObjectBytes). object.addr) (read_of o begun) ≡ begun.held
+-- what a transaction has read, after so many procedures: nobody else changes it while it is held
+abbrev pub read_of : Setting → ℕ → Begun → List ObjectBytes
+read_of o places begun = objects_at (o.blocks places) (addrs_of begun.held)
 
 -- the call asks for the object, by what its transaction read, and hasn't got it
-pub record IsAskedFor (o : Setting) (call : Call) (begun : Begun) (addr : Addr) : Type 0 where
-  pub unheld : is_held addr begun.held ≡ false
-  pub asks : Asks o.geometry call (read_of o begun) addr
+pub record IsAskedFor (o : Setting) (places : ℕ) (call : Call) (begun : Begun) (addr : Addr) (mode : Mode) : Type 0
+  where
+    pub unheld : is_held addr begun.held ≡ false
+    pub asks : Asks o.geometry call (read_of o places begun) addr
+    -- a plan wants each object for its call alone
+    pub alone : mode ≡ modes.Exclusive
 
 -- it asks to claim the block
-pub record IsClaimAskedFor (o : Setting) (call : Call) (begun : Begun) (block : BlockNo) : Type 0 where
-  pub unclaimed : is_claimed block begun.claimed ≡ false
-  pub claims : Claims o.geometry call (read_of o begun) block
+pub record IsClaimAskedFor (o : Setting) (places : ℕ) (call : Call) (begun : Begun) (block : BlockNo) : Type 0
+  where
+    pub unclaimed : is_claimed block begun.claimed ≡ false
+    pub claims : Claims o.geometry call (read_of o places begun) block
 
 -- another worker is so
 pub record IsSoOfAnother (told : Told) (worker : ℕ) (is : Progress → Bool) : Type 0 where
@@ -148,21 +156,28 @@ pub record IsSoOfAnother (told : Told) (worker : ℕ) (is : Progress → Bool) :
   pub differs : other ≢ worker
   pub so : is (told.workers other) ≡ true
 
--- What a wish to read some bytes of a block may be answered: Busy only where another worker has taken one of
--- them, Loading only where another fetches the block, Fetch only where no object of the block was had, and
+-- What a wish to read some bytes of a block may be answered: Busy only where what another worker has taken keeps it
+-- off, Loading only where another fetches the block, Fetch only where no object of the block was had, and
 -- never Outside, as no call asks for what lies elsewhere.
-abbrev pub IsWish : Told → ℕ → Begun → BlockNo → ℕ → ℕ → Wish → Type 0
-IsWish told worker begun block offset len wish.Held = Unit {0}
-IsWish told worker begun block offset len wish.Busy = IsSoOfAnother told worker (has_taken block offset len)
-IsWish told worker begun block offset len wish.Fetch = is_loaded block begun ≡ false
-IsWish told worker begun block offset len wish.Loading = IsSoOfAnother told worker (is_fetching block)
-IsWish told worker begun block offset len wish.Outside = ⊥
-IsWish told worker begun block offset len wish.NoMemory = Unit {0}
+abbrev pub IsWish : Told → ℕ → Begun → Wished → Wish → Type 0
+IsWish told worker begun wished wish.Held = Unit {0}
+IsWish told worker begun wished wish.Busy = IsSoOfAnother told worker (has_taken wished)
+IsWish told worker begun wished wish.Fetch = is_loaded wished.block begun ≡ false
+IsWish told worker begun wished wish.Loading = IsSoOfAnother told worker (is_fetching wished.block)
+IsWish told worker begun wished wish.Outside = ⊥
+IsWish told worker begun wished wish.NoMemory = Unit {0}
+
+-- what is wished with an object, and with a whole block
+abbrev pub wish_of : Addr → Mode → Wished
+wish_of addr mode = record { block = addr.block; offset = addr.offset; len = addr.len; mode = mode }
+
+abbrev pub whole_wish : BlockNo → Wished
+whole_wish block = record { block = block; offset = 0; len = BLOCK_BYTES; mode = modes.Exclusive }
 
 -- what a wish to claim a block may be answered: the same, but that nothing is fetched
 abbrev pub IsClaimWish : Told → ℕ → Begun → BlockNo → Wish → Type 0
 IsClaimWish told worker begun block wish.Fetch = ⊥
-IsClaimWish told worker begun block other = IsWish told worker begun block 0 BLOCK_BYTES other
+IsClaimWish told worker begun block other = IsWish told worker begun (whole_wish block) other
 
 -- a place is left, and enough log positions for so many blocks
 pub record HasNumbers (o : Setting) (log : LogTold) (blocks : ℕ) : Type 0 where
@@ -186,20 +201,14 @@ IsCommitting o log blocks committing.NoMemory =
 -- A worker with a transaction goes by the plan of its call: it asks for what that asks for, or commits a change of
 -- no more blocks than the call changes, or finds no memory.
 abbrev pub IsStepByPlan : Setting → Told → ℕ → Call → Begun → Step → Type 0
-IsStepByPlan o told worker call begun (step.Wanted addr answer) =
-    IsAskedFor o call begun addr × IsWish told worker begun addr.block addr.offset addr.len answer
+IsStepByPlan o told worker call begun (step.Wanted addr mode answer) =
+    IsAskedFor o told.log.places call begun addr mode × IsWish told worker begun (wish_of addr mode) answer
 IsStepByPlan o told worker call begun (step.Claimed block answer) =
-    IsClaimAskedFor o call begun block × IsClaimWish told worker begun block answer
+    IsClaimAskedFor o told.log.places call begun block × IsClaimWish told worker begun block answer
 IsStepByPlan o told worker call begun (step.Commit blocks answer) =
     (blocks ≤ most_changed call) × IsCommitting o told.log blocks answer
 IsStepByPlan o told worker call begun (step.Ended ending.NoMemory) = Unit {0}
 IsStepByPlan o told worker call begun _ = ⊥
-
--- it does so by what it read
-pub record IsStepOfPlan (o : Setting) (told : Told) (worker : ℕ) (call : Call) (begun : Begun)
-    (made : Step) : Type 0 where
-  pub held : AreHeld o begun
-  pub by_plan : IsStepByPlan o told worker call begun made
 
 -- the place is found settled where it is
 abbrev pub IsStepOfWaiting : LogTold → ℕ → Step → Type 0
@@ -210,17 +219,17 @@ IsStepOfWaiting log place _ = ⊥
 -- a worker with a call, of which no read is due, goes on with it
 abbrev pub IsStepWith : Setting → Told → ℕ → Call → Stage → Step → Type 0
 IsStepWith o told worker call Called made = IsStepOfCalled told (has_rules call) made
-IsStepWith o told worker call (Planning begun) made = IsStepOfPlan o told worker call begun made
-IsStepWith o told worker call (Reading begun addr) made = ⊥
-IsStepWith o told worker call (Read begun addr true) made = made ≡ step.Fetched addr.block
-IsStepWith o told worker call (Read begun addr false) made = made ≡ step.FetchFailed addr.block
+IsStepWith o told worker call (Planning begun) made = IsStepByPlan o told worker call begun made
+IsStepWith o told worker call (Reading begun taken) made = ⊥
+IsStepWith o told worker call (Read begun taken true) made = made ≡ step.Fetched taken.addr.block
+IsStepWith o told worker call (Read begun taken false) made = made ≡ step.FetchFailed taken.addr.block
 IsStepWith o told worker call (Refused begun why) made = made ≡ step.Ended ending.Refused
 IsStepWith o told worker call (Again begun) made = made ≡ step.Ended ending.Again
 IsStepWith o told worker call (Waiting place) made = IsStepOfWaiting told.log place made
 
 abbrev pub IsStepOfWork : Setting → Told → ℕ → Progress → Option Step → Type 0
 IsStepOfWork o told worker Idle made = made ≡ None
-IsStepOfWork o told worker (At job (Reading begun addr)) made = made ≡ None
+IsStepOfWork o told worker (At job (Reading begun taken)) made = made ≡ None
 IsStepOfWork o told worker (At job stage) (Some made) = IsStepWith o told worker job.call stage made
 IsStepOfWork o told worker (At job stage) None = ⊥
 
@@ -230,7 +239,7 @@ IsReadOf block (Some (step.Read read ok)) = read ≡ block
 IsReadOf block _ = ⊥
 
 abbrev pub IsStepOfRead : Progress → Option Step → Type 0
-IsStepOfRead (At job (Reading begun addr)) made = IsReadOf addr.block made
+IsStepOfRead (At job (Reading begun taken)) made = IsReadOf taken.addr.block made
 IsStepOfRead _ made = made ≡ None
 
 -- ---- what the log and the installer may do

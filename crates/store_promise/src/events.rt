@@ -2,7 +2,7 @@
 
 use disk::BlockNo;
 use nfs_types::{Call, Credential, Moment};
-use objects::Addr;
+use objects::{Addr, Mode};
 use txn::{BeginFault, Seq};
 use wal::IoCall;
 
@@ -84,7 +84,8 @@ pub enum Step {
     Replied,
     /// The number of the transaction, or why none was begun.
     Begun(Result<u64, BeginFault>),
-    Wanted(Addr, Wish),
+    /// An address was wanted in a mode, and what that was answered.
+    Wanted(Addr, Mode, Wish),
     Claimed(BlockNo, Wish),
     Fetched(BlockNo),
     FetchFailed(BlockNo),

@@ -11,6 +11,7 @@ mod one_setattr;
 mod open_steps;
 mod open_store;
 mod promises;
+mod refusals;
 mod running;
 mod steps_made;
 mod told_log;
@@ -37,10 +38,15 @@ pub use open_store::{
 };
 pub use promises::{
     a_failure_that_is_told_was_counted, a_run_of_no_events_keeps_the_promise,
-    a_stop_leaves_an_image, an_entry_was_called, half_a_group_breaks_the_promise,
+    a_stop_leaves_an_image, an_entry_was_called, each_procedure_has_a_number_of_its_own,
+    half_a_group_breaks_the_promise, no_procedure_is_answered_twice,
     no_stable_answer_bears_place_0, no_stable_answer_comes_with_its_commit,
     the_boot_number_stays_raised, the_history_is_in_order, what_a_commit_covers_is_kept,
     what_is_stable_is_kept, what_is_told_as_settled_is_kept,
+};
+pub use refusals::{
+    a_good_image_is_refused_for_a_cause, a_good_image_shows_no_cause, an_image_shows_one_cause,
+    what_shows_a_cause_is_not_opened,
 };
 pub use running::{
     a_device_counts_the_calls_of_its_steps, an_opening_begins_a_run, what_was_read_is_at_home,
@@ -49,7 +55,7 @@ pub use steps_made::{
     a_call_changes_no_more_than_it_may, a_call_that_is_out_is_made, a_full_log_is_full,
     a_worker_goes_by_its_plan, a_worker_passes_over_no_event, nothing_is_asked_for_twice,
     one_worker_is_never_busy, the_installer_comes_to_an_end, the_log_passes_over_no_event,
-    the_log_takes_its_next_call, what_is_asked_for_goes_by_the_files,
+    the_log_takes_its_next_call, what_is_asked_for_goes_by_the_files, what_was_made_stays,
 };
 pub use told_log::{
     the_installer_stands_at_a_home, the_installers_next_call_is_told,

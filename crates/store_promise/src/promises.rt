@@ -136,3 +136,21 @@ pub fn the_history_is_in_order()
         → b.event ≤ a.event
         → KeepsPromise before later tree first workers events t → ⊥ }
 {}
+
+/// Two procedures of one transaction number break the promise: a call that begins anew takes another.
+pub fn each_procedure_has_a_number_of_its_own()
+    ensures { (before later : Device) (tree : Tree) (first workers one other : ℕ) (events : Schedule)
+        (t : Transcript) (a b : Committed)
+        → slice_get t.history one ≡ Some a → slice_get t.history other ≡ Some b → one ≢ other
+        → a.ctx.transaction ≡ b.ctx.transaction
+        → KeepsPromise before later tree first workers events t → ⊥ }
+{}
+
+/// Two answers that bear the place of one procedure break the promise.
+pub fn no_procedure_is_answered_twice()
+    ensures { (before later : Device) (tree : Tree) (first workers one other place : ℕ) (events : Schedule)
+        (t : Transcript) (a b : Answer)
+        → slice_get t.answers one ≡ Some a → slice_get t.answers other ≡ Some b → one ≢ other
+        → a.place ≡ Some (record { 0 = place }) → b.place ≡ Some (record { 0 = place })
+        → KeepsPromise before later tree first workers events t → ⊥ }
+{}

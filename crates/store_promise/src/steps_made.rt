@@ -8,6 +8,7 @@ ghost use Rattle.disk.specs.declared.block.BlockNo.{BlockNo};
 ghost use Rattle.model.specs.After.{after};
 ghost use Rattle.model.specs.Tree.{Tree};
 ghost use Rattle.objects.specs.declared.addr.Addr.{Addr};
+ghost use Rattle.objects.specs.declared.mode.Mode.{Mode};
 ghost use Rattle.layout.specs.declared.geometry.Geometry.{Geometry};
 ghost use Rattle.layout.specs.Stands.{Stands};
 ghost use Rattle.procs.specs.Asks.{Asks};
@@ -17,17 +18,19 @@ ghost use Rattle.wal_law.specs.declared.calls.IoCall.{IoCall};
 ghost use Rattle.wal_law.specs.declared.calls.IoCall.TheVariants.{Write};
 ghost use Rattle.store_promise.specs.declared.events.Committing.{Committing};
 ghost use Rattle.store_promise.specs.declared.events.Committing.TheVariants as committing;
+ghost use Rattle.store_promise.specs.declared.events.Event.{Event};
 ghost use Rattle.store_promise.specs.declared.events.Event.TheVariants as event;
 ghost use Rattle.store_promise.specs.declared.events.Step.{Step};
 ghost use Rattle.store_promise.specs.declared.events.Step.TheVariants as step;
 ghost use Rattle.store_promise.specs.declared.events.Wish.{Wish};
 ghost use Rattle.store_promise.specs.declared.events.Wish.TheVariants as wish;
-ghost use Rattle.store_promise.specs.declared.transcript.Committed.{Committed};
-ghost use Rattle.store_promise.specs.Headline.{KeepsPromise, objects_at};
+ghost use Rattle.store_promise.specs.Headline.{KeepsPromise};
 ghost use Rattle.store_promise.specs.LogTold.{idle, may_install_told, may_log_told, out};
 ghost use Rattle.store_promise.specs.NextCall.{next_log_call, taken_home};
-ghost use Rattle.store_promise.specs.Progress.{Begun, Job, At, Planning, Reading, Stage};
-ghost use Rattle.store_promise.specs.Schedule.{Schedule, is_held, progress_before, told_before};
+ghost use Rattle.store_promise.specs.Progress.{Begun, Job, At, Planning, Reading, Stage, Taken};
+ghost use Rattle.store_promise.specs.Progress.{addrs_of};
+ghost use Rattle.store_promise.specs.Schedule.{IsTaken, Schedule, Setting, Told, is_held, objects_at};
+ghost use Rattle.store_promise.specs.Schedule.{progress_before, told_before};
 ghost use Rattle.store_promise.specs.Transcript.{Transcript, entries_of};
 
 /// A log, or an installer, that passes over an event which applies breaks the promise.
@@ -90,47 +93,55 @@ pub fn a_worker_passes_over_no_event()
         → slice_get events index ≡ Some (event.Work worker) → worker < workers
         → slice_get t.steps index ≡ Some None
         → progress_before events t.steps worker index ≡ At job stage
-        → ((begun : Begun) (addr : Addr) → stage ≢ Reading begun addr)
+        → ((begun : Begun) (taken : Taken) → stage ≢ Reading begun taken)
         → KeepsPromise before later tree first workers events t → ⊥ }
     ensures reading { (before later : Device) (tree : Tree) (first workers index worker : ℕ) (events : Schedule)
-        (t : Transcript) (job : Job) (begun : Begun) (addr : Addr)
+        (t : Transcript) (job : Job) (begun : Begun) (taken : Taken)
         → slice_get events index ≡ Some (event.Read worker) → worker < workers
         → slice_get t.steps index ≡ Some None
-        → progress_before events t.steps worker index ≡ At job (Reading begun addr)
+        → progress_before events t.steps worker index ≡ At job (Reading begun taken)
         → KeepsPromise before later tree first workers events t → ⊥ }
 {}
 
 /// A worker that asks for what the plan of its call doesn't ask for breaks the promise.
 pub fn a_worker_goes_by_its_plan()
     ensures { (before later : Device) (tree : Tree) (first workers index worker : ℕ) (events : Schedule)
-        (t : Transcript) (job : Job) (begun : Begun) (addr : Addr) (answer : Wish)
+        (t : Transcript) (job : Job) (begun : Begun) (addr : Addr) (mode : Mode) (answer : Wish)
         → slice_get events index ≡ Some (event.Work worker) → worker < workers
-        → slice_get t.steps index ≡ Some (Some (step.Wanted addr answer))
+        → slice_get t.steps index ≡ Some (Some (step.Wanted addr mode answer))
         → progress_before events t.steps worker index ≡ At job (Planning begun)
         → ((g : Geometry) (objects : List ObjectBytes) → Asks g job.call objects addr → ⊥)
         → KeepsPromise before later tree first workers events t → ⊥ }
 {}
 
-/// A call for which something is asked that its files don't lead to, as they were just before it, breaks the
-/// promise.
+/// A transaction for which something is asked that its files don't lead to, as they are then, breaks the promise,
+/// whether or not it is committed later.
 pub fn what_is_asked_for_goes_by_the_files()
-    ensures { (before later : Device) (tree : Tree) (first workers place index worker : ℕ) (events : Schedule)
-        (t : Transcript) (c : Committed) (job : Job) (begun : Begun) (addr : Addr) (answer : Wish)
-        → slice_get t.history place ≡ Some c → begun.number ≡ c.ctx.transaction
+    ensures { (before later : Device) (tree : Tree) (first workers index worker : ℕ) (events : Schedule)
+        (t : Transcript) (job : Job) (begun : Begun) (addr : Addr) (mode : Mode) (answer : Wish)
         → slice_get events index ≡ Some (event.Work worker) → worker < workers
-        → slice_get t.steps index ≡ Some (Some (step.Wanted addr answer))
+        → slice_get t.steps index ≡ Some (Some (step.Wanted addr mode answer))
         → progress_before events t.steps worker index ≡ At job (Planning begun)
-        → ((g : Geometry) (blocks : Image) (left : Tree) → after tree (take place (entries_of t)) left
-        → Stands g blocks left → Asks g job.call (objects_at blocks begun.held) addr → ⊥)
+        → ((g : Geometry) (blocks : Image) (left : Tree)
+        → after tree (take (told_before events t.steps index).log.places (entries_of t)) left → Stands g blocks left
+        → Asks g job.call (objects_at blocks (addrs_of begun.held)) addr → ⊥)
         → KeepsPromise before later tree first workers events t → ⊥ }
+{}
+
+/// What an event made stays what it may make, whatever blocks stand for the files after later procedures: it goes by
+/// those of its own moment.
+pub fn what_was_made_stays()
+    ensures { (o : Setting) (workers : ℕ) (told : Told) (event : Event) (made : Option Step) (later : ℕ → Image)
+        → later told.log.places ≡ o.blocks told.log.places → IsTaken o workers told event made
+        → IsTaken (record o { blocks = later }) workers told event made }
 {}
 
 /// A worker that asks for an object which it holds breaks the promise.
 pub fn nothing_is_asked_for_twice()
     ensures { (before later : Device) (tree : Tree) (first workers index worker : ℕ) (events : Schedule)
-        (t : Transcript) (job : Job) (begun : Begun) (addr : Addr) (answer : Wish)
+        (t : Transcript) (job : Job) (begun : Begun) (addr : Addr) (mode : Mode) (answer : Wish)
         → slice_get events index ≡ Some (event.Work worker) → worker < workers
-        → slice_get t.steps index ≡ Some (Some (step.Wanted addr answer))
+        → slice_get t.steps index ≡ Some (Some (step.Wanted addr mode answer))
         → progress_before events t.steps worker index ≡ At job (Planning begun)
         → is_held addr begun.held ≡ true
         → KeepsPromise before later tree first workers events t → ⊥ }
@@ -139,9 +150,9 @@ pub fn nothing_is_asked_for_twice()
 /// One worker alone that is told Busy, of which it could wait for ever, breaks the promise.
 pub fn one_worker_is_never_busy()
     ensures { (before later : Device) (tree : Tree) (first index worker : ℕ) (events : Schedule)
-        (t : Transcript) (job : Job) (begun : Begun) (addr : Addr)
+        (t : Transcript) (job : Job) (begun : Begun) (addr : Addr) (mode : Mode)
         → slice_get events index ≡ Some (event.Work worker)
-        → slice_get t.steps index ≡ Some (Some (step.Wanted addr wish.Busy))
+        → slice_get t.steps index ≡ Some (Some (step.Wanted addr mode wish.Busy))
         → progress_before events t.steps worker index ≡ At job (Planning begun)
         → KeepsPromise before later tree first 1 events t → ⊥ }
 {}

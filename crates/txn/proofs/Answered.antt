@@ -9,6 +9,7 @@ use Rattle.limits.specs.declared.TheConstants.{BLOCK_BYTES}
 use Rattle.disk.specs.Device.{Content}
 use Rattle.disk.specs.declared.block.BlockNo.{BlockNo}
 use Rattle.objects.specs.declared.addr.Addr.{Addr}
+use Rattle.objects.specs.declared.mode.Mode.{Mode}
 use Rattle.wal_law.specs.declared.change.LogChange.{LogChange}
 use Rattle.wal_law.specs.Grows.{IsWholeChange}
 use Rattle.wal_law.specs.Log.{Log, IsLawful, newest, changes_of}
@@ -40,14 +41,14 @@ use Rattle.txn.specs.declared.outcomes.Commit.TheVariants as commit
 same_home : (old new : CoreState) → new ≡ old → KeepsHome old new
 same_home old new e base h = subst (λ (core : CoreState). IsHomeOf base core) (sym e) h
 
-pub wanted_home : (old new : CoreState) (tx : ℕ) (addr : Addr) (answer : Want)
-    → IsWantedExactly old tx addr answer new → KeepsHome old new
-wanted_home old new tx addr (want.Held back bytes) h = home_held old new tx addr bytes.items h.2
-wanted_home old new tx addr (want.Fetch back io) h = home_fetch old new tx addr io h.2
-wanted_home old new tx addr (want.Busy back) h = same_home old new h.2
-wanted_home old new tx addr (want.Loading back) h = same_home old new h.2
-wanted_home old new tx addr (want.Outside back) h = same_home old new h.2
-wanted_home old new tx addr (want.NoMemory back) h = same_home old new h.2
+pub wanted_home : (old new : CoreState) (tx : ℕ) (addr : Addr) (mode : Mode) (answer : Want)
+    → IsWantedExactly old tx addr mode answer new → KeepsHome old new
+wanted_home old new tx addr mode (want.Held back bytes) h = home_held old new tx addr mode bytes.items h.2
+wanted_home old new tx addr mode (want.Fetch back io) h = home_fetch old new tx addr mode io h.2
+wanted_home old new tx addr mode (want.Busy back) h = same_home old new h.2
+wanted_home old new tx addr mode (want.Loading back) h = same_home old new h.2
+wanted_home old new tx addr mode (want.Outside back) h = same_home old new h.2
+wanted_home old new tx addr mode (want.NoMemory back) h = same_home old new h.2
 
 pub claimed_home : (old new : CoreState) (tx : ℕ) (addr : Addr) (answer : Claim)
     → IsClaimedExactly old tx addr answer new → KeepsHome old new
@@ -58,30 +59,18 @@ claimed_home old new tx addr (claim.Loading back) h base home = same_home old ne
 claimed_home old new tx addr (claim.Outside back) h base home = same_home old new h.2 base home
 claimed_home old new tx addr (claim.NoMemory back) h base home = same_home old new h.2 base home
 
--- a group of whole blocks keeps the log's changes whole
-whole_group : (place : ℕ) (changes : List LogChange) (group : List (BlockNo × Content))
-    → All IsWholeChange changes → All (λ change. length change.1 ≡ BLOCK_BYTES) group
-    → All IsWholeChange (changes ++ changes_of place group)
-whole_group place changes group old new =
-    All-append IsWholeChange changes (changes_of place group) old
-    (All-map IsWholeChange (λ (change : BlockNo × Content). record {
-      place = place;
-      block = change.0;
-      content = change.1;
-    }) group new)
-
 module _ (P : ℕ → ℕ → List ObjectBytes → List ObjectBytes → Type 0) where
   same_law : (old new : CoreState) → new ≡ old → IsLawfulCore P old → IsLawfulCore P new
   same_law old new e h = subst (λ (core : CoreState). IsLawfulCore P core) (sym e) h
 
-  pub wanted_law : (old new : CoreState) (tx : ℕ) (addr : Addr) (answer : Want) → IsOut old tx
-      → IsWantedExactly old tx addr answer new → IsLawfulCore P old → IsLawfulCore P new
-  wanted_law old new tx addr (want.Held back bytes) is_out h = lawful_held P old new tx addr bytes.items is_out h.1 h.2
-  wanted_law old new tx addr (want.Fetch back io) is_out h = lawful_fetch P old new tx addr io is_out h.1 h.2
-  wanted_law old new tx addr (want.Busy back) is_out h = same_law old new h.2
-  wanted_law old new tx addr (want.Loading back) is_out h = same_law old new h.2
-  wanted_law old new tx addr (want.Outside back) is_out h = same_law old new h.2
-  wanted_law old new tx addr (want.NoMemory back) is_out h = same_law old new h.2
+  pub wanted_law : (old new : CoreState) (tx : ℕ) (addr : Addr) (mode : Mode) (answer : Want) → IsOut old tx
+      → IsWantedExactly old tx addr mode answer new → IsLawfulCore P old → IsLawfulCore P new
+  wanted_law old new tx addr mode (want.Held back bytes) is_out h = lawful_held P old new tx addr mode bytes.items is_out h.1 h.2
+  wanted_law old new tx addr mode (want.Fetch back io) is_out h = lawful_fetch P old new tx addr mode io is_out h.1 h.2
+  wanted_law old new tx addr mode (want.Busy back) is_out h = same_law old new h.2
+  wanted_law old new tx addr mode (want.Loading back) is_out h = same_law old new h.2
+  wanted_law old new tx addr mode (want.Outside back) is_out h = same_law old new h.2
+  wanted_law old new tx addr mode (want.NoMemory back) is_out h = same_law old new h.2
 
   pub claimed_law : (old new : CoreState) (tx : ℕ) (block : BlockNo) (addr : Addr) (answer : Claim)
       → IsWhole block addr → IsOut old tx → IsClaimedExactly old tx addr answer new → IsLawfulCore P old → IsLawfulCore P new
@@ -93,26 +82,24 @@ module _ (P : ℕ → ℕ → List ObjectBytes → List ObjectBytes → Type 0) 
   claimed_law old new tx block addr (claim.NoMemory back) whole is_out h core = same_law old new h.2 core
 
   pub commit_law : {C : Type 0} (old new : CoreState) (tx : ℕ) (plan : Planned) (change : C) (answer : Commit C)
-      → IsCommitExactly old tx plan change answer new → IsLawful new.log → P plan.blocks plan.inodes plan.read plan.written
-      → IsLawfulCore P old → IsLawfulCore P new
-  commit_law old new tx plan change (commit.Committed place) h lawful is_plan core =
+      → IsCommitExactly old tx plan change answer new → IsLawful new.log → All IsWholeChange new.log.changes
+      → P plan.blocks plan.inodes plan.read plan.written → IsLawfulCore P old → IsLawfulCore P new
+  commit_law old new tx plan change (commit.Committed place) h lawful whole is_plan core =
       subst (λ (now : CoreState). IsLawfulCore P now) (sym h.core)
       (lawful_commit P old tx plan h.group.group new.log h.tried.own h.group.sizes h.group.blocks h.group.contents
-      h.group.grown h.blocks lawful
-      (subst (λ (log : Log). All IsWholeChange log.changes) (sym h.appended)
-      (whole_group (old.log.places + 1) old.log.changes h.group.group core.tidy.changes h.group.whole)) is_plan core)
-  commit_law old new tx plan change (commit.Full back same) h lawful is_plan core = same_law old new h.0.core core
-  commit_law old new tx plan change (commit.Foreign back same) h lawful is_plan core = same_law old new h.0.core core
-  commit_law old new tx plan change (commit.NoMemory back same) h lawful is_plan core = same_law old new h.0.core core
-  commit_law old new tx plan change (commit.Broken back same) h lawful is_plan core = same_law old new h.0.core core
-  commit_law old new tx plan change (commit.Spent back same) h lawful is_plan core = same_law old new h.0.core core
+      h.group.grown h.still.blocks lawful whole is_plan core)
+  commit_law old new tx plan change (commit.Full back same) h lawful whole is_plan core = same_law old new h.0.core core
+  commit_law old new tx plan change (commit.Foreign back same) h lawful whole is_plan core = same_law old new h.0.core core
+  commit_law old new tx plan change (commit.NoMemory back same) h lawful whole is_plan core = same_law old new h.0.core core
+  commit_law old new tx plan change (commit.Broken back same) h lawful whole is_plan core = same_law old new h.0.core core
+  commit_law old new tx plan change (commit.Spent back same) h lawful whole is_plan core = same_law old new h.0.core core
 
 pub commit_keeps : {C : Type 0} (old new : CoreState) (tx : ℕ) (plan : Planned) (change : C) (answer : Commit C)
     → IsLawful old.log → AreTidy old → IsCommitExactly old tx plan change answer new → KeepsHome old new
 commit_keeps old new tx plan change (commit.Committed place) lawful tidy h base home =
     subst (λ (now : CoreState). IsHomeOf base now) (sym h.core)
     (commit_home base old tx plan h.group.group new.log lawful tidy h.tried.own h.group.sizes h.group.blocks
-    h.group.contents h.group.grown h.blocks home)
+    h.group.contents h.group.grown h.still.blocks home)
 commit_keeps old new tx plan change (commit.Full back same) lawful tidy h base home = same_home old new h.0.core base home
 commit_keeps old new tx plan change (commit.Foreign back same) lawful tidy h base home = same_home old new h.0.core base home
 commit_keeps old new tx plan change (commit.NoMemory back same) lawful tidy h base home = same_home old new h.0.core base home
@@ -170,14 +157,14 @@ commit_set old new tx plan change (commit.Spent back same) lawful tidy h = tt
 same_reads : (old new : CoreState) → new ≡ old → (other : ℕ) → KeepsReads old new other
 same_reads old new e other = subst (λ (core : CoreState). KeepsReads old core other) (sym e) (λ object h. h)
 
-pub wanted_reads : (old new : CoreState) (tx : ℕ) (addr : Addr) (answer : Want)
-    → IsWantedExactly old tx addr answer new → (other : ℕ) → KeepsReads old new other
-wanted_reads old new tx addr (want.Held back bytes) h other = reads_held old new tx addr bytes.items other h.2
-wanted_reads old new tx addr (want.Fetch back io) h other = reads_fetch old new tx addr io other h.2
-wanted_reads old new tx addr (want.Busy back) h other = same_reads old new h.2 other
-wanted_reads old new tx addr (want.Loading back) h other = same_reads old new h.2 other
-wanted_reads old new tx addr (want.Outside back) h other = same_reads old new h.2 other
-wanted_reads old new tx addr (want.NoMemory back) h other = same_reads old new h.2 other
+pub wanted_reads : (old new : CoreState) (tx : ℕ) (addr : Addr) (mode : Mode) (answer : Want)
+    → IsWantedExactly old tx addr mode answer new → (other : ℕ) → KeepsReads old new other
+wanted_reads old new tx addr mode (want.Held back bytes) h other = reads_held old new tx addr mode bytes.items other h.2
+wanted_reads old new tx addr mode (want.Fetch back io) h other = reads_fetch old new tx addr mode io other h.2
+wanted_reads old new tx addr mode (want.Busy back) h other = same_reads old new h.2 other
+wanted_reads old new tx addr mode (want.Loading back) h other = same_reads old new h.2 other
+wanted_reads old new tx addr mode (want.Outside back) h other = same_reads old new h.2 other
+wanted_reads old new tx addr mode (want.NoMemory back) h other = same_reads old new h.2 other
 
 pub claimed_reads : (old new : CoreState) (tx : ℕ) (addr : Addr) (answer : Claim)
     → IsClaimedExactly old tx addr answer new → (other : ℕ) → KeepsReads old new other
@@ -211,7 +198,7 @@ pub commit_reads : {C : Type 0} (P : ℕ → ℕ → List ObjectBytes → List O
 commit_reads P old new tx plan change (commit.Committed place) core h other differ =
     subst (λ (now : CoreState). KeepsReads old now other) (sym h.core)
     (reads_commit core.home.0 old tx plan h.group.group new.log other core.log core.tidy h.tried.own h.group.sizes
-    h.group.blocks h.group.contents h.group.grown h.blocks core.home.1 differ)
+    h.group.blocks h.group.contents h.group.grown h.still.blocks core.home.1 differ)
 commit_reads P old new tx plan change (commit.Full back same) core h other differ = same_reads old new h.0.core other
 commit_reads P old new tx plan change (commit.Foreign back same) core h other differ = same_reads old new h.0.core other
 commit_reads P old new tx plan change (commit.NoMemory back same) core h other differ = same_reads old new h.0.core other
@@ -220,15 +207,15 @@ commit_reads P old new tx plan change (commit.Spent back same) core h other diff
 
 -- What each answer leaves.
 
-pub wanted_leaves : (old new : CoreState) (tx : ℕ) (addr : Addr) (answer : Want)
-    → IsWantedExactly old tx addr answer new → IsWanted old tx addr answer new
-wanted_leaves old new tx addr (want.Held back bytes) h =
-    (h.0, h.1, leaves_held old new tx addr bytes.items h.1 h.2)
-wanted_leaves old new tx addr (want.Fetch back io) h = (h.0, h.1, leaves_fetch old new tx addr io h.2)
-wanted_leaves old new tx addr (want.Busy back) h = h
-wanted_leaves old new tx addr (want.Loading back) h = h
-wanted_leaves old new tx addr (want.Outside back) h = h
-wanted_leaves old new tx addr (want.NoMemory back) h = h
+pub wanted_leaves : (old new : CoreState) (tx : ℕ) (addr : Addr) (mode : Mode) (answer : Want)
+    → IsWantedExactly old tx addr mode answer new → IsWanted old tx addr mode answer new
+wanted_leaves old new tx addr mode (want.Held back bytes) h =
+    (h.0, h.1, leaves_held old new tx addr mode bytes.items h.1 h.2)
+wanted_leaves old new tx addr mode (want.Fetch back io) h = (h.0, h.1, leaves_fetch old new tx addr mode io h.2)
+wanted_leaves old new tx addr mode (want.Busy back) h = h
+wanted_leaves old new tx addr mode (want.Loading back) h = h
+wanted_leaves old new tx addr mode (want.Outside back) h = h
+wanted_leaves old new tx addr mode (want.NoMemory back) h = h
 
 pub claimed_leaves : (old new : CoreState) (tx : ℕ) (addr : Addr) (answer : Claim)
     → IsClaimedExactly old tx addr answer new → IsClaimed old tx addr answer new
@@ -245,15 +232,7 @@ place_leaves old new tx plan place tidy h = record {
   next = h.next;
   group = h.group;
   places = h.places;
-  still = subst (λ (log : Log). StandsStill old.log log) (sym h.appended) (record {
-    blocks = refl;
-    start = refl;
-    log_step = refl;
-    log_out = refl;
-    inst_step = refl;
-    inst_out = refl;
-    broken = refl;
-  });
+  still = h.still;
   only = h.core ∙ ap (λ (core : CoreState). record old {
     log = new.log;
     out = without tx old.out;

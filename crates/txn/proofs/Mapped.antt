@@ -4,7 +4,7 @@ use Rattle.std.proofs.Common.{ℕ, ◌∙◌, ◌++◌, nat_lt, if◌then◌else
 use Rattle.std.proofs.lemmas.List.{map-append}
 use Rattle.std.specs.List.{list_any, filter}
 use Rattle.wal_law.specs.Log.{Log, installed_place}
-use Rattle.txn_law.specs.Commit.{Planned, with_record, refreshed, committed}
+use Rattle.txn_law.specs.Commit.{Planned, footprint, with_record, refreshed, committed}
 use Rattle.txn_law.specs.Core.{CoreState, ended}
 use Rattle.txn_law.specs.Holds.{is_taken}
 use Rattle.txn_law.specs.Records.{lies_in, swept}
@@ -40,18 +40,16 @@ swept_of_map f holds xs present =
 -- the records with a commit's, told by the commits and by what is made of them
 pub recorded : {X : Type 0} (f : X → Footprint) (log : Log) (plan : Planned) (installed place : ℕ)
     (xs : List X) (x : X) → installed ≡ installed_place log → place ≡ log.places
-    → f x ≡ record { place = place; read = plan.read; written = plan.written }
+    → f x ≡ footprint place plan
     → map f (if nat_lt installed place then xs ++ x ∷ [] else xs) ≡ with_record log log.places plan (map f xs)
 recorded f log plan installed place xs x first last is =
     go (nat_lt installed place) ∙ ap (λ n. chosen n place) first ∙ ap (λ n. chosen (installed_place log) n) last
   where
     chosen : ℕ → ℕ → List Footprint
-    chosen a b = if nat_lt a b then map f xs
-        ++ record { place = b; read = plan.read; written = plan.written } ∷ [] else map f xs
+    chosen a b = if nat_lt a b then map f xs ++ footprint b plan ∷ [] else map f xs
 
     go : (t : Bool) → map f (if t then xs ++ x ∷ [] else xs)
-        ≡ (if t then map f xs ++ record { place = place; read = plan.read; written = plan.written } ∷ []
-        else map f xs)
+        ≡ (if t then map f xs ++ footprint place plan ∷ [] else map f xs)
     go true = map-append f xs (x ∷ []) ∙ ap (λ y. map f xs ++ y ∷ []) is
     go false = refl
 

@@ -1,8 +1,9 @@
 -- What the answers of the private state say: as those of the core, and exactly what they make of its lists.
 use Rattle.std.specs.Prelude.{◌≡◌, ℕ, ◌+◌}
 use Rattle.objects.specs.declared.addr.Addr.{Addr}
+use Rattle.objects.specs.declared.mode.Mode.{Mode}
 use Rattle.wal_law.specs.Calls.{KeepsAgreement}
-use Rattle.wal_law.specs.Room.{with_group}
+use Rattle.wal_law.specs.Grows.{StandsStill}
 use Rattle.wal_law.specs.declared.outcomes.Room.TheVariants as room
 use Rattle.txn_law.specs.Commit.{Planned, committed}
 use Rattle.txn_law.specs.Core.{CoreState}
@@ -12,10 +13,10 @@ use Rattle.txn.specs.declared.outcomes.Want.{Want}
 use Rattle.txn.specs.declared.outcomes.Claim.{Claim}
 use Rattle.txn.specs.declared.outcomes.Commit.{Commit}
 
-abbrev pub IsWantedExactly : CoreState → ℕ → Addr → Want → CoreState → Type 0
-IsWantedExactly old tx addr answer new =
-    IsWantedWith (λ bytes. IsHeldExactly old tx addr bytes new) (λ io. IsFetchedExactly old tx addr io new) old tx
-    addr answer new
+abbrev pub IsWantedExactly : CoreState → ℕ → Addr → Mode → Want → CoreState → Type 0
+IsWantedExactly old tx addr mode answer new =
+    IsWantedWith (λ bytes. IsHeldExactly old tx addr mode bytes new) (λ io. IsFetchedExactly old tx addr mode io new)
+    old tx addr mode answer new
 
 abbrev pub IsClaimedExactly : CoreState → ℕ → Addr → Claim → CoreState → Type 0
 IsClaimedExactly old tx addr answer new =
@@ -25,9 +26,8 @@ pub record TakesPlaceExactly (old : CoreState) (tx : ℕ) (plan : Planned) (plac
   pub tried : IsTried old tx plan room.Fits
   pub next : place ≡ old.log.places + 1
   pub group : BringsGroup old plan new
-  pub appended : new.log ≡ with_group old.log group.group
+  pub still : StandsStill old.log new.log
   pub places : new.log.places ≡ old.log.places + 1
-  pub blocks : new.log.blocks ≡ old.log.blocks
   pub core : new ≡ committed old tx plan new.log
   pub law : KeepsAgreement old.log new.log
 

@@ -4,11 +4,13 @@ use Rattle.limits.specs.declared.TheConstants.{BLOCK_BYTES}
 use Rattle.disk.specs.Device.{Content}
 use Rattle.disk.specs.declared.block.BlockNo.{BlockNo}
 use Rattle.objects.specs.declared.addr.Addr.{Addr}
+use Rattle.objects.specs.declared.mode.Mode.{Mode}
+use Rattle.objects.specs.declared.mode.Mode.TheVariants as modes
 use Rattle.wal_law.specs.Log.{newest, blocks_of as group_blocks}
 use Rattle.wal_law.specs.Room.{IsRoom}
 use Rattle.wal_law.specs.Calls.{KeepsAgreement}
 use Rattle.wal_law.specs.Effects.{HasAppended}
-use Rattle.wal_law.specs.Grows.{GrowsBy}
+use Rattle.wal_law.specs.Grows.{GrowsBy, StandsStill}
 use Rattle.wal_law.specs.declared.outcomes.Room.{Room}
 use Rattle.wal_law.specs.declared.outcomes.Room.TheVariants as room
 use Rattle.txn_law.specs.Commit.{Planned, IsOwn, with_record, refreshed_content}
@@ -17,7 +19,6 @@ use Rattle.txn_law.specs.CoreWindow.{SetsOnly}
 use Rattle.txn_law.specs.Fetch.{Fetch}
 use Rattle.txn_law.specs.Group.{blocks_of, IsLaid}
 use Rattle.txn_law.specs.Leaves.{Leaves, taken_by, is_fetching, in_memory, but_by}
-use Rattle.txn_law.specs.Steps.{StandsStill}
 use Rattle.txn_law.specs.Wishes.{IsOpen, IsOutside, IsBusy, IsLoading, IsHeld, IsFetched, IsTaken}
 use Rattle.txn.specs.declared.outcomes.Want.{Want}
 use Rattle.txn.specs.declared.outcomes.Want.TheVariants as want
@@ -28,18 +29,22 @@ use Rattle.txn.specs.declared.outcomes.Commit.TheVariants as commit
 
 -- What came of a wish to read an object, by what is left where it is held and where it is to be fetched: the
 -- transaction comes back, and each refusal has its cause and changes nothing.
-abbrev pub IsWantedWith : (List ℕ → Type 0) → (Fetch → Type 0) → CoreState → ℕ → Addr → Want → CoreState → Type 0
-IsWantedWith held fetch old tx addr (want.Held back bytes) new = (back ≡ tx) × IsOpen old tx addr
+abbrev pub IsWantedWith : (List ℕ → Type 0) → (Fetch → Type 0) → CoreState → ℕ → Addr → Mode → Want → CoreState
+    → Type 0
+IsWantedWith held fetch old tx addr mode (want.Held back bytes) new = (back ≡ tx) × IsOpen old tx addr mode
     × held bytes.items
-IsWantedWith held fetch old tx addr (want.Busy back) new = (back ≡ tx) × IsBusy old tx addr × (new ≡ old)
-IsWantedWith held fetch old tx addr (want.Fetch back io) new = (back ≡ tx) × IsOpen old tx addr × fetch io
-IsWantedWith held fetch old tx addr (want.Loading back) new = (back ≡ tx) × IsLoading old tx addr × (new ≡ old)
-IsWantedWith held fetch old tx addr (want.Outside back) new = (back ≡ tx) × IsOutside old addr × (new ≡ old)
-IsWantedWith held fetch old tx addr (want.NoMemory back) new = (back ≡ tx) × IsOpen old tx addr × (new ≡ old)
+IsWantedWith held fetch old tx addr mode (want.Busy back) new = (back ≡ tx) × IsBusy old tx addr mode × (new ≡ old)
+IsWantedWith held fetch old tx addr mode (want.Fetch back io) new = (back ≡ tx) × IsOpen old tx addr mode × fetch io
+IsWantedWith held fetch old tx addr mode (want.Loading back) new = (back ≡ tx) × IsLoading old tx addr mode
+    × (new ≡ old)
+IsWantedWith held fetch old tx addr mode (want.Outside back) new = (back ≡ tx) × IsOutside old addr × (new ≡ old)
+IsWantedWith held fetch old tx addr mode (want.NoMemory back) new = (back ≡ tx) × IsOpen old tx addr mode
+    × (new ≡ old)
 
-abbrev pub IsWanted : CoreState → ℕ → Addr → Want → CoreState → Type 0
-IsWanted old tx addr answer new =
-    IsWantedWith (λ bytes. IsHeld old tx addr bytes new) (λ io. IsFetched old tx addr io new) old tx addr answer new
+abbrev pub IsWanted : CoreState → ℕ → Addr → Mode → Want → CoreState → Type 0
+IsWanted old tx addr mode answer new =
+    IsWantedWith (λ bytes. IsHeld old tx addr mode bytes new) (λ io. IsFetched old tx addr mode io new) old tx addr
+    mode answer new
 
 -- the bytes are as many as asked for, and what is to be fetched is a block of the image
 abbrev pub IsWithin : ℕ → ℕ → Want → Type 0
@@ -50,14 +55,16 @@ IsWithin blocks len (want.Loading back) = Unit {0}
 IsWithin blocks len (want.Outside back) = Unit {0}
 IsWithin blocks len (want.NoMemory back) = Unit {0}
 
--- what came of a wish to write a whole block, by what is left where it is held: as of a wish to read it, but that
--- nothing is fetched
+-- what came of a wish to write a whole block, alone, by what is left where it is held: as of a wish to read it, but
+-- that nothing is fetched
 abbrev pub IsClaimedWith : Type 0 → CoreState → ℕ → Addr → Claim → CoreState → Type 0
-IsClaimedWith held old tx addr (claim.Held back) new = (back ≡ tx) × IsOpen old tx addr × held
-IsClaimedWith held old tx addr (claim.Busy back) new = (back ≡ tx) × IsBusy old tx addr × (new ≡ old)
-IsClaimedWith held old tx addr (claim.Loading back) new = (back ≡ tx) × IsLoading old tx addr × (new ≡ old)
+IsClaimedWith held old tx addr (claim.Held back) new = (back ≡ tx) × IsOpen old tx addr modes.Exclusive × held
+IsClaimedWith held old tx addr (claim.Busy back) new = (back ≡ tx) × IsBusy old tx addr modes.Exclusive × (new ≡ old)
+IsClaimedWith held old tx addr (claim.Loading back) new = (back ≡ tx) × IsLoading old tx addr modes.Exclusive
+    × (new ≡ old)
 IsClaimedWith held old tx addr (claim.Outside back) new = (back ≡ tx) × IsOutside old addr × (new ≡ old)
-IsClaimedWith held old tx addr (claim.NoMemory back) new = (back ≡ tx) × IsOpen old tx addr × (new ≡ old)
+IsClaimedWith held old tx addr (claim.NoMemory back) new = (back ≡ tx) × IsOpen old tx addr modes.Exclusive
+    × (new ≡ old)
 
 abbrev pub IsClaimed : CoreState → ℕ → Addr → Claim → CoreState → Type 0
 IsClaimed old tx addr answer new = IsClaimedWith (IsTaken old tx addr new) old tx addr answer new

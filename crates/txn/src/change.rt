@@ -8,34 +8,30 @@ use crate::Object;
 /// counts of blocks and inodes of the image that it was worked out for.
 pub trait Change: Drop {
     ghost use Rattle.std.specs.Prelude.{List, ℕ};
+    ghost use Rattle.txn_law.specs.Commit.{Planned};
     ghost use Rattle.txn_law.specs.Object.{ObjectBytes};
 
-    ghost objects_read: { Self → List ObjectBytes };
-
-    ghost objects_written: { Self → List ObjectBytes };
-
-    ghost planned_blocks: { Self → ℕ };
-
-    ghost planned_inodes: { Self → ℕ };
+    // What it was worked out for, what it read and what it writes.
+    ghost planned: { Self → Planned };
 
     // These objects, read and written, are what a plan reads and writes, for an image of these counts of blocks
     // and inodes.
     ghost is_plan: { ℕ → ℕ → List ObjectBytes → List ObjectBytes → Type 0 };
 
     fn read(&self) -> &[Object]
-        ensures { result.now ≡ objects_read self.now };
+        ensures { result.now ≡ (planned self.now).read };
 
     fn written(&self) -> &[Object]
-        ensures { result.now ≡ objects_written self.now };
+        ensures { result.now ≡ (planned self.now).written };
 
     fn blocks(&self) -> u32
-        ensures { result ≡ planned_blocks self.now };
+        ensures { result ≡ (planned self.now).blocks };
 
     fn inodes(&self) -> u32
-        ensures { result ≡ planned_inodes self.now };
+        ensures { result ≡ (planned self.now).inodes };
 
     /// What it read and what it writes is what a plan reads and writes.
     fn is_planned(&self)
-        ensures { is_plan (planned_blocks self.now) (planned_inodes self.now) (objects_read self.now)
-            (objects_written self.now) };
+        ensures { let plan = planned self.now in
+            is_plan plan.blocks plan.inodes plan.read plan.written };
 }

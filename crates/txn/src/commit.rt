@@ -1,6 +1,7 @@
 //! Committing a change.
-ghost use Rattle.std.specs.Prelude.{◌≡◌, ◌≤◌, ◌<◌, ◌↔◌, length, All, IsTrue, true};
+ghost use Rattle.std.specs.Prelude.{◌≡◌, ◌≤◌, ◌<◌, ◌↔◌, length, All, IsTrue, true, false};
 ghost use Rattle.wal_law.specs.Log.{IsHomeOn};
+ghost use Rattle.wal_law.specs.Room.{IsRoom};
 ghost use Rattle.limits.specs.declared.TheConstants.{CHANGED_BLOCKS};
 ghost use Rattle.txn.specs.Exactly.{IsCommitExactly};
 ghost use Rattle.txn_law.specs.Commit.{IsOwn, IsReadBy, IsWrittenBy, HasBytes};
@@ -24,14 +25,8 @@ impl<C: Change> State<C> {
     /// too few positions of the log. Full: the open group and this change pass the log. These and NoMemory
     /// change nothing.
     pub(crate) fn commit(&mut self, alloc: Global, tx: Tx, change: C) -> Commit<C>
-        requires { length (blocks_of (C.objects_written change)) ≤ CHANGED_BLOCKS }
-        ensures { IsCommitExactly self.old tx (record {
-          read = C.objects_read change;
-          written = C.objects_written change;
-          blocks = C.planned_blocks change;
-          inodes =
-              C.planned_inodes change;
-        }) change result self.new }
+        requires { length (blocks_of (C.planned change).written) ≤ CHANGED_BLOCKS }
+        ensures { IsCommitExactly self.old tx (C.planned change) change result self.new }
     {
         if self.log.broken() {
             return Commit::Broken(tx, change);
@@ -41,30 +36,34 @@ impl<C: Change> State<C> {
             return Commit::Foreign(tx, change);
         }
         match self.log.room(blocks.as_slice()) {
-            Room::Spent => return Commit::Spent(tx, change),
-            Room::Full => return Commit::Full(tx, change),
-            Room::Fits => {}
+            Room::Spent => Commit::Spent(tx, change),
+            Room::Full => Commit::Full(tx, change),
+            Room::Fits => self.take_place(alloc, tx, change, blocks.as_slice()),
         }
+    }
+
+    // Commits a change of these blocks that is this transaction's and finds room. All room in memory is made before
+    // anything changes.
+    fn take_place(&mut self, alloc: Global, tx: Tx, change: C, blocks: &[BlockNo]) -> Commit<C>
+        requires sound { self.old.log.broken ≡ false }
+        requires own { IsOwn self.old tx (C.planned change) }
+        requires room { IsRoom self.old.log blocks.now Room.Fits }
+        requires blocks { blocks.now ≡ blocks_of (C.planned change).written }
+        ensures { IsCommitExactly self.old tx (C.planned change) change result self.new }
+    {
         are_sized(change.written());
         if self.records.reserve(1).is_err() {
             return Commit::NoMemory(tx, change);
         }
-        let Ok(group) = group_of(
-            alloc,
-            &self.present,
-            &self.log,
-            blocks.as_slice(),
-            change.written(),
-        ) else {
+        let Ok(group) = group_of(alloc, &self.present, &self.log, blocks, change.written()) else {
             return Commit::NoMemory(tx, change);
         };
         match self.log.append(group) {
             Append::Appended => {
                 let Tx { number } = tx;
                 let place = self.log.places();
-                let installed = self.log.installed();
                 refresh(&mut self.present, &self.log);
-                keep(&mut self.records, place, change, installed);
+                keep(&mut self.records, place, change, self.log.installed());
                 self.close(number);
                 Commit::Committed(place)
             }
@@ -75,15 +74,9 @@ impl<C: Change> State<C> {
 
     // Whether the transaction is out, and the change was planned for this core on what the transaction holds.
     fn is_own(&self, transaction: u64, change: &C, blocks: &[BlockNo]) -> bool
-        requires { blocks.now ≡ blocks_of (C.objects_written change.now) }
+        requires { blocks.now ≡ blocks_of (C.planned change.now).written }
         ensures { IsTrue result
-            ↔ IsOwn self.now transaction (record {
-              read = C.objects_read change.now;
-              written = C.objects_written change.now;
-              blocks = C.planned_blocks change.now;
-              inodes =
-                  C.planned_inodes change.now;
-            }) }
+            ↔ IsOwn self.now transaction (C.planned change.now) }
     {
         self.out == Some(transaction)
             && change.blocks() == self.log.blocks()

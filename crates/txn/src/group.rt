@@ -33,14 +33,6 @@ pub(crate) fn blocks_of_objects(objects: &[Object]) -> Blocks
     blocks
 }
 
-/// How many blocks a change of these objects adds to the open tail of the log.
-pub fn added_blocks(objects: &[Object]) -> usize
-    requires { length (blocks_of objects.now) ≤ CHANGED_BLOCKS }
-    ensures { result ≡ length (blocks_of objects.now) }
-{
-    blocks_of_objects(objects).len()
-}
-
 // Whether the block is among these.
 fn contains(blocks: &[BlockNo], block: BlockNo) -> bool
     ensures { result ≡ is_among block blocks.now }

@@ -1,19 +1,29 @@
 //! Who holds what.
 ghost use Rattle.std.specs.Prelude.{◌≡◌, ◌<◌, ◌≤◌, ◌↔◌, IsTrue, vec_len, vec_capacity};
-ghost use Rattle.txn_law.specs.Holds.{IsFree, exclusive, is_taken, hold_of, is_read, is_written, joined, without_hold};
-ghost use Rattle.txn_law.specs.Holds.{with_hold, released};
+ghost use Rattle.txn_law.specs.Holds.{IsFree, is_taken, hold_of, is_read, is_written, joined, without_hold};
+ghost use Rattle.txn_law.specs.Holds.{KeepsOff, for_reading, for_fetching, for_writing, with_hold, released};
 
 use disk::BlockNo;
-use objects::Addr;
+use objects::{Addr, Mode};
 use txn_law::Hold;
 
-/// Whether nobody has taken a byte of the address, but this transaction by this address.
-pub(crate) fn is_free(holds: &[Hold], transaction: u64, addr: Addr) -> bool
-    ensures { IsTrue result ↔ IsFree holds.now transaction addr exclusive }
+/// Whether of what keeps the wish off nothing has a byte of the address, but what this transaction has taken by
+/// this address.
+pub(crate) fn is_free(holds: &[Hold], transaction: u64, addr: Addr, mode: Mode) -> bool
+    ensures { IsTrue result ↔ IsFree holds.now transaction addr mode }
 {
     holds.iter().all(|hold| {
-        !hold.addr.overlaps(addr) || hold.transaction == transaction && hold.addr == addr
+        !hold.addr.overlaps(addr)
+            || !keeps_off(hold, transaction, mode)
+            || hold.transaction == transaction && hold.addr == addr
     })
+}
+
+// Whether what is taken keeps off such a wish.
+fn keeps_off(hold: &Hold, transaction: u64, mode: Mode) -> bool
+    ensures { IsTrue result ↔ KeepsOff transaction mode hold.now }
+{
+    hold.transaction == transaction || hold.mode.excludes(mode)
 }
 
 /// The transaction's hold of the address, if it has one.
@@ -41,7 +51,7 @@ pub(crate) fn is_written_by(holds: &[Hold], transaction: u64, addr: Addr) -> boo
     ensures { result ≡ is_written (hold_of holds.now transaction addr) }
 {
     match hold_of(holds, transaction, addr) {
-        Some(hold) => hold.is_read || hold.is_claimed,
+        Some(hold) => hold.mode == Mode::Exclusive && (hold.is_read || hold.is_claimed),
         None => false,
     }
 }
@@ -51,6 +61,42 @@ pub(crate) fn is_taken(holds: &[Hold], block: BlockNo) -> bool
     ensures { result ≡ is_taken holds.now block }
 {
     holds.iter().any(|hold| hold.addr.block == block)
+}
+
+/// What a wish to read an object takes.
+pub(crate) fn for_reading(transaction: u64, addr: Addr, mode: Mode) -> Hold
+    ensures { result ≡ for_reading transaction addr mode }
+{
+    Hold {
+        transaction,
+        addr,
+        mode,
+        is_read: true,
+        is_claimed: false,
+    }
+}
+
+/// What a wish takes whose object's block is still to be fetched.
+pub(crate) fn for_fetching(transaction: u64, addr: Addr, mode: Mode) -> Hold
+    ensures { result ≡ for_fetching transaction addr mode }
+{
+    Hold {
+        is_read: false,
+        ..for_reading(transaction, addr, mode)
+    }
+}
+
+/// What a wish to write a whole block takes.
+pub(crate) fn for_writing(transaction: u64, addr: Addr) -> Hold
+    ensures { result ≡ for_writing transaction addr }
+{
+    Hold {
+        transaction,
+        addr,
+        mode: Mode::Exclusive,
+        is_read: false,
+        is_claimed: true,
+    }
 }
 
 /// Notes that the transaction takes the address, for reading, for writing, or with its block still to be
@@ -82,6 +128,7 @@ fn joined(had: Option<Hold>, hold: Hold) -> Hold
 {
     match had {
         Some(had) => Hold {
+            mode: had.mode.raised(hold.mode),
             is_read: had.is_read || hold.is_read,
             is_claimed: had.is_claimed || hold.is_claimed,
             ..hold

@@ -15,7 +15,6 @@ mod tx;
 mod want;
 
 pub use change::Change;
-pub use group::added_blocks;
 pub use object::Object;
 pub use outcomes::{BeginFault, Claim, Commit, Want};
 pub use transactions::Core;

@@ -28,7 +28,7 @@ fn lies_in(objects: &[Object], block: BlockNo) -> bool
 
 /// Whether a kept record read a part of the block.
 pub(crate) fn is_kept<C: Change>(records: &VecDeque<Record<C>>, block: BlockNo) -> bool
-    ensures { result ≡ list_any (λ kept. lies_in (C.objects_read kept.change) block) records.now.items }
+    ensures { result ≡ list_any (λ kept. lies_in (C.planned kept.change).read block) records.now.items }
 {
     records
         .iter()
@@ -65,7 +65,7 @@ pub(crate) fn sweep<C: Change>(
     records: &VecDeque<Record<C>>,
 )
     ensures { present.new.items ≡ filter (λ entry. is_none entry.content || is_taken holds.now entry.block
-        || list_any (λ kept. lies_in (C.objects_read kept.change) entry.block) records.now.items)
+        || list_any (λ kept. lies_in (C.planned kept.change).read entry.block) records.now.items)
         present.old.items }
 {
     present.retain(|entry| {

@@ -2,8 +2,11 @@
 //! commits that aren't installed.
 ghost use Rattle.std.specs.Prelude.{◌≡◌, ◌≤◌, ◌+◌, ◌^◌, ◌↔◌, IsTrue, IsSome, IsNone, IfSome, IsErrOf, OnErr};
 ghost use Rattle.txn.specs.Out.{listed};
-ghost use Rattle.std.specs.Prelude.{IfOk, ◌∷◌, true, false, is_some, if◌then◌else◌, [], length};
-ghost use Rattle.wal_law.specs.Log.{settled_place, installed_place, tail_count, IsHomeOn, IsLawful};
+ghost use Rattle.std.specs.Prelude.{IfOk, ◌∷◌, true, false, is_some, if◌then◌else◌, [], length, All};
+ghost use Rattle.limits.specs.declared.TheConstants.{CHANGED_BLOCKS};
+ghost use Rattle.wal_law.specs.Grows.{IsWholeChange};
+ghost use Rattle.wal_law.specs.Log.{settled_place, installed_place, tail_count, added_blocks, IsHomeOn, IsLawful};
+ghost use Rattle.txn_law.specs.Group.{blocks_of};
 ghost use Rattle.wal_law.specs.Calls.{LogCallGoesOut, LogCallComesBack, InstCallGoesOut, InstCallComesBack};
 ghost use Rattle.wal_law.specs.Io.{IsCallWithin};
 ghost use Rattle.wal_law.specs.Logger.{IsNextLogCall, may_log, with_log_out, is_log_out, with_log_back};
@@ -11,10 +14,11 @@ ghost use Rattle.wal_law.specs.Installer.{IsNextInstCall, may_install, with_inst
 ghost use Rattle.txn_law.specs.Core.{without, ended, past, installed};
 ghost use Rattle.txn_law.specs.Records.{swept};
 
+use crate::group::blocks_of_objects;
 use crate::holds::release;
 use crate::outcomes::BeginFault;
 use crate::records::{Record, forget, sweep};
-use crate::{Change, Stable, Tx};
+use crate::{Change, Object, Stable, Tx};
 use disk::BlockNo;
 use limits::FIRST_HOME_BLOCK;
 use std::alloc::Global;
@@ -43,6 +47,7 @@ pub(crate) struct State<C: Change> {
 impl<C: Change> Model for State<C> {
     ghost use Rattle.std.specs.Prelude.{map};
     ghost use Rattle.txn.specs.Out.{listed};
+    ghost use Rattle.txn_law.specs.Commit.{footprint};
     ghost use Rattle.txn_law.specs.Core.{CoreState};
 
     ghost Value = { CoreState };
@@ -54,11 +59,7 @@ impl<C: Change> Model for State<C> {
       out = listed c.out;
       holds = c.holds.items;
       present = c.present.items;
-      records = map (λ r. record {
-        place = r.place.0;
-        read = C.objects_read r.change;
-        written = C.objects_written r.change;
-      }) c.records.items;
+      records = map (λ r. footprint r.place.0 (C.planned r.change)) c.records.items;
     } };
 }
 
@@ -91,6 +92,13 @@ impl<C: Change> State<C> {
         ensures { IsLawful self.now.log }
     {
         self.log.lawful();
+    }
+
+    /// Each change of its log is of a whole block.
+    pub(crate) fn whole(&self)
+        ensures { All IsWholeChange self.now.log.changes }
+    {
+        self.log.whole();
     }
 
     /// The image's counts of blocks and of inodes.
@@ -193,6 +201,14 @@ impl<C: Change> State<C> {
         ensures { result ≡ tail_count self.now.log }
     {
         self.log.tail()
+    }
+
+    /// How many blocks more the open tail of the log holds by a change of these objects.
+    pub(crate) fn added_blocks(&self, objects: &[Object]) -> usize
+        requires { length (blocks_of objects.now) ≤ CHANGED_BLOCKS }
+        ensures { result ≡ added_blocks self.now.log (blocks_of objects.now) }
+    {
+        self.log.added_blocks(blocks_of_objects(objects).as_slice())
     }
 
     /// Whether a write or a barrier has failed. Nothing is begun or committed any more.

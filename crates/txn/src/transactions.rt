@@ -3,7 +3,8 @@ ghost use Rattle.std.specs.Prelude.{◌≡◌, ◌≤◌, ◌+◌, ◌^◌, ◌�
 ghost use Rattle.std.specs.Prelude.{ℕ, IfOk, ◌∷◌, true, false, is_some, if◌then◌else◌, [], length};
 ghost use Rattle.limits.specs.declared.TheConstants.{CHANGED_BLOCKS};
 ghost use Rattle.objects.specs.declared.addr.Addr.{Addr};
-ghost use Rattle.wal_law.specs.Log.{settled_place, installed_place, tail_count};
+ghost use Rattle.objects.specs.declared.mode.Mode.TheVariants as modes;
+ghost use Rattle.wal_law.specs.Log.{settled_place, installed_place, tail_count, added_blocks};
 ghost use Rattle.wal_law.specs.Calls.{LogCallGoesOut, LogCallComesBack, InstCallGoesOut, InstCallComesBack};
 ghost use Rattle.wal_law.specs.Calls.{AgreesBeside, Pending, home_after};
 ghost use Rattle.disk.specs.Device.{Device, current, newest as newest_content};
@@ -21,9 +22,9 @@ ghost use Rattle.txn_law.specs.Wishes.{IsWhole};
 ghost use Rattle.txn.specs.Outcomes.{IsWanted, IsWithin, IsClaimed, IsCommit, IsSetBy};
 
 use crate::state::State;
-use crate::{BeginFault, Change, Claim, Commit, FetchIo, Stable, Tx, Want};
+use crate::{BeginFault, Change, Claim, Commit, FetchIo, Object, Stable, Tx, Want};
 use disk::BlockNo;
-use objects::Addr;
+use objects::{Addr, Mode};
 use std::alloc::Global;
 use std::marker::Model;
 use wal::{InstIo, LogIo, Seq, Wal};
@@ -98,19 +99,19 @@ impl<C: Change> Core<C> {
         self.state.begin()
     }
 
-    /// Takes an object for reading, in a transaction that is out of this core. Outside: the block isn't one that
-    /// a change may write. Busy: another transaction has taken a byte of it, or this one by another address.
+    /// Takes an object for reading, alone, in a transaction that is out of this core. Outside: the block isn't one
+    /// that a change may write. Busy: another transaction has taken a byte of it, or this one by another address.
     /// Loading: a fetch of the block is pending, and nothing is taken. Fetch: the block has to be read from home;
     /// the object is taken, and the same want after `fetched` answers Held or NoMemory. NoMemory: nothing has
     /// changed.
     pub fn want(&mut self, alloc: Global, tx: Tx, addr: Addr) -> Want
         requires { IsOut self.old tx }
-        ensures answer { IsWanted self.old tx addr result self.new }
+        ensures answer { IsWanted self.old tx addr modes.Exclusive result self.new }
         ensures within { IsWithin self.old.log.blocks addr.len result }
         ensures stays { (other : ℕ) → KeepsReads self.old self.new other }
         ensures keeps { KeepsHome self.old self.new }
     {
-        self.state.want(alloc, tx, addr)
+        self.state.want(alloc, tx, addr, Mode::Exclusive)
     }
 
     /// Takes a whole block for writing, whose bytes don't matter. It answers as `want` does, and never Fetch.
@@ -159,25 +160,16 @@ impl<C: Change> Core<C> {
     /// Spent: no place is left, or too few positions of the log. Full: the open group and this change pass
     /// the log. These and NoMemory change nothing.
     pub fn commit(&mut self, alloc: Global, tx: Tx, change: C) -> Commit<C>
-        requires { length (blocks_of (C.objects_written change)) ≤ CHANGED_BLOCKS }
-        ensures answer { IsCommit self.old tx (record {
-          read = C.objects_read change;
-          written = C.objects_written change;
-          blocks = C.planned_blocks change;
-          inodes = C.planned_inodes change;
-        }) change result self.new }
-        ensures sets { IsSetBy self.old (record {
-          read = C.objects_read change;
-          written = C.objects_written change;
-          blocks = C.planned_blocks change;
-          inodes = C.planned_inodes change;
-        }) result self.new }
+        requires { length (blocks_of (C.planned change).written) ≤ CHANGED_BLOCKS }
+        ensures answer { IsCommit self.old tx (C.planned change) change result self.new }
+        ensures sets { IsSetBy self.old (C.planned change) result self.new }
         ensures stays { (other : ℕ) → (other ≡ tx → ⊥) → KeepsReads self.old self.new other }
         ensures keeps { KeepsHome self.old self.new }
     {
         change.is_planned();
         let answer = self.state.commit(alloc, tx, change);
         self.state.lawful();
+        self.state.whole();
         answer
     }
 
@@ -223,6 +215,14 @@ impl<C: Change> Core<C> {
         ensures { result ≡ tail_count self.now.log }
     {
         self.state.tail()
+    }
+
+    /// How many blocks more the open tail of the log holds by a change of these objects: what a commit of it adds.
+    pub fn added_blocks(&self, objects: &[Object]) -> usize
+        requires { length (blocks_of objects.now) ≤ CHANGED_BLOCKS }
+        ensures { result ≡ added_blocks self.now.log (blocks_of objects.now) }
+    {
+        self.state.added_blocks(objects)
     }
 
     /// Whether a write or a barrier has failed. Nothing is begun or committed any more.

@@ -9,15 +9,14 @@ ghost use Rattle.txn_law.specs.Wishes.{IsWhole};
 ghost use Rattle.txn_law.specs.Fetched.{fetched, fetch_failed};
 ghost use Rattle.txn.specs.Source.{IsSource, IsSourceWithin};
 
-use crate::holds::{is_free, take};
+use crate::holds::{for_fetching, for_reading, for_writing, is_free, take};
 use crate::outcomes::{Claim, Want};
 use crate::present::{add, content_of, fill, is_pending, let_go};
 use crate::state::State;
 use crate::{Change, FetchIo, Tx};
 use disk::{Block, BlockNo};
-use objects::Addr;
+use objects::{Addr, Mode};
 use std::alloc::{AllocError, Global};
-use txn_law::Hold;
 
 // What want found, before the transaction is handed back.
 enum Source {
@@ -26,24 +25,25 @@ enum Source {
 }
 
 impl<C: Change> State<C> {
-    /// Takes an object for reading. Outside: the block isn't one that a change may write. Busy: another
-    /// transaction has taken a byte of it, or this one by another address. Loading: a fetch of the block is
-    /// pending, and nothing is taken. Fetch: the block has to be read from home; the object is taken, and the
-    /// same want after `fetched` answers Held or NoMemory. NoMemory: nothing has changed.
-    pub(crate) fn want(&mut self, alloc: Global, tx: Tx, addr: Addr) -> Want
-        ensures answer { IsWantedExactly self.old tx addr result self.new }
+    /// Takes an object for reading, in a mode. Outside: the block isn't one that a change may write. Busy: another
+    /// transaction has taken a byte of it in a mode that keeps this one off, or this one by another address.
+    /// Loading: a fetch of the block is pending, and nothing is taken. Fetch: the block has to be read from home;
+    /// the object is taken, and the same want after `fetched` answers Held or NoMemory. NoMemory: nothing has
+    /// changed.
+    pub(crate) fn want(&mut self, alloc: Global, tx: Tx, addr: Addr, mode: Mode) -> Want
+        ensures answer { IsWantedExactly self.old tx addr mode result self.new }
         ensures within { IsWithin self.old.log.blocks addr.len result }
     {
         if !self.is_inside(addr.block) {
             return Want::Outside(tx);
         }
-        if !is_free(&self.holds, tx.number, addr) {
+        if !is_free(&self.holds, tx.number, addr, mode) {
             return Want::Busy(tx);
         }
         if is_pending(&self.present, addr.block) {
             return Want::Loading(tx);
         }
-        match self.take_for_reading(alloc, tx.number, addr) {
+        match self.take_for_reading(alloc, tx.number, addr, mode) {
             Ok(Source::Bytes(bytes)) => Want::Held(tx, bytes),
             Ok(Source::Fetch(io)) => Want::Fetch(tx, io),
             Err(_) => Want::NoMemory(tx),
@@ -64,7 +64,7 @@ impl<C: Change> State<C> {
         if !self.is_inside(addr.block) {
             return Claim::Outside(tx);
         }
-        if !is_free(&self.holds, tx.number, addr) {
+        if !is_free(&self.holds, tx.number, addr, Mode::Exclusive) {
             return Claim::Busy(tx);
         }
         if is_pending(&self.present, addr.block) {
@@ -73,15 +73,7 @@ impl<C: Change> State<C> {
         if self.holds.reserve(1).is_err() {
             return Claim::NoMemory(tx);
         }
-        take(
-            &mut self.holds,
-            Hold {
-                transaction: tx.number,
-                addr,
-                is_read: false,
-                is_claimed: true,
-            },
-        );
+        take(&mut self.holds, for_writing(tx.number, addr));
         Claim::Held(tx)
     }
 
@@ -92,16 +84,17 @@ impl<C: Change> State<C> {
         alloc: Global,
         transaction: u64,
         addr: Addr,
+        mode: Mode,
     ) -> Result<Source, AllocError>
         requires { is_pending (present_of self.old.present addr.block) ≡ false }
-        ensures found { IfOk result (λ found. IsSource self.old transaction addr found self.new) }
+        ensures found { IfOk result (λ found. IsSource self.old transaction addr mode found self.new) }
         ensures within { IfOk result (IsSourceWithin addr.len) }
         ensures refused { OnErr result (self.new ≡ self.old) }
     {
         self.holds.reserve(1)?;
         if let Some(content) = content_of(&self.present, addr.block) {
             let bytes = part_of(alloc, content, addr)?;
-            take(&mut self.holds, hold(transaction, addr, true));
+            take(&mut self.holds, for_reading(transaction, addr, mode));
             return Ok(Source::Bytes(bytes));
         }
         self.present.reserve(1)?;
@@ -110,11 +103,11 @@ impl<C: Change> State<C> {
             content.copy_from(newest);
             let bytes = part_of(alloc, &content, addr)?;
             add(&mut self.present, addr.block, Some(content));
-            take(&mut self.holds, hold(transaction, addr, true));
+            take(&mut self.holds, for_reading(transaction, addr, mode));
             return Ok(Source::Bytes(bytes));
         }
         add(&mut self.present, addr.block, None);
-        take(&mut self.holds, hold(transaction, addr, false));
+        take(&mut self.holds, for_fetching(transaction, addr, mode));
         Ok(Source::Fetch(FetchIo {
             block: addr.block,
             buffer: content,
@@ -145,21 +138,4 @@ fn part_of(alloc: Global, content: &Block, addr: Addr) -> Result<Vec<u8>, AllocE
     ensures len { IfOk result (λ bytes. length bytes.items ≡ addr.len) }
 {
     content.as_slice()[addr.offset..addr.offset + addr.len].to_vec(alloc)
-}
-
-// The hold of an object that was read, or whose block is being fetched.
-fn hold(transaction: u64, addr: Addr, is_read: bool) -> Hold
-    ensures { result ≡ record {
-      transaction = transaction;
-      addr = addr;
-      is_read = is_read;
-      is_claimed = false;
-    } }
-{
-    Hold {
-        transaction,
-        addr,
-        is_read,
-        is_claimed: false,
-    }
 }

@@ -1,19 +1,23 @@
 -- Lemmas: an append that keeps one change of each block in the open tail.
 use Rattle.std.proofs.Common.{◌≡◌, ℕ, suc, ◌+◌, ◌≤◌, Bool, true, false, cond, ◌&&◌, nat_eq, if◌then◌else◌}
 use Rattle.std.proofs.Common.{List, [], ◌∷◌, ◌++◌, length, take, drop, map, All, Option, Some, None, is_none}
-use Rattle.std.proofs.Common.{refl, sym, ap, subst, ◌∙◌, arith, ne_eqb}
+use Rattle.std.proofs.Common.{refl, sym, ap, subst, ◌∙◌, arith, ne_eqb, length-append}
 use Rattle.std.proofs.lemmas.Bool.{eqb-true}
 use Rattle.std.proofs.lemmas.List.{take-append-le, drop-append-le, take-append-drop, length-take-le}
-use Rattle.std.proofs.lemmas.List.{drop-drop}
+use Rattle.std.proofs.lemmas.List.{drop-drop, length-map, length-drop}
 use Rattle.std.proofs.lemmas.List.Elements.{All-map, All-drop}
 use Rattle.disk.specs.Device.{Content}
 use Rattle.disk.specs.declared.block.BlockNo.{BlockNo}
 use Rattle.wal_law.specs.declared.change.LogChange.{LogChange}
-use Rattle.wal_law.specs.Log.{Log, IsLawful, IsCommitted, newest_of, or_else, place_before, changes_of}
+use Rattle.wal_law.specs.Log.{Log, IsLawful, IsCommitted, newest_of, or_else, place_before, tail_count}
+use Rattle.wal_law.specs.Log.{changes_of}
 use Rattle.wal_law.specs.Overlay.{content_or}
 use Rattle.wal_law.specs.Effects.{newest_in}
 use Rattle.wal_law.proofs.Newest.{newest_of-append, or_else-assoc}
-use Rattle.wal_law.specs.Grows.{recovered, GrowsBy}
+use Rattle.wal_law.specs.Grows.{recovered, GrowsBy, StandsStill}
+use Rattle.wal_law.specs.Calls.{KeepsAgreement}
+use Rattle.wal_law.proofs.Beside.{stands_appended}
+use Rattle.wal_law.proofs.Lawful.{length-changes_of}
 use Rattle.txn_law.specs.Absorb.{absorbed, fresh, tail_with, with_absorbed}
 use Rattle.wal_law.proofs.Ends.{append_nothing, place_before-append, newest_of-group, recovered-append}
 use Rattle.wal_law.proofs.Ends.{recovered-committed, recovered-group}
@@ -175,3 +179,29 @@ module _ (log : Log) (group : List (BlockNo × Content)) (h : IsLawful log) wher
         ∙ sym (append_nothing (recovered (drop count front)) (recovered tail) none_old)
         ∙ sym (recovered-append (drop count front) tail) ∙ ap recovered (sym (was count le));
   }
+
+  -- the tail has as many blocks more as it lacked
+  pub tail_absorbed : tail_count (with_absorbed log group) ≡ tail_count log + length (fresh tail group)
+  tail_absorbed =
+      let a = length-append front new in
+      let b = length-take-le (log.logged + log.taken) log.changes h.taken_within in
+      let c = length-append (map (absorbed group) tail) (changes_of (log.places + 1) (fresh tail group)) in
+      let d = length-map tail (absorbed group) in
+      let e = length-changes_of (log.places + 1) (fresh tail group) in
+      let f = length-drop (log.logged + log.taken) log.changes in
+      omega (arith, a, b, c, d, e, f)
+
+  still_absorbed : StandsStill log (with_absorbed log group)
+  still_absorbed = record {
+    blocks = refl;
+    start = refl;
+    log_step = refl;
+    log_out = refl;
+    inst_step = refl;
+    inst_out = refl;
+    broken = refl;
+  }
+
+  pub agrees_absorbed : KeepsAgreement log (with_absorbed log group)
+  agrees_absorbed d base p q =
+      stands_appended d base log (with_absorbed log group) group p q h grows_absorbed still_absorbed

@@ -7,10 +7,13 @@ use Rattle.std.specs.Prelude.{Contains}
 use Rattle.std.proofs.lemmas.Bool.{eqb-true}
 use Rattle.std.proofs.lemmas.List.Elements.{All-contains, All-contains_itself}
 use Rattle.objects.specs.Addr.{Overlap}
+use Rattle.objects.specs.Mode.{Excludes, raised}
 use Rattle.objects.specs.declared.addr.Addr.{Addr}
+use Rattle.objects.specs.declared.mode.Mode.{Mode}
+use Rattle.objects.specs.declared.mode.Mode.TheVariants as modes
 use Rattle.wal_law.specs.Log.{IsHomeOn}
 use Rattle.txn_law.specs.Core.{CoreState}
-use Rattle.txn_law.specs.Holds.{IsHoldOf, is_hold_of}
+use Rattle.txn_law.specs.Holds.{IsHoldOf, KeepsOff, is_hold_of}
 use Rattle.txn_law.specs.Leaves.{taken_by, is_fetching}
 use Rattle.txn_law.specs.Tidy.{AreBeside, AreApart, IsOfOne, AreTidy}
 use Rattle.txn_law.specs.Wishes.{IsOpen}
@@ -28,7 +31,7 @@ addr_of block offset len some within = record {
   within = within;
 }
 
-same_addr : (a b : Addr) → a.block.0 ≡ b.block.0 → a.offset ≡ b.offset → a.len ≡ b.len → a ≡ b
+pub same_addr : (a b : Addr) → a.block.0 ≡ b.block.0 → a.offset ≡ b.offset → a.len ≡ b.len → a ≡ b
 same_addr a b block offset len =
     subst (λ (n : ℕ). a ≡ addr_of n b.offset b.len b.some b.within) block
     (subst (λ (n : ℕ). (within : n + b.len ≤ BLOCK_BYTES) → a ≡ addr_of a.block.0 n b.len b.some within) offset
@@ -40,30 +43,49 @@ same_addr a b block offset len =
 overlap_back : (a b : Addr) → Overlap a b → Overlap b a
 overlap_back a b (same, less, more) = (sym same, more, less)
 
--- two holds are one, or share no byte
+-- what keeps off is kept off
+beside_back : (x y : Hold) → AreBeside x y → AreBeside y x
+beside_back x y apart over off = apart (overlap_back y.addr x.addr over) (back off)
+  where
+    other : Excludes y.mode x.mode → Excludes x.mode y.mode
+    other (inl alone) = inr alone
+    other (inr alone) = inl alone
+
+    back : KeepsOff x.transaction x.mode y → KeepsOff y.transaction y.mode x
+    back (inl same) = inl (sym same)
+    back (inr excludes) = inr (other excludes)
+
+-- two holds are one, or lie beside each other
 pub one_or_apart : (holds : List Hold) (x y : Hold) → AreApart holds → Contains holds x → Contains holds y
-    → (x ≡ y) ⊎ (Overlap x.addr y.addr → ⊥)
+    → (x ≡ y) ⊎ AreBeside x y
 one_or_apart [] x y apart (k, lt, e) there = absurd (omega (arith, lt))
 one_or_apart (h ∷ hs) x y apart one other =
     go (one_or_apart hs x y apart.1) (in_cons h x hs one) (in_cons h y hs other)
   where
-    go : (Contains hs x → Contains hs y → (x ≡ y) ⊎ (Overlap x.addr y.addr → ⊥))
-        → (h ≡ x) ⊎ Contains hs x → (h ≡ y) ⊎ Contains hs y → (x ≡ y) ⊎ (Overlap x.addr y.addr → ⊥)
+    go : (Contains hs x → Contains hs y → (x ≡ y) ⊎ AreBeside x y)
+        → (h ≡ x) ⊎ Contains hs x → (h ≡ y) ⊎ Contains hs y → (x ≡ y) ⊎ AreBeside x y
     go rest (inl is) (inl also) = inl (sym is ∙ also)
-    go rest (inl is) (inr later) = inr (λ over.
-        All-contains (AreBeside h) hs y apart.0 later (subst (λ (z : Hold). Overlap z.addr y.addr) (sym is) over) tt)
-    go rest (inr later) (inl is) = inr (λ over.
-        All-contains (AreBeside h) hs x apart.0 later
-        (overlap_back x.addr h.addr (subst (λ (z : Hold). Overlap x.addr z.addr) (sym is) over)) tt)
+    go rest (inl is) (inr later) =
+        inr (subst (λ (z : Hold). AreBeside z y) is (All-contains (AreBeside h) hs y apart.0 later))
+    go rest (inr later) (inl is) =
+        inr (subst (λ (z : Hold). AreBeside x z) is (beside_back h x (All-contains (AreBeside h) hs x apart.0 later)))
     go rest (inr one) (inr other) = rest one other
 
-pub open_again : (core : CoreState) (tx : ℕ) (addr : Addr) (hold : Hold) → AreTidy core
-    → taken_by core tx addr ≡ Some hold → is_fetching core addr.block ≡ false → IsOpen core tx addr
-open_again core tx addr hold tidy taken loaded = record {
+-- what keeps off a wish keeps off a stronger one
+weaker : (strong weak : Mode) → raised strong weak ≡ strong → (other : Mode) → Excludes other weak
+    → Excludes other strong
+weaker strong modes.Exclusive e other excludes = inr (sym e)
+weaker strong modes.Shared e other (inl alone) = inl alone
+weaker strong modes.Shared e other (inr alone) = absurd (cc)
+
+pub open_again : (core : CoreState) (tx : ℕ) (addr : Addr) (hold : Hold) (mode : Mode) → AreTidy core
+    → taken_by core tx addr ≡ Some hold → raised hold.mode mode ≡ hold.mode
+    → is_fetching core addr.block ≡ false → IsOpen core tx addr mode
+open_again core tx addr hold mode tidy taken no_more loaded = record {
   home = subst (λ (a : Addr). IsHomeOn core.log.blocks a.block) at
       (All-contains (IsOfOne core) core.holds hold tidy.owned there).1;
   free = record {
-    others = λ k d lt over excludes. each (get_or core.holds k d) (All-contains_itself core.holds k d lt) over;
+    others = λ k d lt over off. each (get_or core.holds k d) (All-contains_itself core.holds k d lt) over off;
   };
   settled = loaded;
 }
@@ -81,12 +103,20 @@ open_again core tx addr hold tidy taken loaded = record {
     at = same_addr hold.addr addr (eqb-true hold.addr.block.0 addr.block.0 four.1)
         (eqb-true hold.addr.offset addr.offset four.2) (eqb-true hold.addr.len addr.len four.3)
 
-    each : (x : Hold) → Contains core.holds x → Overlap x.addr addr → IsHoldOf tx addr x
-    each x inside over = go (one_or_apart core.holds x hold tidy.apart inside there)
+    by : hold.transaction ≡ tx
+    by = eqb-true hold.transaction tx four.0
+
+    off_too : (x : Hold) → KeepsOff tx mode x → KeepsOff hold.transaction hold.mode x
+    off_too x (inl same) = inl (same ∙ sym by)
+    off_too x (inr excludes) = inr (weaker hold.mode mode no_more x.mode excludes)
+
+    each : (x : Hold) → Contains core.holds x → Overlap x.addr addr → KeepsOff tx mode x → IsHoldOf tx addr x
+    each x inside over off = go (one_or_apart core.holds x hold tidy.apart inside there)
       where
-        go : (x ≡ hold) ⊎ (Overlap x.addr hold.addr → ⊥) → IsHoldOf tx addr x
+        go : (x ≡ hold) ⊎ AreBeside x hold → IsHoldOf tx addr x
         go (inl same) = (
-          ap (λ (h : Hold). h.transaction) same ∙ eqb-true hold.transaction tx four.0,
+          ap (λ (h : Hold). h.transaction) same ∙ by,
           ap (λ (h : Hold). h.addr) same ∙ at,
         )
-        go (inr apart) = absurd (apart (subst (λ (a : Addr). Overlap x.addr a) (sym at) over))
+        go (inr apart) = absurd (apart (subst (λ (a : Addr). Overlap x.addr a) (sym at) over)
+            (off_too x off))

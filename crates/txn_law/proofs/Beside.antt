@@ -1,64 +1,17 @@
 -- Lemmas: what lies beside the bytes that are laid over a block stays.
 use Rattle.std.proofs.Common.{◌≡◌, ℕ, ◌+◌, ◌-◌, ◌≤◌, Bool, true, false, if◌then◌else◌, nat_eq, ◌⊎◌, inl, inr}
 use Rattle.std.proofs.Common.{List, [], ◌∷◌, ◌++◌, length, take, drop, All, refl, sym, ap, ◌∙◌, append_assoc, arith}
-use Rattle.std.proofs.Common.{length-append, length-drop}
-use Rattle.std.proofs.Math.Seq.{drop-append-add}
 use Rattle.std.proofs.lemmas.Bool.{eqb-true, cases_lt}
-use Rattle.std.proofs.lemmas.List.{drop-append-le, take-append-le, drop-take, take-take, drop-drop, length-take-le}
 use Rattle.std.proofs.lemmas.List.Elements.{All-head, All-tail}
 use Rattle.limits.specs.declared.TheConstants.{BLOCK_BYTES}
 use Rattle.disk.specs.Crash.{Image}
 use Rattle.objects.specs.Addr.{Overlap}
 use Rattle.objects.specs.Spliced.{spliced}
 use Rattle.objects.specs.declared.addr.Addr.{Addr}
+use Rattle.objects.proofs.Splices.{spliced-length, ahead, behind}
 use Rattle.txn_law.specs.Object.{ObjectBytes}
 use Rattle.txn_law.specs.Window.{object_at, with_object, with_objects}
 use Rattle.txn_law.proofs.Entries.{same_block}
-
-module _ (content bytes : List ℕ) (offset : ℕ) (room : offset + length bytes ≤ length content) where
-  abbrev behind_it : List ℕ
-  behind_it = drop (offset + length bytes) content
-
-  is_joined : spliced content offset bytes ≡ take offset content ++ (bytes ++ behind_it)
-  is_joined = append_assoc (take offset content) bytes behind_it
-
-  before : length (take offset content) ≡ offset
-  before = length-take-le offset content (omega (arith, room))
-
-  pub same_length : length (spliced content offset bytes) ≡ length content
-  same_length =
-      let a = length-append (take offset content) (bytes ++ behind_it) in
-      let b = length-append bytes behind_it in
-      let c = length-drop (offset + length bytes) content in
-      let d = before in
-      ap (λ (l : List ℕ). length l) is_joined ∙ omega (arith, a, b, c, d, room)
-
-  pub ahead : (from len : ℕ) → from + len ≤ offset
-      → take len (drop from (spliced content offset bytes)) ≡ take len (drop from content)
-  ahead from len less =
-      let rest : from + (offset - from) ≡ offset = omega (arith, less) in
-      let long = length-drop from (take offset content) in
-      let b = before in
-      ap (λ l. take len (drop from l)) is_joined
-      ∙ ap (take len) (drop-append-le from (take offset content) (bytes ++ behind_it) (omega (arith, b, less)))
-      ∙ take-append-le len (drop from (take offset content)) (bytes ++ behind_it) (omega (arith, long, b, less))
-      ∙ ap (λ k. take len (drop from (take k content))) (sym rest)
-      ∙ ap (take len) (drop-take from (offset - from) content)
-      ∙ take-take len (offset - from) (drop from content) (omega (arith, less))
-
-  pub behind : (from len : ℕ) → offset + length bytes ≤ from
-      → take len (drop from (spliced content offset bytes)) ≡ take len (drop from content)
-  behind from len more =
-      let n : ℕ = from - (offset + length bytes) in
-      let one : from ≡ offset + (length bytes + n) = omega (arith, more) in
-      let two : offset + length bytes + n ≡ from = omega (arith, more) in
-      ap (take len)
-      (ap (λ k. drop k (spliced content offset bytes)) one
-      ∙ ap (drop (offset + (length bytes + n))) is_joined
-      ∙ ap (λ k. drop (k + (length bytes + n)) (take offset content ++ (bytes ++ behind_it))) (sym before)
-      ∙ drop-append-add (take offset content) (bytes ++ behind_it) (length bytes + n)
-      ∙ drop-append-add bytes behind_it n ∙ drop-drop n (offset + length bytes) content
-      ∙ ap (λ k. drop k content) two)
 
 -- an object that shares no byte with those that are laid over a block
 module _ (addr : Addr) where
@@ -98,7 +51,7 @@ module _ (addr : Addr) where
           | inl less ↦ ahead (image addr.block.0) object.bytes object.addr.offset fits addr.offset addr.len less
           | inr more ↦ behind (image addr.block.0) object.bytes object.addr.offset fits addr.offset addr.len more
         ],
-        same_length (image addr.block.0) object.bytes object.addr.offset fits ∙ whole,
+        spliced-length (image addr.block.0) object.bytes object.addr.offset fits ∙ whole,
       )
 
   pub stays_beside : (image : Image) (objects : List ObjectBytes) → All IsApart objects → All IsSized objects

@@ -9,6 +9,9 @@ use Rattle.limits.specs.declared.TheConstants.{BLOCK_BYTES}
 use Rattle.disk.specs.declared.block.BlockNo.{BlockNo}
 use Rattle.txn_law.specs.Commit.{IsWrittenBy}
 use Rattle.txn_law.specs.Core.{CoreState}
+use Rattle.objects.specs.Mode.{is_exclusive}
+use Rattle.objects.specs.declared.mode.Mode.{Mode}
+use Rattle.objects.specs.declared.mode.Mode.TheVariants as modes
 use Rattle.txn_law.specs.Holds.{is_hold_of, hold_of, is_written}
 use Rattle.txn_law.specs.Object.{ObjectBytes}
 use Rattle.txn_law.specs.Present.{present_of, content_in}
@@ -33,6 +36,15 @@ all_four true true true false e = absurd (cc)
 all_four true true false d e = absurd (cc)
 all_four true false c d e = absurd (cc)
 all_four false b c d e = absurd (cc)
+
+-- what is held for writing is held alone, and read or claimed
+pub held_alone : (mode : Mode) (either : Bool) → (is_exclusive mode && either) ≡ true → mode ≡ modes.Exclusive
+held_alone modes.Exclusive either e = refl
+held_alone modes.Shared either e = absurd (cc)
+
+held_either : (mode : Mode) (either : Bool) → (is_exclusive mode && either) ≡ true → either ≡ true
+held_either modes.Exclusive either e = e
+held_either modes.Shared either e = absurd (cc)
 
 module _ (core : CoreState) (tx : ℕ) (block : BlockNo) (tidy : AreTidy core)
     (absent : content_in (present_of core.present block) ≡ None) where
@@ -71,7 +83,8 @@ module _ (core : CoreState) (tx : ℕ) (block : BlockNo) (tidy : AreTidy core)
       go : (hold : Option Hold) → hold_of core.holds tx object.addr ≡ hold → is_written hold ≡ true
           → (object.addr.offset ≡ 0) × (length object.bytes ≡ BLOCK_BYTES)
       go None e w = absurd (cc)
-      go (Some hold) e w = of_hold hold e hold.is_read hold.is_claimed refl refl w
+      go (Some hold) e w = of_hold hold e hold.is_read hold.is_claimed refl refl
+          (held_either hold.mode (hold.is_read || hold.is_claimed) w)
 
 pub whole_writes : (core : CoreState) (tx : ℕ) (written : List ObjectBytes) (block : BlockNo) → AreTidy core
     → All (λ object. IsWrittenBy core tx object.addr) written

@@ -9,6 +9,8 @@ use Rattle.disk.specs.Device.{Content}
 use Rattle.disk.specs.Crash.{Image}
 use Rattle.disk.specs.declared.block.BlockNo.{BlockNo}
 use Rattle.objects.specs.declared.addr.Addr.{Addr}
+use Rattle.objects.specs.declared.mode.Mode.{Mode}
+use Rattle.objects.specs.declared.mode.Mode.TheVariants as modes
 use Rattle.wal_law.specs.Calls.{home_after}
 use Rattle.wal_law.specs.Effects.{HasGoneOn, brought_home}
 use Rattle.wal_law.specs.Grows.{GrowsBy}
@@ -43,18 +45,18 @@ use Rattle.txn_law.proofs.Wishes.{core_held, core_fetch, core_claim, core_end}
 
 -- Steps that keep the window of the core, over the same blocks at home.
 
-pub home_held : (old new : CoreState) (tx : ℕ) (addr : Addr) (bytes : List ℕ) → IsHeldExactly old tx addr bytes new
+pub home_held : (old new : CoreState) (tx : ℕ) (addr : Addr) (mode : Mode) (bytes : List ℕ) → IsHeldExactly old tx addr mode bytes new
     → KeepsHome old new
-home_held old new tx addr bytes held base h = record {
+home_held old new tx addr mode bytes held base h = record {
   whole = subst (λ (core : CoreState). AreBlocks core.log.blocks base) (sym held.core) h.whole;
-  window = core_held base old new tx addr bytes held h.window;
+  window = core_held base old new tx addr mode bytes held h.window;
 }
 
-pub home_fetch : (old new : CoreState) (tx : ℕ) (addr : Addr) (io : Fetch) → IsFetchedExactly old tx addr io new
+pub home_fetch : (old new : CoreState) (tx : ℕ) (addr : Addr) (mode : Mode) (io : Fetch) → IsFetchedExactly old tx addr mode io new
     → KeepsHome old new
-home_fetch old new tx addr io fetch base h = record {
+home_fetch old new tx addr mode io fetch base h = record {
   whole = subst (λ (core : CoreState). AreBlocks core.log.blocks base) (sym fetch.core) h.whole;
-  window = core_fetch base old new tx addr io fetch h.window;
+  window = core_fetch base old new tx addr mode io fetch h.window;
 }
 
 pub home_claim : (old : CoreState) (tx : ℕ) (addr : Addr) → KeepsHome old (claimed old tx addr)
@@ -246,28 +248,28 @@ module _ (P : ℕ → ℕ → List ObjectBytes → List ObjectBytes → Type 0) 
     planned = h.planned;
   }
 
-  pub lawful_held : (old new : CoreState) (tx : ℕ) (addr : Addr) (bytes : List ℕ) → IsOut old tx
-      → IsOpen old tx addr → IsHeldExactly old tx addr bytes new → IsLawfulCore P old → IsLawfulCore P new
-  lawful_held old new tx addr bytes is_out open' held h = record {
+  pub lawful_held : (old new : CoreState) (tx : ℕ) (addr : Addr) (mode : Mode) (bytes : List ℕ) → IsOut old tx
+      → IsOpen old tx addr mode → IsHeldExactly old tx addr mode bytes new → IsLawfulCore P old → IsLawfulCore P new
+  lawful_held old new tx addr mode bytes is_out open' held h = record {
     log = subst (λ (core : CoreState). IsLawful core.log) (sym held.core) h.log;
-    tidy = tidy_held old new tx addr bytes is_out open' held h.tidy;
-    home = (h.home.0, home_held old new tx addr bytes held h.home.0 h.home.1);
+    tidy = tidy_held old new tx addr mode bytes is_out open' held h.tidy;
+    home = (h.home.0, home_held old new tx addr mode bytes held h.home.0 h.home.1);
     planned = subst (λ (core : CoreState). All (IsPlanned P core.log.blocks core.inodes) core.records)
         (sym held.core) h.planned;
   }
 
-  pub lawful_fetch : (old new : CoreState) (tx : ℕ) (addr : Addr) (io : Fetch) → IsOut old tx
-      → IsOpen old tx addr → IsFetchedExactly old tx addr io new → IsLawfulCore P old → IsLawfulCore P new
-  lawful_fetch old new tx addr io is_out open' fetch h = record {
+  pub lawful_fetch : (old new : CoreState) (tx : ℕ) (addr : Addr) (mode : Mode) (io : Fetch) → IsOut old tx
+      → IsOpen old tx addr mode → IsFetchedExactly old tx addr mode io new → IsLawfulCore P old → IsLawfulCore P new
+  lawful_fetch old new tx addr mode io is_out open' fetch h = record {
     log = subst (λ (core : CoreState). IsLawful core.log) (sym fetch.core) h.log;
-    tidy = tidy_fetch old new tx addr io is_out open' fetch h.tidy;
-    home = (h.home.0, home_fetch old new tx addr io fetch h.home.0 h.home.1);
+    tidy = tidy_fetch old new tx addr mode io is_out open' fetch h.tidy;
+    home = (h.home.0, home_fetch old new tx addr mode io fetch h.home.0 h.home.1);
     planned = subst (λ (core : CoreState). All (IsPlanned P core.log.blocks core.inodes) core.records)
         (sym fetch.core) h.planned;
   }
 
   pub lawful_claim : (old : CoreState) (tx : ℕ) (block : BlockNo) (addr : Addr) → IsWhole block addr
-      → IsOut old tx → IsOpen old tx addr → IsLawfulCore P old → IsLawfulCore P (claimed old tx addr)
+      → IsOut old tx → IsOpen old tx addr modes.Exclusive → IsLawfulCore P old → IsLawfulCore P (claimed old tx addr)
   lawful_claim old tx block addr whole is_out open' h = record {
     log = h.log;
     tidy = tidy_claim old tx block addr whole is_out open' h.tidy;

@@ -5,11 +5,13 @@ use Rattle.std.proofs.lemmas.Bool.{eqb-true}
 use Rattle.disk.specs.Device.{Content}
 use Rattle.disk.specs.declared.block.BlockNo.{BlockNo}
 use Rattle.objects.specs.declared.addr.Addr.{Addr}
+use Rattle.objects.specs.declared.mode.Mode.{Mode}
 use Rattle.wal_law.specs.Log.{Log, installed_place}
 use Rattle.txn_law.specs.Core.{CoreState, past, installed, ended}
 use Rattle.txn_law.specs.CoreWindow.{KeepsReads}
 use Rattle.txn_law.specs.Fetch.{Fetch}
 use Rattle.txn_law.specs.Fetched.{filled, fetched, fetch_failed}
+use Rattle.txn_law.specs.Holds.{for_reading, for_fetching, for_writing}
 use Rattle.txn_law.specs.Holds.{is_taken, is_hold_of, hold_of, is_read, joined, with_hold, released}
 use Rattle.txn_law.specs.Present.{present_of, content_in}
 use Rattle.txn_law.specs.Lists.{taken, IsHeldExactly, IsFetchedExactly, claimed}
@@ -61,26 +63,26 @@ keeps old new t holds contents object h = record {
   };
 }
 
-pub reads_held : (old new : CoreState) (tx : ℕ) (addr : Addr) (bytes : List ℕ) (t : ℕ)
-    → IsHeldExactly old tx addr bytes new → KeepsReads old new t
-reads_held old new tx addr bytes t held =
+pub reads_held : (old new : CoreState) (tx : ℕ) (addr : Addr) (mode : Mode) (bytes : List ℕ) (t : ℕ)
+    → IsHeldExactly old tx addr mode bytes new → KeepsReads old new t
+reads_held old new tx addr mode bytes t held =
     subst (λ (core : CoreState). KeepsReads old core t) (sym held.core)
-    (keeps old (taken old tx addr true (Some held.content)) t
-    (read_grows old.holds (record { transaction = tx; addr = addr; is_read = true; is_claimed = false }) t)
+    (keeps old (taken old (for_reading tx addr mode) (Some held.content)) t
+    (read_grows old.holds (for_reading tx addr mode) t)
     (λ a c reads. block_stays old.present addr.block (Some held.content) a.block c))
 
-pub reads_fetch : (old new : CoreState) (tx : ℕ) (addr : Addr) (io : Fetch) (t : ℕ)
-    → IsFetchedExactly old tx addr io new → KeepsReads old new t
-reads_fetch old new tx addr io t fetch =
+pub reads_fetch : (old new : CoreState) (tx : ℕ) (addr : Addr) (mode : Mode) (io : Fetch) (t : ℕ)
+    → IsFetchedExactly old tx addr mode io new → KeepsReads old new t
+reads_fetch old new tx addr mode io t fetch =
     subst (λ (core : CoreState). KeepsReads old core t) (sym fetch.core)
-    (keeps old (taken old tx addr false None) t
-    (read_grows old.holds (record { transaction = tx; addr = addr; is_read = false; is_claimed = false }) t)
+    (keeps old (taken old (for_fetching tx addr mode) None) t
+    (read_grows old.holds (for_fetching tx addr mode) t)
     (λ a c reads. block_stays old.present addr.block None a.block c))
 
 pub reads_claim : (old : CoreState) (tx : ℕ) (addr : Addr) (t : ℕ) → KeepsReads old (claimed old tx addr) t
 reads_claim old tx addr t =
     keeps old (claimed old tx addr) t
-    (read_grows old.holds (record { transaction = tx; addr = addr; is_read = false; is_claimed = true }) t)
+    (read_grows old.holds (for_writing tx addr) t)
     (λ a c reads e. e)
 
 pub left : (holds : List Hold) (tx t : ℕ) (a : Addr) → (t ≡ tx → ⊥)

@@ -5,12 +5,15 @@ use Rattle.std.proofs.lemmas.Bool.{eqb-true, eq-eqb}
 use Rattle.disk.specs.Device.{Content}
 use Rattle.disk.specs.declared.block.BlockNo.{BlockNo}
 use Rattle.objects.specs.declared.addr.Addr.{Addr}
+use Rattle.objects.specs.declared.mode.Mode.{Mode}
+use Rattle.objects.specs.declared.mode.Mode.TheVariants as modes
 use Rattle.wal_law.specs.Log.{Log, newest, or_else, installed_place}
 use Rattle.txn_law.specs.Commit.{Planned, with_record, refreshed_content, refreshed, committed}
 use Rattle.txn_law.specs.Core.{CoreState, ended, past, installed}
 use Rattle.txn_law.specs.Fetch.{Fetch}
 use Rattle.txn_law.specs.Fetched.{filled, fetched, fetch_failed}
-use Rattle.txn_law.specs.Holds.{is_hold_of, hold_of, joined, with_hold, is_read, is_written, released}
+use Rattle.txn_law.specs.Holds.{for_reading, for_fetching, for_writing, is_hold_of, hold_of, joined, with_hold}
+use Rattle.txn_law.specs.Holds.{is_read, is_written, released}
 use Rattle.txn_law.specs.Leaves.{Leaves, taken_by, is_fetching, in_memory, but_by}
 use Rattle.txn_law.specs.Leaves.{without_fetch, with_content}
 use Rattle.txn_law.specs.Lists.{with_block, claimed, IsHeldExactly, IsFetchedExactly}
@@ -117,42 +120,28 @@ reads_new (Some x) hold e = go x.is_read
     go true = refl
     go false = e
 
-writes_new : (had : Option Hold) (hold : Hold) → hold.is_claimed ≡ true → is_written (Some (joined had hold)) ≡ true
-writes_new None hold e = go hold.is_read
+writes_new : (had : Option Hold) (tx : ℕ) (addr : Addr) → is_written (Some (joined had (for_writing tx addr))) ≡ true
+writes_new None tx addr = refl
+writes_new (Some x) tx addr = go x.is_read x.is_claimed
   where
-    go : (t : Bool) → (t || hold.is_claimed) ≡ true
-    go true = refl
-    go false = e
-writes_new (Some x) hold e = go (x.is_read || hold.is_read) x.is_claimed
-  where
-    go : (t u : Bool) → (t || (u || hold.is_claimed)) ≡ true
+    go : (t u : Bool) → ((t || false) || (u || true)) ≡ true
     go true u = refl
     go false true = refl
-    go false false = e
+    go false false = refl
 
--- what a wish takes
-abbrev to_read : ℕ → Addr → Hold
-to_read tx addr = record { transaction = tx; addr = addr; is_read = true; is_claimed = false }
-
-abbrev to_fetch : ℕ → Addr → Hold
-to_fetch tx addr = record { transaction = tx; addr = addr; is_read = false; is_claimed = false }
-
-abbrev to_write : ℕ → Addr → Hold
-to_write tx addr = record { transaction = tx; addr = addr; is_read = false; is_claimed = true }
-
-pub leaves_claim : (old new : CoreState) (tx : ℕ) (addr : Addr) → IsOpen old tx addr → new ≡ claimed old tx addr
+pub leaves_claim : (old new : CoreState) (tx : ℕ) (addr : Addr) → IsOpen old tx addr modes.Exclusive → new ≡ claimed old tx addr
     → IsTaken old tx addr new
 leaves_claim old new tx addr open' is = subst (λ (core : CoreState). IsTaken old tx addr core) (sym is) (record {
   only = refl;
   leaves = record {
-    holds = taken_with old.holds (to_write tx addr);
+    holds = taken_with old.holds (for_writing tx addr);
     fetches = λ block. refl;
     comes = λ block c e. e;
     stays = λ block c e needed. e;
   };
   written = record {
-    held = ap is_written (taken_own old.holds (to_write tx addr))
-        ∙ writes_new (hold_of old.holds tx addr) (to_write tx addr) refl;
+    held = ap is_written (taken_own old.holds (for_writing tx addr))
+        ∙ writes_new (hold_of old.holds tx addr) tx addr;
     loaded = open'.settled;
   };
 })
@@ -200,23 +189,23 @@ module _ (old : CoreState) (block : BlockNo) (content : Content)
           (same_block at block (eqb-true at.0 block.0 same)) ∙ own (present_of old.present block) refl
       go false other = ap content_in (other_block old.present block (Some content) at other)
 
-pub leaves_held : (old new : CoreState) (tx : ℕ) (addr : Addr) (bytes : List ℕ) → IsOpen old tx addr
-    → IsHeldExactly old tx addr bytes new → IsHeld old tx addr bytes new
-leaves_held old new tx addr bytes open' held = subst (λ (core : CoreState). IsHeld old tx addr bytes core) (sym held.core)
+pub leaves_held : (old new : CoreState) (tx : ℕ) (addr : Addr) (mode : Mode) (bytes : List ℕ) → IsOpen old tx addr mode
+    → IsHeldExactly old tx addr mode bytes new → IsHeld old tx addr mode bytes new
+leaves_held old new tx addr mode bytes open' held = subst (λ (core : CoreState). IsHeld old tx addr mode bytes core) (sym held.core)
     (record {
       content = held.content;
       current = held.current;
       bytes_there = held.bytes_there;
       only = refl;
       leaves = record {
-        holds = taken_with old.holds (to_read tx addr);
+        holds = taken_with old.holds (for_reading tx addr mode);
         fetches = brought_fetches old addr.block held.content open'.settled held.current;
         comes = λ at c e. sym (brought_memory old addr.block held.content open'.settled held.current at) ∙ e;
         stays = λ at c e needed. brought_memory old addr.block held.content open'.settled held.current at ∙ e;
       };
       read = record {
-        held = ap is_read (taken_own old.holds (to_read tx addr))
-            ∙ reads_new (hold_of old.holds tx addr) (to_read tx addr) refl;
+        held = ap is_read (taken_own old.holds (for_reading tx addr mode))
+            ∙ reads_new (hold_of old.holds tx addr) (for_reading tx addr mode) refl;
         current = record {
           content = held.content;
           there = brought_memory old addr.block held.content open'.settled held.current addr.block
@@ -227,16 +216,16 @@ leaves_held old new tx addr bytes open' held = subst (λ (core : CoreState). IsH
       };
     })
 
-pub leaves_fetch : (old new : CoreState) (tx : ℕ) (addr : Addr) (io : Fetch)
-    → IsFetchedExactly old tx addr io new → IsFetched old tx addr io new
-leaves_fetch old new tx addr io fetch = subst (λ (core : CoreState). IsFetched old tx addr io core) (sym fetch.core)
+pub leaves_fetch : (old new : CoreState) (tx : ℕ) (addr : Addr) (mode : Mode) (io : Fetch)
+    → IsFetchedExactly old tx addr mode io new → IsFetched old tx addr mode io new
+leaves_fetch old new tx addr mode io fetch = subst (λ (core : CoreState). IsFetched old tx addr mode io core) (sym fetch.core)
     (record {
       block = fetch.block;
       absent = ap content_in fetch.absent;
       unlogged = fetch.unlogged;
       only = refl;
       leaves = record {
-        holds = taken_with old.holds (to_fetch tx addr);
+        holds = taken_with old.holds (for_fetching tx addr mode);
         fetches = fetches;
         comes = λ at c e. sym (memory at) ∙ e;
         stays = λ at c e needed. memory at ∙ e;

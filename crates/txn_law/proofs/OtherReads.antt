@@ -10,6 +10,7 @@ use Rattle.disk.specs.Crash.{Image}
 use Rattle.disk.specs.declared.block.BlockNo.{BlockNo}
 use Rattle.objects.specs.Addr.{Overlap}
 use Rattle.objects.specs.declared.addr.Addr.{Addr}
+use Rattle.objects.specs.declared.mode.Mode.TheVariants as modes
 use Rattle.wal_law.specs.Grows.{GrowsBy}
 use Rattle.wal_law.specs.Log.{Log, IsLawful, newest, blocks_of as group_blocks}
 use Rattle.wal_law.specs.Overlay.{content_or}
@@ -20,30 +21,30 @@ use Rattle.txn_law.specs.Group.{blocks_of, IsLaid}
 use Rattle.txn_law.specs.Holds.{is_hold_of, hold_of, is_read, is_written, released}
 use Rattle.txn_law.specs.Leaves.{in_memory}
 use Rattle.txn_law.specs.Records.{is_kept}
-use Rattle.txn_law.specs.Tidy.{AreApart, IsOfOne, AreTidy}
+use Rattle.txn_law.specs.Tidy.{AreBeside, AreApart, IsOfOne, AreTidy}
 use Rattle.txn_law.specs.Window.{IsCurrent, now_of, part, with_objects}
 use Rattle.txn_law.specs.declared.hold.Hold.{Hold}
 use Rattle.txn_law.proofs.Again.{one_or_apart}
 use Rattle.txn_law.proofs.Beside.{stays_beside}
-use Rattle.txn_law.proofs.Claims.{found_by, all_four}
+use Rattle.txn_law.proofs.Claims.{found_by, all_four, held_alone}
 use Rattle.txn_law.proofs.CoreCommits.{found_in}
 use Rattle.txn_law.proofs.Entries.{same_block}
 use Rattle.txn_law.proofs.HeldReads.{some_read, left, taken_read}
 use Rattle.txn_law.proofs.Homes.{whole_now, commit_home, commit_sets}
 use Rattle.txn_law.proofs.Leaves.{leaves_commit}
 
--- two holds of different transactions share no byte
+-- two holds of different transactions, one of them alone, share no byte
 two_apart : (holds : List Hold) (x y : Hold) → AreApart holds → Contains holds x → Contains holds y
-    → (x.transaction ≡ y.transaction → ⊥) → Overlap x.addr y.addr → ⊥
-two_apart holds x y apart one other differ over = go (one_or_apart holds x y apart one other)
+    → (x.transaction ≡ y.transaction → ⊥) → x.mode ≡ modes.Exclusive → Overlap x.addr y.addr → ⊥
+two_apart holds x y apart one other differ alone over = go (one_or_apart holds x y apart one other)
   where
-    go : (x ≡ y) ⊎ (Overlap x.addr y.addr → ⊥) → ⊥
+    go : (x ≡ y) ⊎ AreBeside x y → ⊥
     go (inl same) = differ (ap (λ (z : Hold). z.transaction) same)
-    go (inr away) = away over
+    go (inr away) = away over (inr (inl alone))
 
-some_written : (o : Option Hold) → is_written o ≡ true → (x : Hold) × (o ≡ Some x)
+some_written : (o : Option Hold) → is_written o ≡ true → (x : Hold) × (o ≡ Some x) × (x.mode ≡ modes.Exclusive)
 some_written None e = absurd (cc)
-some_written (Some x) e = (x, refl)
+some_written (Some x) e = (x, refl, held_alone x.mode (x.is_read || x.is_claimed) e)
 
 -- where a hold of an address lies
 module _ (holds : List Hold) (tx : ℕ) (addr : Addr) (x : Hold) (found : hold_of holds tx addr ≡ Some x) where
@@ -73,7 +74,7 @@ beside : (core : CoreState) (tx t : ℕ) (read written : Addr) → AreTidy core 
     → Overlap written read → ⊥
 beside core tx t read written tidy differ reads writes over =
     let (x, found, is) = some_read (hold_of core.holds t read) reads in
-    let (y, held) = some_written (hold_of core.holds tx written) writes in
+    let (y, held, alone) = some_written (hold_of core.holds tx written) writes in
     let a = from core.holds t read x found in
     let b = long core.holds t read x found in
     let c = from core.holds tx written y held in
@@ -81,7 +82,7 @@ beside core tx t read written tidy differ reads writes over =
     let less = over.1 in
     let more = over.2 in
     two_apart core.holds y x tidy.apart (there core.holds tx written y held) (there core.holds t read x found)
-    (λ same. differ (sym (by core.holds t read x found) ∙ sym same ∙ by core.holds tx written y held)) (
+    (λ same. differ (sym (by core.holds t read x found) ∙ sym same ∙ by core.holds tx written y held)) alone (
       at core.holds tx written y held ∙ over.0 ∙ sym (at core.holds t read x found),
       omega (arith, a, b, c, d, less),
       omega (arith, a, b, c, d, more),

@@ -10,13 +10,16 @@ use Rattle.limits.specs.declared.TheConstants.{BLOCK_BYTES}
 use Rattle.disk.specs.Device.{Content}
 use Rattle.disk.specs.declared.block.BlockNo.{BlockNo}
 use Rattle.objects.specs.Addr.{Overlap}
+use Rattle.objects.specs.Mode.{Excludes, raised}
 use Rattle.objects.specs.declared.addr.Addr.{Addr}
+use Rattle.objects.specs.declared.mode.Mode.{Mode}
+use Rattle.objects.specs.declared.mode.Mode.TheVariants as modes
 use Rattle.wal_law.specs.Log.{Log, IsHomeOn, newest, newest_of, or_else, installed_place}
 use Rattle.txn_law.specs.Core.{CoreState, IsOut, without, ended, past, installed}
 use Rattle.txn_law.specs.Fetch.{Fetch}
 use Rattle.txn_law.specs.Fetched.{filled, fetched, fetch_failed, without_pending}
-use Rattle.txn_law.specs.Holds.{exclusive, mode_of, Excludes, IsHoldOf, IsFree, is_taken, is_hold_of, hold_of}
-use Rattle.txn_law.specs.Holds.{without_hold, joined, with_hold, released}
+use Rattle.txn_law.specs.Holds.{KeepsOff, IsHoldOf, IsFree, for_reading, for_fetching, for_writing, is_taken}
+use Rattle.txn_law.specs.Holds.{is_hold_of, hold_of, without_hold, joined, with_hold, released}
 use Rattle.txn_law.specs.Present.{present_of, content_in, is_pending}
 use Rattle.txn_law.specs.Records.{is_kept, swept}
 use Rattle.txn_law.specs.Tidy.{AreBeside, AreApart, IsReadHere, IsClaimedWhole, IsOnce, IsUnlogged, IsOfOne, IsPlaced}
@@ -27,6 +30,7 @@ use Rattle.txn_law.specs.Lists.{with_block, IsHeldExactly, IsFetchedExactly, cla
 use Rattle.txn_law.specs.Wishes.{IsOpen, IsWhole}
 use Rattle.txn_law.specs.declared.hold.Hold.{Hold}
 use Rattle.txn_law.specs.declared.present.Present.{Present}
+use Rattle.txn_law.proofs.Again.{same_addr, one_or_apart}
 use Rattle.txn_law.proofs.Claims.{found_by, all_four}
 use Rattle.txn_law.proofs.Entries.{is_of, same_block, once_filter, once_push, filled_content, once_filled, each_filled}
 use Rattle.txn_law.proofs.Found.{find_kept, find_push_some, find_push_none}
@@ -73,33 +77,77 @@ module _ (holds : List Hold) (hold : Hold) where
   abbrev pub others : List Hold
   others = without_hold holds hold.transaction hold.addr
 
-  apart_from : IsFree holds hold.transaction hold.addr exclusive → (new : Hold) → new.addr ≡ hold.addr
-      → All (λ x. AreBeside x new) others
-  apart_from free new at =
-      All-weaker (λ x. (not (is_hold_of hold.transaction hold.addr x) ≡ true)
-      × (Overlap x.addr hold.addr → Excludes (mode_of x) exclusive → IsHoldOf hold.transaction hold.addr x))
-      (λ x. AreBeside x new)
-      (λ x h over excludes. is_not x h.0
-      (is_hold hold.transaction hold.addr x (h.1 (subst (λ (d : Addr). Overlap x.addr d) at over) excludes)))
-      others
-      (passing (λ x. Overlap x.addr hold.addr → Excludes (mode_of x) exclusive
-      → IsHoldOf hold.transaction hold.addr x)
-      (λ x. not (is_hold_of hold.transaction hold.addr x)) holds free.others)
-    where
-      is_not : (x : Hold) → not (is_hold_of hold.transaction hold.addr x) ≡ true
-          → is_hold_of hold.transaction hold.addr x ≡ true → ⊥
-      is_not x away it = let no : not true ≡ true = ap not (sym it) ∙ away in absurd (cc)
+  -- one of these holds isn't the transaction's of this address
+  abbrev IsOther : Hold → Type 0
+  IsOther x = (not (is_hold_of hold.transaction hold.addr x) ≡ true) × Contains holds x
 
-  pub apart_with : AreApart holds → IsFree holds hold.transaction hold.addr exclusive
+  -- each of the others is one
+  each_other : All IsOther others
+  each_other =
+      passing (Contains holds) (λ x. not (is_hold_of hold.transaction hold.addr x)) holds (All-contains_itself holds)
+
+  is_not : (x : Hold) → IsOther x → is_hold_of hold.transaction hold.addr x ≡ true → ⊥
+  is_not x h it = let no : not true ≡ true = ap not (sym it) ∙ h.0 in absurd (cc)
+
+  beside_wish : IsFree holds hold.transaction hold.addr hold.mode → (x : Hold) → IsOther x → AreBeside x hold
+  beside_wish free x h over off =
+      is_not x h (is_hold hold.transaction hold.addr x
+      (All-contains (λ y. Overlap y.addr hold.addr → KeepsOff hold.transaction hold.mode y
+      → IsHoldOf hold.transaction hold.addr y) holds x free.others h.1 over off))
+
+  -- beside the wish, and beside what the transaction had of the address, is beside both joined
+  module _ (had : Hold) (found : hold_of holds hold.transaction hold.addr ≡ Some had) where
+    abbrev here : (is_hold_of hold.transaction hold.addr had ≡ true) × Contains holds had
+    here = found_by (is_hold_of hold.transaction hold.addr) holds had found
+
+    at : had.addr ≡ hold.addr
+    at = let four = all_four (nat_eq had.transaction hold.transaction)
+        (nat_eq had.addr.block.0 hold.addr.block.0) (nat_eq had.addr.offset hold.addr.offset)
+        (nat_eq had.addr.len hold.addr.len) here.0 in
+        same_addr had.addr hold.addr (eqb-true had.addr.block.0 hold.addr.block.0 four.1)
+        (eqb-true had.addr.offset hold.addr.offset four.2) (eqb-true had.addr.len hold.addr.len four.3)
+
+    beside_had : AreApart holds → (x : Hold) → IsOther x → AreBeside x had
+    beside_had apart x h = go (one_or_apart holds x had apart h.1 here.1)
+      where
+        go : (x ≡ had) ⊎ AreBeside x had → AreBeside x had
+        go (inl same) = absurd (is_not x h (ap (is_hold_of hold.transaction hold.addr) same ∙ here.0))
+        go (inr beside) = beside
+
+    beside_both : (x : Hold) → AreBeside x hold → AreBeside x had → AreBeside x (joined (Some had) hold)
+    beside_both x wished held over off = go off
+      where
+        of_one : (one other : Mode) → raised one other ≡ modes.Exclusive
+            → (one ≡ modes.Exclusive) ⊎ (other ≡ modes.Exclusive)
+        of_one one modes.Shared e = inl e
+        of_one one modes.Exclusive e = inr refl
+
+        which : (had.mode ≡ modes.Exclusive) ⊎ (hold.mode ≡ modes.Exclusive) → ⊥
+        which (inl alone) = held (subst (λ (d : Addr). Overlap x.addr d) (sym at) over) (inr (inr alone))
+        which (inr alone) = wished over (inr (inr alone))
+
+        excluded : Excludes x.mode (raised had.mode hold.mode) → ⊥
+        excluded (inl alone) = wished over (inr (inl alone))
+        excluded (inr alone) = which (of_one had.mode hold.mode alone)
+
+        go : KeepsOff hold.transaction (raised had.mode hold.mode) x → ⊥
+        go (inl same) = wished over (inl same)
+        go (inr excludes) = excluded excludes
+
+  pub apart_with : AreApart holds → IsFree holds hold.transaction hold.addr hold.mode
       → AreApart (with_hold holds hold)
-  apart_with apart free = go (hold_of holds hold.transaction hold.addr)
+  apart_with apart free = go (hold_of holds hold.transaction hold.addr) refl
     where
       rest : AreApart others
       rest = apart_filter (λ x. not (is_hold_of hold.transaction hold.addr x)) holds apart
 
-      go : (had : Option Hold) → AreApart (others ++ joined had hold ∷ [])
-      go None = apart_push others hold rest (apart_from free hold refl)
-      go (Some h) = apart_push others (joined (Some h) hold) rest (apart_from free (joined (Some h) hold) refl)
+      go : (had : Option Hold) → hold_of holds hold.transaction hold.addr ≡ had
+          → AreApart (others ++ joined had hold ∷ [])
+      go None e = apart_push others hold rest
+          (All-weaker IsOther (λ x. AreBeside x hold) (beside_wish free) others each_other)
+      go (Some had) e = apart_push others (joined (Some had) hold) rest
+          (All-weaker IsOther (λ x. AreBeside x (joined (Some had) hold))
+          (λ x h. beside_both had e x (beside_wish free x h) (beside_had had e apart x h)) others each_other)
 
   -- what holds of all holds, and of the new one beside one that there was, holds of all then
   pub each_with : (P Q : Hold → Type 0) → ((x : Hold) → P x → Q x) → All P holds → Q hold
@@ -231,10 +279,10 @@ owned_with : (core : CoreState) (hold : Hold) → IsOfOne core hold → All (IsO
 owned_with core hold own each =
     each_with core.holds hold (IsOfOne core) (IsOfOne core) (λ x h. h) each own (λ had h block offset len. own)
 
-pub tidy_held : (old new : CoreState) (tx : ℕ) (addr : Addr) (bytes : List ℕ) → IsOut old tx → IsOpen old tx addr
-    → IsHeldExactly old tx addr bytes new → AreTidy old → AreTidy new
-tidy_held old new tx addr bytes is_out open' held tidy =
-    let hold : Hold = record { transaction = tx; addr = addr; is_read = true; is_claimed = false } in
+pub tidy_held : (old new : CoreState) (tx : ℕ) (addr : Addr) (mode : Mode) (bytes : List ℕ) → IsOut old tx → IsOpen old tx addr mode
+    → IsHeldExactly old tx addr mode bytes new → AreTidy old → AreTidy new
+tidy_held old new tx addr mode bytes is_out open' held tidy =
+    let hold : Hold = for_reading tx addr mode in
     subst AreTidy (sym held.core) (record {
       owned = owned_with old hold (is_out, open'.home) tidy.owned;
       placed = block_each old.present addr.block (Some held.content) (IsPlaced old.log.blocks) open'.home tidy.placed;
@@ -249,10 +297,10 @@ tidy_held old new tx addr bytes is_out open' held tidy =
       changes = tidy.changes;
     })
 
-pub tidy_fetch : (old new : CoreState) (tx : ℕ) (addr : Addr) (io : Fetch) → IsOut old tx → IsOpen old tx addr
-    → IsFetchedExactly old tx addr io new → AreTidy old → AreTidy new
-tidy_fetch old new tx addr io is_out open' fetch tidy =
-    let hold : Hold = record { transaction = tx; addr = addr; is_read = false; is_claimed = false } in
+pub tidy_fetch : (old new : CoreState) (tx : ℕ) (addr : Addr) (mode : Mode) (io : Fetch) → IsOut old tx → IsOpen old tx addr mode
+    → IsFetchedExactly old tx addr mode io new → AreTidy old → AreTidy new
+tidy_fetch old new tx addr mode io is_out open' fetch tidy =
+    let hold : Hold = for_fetching tx addr mode in
     subst AreTidy (sym fetch.core) (record {
       owned = owned_with old hold (is_out, open'.home) tidy.owned;
       placed = block_each old.present addr.block None (IsPlaced old.log.blocks) open'.home tidy.placed;
@@ -266,9 +314,9 @@ tidy_fetch old new tx addr io is_out open' fetch tidy =
     })
 
 pub tidy_claim : (old : CoreState) (tx : ℕ) (block : BlockNo) (addr : Addr) → IsWhole block addr → IsOut old tx
-    → IsOpen old tx addr → AreTidy old → AreTidy (claimed old tx addr)
+    → IsOpen old tx addr modes.Exclusive → AreTidy old → AreTidy (claimed old tx addr)
 tidy_claim old tx block addr whole is_out open' tidy =
-    let hold : Hold = record { transaction = tx; addr = addr; is_read = false; is_claimed = true } in
+    let hold : Hold = for_writing tx addr in
     record {
       owned = owned_with old hold (is_out, open'.home) tidy.owned;
       placed = tidy.placed;

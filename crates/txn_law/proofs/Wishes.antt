@@ -8,6 +8,7 @@ use Rattle.disk.specs.Device.{Content}
 use Rattle.disk.specs.Crash.{Image}
 use Rattle.disk.specs.declared.block.BlockNo.{BlockNo}
 use Rattle.objects.specs.declared.addr.Addr.{Addr}
+use Rattle.objects.specs.declared.mode.Mode.{Mode}
 use Rattle.wal_law.specs.Log.{newest, or_else}
 use Rattle.wal_law.specs.Overlay.{content_or}
 use Rattle.txn_law.specs.Lists.{with_block, IsHeldExactly, IsFetchedExactly, claimed}
@@ -87,18 +88,18 @@ current_is_now base core block content h e = go (content_in (present_of core.pre
     go None is e = sym (ap (λ o. content_or o (base block.0)) e)
         ∙ tail_is_now base core.log core.records (held_of core.present) block.0 h
 
-pub core_held : (base : Image) (old new : CoreState) (tx : ℕ) (addr : Addr) (bytes : List ℕ)
-    → IsHeldExactly old tx addr bytes new → IsCoreWindow base old → IsCoreWindow base new
-core_held base old new tx addr bytes held h =
+pub core_held : (base : Image) (old new : CoreState) (tx : ℕ) (addr : Addr) (mode : Mode) (bytes : List ℕ)
+    → IsHeldExactly old tx addr mode bytes new → IsCoreWindow base old → IsCoreWindow base new
+core_held base old new tx addr mode bytes held h =
     subst (λ (core : CoreState). IsCoreWindow base core) (sym held.core)
     (with_more base old addr.block (Some held.content)
     (All-cons (IsCurrent (now_of base old.log old.records)) (addr.block.0, held.content) []
     (current_is_now base old addr.block held.content h held.current)
     (All-nil (IsCurrent (now_of base old.log old.records)))) h)
 
-pub core_fetch : (base : Image) (old new : CoreState) (tx : ℕ) (addr : Addr) (io : Fetch)
-    → IsFetchedExactly old tx addr io new → IsCoreWindow base old → IsCoreWindow base new
-core_fetch base old new tx addr io fetch h =
+pub core_fetch : (base : Image) (old new : CoreState) (tx : ℕ) (addr : Addr) (mode : Mode) (io : Fetch)
+    → IsFetchedExactly old tx addr mode io new → IsCoreWindow base old → IsCoreWindow base new
+core_fetch base old new tx addr mode io fetch h =
     subst (λ (core : CoreState). IsCoreWindow base core) (sym fetch.core)
     (with_more base old addr.block None (All-nil (IsCurrent (now_of base old.log old.records))) h)
 

@@ -52,11 +52,14 @@ pub record IsOwn (core : CoreState) (tx : ℕ) (plan : Planned) : Type 0 where
   pub written : All (λ object. IsWrittenBy core tx object.addr) plan.written
   pub homes : All (IsHomeOn core.log.blocks) (blocks_of plan.written)
 
+-- what the commit of a place read and wrote
+abbrev pub footprint : ℕ → Planned → Footprint
+footprint place plan = record { place = place; read = plan.read; written = plan.written }
+
 -- the records with a commit's, where it isn't installed at once
 abbrev pub with_record : Log → ℕ → Planned → List Footprint → List Footprint
 with_record log place plan records =
-    if nat_lt (installed_place log) place then records
-    ++ record { place = place; read = plan.read; written = plan.written } ∷ [] else records
+    if nat_lt (installed_place log) place then records ++ footprint place plan ∷ [] else records
 
 -- what is in memory, with the log's content of a block that the log has
 abbrev pub refreshed_content : Option Content → Option Content → Option Content

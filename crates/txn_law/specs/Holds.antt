@@ -1,9 +1,12 @@
 -- Who holds what.
-use Rattle.std.specs.Prelude.{◌≡◌, ℕ, Bool, false, not, ◌&&◌, ◌||◌, Option, Some, None, List, [], ◌∷◌, ◌++◌}
+use Rattle.std.specs.Prelude.{◌≡◌, ℕ, ◌⊎◌, Bool, true, false, not, ◌&&◌, ◌||◌, Option, Some, None, List, [], ◌∷◌, ◌++◌}
 use Rattle.std.specs.Prelude.{All, nat_eq}
 use Rattle.std.specs.List.{list_any, find, filter}
 use Rattle.objects.specs.Addr.{Overlap}
+use Rattle.objects.specs.Mode.{Excludes, is_exclusive, raised}
 use Rattle.objects.specs.declared.addr.Addr.{Addr}
+use Rattle.objects.specs.declared.mode.Mode.{Mode}
+use Rattle.objects.specs.declared.mode.Mode.TheVariants as modes
 use Rattle.disk.specs.declared.block.BlockNo.{BlockNo}
 use Rattle.txn_law.specs.declared.hold.Hold.{Hold}
 
@@ -11,23 +14,14 @@ use Rattle.txn_law.specs.declared.hold.Hold.{Hold}
 abbrev pub IsHoldOf : ℕ → Addr → Hold → Type 0
 IsHoldOf tx addr hold = (hold.transaction ≡ tx) × (hold.addr ≡ addr)
 
--- How an address is taken: so far for one transaction alone.
-pub data Mode : Type 0 where
-  exclusive : Mode
+-- what is taken keeps off such a wish: it is this transaction's own, or in a mode that keeps the wished one off
+abbrev pub KeepsOff : ℕ → Mode → Hold → Type 0
+KeepsOff tx mode hold = (hold.transaction ≡ tx) ⊎ Excludes hold.mode mode
 
--- how a hold was taken
-abbrev pub mode_of : Hold → Mode
-mode_of hold = exclusive
-
--- what is taken in the one mode keeps off what is wished in the other
-abbrev pub Excludes : Mode → Mode → Type 0
-Excludes exclusive exclusive = Unit {0}
-
--- nobody has taken a byte of the address in a mode that keeps this one off, but this transaction by this
+-- of what keeps the wish off nothing has a byte of the address, but what this transaction has taken by this
 -- address
 pub record IsFree (holds : List Hold) (tx : ℕ) (addr : Addr) (mode : Mode) : Type 0 where
-  pub others : All (λ hold. Overlap hold.addr addr → Excludes (mode_of hold) mode → IsHoldOf tx addr hold)
-      holds
+  pub others : All (λ hold. Overlap hold.addr addr → KeepsOff tx mode hold → IsHoldOf tx addr hold) holds
 
 -- anyone has taken a part of the block
 abbrev pub is_taken : List Hold → BlockNo → Bool
@@ -47,10 +41,24 @@ hold_of holds tx addr = find (is_hold_of tx addr) holds
 abbrev pub without_hold : List Hold → ℕ → Addr → List Hold
 without_hold holds tx addr = filter (λ hold. not (is_hold_of tx addr hold)) holds
 
+-- what a wish takes: to read an object, to have its block fetched, or to write a whole block
+abbrev pub for_reading : ℕ → Addr → Mode → Hold
+for_reading tx addr mode =
+    record { transaction = tx; addr = addr; mode = mode; is_read = true; is_claimed = false }
+
+abbrev pub for_fetching : ℕ → Addr → Mode → Hold
+for_fetching tx addr mode =
+    record { transaction = tx; addr = addr; mode = mode; is_read = false; is_claimed = false }
+
+abbrev pub for_writing : ℕ → Addr → Hold
+for_writing tx addr =
+    record { transaction = tx; addr = addr; mode = modes.Exclusive; is_read = false; is_claimed = true }
+
 -- what is held by a new hold beside one that there was
 abbrev pub joined : Option Hold → Hold → Hold
 joined None hold = hold
 joined (Some had) hold = record hold {
+  mode = raised had.mode hold.mode;
   is_read = had.is_read || hold.is_read;
   is_claimed = had.is_claimed || hold.is_claimed;
 }
@@ -70,7 +78,7 @@ abbrev pub is_read : Option Hold → Bool
 is_read None = false
 is_read (Some hold) = hold.is_read
 
--- whether it is held for writing
+-- whether it is held for writing: alone, and read or claimed
 abbrev pub is_written : Option Hold → Bool
 is_written None = false
-is_written (Some hold) = hold.is_read || hold.is_claimed
+is_written (Some hold) = is_exclusive hold.mode && (hold.is_read || hold.is_claimed)

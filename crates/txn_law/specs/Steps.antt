@@ -7,6 +7,8 @@ use Rattle.disk.specs.Crash.{Image}
 use Rattle.disk.specs.declared.block.BlockNo.{BlockNo}
 use Rattle.limits.specs.declared.TheConstants.{BLOCK_BYTES}
 use Rattle.wal_law.specs.Log.{Log, installed_place, newest}
+-- for the crates above
+pub use Rattle.wal_law.specs.Grows.{StandsStill}
 use Rattle.wal_law.specs.Log.{blocks_of as group_blocks}
 use Rattle.wal_law.specs.Overlay.{content_or}
 use Rattle.wal_law.specs.Effects.{newest_in}
@@ -54,13 +56,3 @@ pub record IsMade (present : List Present) (log : Log) (now : Image) (commit : F
   pub contents : All (IsLaid present log commit.written) group
   pub known : (block : BlockNo) → lies_in commit.written block ≡ true
       → IsKnown present log now commit.written block
-
--- Logger and installer stand where they stood.
-pub record StandsStill (old new : Log) : Type 0 where
-  pub blocks : new.blocks ≡ old.blocks
-  pub start : new.start ≡ old.start
-  pub log_step : new.log_step ≡ old.log_step
-  pub log_out : new.log_out ≡ old.log_out
-  pub inst_step : new.inst_step ≡ old.inst_step
-  pub inst_out : new.inst_out ≡ old.inst_out
-  pub broken : new.broken ≡ old.broken

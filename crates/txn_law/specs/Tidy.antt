@@ -6,16 +6,16 @@ use Rattle.objects.specs.Addr.{Overlap}
 use Rattle.wal_law.specs.Grows.{IsWholeChange}
 use Rattle.wal_law.specs.Log.{Log, IsHomeOn, newest}
 use Rattle.txn_law.specs.Core.{CoreState, IsOut}
-use Rattle.txn_law.specs.Holds.{mode_of, Excludes}
+use Rattle.txn_law.specs.Holds.{KeepsOff}
 use Rattle.txn_law.specs.Present.{present_of, content_in}
 use Rattle.txn_law.specs.declared.hold.Hold.{Hold}
 use Rattle.txn_law.specs.declared.present.Present.{Present}
 
--- no byte of both is taken in modes that keep each other off
+-- where a byte lies in both, the one doesn't keep off the other
 abbrev pub AreBeside : Hold → Hold → Type 0
-AreBeside one other = Overlap one.addr other.addr → Excludes (mode_of one) (mode_of other) → ⊥
+AreBeside one other = Overlap one.addr other.addr → KeepsOff other.transaction other.mode one → ⊥
 
--- no two holds share a byte
+-- no two holds share a byte, but those of two transactions that both share it
 abbrev pub AreApart : List Hold → Type 0
 AreApart [] = Unit {0}
 AreApart (hold ∷ later) = All (AreBeside hold) later × AreApart later

@@ -7,15 +7,15 @@ mod present;
 mod reads;
 mod window;
 
-ghost use Rattle.std.specs.Prelude.{◌≡◌, ◌≢◌, ◌∷◌, ◌+◌, ◌-◌, ◌≤◌, ℕ, List, [], All, Bool, None, length, take};
+ghost use Rattle.std.specs.Prelude.{◌≡◌, ◌≢◌, ◌∷◌, ◌+◌, ◌-◌, ◌≤◌, ℕ, List, [], All, Bool, None, length, take, drop};
 ghost use Rattle.std.specs.Prelude.{true, false, Some};
 ghost use Rattle.disk.specs.Device.{Content};
 ghost use Rattle.disk.specs.Crash.{Image};
 ghost use Rattle.disk.specs.declared.block.BlockNo.{BlockNo};
-ghost use Rattle.wal_law.specs.Log.{Log, IsLawful, newest, opened, installed_place, settled_place};
+ghost use Rattle.wal_law.specs.Log.{Log, IsLawful, newest, opened, installed_place, settled_place, tail_count};
 ghost use Rattle.wal_law.specs.Law.{IsBoundary, IsOutside, with_changes};
 ghost use Rattle.wal_law.specs.Overlay.{over};
-ghost use Rattle.wal_law.specs.Calls.{home_after};
+ghost use Rattle.wal_law.specs.Calls.{home_after, KeepsAgreement};
 ghost use Rattle.wal_law.specs.Logger.{with_log_out, with_log_back};
 ghost use Rattle.wal_law.specs.Installer.{with_inst_out, with_inst_back};
 ghost use Rattle.wal_law.specs.Grows.{GrowsBy};
@@ -24,7 +24,9 @@ ghost use Rattle.txn_law.specs.Records.{swept};
 ghost use Rattle.txn_law.specs.declared.hold.Hold.{Hold};
 ghost use Rattle.txn_law.specs.Lists.{IsHeldExactly, IsFetchedExactly, claimed};
 ghost use Rattle.txn_law.specs.Fetch.{Fetch};
+ghost use Rattle.objects.specs.Mode.{raised};
 ghost use Rattle.objects.specs.declared.addr.Addr.{Addr};
+ghost use Rattle.objects.specs.declared.mode.Mode.{Mode};
 ghost use Rattle.txn_law.specs.CoreWindow.{IsCoreWindow, held_of};
 ghost use Rattle.txn_law.specs.Tidy.{AreTidy};
 ghost use Rattle.txn_law.specs.Object.{ObjectBytes};
@@ -37,7 +39,7 @@ ghost use Rattle.txn_law.specs.declared.present.Present.{Present};
 ghost use Rattle.wal_law.specs.Room.{with_group};
 ghost use Rattle.txn_law.specs.Window.{Footprint, with_objects, after_commits};
 ghost use Rattle.txn_law.specs.Window.{IsWindowOver, IsCurrent, ArePinned, now_of, opening};
-ghost use Rattle.txn_law.specs.Absorb.{with_absorbed};
+ghost use Rattle.txn_law.specs.Absorb.{fresh, with_absorbed};
 ghost use Rattle.txn_law.specs.Steps.{IsBrought, IsMade, with_commit, IsWholeIn};
 
 pub use hold::Hold;
@@ -131,10 +133,16 @@ pub fn a_group_is_laid_over_what_is_current()
         → IsBrought now commit group }
 {}
 
-/// So is one that takes the place of older changes in the open tail.
+/// An append that takes the place of older changes in the open tail grows the log as any other, and keeps the
+/// agreement with the disk. It adds the blocks that the tail lacks.
 pub fn an_absorbing_append_grows_the_log()
-    ensures { (log : Log) (group : List (BlockNo × Content)) → IsLawful log
+    ensures grows { (log : Log) (group : List (BlockNo × Content)) → IsLawful log
         → GrowsBy log group (with_absorbed log group) }
+    ensures agreement { (log : Log) (group : List (BlockNo × Content)) → IsLawful log
+        → KeepsAgreement log (with_absorbed log group) }
+    ensures tail { (log : Log) (group : List (BlockNo × Content)) → IsLawful log
+        → tail_count (with_absorbed log group)
+        ≡ tail_count log + length (fresh (drop (log.logged + log.taken) log.changes) group) }
 {}
 
 /// What the core lets go of memory was read by no commit that it keeps.
@@ -168,10 +176,10 @@ pub fn what_is_not_in_memory_is_written_whole()
 
 /// What a transaction takes, and its end, keep the window of the core.
 pub fn a_transaction_keeps_the_window_of_the_core()
-    ensures held { (base : Image) (old new : CoreState) (tx : ℕ) (addr : Addr) (bytes : List ℕ)
-        → IsHeldExactly old tx addr bytes new → IsCoreWindow base old → IsCoreWindow base new }
-    ensures fetch { (base : Image) (old new : CoreState) (tx : ℕ) (addr : Addr) (io : Fetch)
-        → IsFetchedExactly old tx addr io new → IsCoreWindow base old → IsCoreWindow base new }
+    ensures held { (base : Image) (old new : CoreState) (tx : ℕ) (addr : Addr) (mode : Mode)
+        (bytes : List ℕ) → IsHeldExactly old tx addr mode bytes new → IsCoreWindow base old → IsCoreWindow base new }
+    ensures fetch { (base : Image) (old new : CoreState) (tx : ℕ) (addr : Addr) (mode : Mode)
+        (io : Fetch) → IsFetchedExactly old tx addr mode io new → IsCoreWindow base old → IsCoreWindow base new }
     ensures claim { (base : Image) (old : CoreState) (tx : ℕ) (addr : Addr) → IsCoreWindow base old
         → IsCoreWindow base (claimed old tx addr) }
     ensures end { (base : Image) (old : CoreState) (tx : ℕ) → IsCoreWindow base old
@@ -190,10 +198,11 @@ pub fn a_fetch_keeps_the_window_of_the_core()
         → home_after base log ok block ≡ base block }
 {}
 
-/// A transaction that has taken an address may wish for it again, once no fetch of its block is pending: the wish
-/// is told neither Outside nor Busy nor Loading. So one that was told Fetch is met after its fetch was given back,
-/// as the block is in memory then, or finds no memory.
+/// A transaction that has taken an address may wish for it again, once no fetch of its block is pending, in a mode
+/// that adds nothing to the one that it has: the wish is told neither Outside nor Busy nor Loading. So one that was
+/// told Fetch is met after its fetch was given back, as the block is in memory then, or finds no memory.
 pub fn what_is_taken_may_be_wished_for_again()
-    ensures { (core : CoreState) (tx : ℕ) (addr : Addr) (hold : Hold) → AreTidy core
-        → taken_by core tx addr ≡ Some hold → is_fetching core addr.block ≡ false → IsOpen core tx addr }
+    ensures { (core : CoreState) (tx : ℕ) (addr : Addr) (hold : Hold) (mode : Mode) → AreTidy core
+        → taken_by core tx addr ≡ Some hold → raised hold.mode mode ≡ hold.mode
+        → is_fetching core addr.block ≡ false → IsOpen core tx addr mode }
 {}

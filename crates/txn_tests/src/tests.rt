@@ -31,13 +31,12 @@ struct Toy {
 }
 
 impl Change for Toy {
-    ghost objects_read = { λ toy. toy.read.items };
-
-    ghost objects_written = { λ toy. toy.written.items };
-
-    ghost planned_blocks = { λ _. BLOCKS };
-
-    ghost planned_inodes = { λ toy. toy.inodes };
+    ghost planned = { λ toy. record {
+      read = toy.read.items;
+      written = toy.written.items;
+      blocks = BLOCKS;
+      inodes = toy.inodes;
+    } };
 
     // It is planned for blocks alone.
     ghost is_plan = { λ blocks inodes read written. blocks ≡ BLOCKS };

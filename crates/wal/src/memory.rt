@@ -2,7 +2,7 @@
 ghost use Rattle.std.specs.Prelude.{◌≡◌, ◌≤◌, ◌<◌, ◌^◌, ◌+◌, length, IfOk, MatchOption, Some, None, All, map};
 ghost use Rattle.limits.specs.declared.TheConstants.{LOG_SLOTS, FIRST_HOME_BLOCK};
 ghost use Rattle.wal_law.specs.Log.{newest, settled_place, installed_place, tail_count, opened, IsHomeOn};
-ghost use Rattle.wal_law.specs.Log.{blocks_of, IsLawful};
+ghost use Rattle.wal_law.specs.Log.{added_blocks, blocks_of, IsLawful};
 ghost use Rattle.wal_law.specs.Grows.{IsWholeChange};
 ghost use Rattle.wal_law.specs.Room.{IsRoom};
 
@@ -130,6 +130,13 @@ impl Wal {
         self.changes.len() - (self.logged + self.taken)
     }
 
+    /// How many blocks more the open tail holds by a group that changes these.
+    pub fn added_blocks(&self, blocks: &[BlockNo]) -> usize
+        ensures { result ≡ added_blocks self.now blocks.now }
+    {
+        blocks.len()
+    }
+
     /// The count of the disk's blocks.
     pub fn blocks(&self) -> u32
         ensures { result ≡ self.now.blocks }
@@ -152,7 +159,7 @@ impl Wal {
             return Room::Spent;
         }
         let tail = self.tail();
-        let count = blocks.len();
+        let count = self.added_blocks(blocks);
         let left = u64::MAX - (self.start + self.changes.len() as u64);
         if left < count as u64 {
             Room::Spent

@@ -1,5 +1,5 @@
 -- Lemmas: each step of the log, and each of its calls, leads from agreement to agreement.
-use Rattle.std.proofs.Common.{◌≡◌, ◌≢◌, ℕ, ◌+◌, Bool, true, false, ◌&&◌, List, Option, Some, None, IsSome}
+use Rattle.std.proofs.Common.{◌≡◌, ◌≢◌, ℕ, ◌+◌, Bool, true, false, ◌&&◌, List, take, arith, Option, Some, None, IsSome}
 use Rattle.std.proofs.Common.{refl, sym, ap, subst, ◌∙◌, nat_eq, if◌then◌else◌, Result, Ok, Err}
 use Rattle.std.specs.Prelude.{nat_lt, is_ok, IfSome}
 use Rattle.std.proofs.lemmas.Bool.{eq-eqb, and_from}
@@ -11,10 +11,12 @@ use Rattle.disk.specs.Device.{Content}
 use Rattle.wal_law.specs.declared.outcomes.Append.{Append}
 use Rattle.wal_law.specs.declared.outcomes.Append.TheVariants.{Appended, Full, NoMemory}
 use Rattle.wal_law.specs.declared.calls.IoCall.{IoCall}
+use Rattle.wal_law.specs.declared.change.LogChange.{LogChange}
 use Rattle.wal_law.specs.declared.calls.IoCall.TheVariants.{Write, Barrier}
 use Rattle.wal_law.specs.Io.{Io, HasMade, HasMadeCall}
 use Rattle.wal_law.specs.Log.{Log, IsLawful, log_end}
 use Rattle.wal_law.specs.Room.{with_group}
+use Rattle.wal_law.specs.Grows.{GrowsBy, StandsStill}
 use Rattle.wal_law.specs.Logger.{IsNextLogCall, group_size, is_log_out, with_log_out, with_log_made}
 use Rattle.wal_law.specs.Logger.{with_log_back}
 use Rattle.wal_law.specs.Installer.{IsNextInstCall, next_home, is_inst_out, with_inst_out, with_inst_made}
@@ -25,7 +27,8 @@ use Rattle.wal_law.specs.Calls.{IsInstallerAt, AgreesBeside, home_after, KeepsAg
 use Rattle.wal_law.specs.Calls.{LogCallComesBack, InstCallGoesOut, InstCallComesBack}
 use Rattle.wal_law.proofs.Contents.{keeps_read}
 use Rattle.wal_law.proofs.LogCalls.{own_kept, log_made_kept, own_called, log_made, homes_spared}
-use Rattle.wal_law.proofs.LogMoves.{beside, own_beside, log_made_beside, next_log_beside, own_out, own_made}
+use Rattle.wal_law.proofs.Ends.{grows}
+use Rattle.wal_law.proofs.LogMoves.{with_tail, beside, own_beside, log_made_beside, next_log_beside, own_out, own_made}
 use Rattle.wal_law.proofs.LogMoves.{own_appended, log_made_appended, next_log_appended, own_installed}
 use Rattle.wal_law.proofs.LogMoves.{log_made_installed, next_log_installed}
 use Rattle.wal_law.proofs.HomeCalls.{homes_kept, inst_made_kept, homes_called, inst_made, own_spared}
@@ -275,21 +278,60 @@ stands_inst_back d base log io (Err u) p lawful s = record {
   installer = refl;
 }
 
--- a commit is appended
-pub stands_appended : (d : Device) (base : Image) (log : Log) (group : List (BlockNo × Content))
-    (p q : Pending)
-    → IsLawful log
-    → AgreesBeside d base log p q → AgreesBeside d base (with_group log group) p q
-stands_appended d base log group p q lawful s = record {
+-- the tail is another
+stands_tail : (d : Device) (base : Image) (log : Log) (places : ℕ) (changes : List LogChange) (p q : Pending)
+    → IsLawful log → take (log.logged + log.taken) changes ≡ take (log.logged + log.taken) log.changes
+    → AgreesBeside d base log p q → AgreesBeside d base (with_tail log places changes) p q
+stands_tail d base log places changes p q lawful same s = record {
   agrees = record {
     size = s.agrees.size;
-    own = own_appended d log group lawful s.agrees.own;
-    homes = homes_appended d base log group lawful s.agrees.homes;
+    own = own_appended d log places changes lawful same s.agrees.own;
+    homes = homes_appended d base log places changes lawful same s.agrees.homes;
   };
-  logger = logger_as d d log (with_group log group) p refl (next_log_appended d log group lawful)
-      (log_made_appended d log group lawful) s.logger;
-  installer = installer_as d d base log (with_group log group) q refl
-      (next_inst_appended d base log group lawful) (inst_made_appended d base log group lawful) s.installer;
+  logger = logger_as d d log (with_tail log places changes) p refl
+      (next_log_appended d log places changes lawful same) (log_made_appended d log places changes lawful same)
+      s.logger;
+  installer = installer_as d d base log (with_tail log places changes) q refl
+      (next_inst_appended d base log places changes lawful same)
+      (inst_made_appended d base log places changes lawful same) s.installer;
+}
+
+-- where logger and installer stand still, the tail alone may be another
+still_is : (old new : Log) (group : List (BlockNo × Content)) → GrowsBy old group new → StandsStill old new
+    → new ≡ with_tail old new.places new.changes
+still_is old new group grown still = λ i. record {
+  blocks = still.blocks i;
+  start = still.start i;
+  changes = new.changes;
+  logged = grown.logged i;
+  taken = grown.taken i;
+  log_step = still.log_step i;
+  log_out = still.log_out i;
+  installing = grown.installing i;
+  inst_step = still.inst_step i;
+  inst_out = still.inst_out i;
+  places = new.places;
+  broken = still.broken i;
+}
+
+-- a commit is appended
+pub stands_appended : (d : Device) (base : Image) (old new : Log) (group : List (BlockNo × Content))
+    (p q : Pending) → IsLawful old → GrowsBy old group new → StandsStill old new
+    → AgreesBeside d base old p q → AgreesBeside d base new p q
+stands_appended d base old new group p q lawful grown still s =
+    subst (λ (log : Log). AgreesBeside d base log p q) (sym (still_is old new group grown still))
+    (stands_tail d base old new.places new.changes p q lawful
+    (grown.front (old.logged + old.taken) (omega arith)) s)
+
+pub still_with_group : (log : Log) (group : List (BlockNo × Content)) → StandsStill log (with_group log group)
+still_with_group log group = record {
+  blocks = refl;
+  start = refl;
+  log_step = refl;
+  log_out = refl;
+  inst_step = refl;
+  inst_out = refl;
+  broken = refl;
 }
 
 -- a block is read
@@ -393,7 +435,8 @@ pub appended : (result : Append) (old new : Log) (group : List (BlockNo × Conte
     → KeepsAgreement old new
 appended Appended old new group lawful done refused d base p q s =
     subst (λ (log : Log). AgreesBeside d base log p q) (sym (done refl))
-    (stands_appended d base old group p q lawful s)
+    (stands_appended d base old (with_group old group) group p q lawful (grows old group lawful)
+    (still_with_group old group) s)
 appended Full old new group lawful done refused d base p q s =
     subst (λ (log : Log). AgreesBeside d base log p q) (sym (refused (λ e. cc))) s
 appended NoMemory old new group lawful done refused d base p q s =

@@ -4,20 +4,20 @@ use Rattle.std.proofs.Common.{drop, get_or, slice_get, Some, None, refl, sym, ap
 use Rattle.std.proofs.Common.{if◌then◌else◌}
 use Rattle.std.specs.Prelude.{nat_lt}
 use Rattle.std.proofs.lemmas.Bool.{cases_lt, eqb-true, ltb-true, ltb-false, le-leb, lt-leb}
-use Rattle.std.proofs.lemmas.List.{take-append-le, length-take-le, get_or-take}
+use Rattle.std.proofs.lemmas.List.{take-take, length-take-le, get_or-take}
 use Rattle.std.proofs.lemmas.Option.{get_or_from_slice_get}
 use Rattle.disk.specs.Device.{Content, Device, current, newest}
 use Rattle.disk.specs.Crash.{Image}
 use Rattle.disk.specs.declared.block.BlockNo.{BlockNo}
 use Rattle.wal_law.specs.declared.change.LogChange.{LogChange}
 use Rattle.wal_law.specs.Io.{Io}
-use Rattle.wal_law.specs.Log.{Log, IsLawful, changes_of, newest_of, or_else}
-use Rattle.wal_law.specs.Room.{with_group}
+use Rattle.wal_law.specs.Log.{Log, IsLawful, newest_of, or_else}
 use Rattle.wal_law.specs.Installer.{next_home, IsNextInstCall, with_inst_out, with_inst_made, with_installed}
 use Rattle.wal_law.specs.Effects.{brought_home}
 use Rattle.wal_law.specs.Law.{LeavesOnly, IsOutside, IsStartBehind, HomeAgrees, with_changes}
 use Rattle.wal_law.specs.Calls.{HasMadeInstCall, home_after}
-use Rattle.wal_law.proofs.Lists.{slice_get-front}
+use Rattle.wal_law.proofs.Lists.{slice_get-take, slice_get-into_take}
+use Rattle.wal_law.proofs.LogMoves.{with_tail}
 use Rattle.wal_law.proofs.Newest.{newest_of-drop}
 use Rattle.wal_law.proofs.NextHome.{next_within, next_keeps, next_newest}
 use Rattle.wal_law.proofs.Steps.{change_at}
@@ -70,21 +70,25 @@ next_inst_aside io log logged taken log_step log_out inst_out broken h =
       start_barrier = h.start_barrier;
     }
 
--- more changes at the end
-module _ (d : Device) (base : Image) (log : Log) (group : List (BlockNo × Content)) (lawful : IsLawful log)
+-- other changes behind the logger's group
+module _ (d : Device) (base : Image) (log : Log) (places : ℕ) (changes : List LogChange) (lawful : IsLawful log)
+    (kept : take (log.logged + log.taken) changes ≡ take (log.logged + log.taken) log.changes)
   where
+    same : take log.installing log.changes ≡ take log.installing changes
+    same =
+        let within : log.installing ≤ log.logged + log.taken = omega (arith, lawful.installing) in
+        sym (take-take log.installing (log.logged + log.taken) log.changes within)
+        ∙ ap (take log.installing) (sym kept)
+        ∙ take-take log.installing (log.logged + log.taken) changes within
+
     front : (change : LogChange) → log.inst_step < log.installing
-        → slice_get (with_group log group).changes log.inst_step ≡ Some change
-        → slice_get log.changes log.inst_step ≡ Some change
+        → slice_get changes log.inst_step ≡ Some change → slice_get log.changes log.inst_step ≡ Some change
     front change lt is =
-        slice_get-front log.changes (changes_of (log.places + 1) group) log.inst_step change
-        (omega (arith, lawful.taken_within, lawful.installing)) is
+        slice_get-take log.changes log.installing log.inst_step change
+        (ap (λ (xs : List LogChange). slice_get xs log.inst_step) same
+        ∙ slice_get-into_take changes log.installing log.inst_step change lt is)
 
-    same : take log.installing log.changes ≡ take log.installing (with_group log group).changes
-    same = sym (take-append-le log.installing log.changes (changes_of (log.places + 1) group)
-        (omega (arith, lawful.taken_within, lawful.installing)))
-
-    pub homes_appended : HomeAgrees d base log → HomeAgrees d base (with_group log group)
+    pub homes_appended : HomeAgrees d base log → HomeAgrees d base (with_tail log places changes)
     homes_appended h = record {
       chosen = λ lt change is. ap (λ xs. newest_of xs change.block.0) (sym same)
           ∙ h.chosen lt change (front change lt is);
@@ -103,7 +107,7 @@ module _ (d : Device) (base : Image) (log : Log) (group : List (BlockNo × Conte
       newest_start = h.newest_start;
     }
 
-    pub inst_made_appended : HasMadeInstCall d base log → HasMadeInstCall d base (with_group log group)
+    pub inst_made_appended : HasMadeInstCall d base log → HasMadeInstCall d base (with_tail log places changes)
     inst_made_appended h = record {
       home = λ lt change is. h.home lt change (front change lt is);
       home_barrier =
@@ -114,7 +118,7 @@ module _ (d : Device) (base : Image) (log : Log) (group : List (BlockNo × Conte
       start_barrier = h.start_barrier;
     }
 
-    pub next_inst_appended : (io : Io) → IsNextInstCall log io → IsNextInstCall (with_group log group) io
+    pub next_inst_appended : (io : Io) → IsNextInstCall log io → IsNextInstCall (with_tail log places changes) io
     next_inst_appended io h = record {
       beginning = h.beginning;
       step = h.step;

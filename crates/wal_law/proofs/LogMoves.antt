@@ -10,15 +10,14 @@ use Rattle.disk.specs.Device.{Content, Device, current, newest}
 use Rattle.disk.specs.declared.block.BlockNo.{BlockNo}
 use Rattle.wal_law.specs.declared.change.LogChange.{LogChange}
 use Rattle.wal_law.specs.Io.{Io}
-use Rattle.wal_law.specs.Log.{Log, IsLawful, changes_of, log_end}
-use Rattle.wal_law.specs.Room.{with_group}
+use Rattle.wal_law.specs.Log.{Log, IsLawful, log_end}
 use Rattle.wal_law.specs.Logger.{slot_block, IsHeader, IsNextLogCall, with_log_out, with_log_made}
 use Rattle.wal_law.specs.Installer.{with_installed}
 use Rattle.wal_law.specs.Law.{LeavesOnly, HoldsSlots, IsHeaderOf, LogAgrees}
 use Rattle.wal_law.specs.Calls.{HasMadeLogCall}
 use Rattle.wal_law.specs.EightBytes.{number_at}
 use Rattle.wal_law.specs.declared.calls.IoCall.TheVariants.{Write}
-use Rattle.wal_law.proofs.Lists.{slice_get-drop, slice_get-front, slice_get-take, within-take}
+use Rattle.wal_law.proofs.Lists.{slice_get-drop, slice_get-take, within-take}
 use Rattle.wal_law.proofs.Lists.{slice_get-into_take}
 
 -- what the installer does beside it
@@ -151,30 +150,36 @@ own_made d log lawful h made = go (nat_eq log.log_step (log.taken + 2)) refl
     go true e = group_settled d log (eqb-true log.log_step (log.taken + 2) e) h made
     go false e = one_more d log lawful (eqb-false log.log_step (log.taken + 2) e) h made
 
--- more changes at the end
-module _ (d : Device) (log : Log) (group : List (BlockNo × Content)) (lawful : IsLawful log) where
-  front : (k : ℕ) (change : LogChange) → k < log.logged + log.taken
-      → slice_get (with_group log group).changes k ≡ Some change → slice_get log.changes k ≡ Some change
+-- the log with another open tail, and so many places
+abbrev pub with_tail : Log → ℕ → List LogChange → Log
+with_tail log places changes = record log { places = places; changes = changes }
+
+-- other changes behind the logger's group
+module _ (d : Device) (log : Log) (places : ℕ) (changes : List LogChange) (lawful : IsLawful log)
+    (same : take (log.logged + log.taken) changes ≡ take (log.logged + log.taken) log.changes) where
+  front : (k : ℕ) (change : LogChange) → k < log.logged + log.taken → slice_get changes k ≡ Some change
+      → slice_get log.changes k ≡ Some change
   front k change lt is =
-      slice_get-front log.changes (changes_of (log.places + 1) group) k change
-      (omega (arith, lawful.taken_within)) is
+      slice_get-take log.changes (log.logged + log.taken) k change
+      (ap (λ (xs : List LogChange). slice_get xs k) (sym same)
+      ∙ slice_get-into_take changes (log.logged + log.taken) k change lt is)
 
   holds_front : (count : ℕ) → count ≤ log.logged + log.taken → HoldsSlots d log count
-      → HoldsSlots d (with_group log group) count
+      → HoldsSlots d (with_tail log places changes) count
   holds_front count le h k lt change is = h k lt change (front k change (omega arith) is)
 
   header_front : (count : ℕ) (content : Content) → count ≤ log.logged + log.taken
-      → IsHeaderOf log count content → IsHeaderOf (with_group log group) count content
+      → IsHeaderOf log count content → IsHeaderOf (with_tail log places changes) count content
   header_front count content le h = (h.0, λ k lt change is. h.1 k lt change (front k change (omega arith) is))
 
   either_front : (content : Content)
       → IsHeaderOf log log.logged content ⊎ IsHeaderOf log (log.logged + log.taken) content
-      → IsHeaderOf (with_group log group) log.logged content
-      ⊎ IsHeaderOf (with_group log group) (log.logged + log.taken) content
+      → IsHeaderOf (with_tail log places changes) log.logged content
+      ⊎ IsHeaderOf (with_tail log places changes) (log.logged + log.taken) content
   either_front content (inl h) = inl (header_front log.logged content (omega arith) h)
   either_front content (inr h) = inr (header_front (log.logged + log.taken) content (omega arith) h)
 
-  pub own_appended : LogAgrees d log → LogAgrees d (with_group log group)
+  pub own_appended : LogAgrees d log → LogAgrees d (with_tail log places changes)
   own_appended h = record {
     slots = holds_front log.logged (omega arith) h.slots;
     written = λ k lt within change is. h.written k lt within change
@@ -188,7 +193,7 @@ module _ (d : Device) (log : Log) (group : List (BlockNo × Content)) (lawful : 
         (h.newest_header end);
   }
 
-  pub log_made_appended : HasMadeLogCall d log → HasMadeLogCall d (with_group log group)
+  pub log_made_appended : HasMadeLogCall d log → HasMadeLogCall d (with_tail log places changes)
   log_made_appended h = record {
     body = λ lt change is. h.body lt change (front (log.logged + log.log_step) change (omega arith) is);
     body_barrier = λ at. holds_front (log.logged + log.taken) (omega arith) (h.body_barrier at);
@@ -199,12 +204,8 @@ module _ (d : Device) (log : Log) (group : List (BlockNo × Content)) (lawful : 
         (h.header_barrier at content there);
   }
 
-  pub next_log_appended : (io : Io) → IsNextLogCall log io → IsNextLogCall (with_group log group) io
+  pub next_log_appended : (io : Io) → IsNextLogCall log io → IsNextLogCall (with_tail log places changes) io
   next_log_appended io h =
-      let same : take (log.logged + log.taken) (with_group log group).changes
-      ≡ take (log.logged + log.taken) log.changes =
-      take-append-le (log.logged + log.taken) log.changes (changes_of (log.places + 1) group)
-      lawful.taken_within in
       record {
         beginning = h.beginning;
         step = h.step;

@@ -31,6 +31,16 @@ pub record GrowsBy (old : Log) (group : List (BlockNo × Content)) (new : Log) :
   pub opened : (count : ℕ) → count ≤ old.logged + old.taken
       → recovered (drop count new.changes) ≡ recovered (drop count old.changes)
 
+-- Logger and installer stand where they stood, and the log is as sound as it was.
+pub record StandsStill (old new : Log) : Type 0 where
+  pub blocks : new.blocks ≡ old.blocks
+  pub start : new.start ≡ old.start
+  pub log_step : new.log_step ≡ old.log_step
+  pub log_out : new.log_out ≡ old.log_out
+  pub inst_step : new.inst_step ≡ old.inst_step
+  pub inst_out : new.inst_out ≡ old.inst_out
+  pub broken : new.broken ≡ old.broken
+
 -- a change of a whole block
 abbrev pub IsWholeChange : LogChange → Type 0
 IsWholeChange change = length change.content ≡ BLOCK_BYTES

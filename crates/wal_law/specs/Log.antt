@@ -65,9 +65,13 @@ installed_place log = place_before log.changes log.places
 abbrev pub tail_count : Log → ℕ
 tail_count log = length log.changes - (log.logged + log.taken)
 
--- the blocks that the tail holds after a group that changes these
+-- how many blocks more the tail holds by a group that changes these: all of them, while it keeps each change
+abbrev pub added_blocks : Log → List BlockNo → ℕ
+added_blocks log blocks = length blocks
+
+-- the blocks that the tail holds after such a group
 abbrev pub tail_after : Log → List BlockNo → ℕ
-tail_after log blocks = tail_count log + length blocks
+tail_after log blocks = tail_count log + added_blocks log blocks
 
 -- the blocks of a group
 abbrev pub blocks_of : List (BlockNo × Content) → List BlockNo

@@ -14,7 +14,7 @@ ghost use Rattle.wal_law.specs.declared.recovery.Recovered.{Recovered};
 ghost use Rattle.wal_law.specs.Io.{Io, HasMade};
 ghost use Rattle.wal_law.specs.Log.{Log, IsLawful, newest, opened};
 ghost use Rattle.wal_law.specs.Room.{with_group};
-ghost use Rattle.wal_law.specs.Grows.{GrowsBy};
+ghost use Rattle.wal_law.specs.Grows.{GrowsBy, StandsStill};
 ghost use Rattle.wal_law.specs.Logger.{IsNextLogCall, with_log_out, with_log_back};
 ghost use Rattle.wal_law.specs.Installer.{IsNextInstCall, with_inst_out, with_inst_back};
 ghost use Rattle.wal_law.specs.Overlay.{start_in, end_in, logged_in, IsInRange, over};
@@ -60,10 +60,10 @@ pub fn an_opening_begins_in_agreement()
         block ≡ over (image_of d) block }
 {}
 
-/// A commit that is appended keeps the agreement.
+/// A commit that is appended keeps the agreement, however the tail has its group.
 pub fn an_append_keeps_agreement()
-    ensures { (log : Log) (group : List (BlockNo × Content)) → IsLawful log
-        → KeepsAgreement log (with_group log group) }
+    ensures { (old new : Log) (group : List (BlockNo × Content)) → IsLawful old → GrowsBy old group new
+        → StandsStill old new → KeepsAgreement old new }
 {}
 
 /// A group that is appended stands behind the end of each group before it.

@@ -6,7 +6,7 @@ use nfs_types::{Call, Reply, Status};
 use procs::{Done, is_answered_stable, refused_reply};
 use std::alloc::{AllocError, Global};
 use store_promise::{Cause, Committing, Entry, Step, Verdict};
-use txn::{Change, Commit, Core, Seq, Tx, added_blocks};
+use txn::{Change, Commit, Core, Seq, Tx};
 
 impl State {
     ghost use Rattle.model.specs.Calls.{is_answered_stable};
@@ -36,7 +36,7 @@ impl State {
             return self.lack(core, tx);
         };
         done.finished();
-        let blocks = added_blocks(done.written());
+        let blocks = core.added_blocks(done.written());
         let answer = core.commit(alloc, tx, done);
         let committing = self.ended(told, kept, answer);
         Step::Commit(blocks, committing)

@@ -5,7 +5,7 @@ ghost use Rattle.std.specs.Prelude.{◌≡◌, ℕ, None, Some, true, length};
 use super::parts::{Phase, State};
 use crate::options::put;
 use disk::BlockNo;
-use objects::Addr;
+use objects::{Addr, Mode};
 use procs::{Done, Plan, plan};
 use std::alloc::Global;
 use store_promise::{Cause, Ending, Step, Verdict, Wish};
@@ -87,7 +87,7 @@ impl State {
     {
         let answer = core.want(alloc, tx, addr);
         let wish = self.wanted(addr, answer);
-        Step::Wanted(addr, wish)
+        Step::Wanted(addr, Mode::Exclusive, wish)
     }
 
     // Goes on by what came of a wish to read.

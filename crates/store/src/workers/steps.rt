@@ -5,7 +5,7 @@ ghost use Rattle.store_promise.specs.Verdicts.{cause_of, refusal};
 use super::parts::{Job, Phase, State};
 use crate::options::put;
 use disk::CrashDisk;
-use layout::Geometry;
+use layout::{FormatVersion, Geometry};
 use nfs_types::{Call, Ctx, Status};
 use procs::{Done, Snap, has_rules, refused_reply};
 use std::alloc::Global;
@@ -91,7 +91,12 @@ impl State {
                 let number = tx.number();
                 job.ctx.transaction = number;
                 let (blocks, inodes) = core.counts();
-                self.work.snap = Some(Snap::new(alloc, Geometry { blocks, inodes }));
+                let geometry = Geometry {
+                    version: FormatVersion::First,
+                    blocks,
+                    inodes,
+                };
+                self.work.snap = Some(Snap::new(alloc, geometry));
                 self.go_on(tx, Phase::Planning);
                 Step::Begun(Ok(number))
             }

@@ -4,7 +4,7 @@ ghost use Rattle.std.specs.VecDeque.{deque_capacity};
 ghost use Rattle.wal_law.specs.Log.{changes_of, blocks_of, tail_after, IsHomeOn, IsLawful};
 ghost use Rattle.wal_law.specs.Room.{HasPlaces, with_group};
 ghost use Rattle.wal_law.specs.Effects.{HasAppended};
-ghost use Rattle.wal_law.specs.Grows.{GrowsBy};
+ghost use Rattle.wal_law.specs.Grows.{GrowsBy, StandsStill};
 ghost use Rattle.wal_law.specs.Calls.{KeepsAgreement};
 
 use super::Wal;
@@ -23,6 +23,7 @@ impl Wal {
         ensures full { result ≡ Append.Full ↔ (LOG_SLOTS < tail_after self.old (blocks_of group.items)) }
         ensures seen { result ≡ Append.Appended → HasAppended self.old group.items self.new }
         ensures grows { result ≡ Append.Appended → GrowsBy self.old group.items self.new }
+        ensures still { result ≡ Append.Appended → StandsStill self.old self.new }
         ensures law { KeepsAgreement self.old self.new }
     {
         self.add(group)

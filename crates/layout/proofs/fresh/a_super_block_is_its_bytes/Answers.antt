@@ -1,10 +1,12 @@
 -- Each field is read where it was written.
-use Rattle.std.proofs.Common.{◌≡◌, ◌^◌, ◌<◌, true, refl, sym, subst, arith}
+use Rattle.std.proofs.Common.{◌≡◌, ◌∙◌, ◌^◌, ◌<◌, Some, true, refl, ap, sym, subst, arith}
 use Rattle.std.proofs.lemmas.Nat.{from_le_bytes-to_le_bytes_4, from_le_bytes-to_le_bytes_8}
 use Rattle.layout.specs.declared.super_block.Super.{Super}
 use Rattle.layout.specs.Fields.{four_at, eight_at, four_bytes, eight_bytes}
 use Rattle.layout.specs.Geometry.{IsLawful}
-use Rattle.layout.specs.SuperForm.{HasMagic, HasVersion, is_unused_zero, super_head, super_bytes}
+use Rattle.layout.specs.SuperForm.{HasMagic, is_unused_zero, super_head, super_bytes}
+use Rattle.layout.specs.Version.{number_of_version, version_of_number}
+use Rattle.layout.proofs.Versions.{fits_four, version_is}
 use Rattle.layout.proofs.fresh.a_super_block_is_its_bytes.Goals as goal
 
 module _ (s : Super) where
@@ -12,9 +14,12 @@ module _ (s : Super) where
   unfolding super_head
   magic = refl
 
-  version : HasVersion (super_bytes s)
+  number : four_at 8 (super_bytes s) ≡ number_of_version s.geometry.version
   unfolding super_head four_at four_bytes eight_bytes
-  version = refl
+  number = from_le_bytes-to_le_bytes_4 (number_of_version s.geometry.version) (fits_four s.geometry.version)
+
+  version : version_of_number (four_at 8 (super_bytes s)) ≡ Some s.geometry.version
+  version = ap version_of_number number ∙ version_is s.geometry.version
 
   blocks : s.geometry.blocks < 2 ^ 32 → four_at 12 (super_bytes s) ≡ s.geometry.blocks
   unfolding super_head four_at four_bytes eight_bytes

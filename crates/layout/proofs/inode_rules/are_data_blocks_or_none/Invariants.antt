@@ -5,5 +5,5 @@ use Rattle.layout.proofs.inode_rules.are_data_blocks_or_none.Given as goal
 
 abbrev pub invariant-loop-number : goal.invariant-loop-number
 invariant-loop-number l =
-    list_all (is_data_block_or_none l.geometry.blocks l.geometry.inodes) (take l.number-index l.numbers)
+    list_all (is_data_block_or_none l.geometry) (take l.number-index l.numbers)
     ≡ true

@@ -4,11 +4,11 @@ use Rattle.layout.proofs.Refused.{refused, is_refused}
 use Rattle.layout.proofs.spellings.other_bytes_are_no_inode.Goals as goal
 
 pub returns : goal.returns
-returns c = λ blocks inodes bytes fault are long. (
-  refused (IsInTable blocks inodes bytes) (read_inode blocks inodes bytes)
-      (is_read blocks inodes bytes are long) (read_is blocks inodes bytes are long)
-      (fault_is blocks inodes bytes are long) fault,
-  is_refused (IsInTable blocks inodes bytes) (read_inode blocks inodes bytes)
-      (is_read blocks inodes bytes are long) (read_is blocks inodes bytes are long)
-      (fault_is blocks inodes bytes are long) fault,
+returns c = λ g bytes fault are long. (
+  refused (IsInTable g bytes) (read_inode g bytes)
+      (is_read g bytes are long) (read_is g bytes are long)
+      (fault_is g bytes are long) fault,
+  is_refused (IsInTable g bytes) (read_inode g bytes)
+      (is_read g bytes are long) (read_is g bytes are long)
+      (fault_is g bytes are long) fault,
 )

@@ -25,6 +25,6 @@ returns c =
           (subst (AreWhole image) numbers c.in_ok-bytes.ensures.whole) c.in_ok-bytes.bytes.items
           (c.in_ok-bytes.ensures.bytes ∙ ap (λ list. resized inode.size (bytes_of image list)) numbers)
           c.in_ok-content.content c.in_ok-content.ensures;
-      places = ap (list_all (is_data_block_or_none g.blocks g.inodes)) (sym c.in_ok-numbers.ensures.are)
+      places = ap (list_all (is_data_block_or_none g)) (sym c.in_ok-numbers.ensures.are)
           ∙ c.in_ok-numbers.ensures.places;
     }

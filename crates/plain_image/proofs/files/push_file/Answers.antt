@@ -12,7 +12,7 @@ returns-in_ok-map_err-clause-decoded c =
     let image = image_of c.args.disk.now in
     let at : inode_at g image c.args.number ≡ Ok (Some c.in-Some.inode) =
     rw c.in-Some.is at c.in_ok-inode.ensures.at in
-    let sound : SoundInode g.blocks g.inodes c.in-Some.inode = rw c.in-Some.is at c.in_ok-inode.ensures.sound in
+    let sound : SoundInode g c.in-Some.inode = rw c.in-Some.is at c.in_ok-inode.ensures.sound in
     let one : IsDecoded g image c.in_ok-file.file =
     is_decoded g image c.args.number c.in-Some.inode c.in_ok-file.file c.requires at sound c.in_ok-file.ensures
     in search rules

@@ -23,7 +23,7 @@ returns c =
           ∙ sym (direct_only image inode w.if-inode-eq0.true) in
           record {
             are = are;
-            places = ap (list_all (is_data_block_or_none g.blocks g.inodes)) are
+            places = ap (list_all (is_data_block_or_none g)) are
                 ∙ all_placed g image inode c.requires (none_there inode.indirect w.if-inode-eq0.true);
           }
       | else-inode-eq0+in_ok-more+in_ok-extend_from_slice-3 w ↦
@@ -33,9 +33,9 @@ returns c =
           ∙ sym (with_indirect image inode w.if-inode-eq0.false) in
           record {
             are = are;
-            places = ap (list_all (is_data_block_or_none g.blocks g.inodes)) are
+            places = ap (list_all (is_data_block_or_none g)) are
                 ∙ all_placed g image inode c.requires (λ some.
-                ap (list_all (is_data_block_or_none g.blocks g.inodes)) (sym w.in_ok-more.ensures.are)
+                ap (list_all (is_data_block_or_none g)) (sym w.in_ok-more.ensures.are)
                 ∙ w.in_ok-more.ensures.places);
           }
     ]

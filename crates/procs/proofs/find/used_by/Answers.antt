@@ -18,7 +18,7 @@ pub returns-in-Err-clause-io : goal.returns-in-Err-clause-io
 returns-in-Err-clause-io c = λ blocks saw long. (
   (let h = c.if-indirect-eq0.false in search rules),
   ap (λ block. list_all
-      (is_data_block_or_none c.args.snap.now.geometry.blocks c.args.snap.now.geometry.inodes)
+      (is_data_block_or_none c.args.snap.now.geometry)
       (numbers_at INDIRECT_INDEXES 0 block))
       (sym (whole_there blocks c.args.indirect c.whole.result c.in_ok-bytes.bytes.now
       (ap (λ (b : BlockNo). b.0) c.whole.ensures.value.0) c.whole.ensures.value.1 c.whole.ensures.value.2

@@ -2,17 +2,17 @@
 use Rattle.std.proofs.Common.{◌+◌, arith, refl, sym, subst}
 use Rattle.store_promise.specs.Headline.{IsGeometryOf}
 use Rattle.store_promise.specs.OneSetAttr.{setting_of}
-use Rattle.store_promise.proofs.OneSetAttr.{read_before, taken}
+use Rattle.store_promise.proofs.OneSetAttr.{files_at, taken}
 use Rattle.store_promise.proofs.OneSetAttrStops.{left, stops}
 use Rattle.store_promise.proofs.OneSetAttrTold.{answers, history}
 use Rattle.store_promise.proofs.one_setattr.a_run_of_one_setattr_keeps_the_promise.Goals as goal
 
 pub returns : goal.returns
-returns c = λ before opened later g blocks tree next first one reply opens geometry stands room went trees rules
+returns c = λ before opened later g blocks changed tree next first one reply opens geometry stands after_it room went trees rules
     asks steps.
     record {
       opened = opened;
-      setting = setting_of g blocks one;
+      setting = setting_of g blocks changed one;
       opens = opens;
       geometry = subst (λ size. IsGeometryOf size tree g) (sym went.past.size) geometry;
       past = went.past;
@@ -25,6 +25,6 @@ returns c = λ before opened later g blocks tree next first one reply opens geom
       boot = refl;
       history = history (first + 1) one reply;
       answers = answers (first + 1) one reply;
-      taken = taken g blocks one room rules asks;
-      read = read_before g blocks tree (first + 1) one reply stands;
+      taken = taken g blocks changed one room rules asks;
+      files = files_at g blocks changed tree next (first + 1) one reply stands after_it steps;
     }

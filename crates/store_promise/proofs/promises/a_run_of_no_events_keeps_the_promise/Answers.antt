@@ -1,9 +1,12 @@
 -- With nothing in the lists each promise is of nothing, and the prefix is the opening's tree.
-use Rattle.std.proofs.Common.{arith, ◌≡◌, ◌+◌, ◌<◌, ◌≤◌, ◌⊎◌, inl, inr, ℕ, zero, suc, Some, None, [], refl, subst, ap, sym}
+use Rattle.std.proofs.Common.{arith, ◌≡◌, ◌+◌, ◌<◌, ◌≤◌, ◌⊎◌, inl, inr, ℕ, zero, suc, Some, None, [], refl, subst, ap, sym, take}
 use Rattle.std.proofs.lemmas.Bool.{cases_lt}
 use Rattle.disk.specs.Crash.{Image, IsCrashImage}
 use Rattle.disk.specs.Device.{Device}
+use Rattle.model.specs.After.{after}
 use Rattle.model.specs.Tree.{Tree}
+use Rattle.layout.specs.Homes.{homes_of}
+use Rattle.wal.specs.Overlay.{over}
 use Rattle.model.specs.Tree as model
 use Rattle.store_promise.specs.Headline.{IsGeometryOf, LeavesPrefix, WasPromised, by_answer, by_commit, by_steps}
 use Rattle.store_promise.specs.GoodImage.{IsGoodImage}
@@ -89,13 +92,17 @@ geometry_of_image size boot tree image good = record {
   inodes = ap (λ (g : model.Geometry). g.inodes) (sym good.stands.parts.geometry);
 }
 
+no_entry_after : (tree : Tree) (place : ℕ) → after tree (take place []) tree
+no_entry_after tree zero = refl
+no_entry_after tree (suc place) = refl
+
 pub returns : goal.returns
 returns c = λ before later tree first position workers opened. record {
   opened = later;
   setting = record {
     geometry = opened.last.2.super.geometry;
     position = position;
-    reads = λ transaction. [];
+    blocks = λ place. homes_of later.size (over opened.last.0);
   };
   opens = opened;
   geometry = geometry_of_image later.size first tree opened.last.0 opened.last.2;
@@ -124,5 +131,9 @@ returns c = λ before later tree first position workers opened. record {
     fewer = omega arith;
     each = λ index event made same _. absurd (no-some event same);
   };
-  read = λ index c same. absurd (no-some c same);
+  files = λ place. record {
+    left = tree;
+    leads = no_entry_after tree place;
+    stands = opened.last.2.stands;
+  };
 }

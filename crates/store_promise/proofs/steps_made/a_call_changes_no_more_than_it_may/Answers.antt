@@ -7,4 +7,4 @@ returns c = λ before later tree first workers index worker blocks events t job 
     planning more kept.
     let step = planned_step kept.setting workers events t.steps kept.taken index worker job begun _ is_event less
     is_step planning in
-    let few = step.by_plan.0 in omega (arith, few, more)
+    let few = step.0 in omega (arith, few, more)

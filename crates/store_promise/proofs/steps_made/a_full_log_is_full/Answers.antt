@@ -7,4 +7,4 @@ returns c = λ before later tree first workers index worker blocks events t job 
     room kept.
     let step = planned_step kept.setting workers events t.steps kept.taken index worker job begun _ is_event less
     is_step planning in
-    let full = step.by_plan.1.2 in omega (arith, room, full)
+    let full = step.1.2 in omega (arith, room, full)

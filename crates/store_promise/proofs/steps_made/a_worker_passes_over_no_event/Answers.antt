@@ -1,12 +1,11 @@
 use Rattle.std.proofs.Common.{◌≢◌, ℕ, None, refl, subst}
-use Rattle.objects.specs.declared.addr.Addr.{Addr}
-use Rattle.store_promise.specs.Progress.{At, Begun, Job, Stage, Called, Planning, Reading, Read, Refused, Again}
+use Rattle.store_promise.specs.Progress.{At, Begun, Job, Stage, Called, Planning, Reading, Read, Refused, Again, Taken}
 use Rattle.store_promise.specs.Progress.{Waiting}
 use Rattle.store_promise.specs.Schedule.{IsStepOfRead, IsStepOfWork, Setting, Told, told_before}
 use Rattle.store_promise.proofs.steps_made.a_worker_passes_over_no_event.Goals as goal
 
 works : (o : Setting) (told : Told) (worker : ℕ) (job : Job) (stage : Stage)
-    → ((begun : Begun) (addr : Addr) → stage ≢ Reading begun addr)
+    → ((begun : Begun) (taken : Taken) → stage ≢ Reading begun taken)
     → IsStepOfWork o told worker (At job stage) None → ⊥
 works o told worker job Called other none = none
 works o told worker job (Planning begun) other none = none

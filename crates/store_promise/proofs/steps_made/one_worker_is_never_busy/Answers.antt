@@ -1,27 +1,25 @@
 -- The others have no call, and so have taken nothing.
 use Rattle.std.proofs.Common.{◌≡◌, ℕ, ◌<◌, ◌≤◌, inl, inr, arith, true, false, ap}
 use Rattle.std.proofs.lemmas.Bool.{cases_lt}
-use Rattle.disk.specs.declared.block.BlockNo.{BlockNo}
-use Rattle.store_promise.specs.Progress.{Progress, Idle, has_taken}
+use Rattle.store_promise.specs.Progress.{Progress, Idle, Wished, has_taken}
+use Rattle.store_promise.specs.Schedule.{wish_of}
 use Rattle.store_promise.proofs.Told.{planned_step, idle_beyond, only_of_some}
 use Rattle.store_promise.proofs.steps_made.one_worker_is_never_busy.Goals as goal
 
-takes_nothing : (block : BlockNo) (offset len : ℕ) (progress : Progress) → progress ≡ Idle
-    → has_taken block offset len progress ≡ true → ⊥
-takes_nothing block offset len progress idle takes =
-    let none : has_taken block offset len progress ≡ false = ap (has_taken block offset len) idle in
-    cc
+takes_nothing : (wished : Wished) (progress : Progress) → progress ≡ Idle → has_taken wished progress ≡ true → ⊥
+takes_nothing wished progress idle takes =
+    let none : has_taken wished progress ≡ false = ap (has_taken wished) idle in cc
 
 pub returns : goal.returns
-returns c = λ before later tree first index worker events t job begun addr is_event is_step planning kept.
+returns c = λ before later tree first index worker events t job begun addr mode is_event is_step planning kept.
     let less : worker < 1 = only_of_some kept.setting 1 events t.steps kept.taken index worker _ is_event
     is_step in
     let step = planned_step kept.setting 1 events t.steps kept.taken index worker job begun _ is_event less
     is_step planning in
-    takes_nothing addr.block addr.offset addr.len _
-    (idle_beyond kept.setting 1 events t.steps kept.taken step.by_plan.1.other
-    (beyond worker step.by_plan.1.other less step.by_plan.1.differs) index)
-    step.by_plan.1.so
+    takes_nothing (wish_of addr mode) _
+    (idle_beyond kept.setting 1 events t.steps kept.taken step.1.other
+    (beyond worker step.1.other less step.1.differs) index)
+    step.1.so
   where
     beyond : (worker other : ℕ) → worker < 1 → (other ≡ worker → ⊥) → 1 ≤ other
     beyond worker other less differs = elim (cases_lt other 1) [

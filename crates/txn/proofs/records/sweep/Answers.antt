@@ -9,5 +9,5 @@ use Rattle.txn.proofs.records.sweep.Goals as goal
 pub returns : goal.returns
 returns g c = filter_same _ (λ (entry : Present). is_none entry.content
     || is_taken c.args.holds.now entry.block
-    || list_any (λ kept. lies_in (g.C.Change.objects_read kept.change) entry.block) c.args.records.now.items)
+    || list_any (λ kept. lies_in (g.C.Change.planned kept.change).read entry.block) c.args.records.now.items)
     _ (λ x b f r. search rules) _ _ c.retain.ensures.filtered

@@ -2,5 +2,5 @@ use Rattle.wal_law.proofs.Beside.{stands_appended}
 use Rattle.wal_law.proofs.law.an_append_keeps_agreement.Goals as goal
 
 pub returns : goal.returns
-returns c log group lawful d base logging installing =
-    stands_appended d base log group logging installing lawful
+returns c old new group lawful grown still d base logging installing =
+    stands_appended d base old new group logging installing lawful grown still

@@ -10,15 +10,15 @@ returns-clause-ok c =
     let g = c.args.geometry.now in
     let bytes = c.args.bytes.now in
     let are : AreBytes bytes = λ i. omega (arith, c.type_inv.bytes i) in
-    told_ok (IsInTable g.blocks g.inodes bytes) (read_inode g.blocks g.inodes bytes)
-    (is_read g.blocks g.inodes bytes are c.requires) (read_is g.blocks g.inodes bytes are c.requires)
-    (fault_is g.blocks g.inodes bytes are c.requires) c.read_inode.result c.read_inode.ensures
+    told_ok (IsInTable g bytes) (read_inode g bytes)
+    (is_read g bytes are c.requires) (read_is g bytes are c.requires)
+    (fault_is g bytes are c.requires) c.read_inode.result c.read_inode.ensures
 
 pub returns-clause-err : goal.returns-clause-err
 returns-clause-err c =
     let g = c.args.geometry.now in
     let bytes = c.args.bytes.now in
     let are : AreBytes bytes = λ i. omega (arith, c.type_inv.bytes i) in
-    told_err (IsInTable g.blocks g.inodes bytes) (read_inode g.blocks g.inodes bytes)
-    (is_read g.blocks g.inodes bytes are c.requires) (read_is g.blocks g.inodes bytes are c.requires)
-    (fault_is g.blocks g.inodes bytes are c.requires) c.read_inode.result c.read_inode.ensures
+    told_err (IsInTable g bytes) (read_inode g bytes)
+    (is_read g bytes are c.requires) (read_is g bytes are c.requires)
+    (fault_is g bytes are c.requires) c.read_inode.result c.read_inode.ensures

@@ -1,6 +1,7 @@
 use Rattle.std.proofs.Common.{◌∙◌, ap, map, nat_lt}
 use Rattle.txn.proofs.Mapped.{map_filter}
 use Rattle.wal_law.specs.Log.{installed_place}
+use Rattle.txn_law.specs.Commit.{footprint}
 use Rattle.txn_law.specs.Core.{CoreState, past}
 use Rattle.txn_law.specs.Window.{Footprint}
 use Rattle.txn.specs.Out.{listed}
@@ -9,25 +10,12 @@ use Rattle.txn.proofs.state.State.forget.Goals as goal
 pub returns : goal.returns
 returns g c =
     let core = c.self.inside in
-    let left = ap
-    (map (λ kept. record {
-      place = kept.place.0;
-      read = g.C.Change.objects_read kept.change;
-      written = g.C.Change.objects_written kept.change;
-    })) c.forget.ensures in
-    let mapped = map_filter (λ kept. record {
-      place = kept.place.0;
-      read = g.C.Change.objects_read kept.change;
-      written = g.C.Change.objects_written kept.change;
-    })
+    let left = ap (map (λ kept. footprint kept.place.0 (g.C.Change.planned kept.change))) c.forget.ensures in
+    let mapped = map_filter (λ kept. footprint kept.place.0 (g.C.Change.planned kept.change))
     (λ (kept : Footprint). nat_lt c.installed.result.0 kept.place) core.records.items in
-    let there = ap
-    (λ place. past place
-    (map (λ kept. record {
-      place = kept.place.0;
-      read = g.C.Change.objects_read kept.change;
-      written = g.C.Change.objects_written kept.change;
-    }) core.records.items)) c.installed.ensures in
+    let there = ap (λ place. past place
+    (map (λ kept. footprint kept.place.0 (g.C.Change.planned kept.change)) core.records.items))
+    c.installed.ensures in
     ap (λ records. record {
       log = core.log;
       inodes = core.inodes;

@@ -1,5 +1,6 @@
 use Rattle.std.proofs.Common.{◌∙◌, ap, map}
 use Rattle.txn.proofs.Mapped.{swept_of_map}
+use Rattle.txn_law.specs.Commit.{footprint}
 use Rattle.txn_law.specs.Core.{CoreState}
 use Rattle.txn_law.specs.Records.{swept}
 use Rattle.txn.specs.Out.{listed}
@@ -9,19 +10,11 @@ pub returns : goal.returns
 returns g c =
     let core = c.self.inside in
     let kept = c.sweep.ensures
-    ∙ swept_of_map (λ kept. record {
-      place = kept.place.0;
-      read = g.C.Change.objects_read kept.change;
-      written = g.C.Change.objects_written kept.change;
-    }) c.deref.result.now core.records.items
+    ∙ swept_of_map (λ kept. footprint kept.place.0 (g.C.Change.planned kept.change)) c.deref.result.now core.records.items
     core.present.items in
     let there = ap
     (λ holds. swept holds
-    (map (λ kept. record {
-      place = kept.place.0;
-      read = g.C.Change.objects_read kept.change;
-      written = g.C.Change.objects_written kept.change;
-    }) core.records.items) core.present.items)
+    (map (λ kept. footprint kept.place.0 (g.C.Change.planned kept.change)) core.records.items) core.present.items)
     c.deref.ensures.value in
     ap (λ present. record {
       log = core.log;
@@ -30,11 +23,7 @@ returns g c =
       out = listed core.out;
       holds = core.holds.items;
       present = present;
-      records = map (λ kept. record {
-        place = kept.place.0;
-        read = g.C.Change.objects_read kept.change;
-        written = g.C.Change.objects_written kept.change;
-      }) core.records.items;
+      records = map (λ kept. footprint kept.place.0 (g.C.Change.planned kept.change)) core.records.items;
     }) (kept ∙ there)
     ∙ ap (λ (seen : CoreState). record seen { present = swept seen.holds seen.records seen.present })
     c.self.view_is

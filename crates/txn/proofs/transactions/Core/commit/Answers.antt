@@ -1,57 +1,33 @@
 use Rattle.std.proofs.Common.{subst}
-use Rattle.txn_law.specs.Core.{CoreState}
-use Rattle.txn_law.specs.CoreWindow.{KeepsHome}
 use Rattle.txn_law.specs.Commit.{Planned}
-use Rattle.txn.specs.Outcomes.{IsSetBy}
-use Rattle.txn.proofs.Answered.{commit_law, commit_keeps, commit_set}
-use Rattle.txn.specs.Outcomes.{IsCommit}
-use Rattle.txn.proofs.Answered.{commit_leaves, commit_reads}
-use Rattle.txn_law.specs.CoreWindow.{KeepsReads}
+use Rattle.txn_law.specs.Core.{CoreState}
+use Rattle.txn_law.specs.CoreWindow.{KeepsHome, KeepsReads}
+use Rattle.txn.specs.Outcomes.{IsCommit, IsSetBy}
+use Rattle.txn.proofs.Answered.{commit_law, commit_keeps, commit_set, commit_leaves, commit_reads}
 use Rattle.txn.proofs.transactions.Core.commit.Goals as goal
 
 pub invariant_of-self : goal.invariant_of-self
 invariant_of-self g c =
-    let plan : Planned = record {
-      read = g.C.Change.objects_read c.args.change;
-      written = g.C.Change.objects_written c.args.change;
-      blocks = g.C.Change.planned_blocks c.args.change;
-      inodes = g.C.Change.planned_inodes c.args.change;
-    } in
-    commit_law g.C.Change.is_plan c.self.inside.state c.commit-answer.new.self c.args.tx plan c.args.change
-    c.commit-answer.result c.commit-answer.ensures c.lawful.ensures c.is_planned.ensures c.self.invariant
+    commit_law g.C.Change.is_plan c.self.inside.state c.commit-answer.new.self c.args.tx
+    (g.C.Change.planned c.args.change) c.args.change c.commit-answer.result c.commit-answer.ensures
+    c.lawful.ensures c.whole.ensures c.is_planned.ensures c.self.invariant
 
 pub returns-clause-keeps : goal.returns-clause-keeps
 returns-clause-keeps g c =
-    let plan : Planned = record {
-      read = g.C.Change.objects_read c.args.change;
-      written = g.C.Change.objects_written c.args.change;
-      blocks = g.C.Change.planned_blocks c.args.change;
-      inodes = g.C.Change.planned_inodes c.args.change;
-    } in
     subst (λ (old : CoreState). KeepsHome old c.commit-answer.new.self) c.self.view_is
-    (commit_keeps c.self.inside.state c.commit-answer.new.self c.args.tx plan c.args.change
-    c.commit-answer.result c.self.invariant.log c.self.invariant.tidy c.commit-answer.ensures)
+    (commit_keeps c.self.inside.state c.commit-answer.new.self c.args.tx (g.C.Change.planned c.args.change)
+    c.args.change c.commit-answer.result c.self.invariant.log c.self.invariant.tidy c.commit-answer.ensures)
 
 pub returns-clause-sets : goal.returns-clause-sets
 returns-clause-sets g c =
-    let plan : Planned = record {
-      read = g.C.Change.objects_read c.args.change;
-      written = g.C.Change.objects_written c.args.change;
-      blocks = g.C.Change.planned_blocks c.args.change;
-      inodes = g.C.Change.planned_inodes c.args.change;
-    } in
+    let plan : Planned = g.C.Change.planned c.args.change in
     subst (λ (old : CoreState). IsSetBy old plan c.commit-answer.result c.commit-answer.new.self) c.self.view_is
     (commit_set c.self.inside.state c.commit-answer.new.self c.args.tx plan c.args.change
     c.commit-answer.result c.self.invariant.log c.self.invariant.tidy c.commit-answer.ensures)
 
 pub returns-clause-answer : goal.returns-clause-answer
 returns-clause-answer g c =
-    let plan : Planned = record {
-      read = g.C.Change.objects_read c.args.change;
-      written = g.C.Change.objects_written c.args.change;
-      blocks = g.C.Change.planned_blocks c.args.change;
-      inodes = g.C.Change.planned_inodes c.args.change;
-    } in
+    let plan : Planned = g.C.Change.planned c.args.change in
     subst (λ (old : CoreState). IsCommit old c.args.tx plan c.args.change c.commit-answer.result
     c.commit-answer.new.self) c.self.view_is
     (commit_leaves c.self.inside.state c.commit-answer.new.self c.args.tx plan c.args.change
@@ -59,12 +35,7 @@ returns-clause-answer g c =
 
 pub returns-clause-stays : goal.returns-clause-stays
 returns-clause-stays g c = λ other differ.
-    let plan : Planned = record {
-      read = g.C.Change.objects_read c.args.change;
-      written = g.C.Change.objects_written c.args.change;
-      blocks = g.C.Change.planned_blocks c.args.change;
-      inodes = g.C.Change.planned_inodes c.args.change;
-    } in
     subst (λ (old : CoreState). KeepsReads old c.commit-answer.new.self other) c.self.view_is
-    (commit_reads g.C.Change.is_plan c.self.inside.state c.commit-answer.new.self c.args.tx plan c.args.change
-    c.commit-answer.result c.self.invariant c.commit-answer.ensures other differ)
+    (commit_reads g.C.Change.is_plan c.self.inside.state c.commit-answer.new.self c.args.tx
+    (g.C.Change.planned c.args.change) c.args.change c.commit-answer.result c.self.invariant
+    c.commit-answer.ensures other differ)

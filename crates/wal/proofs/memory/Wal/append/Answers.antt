@@ -1,10 +1,10 @@
 use Rattle.std.proofs.Common.{sym, subst}
 use Rattle.wal_law.specs.Log.{Log}
 use Rattle.wal_law.specs.Effects.{HasAppended}
-use Rattle.wal_law.specs.Grows.{GrowsBy}
+use Rattle.wal_law.specs.Grows.{GrowsBy, StandsStill}
 use Rattle.wal_law.proofs.Effects.{seen_append}
 use Rattle.wal_law.proofs.Ends.{grows}
-use Rattle.wal_law.proofs.Beside.{appended}
+use Rattle.wal_law.proofs.Beside.{appended, still_with_group}
 use Rattle.wal.proofs.memory.Wal.append.Goals as goal
 
 pub returns-clause-seen : goal.returns-clause-seen
@@ -18,6 +18,11 @@ returns-clause-grows c = λ done.
     subst (λ (log : Log). GrowsBy c.args.self.now c.args.group.items log)
     (sym (c.add.ensures.appended done))
     (grows c.args.self.now c.args.group.items c.add.ensures.lawful)
+
+pub returns-clause-still : goal.returns-clause-still
+returns-clause-still c = λ done.
+    subst (λ (log : Log). StandsStill c.args.self.now log) (sym (c.add.ensures.appended done))
+    (still_with_group c.args.self.now c.args.group.items)
 
 pub returns-clause-law : goal.returns-clause-law
 returns-clause-law c =

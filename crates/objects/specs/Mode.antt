@@ -1,0 +1,18 @@
+-- How addresses are taken, and which modes keep each other off.
+use Rattle.std.specs.Prelude.{◌≡◌, ◌⊎◌, Bool, true, false}
+use Rattle.objects.specs.declared.mode.Mode.{Mode}
+use Rattle.objects.specs.declared.mode.Mode.TheVariants as modes
+
+-- what is taken in the one mode keeps off what is wished in the other: one of the two is exclusive
+abbrev pub Excludes : Mode → Mode → Type 0
+Excludes one other = (one ≡ modes.Exclusive) ⊎ (other ≡ modes.Exclusive)
+
+-- whether it is for one transaction alone
+abbrev pub is_exclusive : Mode → Bool
+is_exclusive modes.Shared = false
+is_exclusive modes.Exclusive = true
+
+-- the mode of what is taken in one and wished in another
+abbrev pub raised : Mode → Mode → Mode
+raised one modes.Shared = one
+raised one modes.Exclusive = modes.Exclusive

@@ -1,0 +1,30 @@
+//! How an address is taken.
+ghost use Rattle.std.specs.Prelude.{◌≡◌, ◌↔◌, IsTrue};
+
+/// How an address is taken: beside other transactions that share it, or for one transaction alone.
+#[derive(Clone, Copy, Debug, PartialEq, Eq)]
+pub enum Mode {
+    Shared,
+    Exclusive,
+}
+
+impl Mode {
+    ghost use Rattle.objects.specs.Mode.{Excludes, raised};
+
+    /// Whether what is taken in this mode keeps off what is wished in the other.
+    pub fn excludes(self, other: Mode) -> bool
+        ensures { IsTrue result ↔ Excludes self other }
+    {
+        self == Mode::Exclusive || other == Mode::Exclusive
+    }
+
+    /// The mode of an address that is taken in this one and wished in the other.
+    pub fn raised(self, other: Mode) -> Mode
+        ensures { result ≡ raised self other }
+    {
+        match other {
+            Mode::Shared => self,
+            Mode::Exclusive => Mode::Exclusive,
+        }
+    }
+}

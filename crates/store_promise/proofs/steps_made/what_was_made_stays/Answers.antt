@@ -1,0 +1,128 @@
+-- Only what a plan asks for goes by the files.
+use Rattle.std.proofs.Common.{◌≡◌, ℕ, true, false, Option, Some, None, sym, subst}
+use Rattle.disk.specs.Crash.{Image}
+use Rattle.nfs_types.specs.declared.call.Call.{Call}
+use Rattle.procs.specs.Asks.{Asks, Claims}
+use Rattle.store_promise.specs.declared.events.Committing.{Committing}
+use Rattle.store_promise.specs.declared.events.Committing.TheVariants as committing
+use Rattle.store_promise.specs.declared.events.Ending.TheVariants as ending
+use Rattle.store_promise.specs.declared.events.Event.{Event}
+use Rattle.store_promise.specs.declared.events.Event.TheVariants as event
+use Rattle.store_promise.specs.declared.events.Step.{Step}
+use Rattle.store_promise.specs.declared.events.Step.TheVariants as step
+use Rattle.store_promise.specs.LogTold.{CallTold, idle, out, was_made}
+use Rattle.store_promise.specs.Progress.{Again, At, Begun, Called, Idle, Planning, Progress, Read, Reading, Refused}
+use Rattle.store_promise.specs.Progress.{Stage, Waiting, addrs_of}
+use Rattle.store_promise.specs.Schedule.{HasNumbers, IsCommitting, IsStepByPlan, IsStepOf, IsStepOfInstaller, IsStepOfLog, IsStepOfWork}
+use Rattle.store_promise.specs.Schedule.{IsStepWith, Setting, Told, objects_at}
+use Rattle.store_promise.proofs.steps_made.what_was_made_stays.Goals as goal
+
+module _ (o : Setting) (told : Told) (later : ℕ → Image) (same : later told.log.places ≡ o.blocks told.log.places) where
+  abbrev with_later : Setting
+  with_later = record o { blocks = later }
+
+  numbers : (blocks : ℕ) → HasNumbers o told.log blocks → HasNumbers with_later told.log blocks
+  numbers blocks has = record { place = has.place; positions = has.positions }
+
+  numbers_then : (blocks : ℕ) → HasNumbers with_later told.log blocks → HasNumbers o told.log blocks
+  numbers_then blocks has = record { place = has.place; positions = has.positions }
+
+  commits : (blocks : ℕ) (answer : Committing) → IsCommitting o told.log blocks answer
+      → IsCommitting with_later told.log blocks answer
+  commits blocks (committing.Committed place) is = (is.0, is.1, numbers blocks is.2, is.3)
+  commits blocks committing.Broken is = is
+  commits blocks committing.Foreign is = is
+  commits blocks committing.Spent is = (is.0, λ has. is.1 (numbers_then blocks has))
+  commits blocks committing.Full is = (is.0, numbers blocks is.1, is.2)
+  commits blocks committing.NoMemory is = (is.0, numbers blocks is.1, is.2)
+
+  by_plan : (worker : ℕ) (call : Call) (begun : Begun) (made : Step) → IsStepByPlan o told worker call begun made
+      → IsStepByPlan with_later told worker call begun made
+  by_plan worker call begun (step.Wanted addr mode answer) is = (
+    record {
+      unheld = is.0.unheld;
+      asks = subst (λ (blocks : Image). Asks o.geometry call (objects_at blocks (addrs_of begun.held)) addr) (sym same) is.0.asks;
+      alone = is.0.alone;
+    },
+    is.1,
+  )
+  by_plan worker call begun (step.Claimed block answer) is = (
+    record {
+      unclaimed = is.0.unclaimed;
+      claims = subst (λ (blocks : Image). Claims o.geometry call (objects_at blocks (addrs_of begun.held)) block) (sym same)
+          is.0.claims;
+    },
+    is.1,
+  )
+  by_plan worker call begun (step.Commit blocks answer) is = (is.0, commits blocks answer is.1)
+  by_plan worker call begun (step.Ended ending.NoMemory) is = is
+  by_plan worker call begun (step.Ended ending.Again) is = is
+  by_plan worker call begun (step.Ended ending.Refused) is = is
+  by_plan worker call begun step.Called is = is
+  by_plan worker call begun step.Replied is = is
+  by_plan worker call begun (step.Begun number) is = is
+  by_plan worker call begun (step.Fetched block) is = is
+  by_plan worker call begun (step.FetchFailed block) is = is
+  by_plan worker call begun (step.Stable seq settled) is = is
+  by_plan worker call begun (step.Read block ok) is = is
+  by_plan worker call begun (step.LogNext io) is = is
+  by_plan worker call begun (step.LogIo ok) is = is
+  by_plan worker call begun (step.LogDone ok) is = is
+  by_plan worker call begun (step.InstNext io) is = is
+  by_plan worker call begun (step.InstIo ok) is = is
+  by_plan worker call begun (step.InstDone ok) is = is
+
+  with_call : (worker : ℕ) (call : Call) (stage : Stage) (made : Step) → IsStepWith o told worker call stage made
+      → IsStepWith with_later told worker call stage made
+  with_call worker call Called made is = is
+  with_call worker call (Planning begun) made is = by_plan worker call begun made is
+  with_call worker call (Reading begun addr) made is = is
+  with_call worker call (Read begun addr true) made is = is
+  with_call worker call (Read begun addr false) made is = is
+  with_call worker call (Refused begun why) made is = is
+  with_call worker call (Again begun) made is = is
+  with_call worker call (Waiting place) made is = is
+
+  of_work : (worker : ℕ) (so_far : Progress) (made : Option Step) → IsStepOfWork o told worker so_far made
+      → IsStepOfWork with_later told worker so_far made
+  of_work worker Idle made is = is
+  of_work worker (At job (Reading begun addr)) made is = is
+  of_work worker (At job Called) (Some made) is = is
+  of_work worker (At job (Planning begun)) (Some made) is = with_call worker job.call (Planning begun) made is
+  of_work worker (At job (Read begun addr ok)) (Some made) is = with_call worker job.call (Read begun addr ok) made is
+  of_work worker (At job (Refused begun why)) (Some made) is = is
+  of_work worker (At job (Again begun)) (Some made) is = is
+  of_work worker (At job (Waiting place)) (Some made) is = is
+  of_work worker (At job Called) None is = is
+  of_work worker (At job (Planning begun)) None is = is
+  of_work worker (At job (Read begun addr ok)) None is = is
+  of_work worker (At job (Refused begun why)) None is = is
+  of_work worker (At job (Again begun)) None is = is
+  of_work worker (At job (Waiting place)) None is = is
+
+  of_log : (call : CallTold) (made : Option Step) → IsStepOfLog o told.log call made
+      → IsStepOfLog with_later told.log call made
+  of_log idle made is = is
+  of_log (out call) made is = is
+  of_log (was_made call ok) made is = is
+
+  of_installer : (call : CallTold) (made : Option Step) → IsStepOfInstaller o told.log call made
+      → IsStepOfInstaller with_later told.log call made
+  of_installer idle made is = is
+  of_installer (out call) made is = is
+  of_installer (was_made call ok) made is = is
+
+  of_event : (e : Event) (made : Option Step) → IsStepOf o told e made → IsStepOf with_later told e made
+  of_event (event.Call worker credential moment call) made is = is
+  of_event (event.Work worker) made is = of_work worker (told.workers worker) made is
+  of_event (event.Read worker) made is = is
+  of_event event.Log made is = of_log told.log.log_call made is
+  of_event event.LogIo made is = is
+  of_event event.Install made is = of_installer told.log.inst_call made is
+  of_event event.InstIo made is = is
+
+pub returns : goal.returns
+returns c = λ o workers told e made later same taken. record {
+  own = λ one. of_event o told later same e made (taken.own one);
+  others = taken.others;
+}
