@@ -1,10 +1,11 @@
 -- The step by which a worker goes on, by its phase: which step, and what it leaves of the worker and of the core.
 use Rattle.std.specs.Prelude.{◌≡◌, ◌↔◌, ℕ, ◌+◌, ◌^◌, ◌≤◌, Bool, true, false, if◌then◌else◌, IsTrue}
-use Rattle.std.specs.Prelude.{Option, Some, None, Ok, Err, List, [], ◌∷◌, IsSomeAnd}
+use Rattle.std.specs.Prelude.{Option, Some, None, Ok, Err, List, [], ◌∷◌, length, IsSomeAnd}
 use Rattle.disk.specs.Crash.{Image}
 use Rattle.disk.specs.declared.block.BlockNo.{BlockNo}
 use Rattle.objects.specs.declared.addr.Addr.{Addr}
 use Rattle.objects.specs.declared.mode.Mode.TheVariants as modes
+use Rattle.layout.specs.declared.version.FormatVersion.TheVariants.{First}
 use Rattle.model.specs.Calls.{has_rules, unsupported}
 use Rattle.wal_law.specs.Log.{added_blocks, settled_place}
 use Rattle.wal_law.specs.declared.outcomes.Seq.{Seq}
@@ -74,6 +75,7 @@ numbered number job = record job { ctx = record job.ctx { transaction = number }
 
 -- nothing was read yet, of the core's image
 pub record SawNothing (core : CoreState) (seen : Seen) : Type 0 where
+  pub version : seen.geometry.version ≡ First
   pub blocks : seen.geometry.blocks ≡ core.log.blocks
   pub inodes : seen.geometry.inodes ≡ core.inodes
   pub objects : seen.objects ≡ []
@@ -105,11 +107,11 @@ Begins old made new = IsSomeAnd old.worker.work.job (λ job. BeginsBy (has_rules
 
 -- ---- a plan
 
--- a wish to read an object is answered
+-- a wish to read an object, alone, is answered
 pub record HasWanted (tx : ℕ) (addr : Addr) (old : Side) (made : Step) (new : Side) : Type 0 where
   pub answer : Want
   pub made_is : made ≡ step.Wanted addr modes.Exclusive (wish_of answer)
-  pub core : IsWanted old.core tx addr answer new.core
+  pub core : IsWanted old.core tx addr modes.Exclusive answer new.core
   pub worker : new.worker ≡ record (with_snap new.worker old.worker) {
     phase = phase_wanted answer;
     begun = begun_wanted answer;
