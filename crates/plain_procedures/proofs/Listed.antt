@@ -1,6 +1,7 @@
 -- What a list of files stands for, file by file.
 use Rattle.std.proofs.Common.{rules, ◌≡◌, ℕ, ◌+◌, ◌<◌, sym, ap, ◌∙◌, refl, true}
-use Rattle.std.proofs.Common.{List, [], ◌∷◌, length, get_or, drop, map, position, nat_eq, Option, Some, None, arith, sum_by, is_some}
+use Rattle.std.proofs.Common.{List, [], ◌∷◌, length, get_or, drop, map, position, nat_eq, Bool, true, cond, Option, Some, None}
+use Rattle.std.proofs.Common.{arith, sum_by, is_some}
 use Rattle.std.proofs.lemmas.List.{drop_more, get_or_default}
 use Rattle.std.proofs.lemmas.Iterator.Adapters.{position_from-zero}
 use Rattle.std.proofs.lemmas.List.Quantifiers.{position-Some}

@@ -84,8 +84,8 @@ fn count_with(files: &[NumberedNode], index: usize, count: u64) -> u64
     ensures counted { result ≡ map.len (files_of (drop index files.now)) }
     ensures small { result ≤ length files.now - index }
 {
-    let number = files[index].number;
-    match position_of(behind(files, index + 1), number) {
+    let file = &files[index];
+    match position_of(behind(files, index + 1), file.number) {
         Some(_) => count,
         None => count + 1,
     }
