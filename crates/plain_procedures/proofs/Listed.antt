@@ -1,7 +1,8 @@
 -- What a list of files stands for, file by file.
 use Rattle.std.proofs.Common.{rules, ◌≡◌, ℕ, ◌+◌, ◌<◌, sym, ap, ◌∙◌, refl, true}
-use Rattle.std.proofs.Common.{List, [], ◌∷◌, length, get_or, drop, map, position, nat_eq, Option, Some, None, arith, sum_by}
-use Rattle.std.proofs.lemmas.List.{drop_more}
+use Rattle.std.proofs.Common.{List, [], ◌∷◌, length, get_or, drop, map, position, nat_eq, Bool, true, cond, Option, Some, None}
+use Rattle.std.proofs.Common.{arith, sum_by, is_some}
+use Rattle.std.proofs.lemmas.List.{drop_more, get_or_default}
 use Rattle.std.proofs.lemmas.Iterator.Adapters.{position_from-zero}
 use Rattle.std.proofs.lemmas.List.Quantifiers.{position-Some}
 use Rattle.std.specs.Cmp.{nat_cmp_total}
@@ -67,3 +68,35 @@ no_blocks = ap (sum_by (λ e. cost e.1.body)) (entries-empty nat_cmp)
 pub none_left : (xs : List NumberedNode) → blocks_of (drop (length xs) xs) ≡ 0
 none_left [] = no_blocks
 none_left (x ∷ xs) = none_left xs
+
+-- a number that stands somewhere is some file's
+pub is_got : (xs : List NumberedNode) (q index : ℕ) → position (λ n. nat_eq q n.number) xs ≡ Some index
+    → map.contains_key (files_of xs) q ≡ true
+is_got [] q index is = cc
+is_got (x ∷ xs) q index is =
+    let file : NumberedNode = get_or (x ∷ xs) index x in
+    let at = position-Some (λ n. nat_eq q n.number) (x ∷ xs) index x is in
+    ap is_some (got_some (x ∷ xs) q index file is (get_or_default (x ∷ xs) index x file at.0))
+
+counted : (b known : Bool) (n m : ℕ) → m ≡ cond b n (n + 1) → b ≡ known → m ≡ cond known n (n + 1)
+counted b known n m e same = e ∙ ap (λ k. cond k n (n + 1)) same
+
+-- how many numbers there are with one file more
+pub count_known : (xs : List NumberedNode) (index : ℕ) (file : NumberedNode) → index < length xs
+    → file ≡ get_or xs index file → (known : Bool)
+    → map.contains_key (files_of (drop (index + 1) xs)) file.number ≡ known
+    → map.len (files_of (drop index xs))
+    ≡ cond known (map.len (files_of (drop (index + 1) xs))) (map.len (files_of (drop (index + 1) xs)) + 1)
+count_known xs index file inside here known is =
+    let all : drop index xs ≡ file ∷ drop (index + 1) xs =
+    drop_more xs index file inside ∙ ap (λ x. x ∷ drop (index + 1) xs) (sym here) in
+    ap (λ ys. map.len (files_of ys)) all
+    ∙ counted _ known _ _
+    (map.len-insert nat_cmp_total (files_of (drop (index + 1) xs)) file.number (node_of file.node)) is
+
+no_files : map.len (files_of []) ≡ 0
+no_files = map.len-empty nat_cmp Node
+
+pub none_counted : (xs : List NumberedNode) → map.len (files_of (drop (length xs) xs)) ≡ 0
+none_counted [] = no_files
+none_counted (x ∷ xs) = none_counted xs

@@ -19,6 +19,6 @@ pub use finding::{Changed, Told, found};
 pub use looking::look_up;
 pub use reading::read;
 pub use rights::access;
-pub use space::free_blocks;
+pub use space::{file_system_space, free_blocks};
 pub use targets::read_link;
 pub use writing::write;

@@ -1,11 +1,16 @@
-//! The blocks that files use, and that are free.
+//! The blocks and the numbers that files use, and that are free; FSSTAT (RFC 1813, section 3.3.18).
 ghost use Rattle.std.specs.Prelude.{◌≡◌, ◌<◌, ◌≤◌, ◌^◌, ◌*◌, ◌+◌, ◌-◌, length, drop, position, nat_eq};
 ghost use Rattle.std.specs.FinMap as map;
 ghost use Rattle.std.specs.Ordering.{nat_cmp};
 ghost use Rattle.model.specs.Tree.{cost_at, free};
+ghost use Rattle.procedures.specs.FsStat.{FsStatStep, space_of};
 ghost use Rattle.plain_server.specs.Plain.{numbered, tree_of};
 ghost use Rattle.plain_procedures.specs.Listed.{blocks_of, files_of};
 
+use crate::Told;
+use crate::finding::{attributes_of, found};
+use limits::BLOCK_BYTES;
+use nfs_types::{FileSystemSpace, Handle};
 use plain_server::{NumberedNode, PlainTree};
 
 // Where the first file of a number stands.
@@ -68,5 +73,67 @@ pub fn free_blocks(tree: &PlainTree) -> u32
         tree.data_blocks - blocks as u32
     } else {
         0
+    }
+}
+
+// How many numbers the files have from one on: one that has its number later too doesn't count.
+fn count_with(files: &[NumberedNode], index: usize, count: u64) -> u64
+    requires inside { index < length files.now }
+    requires counted { count ≡ map.len (files_of (drop (index + 1) files.now)) }
+    requires small { count ≤ length files.now - (index + 1) }
+    ensures counted { result ≡ map.len (files_of (drop index files.now)) }
+    ensures small { result ≤ length files.now - index }
+{
+    let file = &files[index];
+    match position_of(behind(files, index + 1), file.number) {
+        Some(_) => count,
+        None => count + 1,
+    }
+}
+
+// How many files there are.
+fn count_of(files: &[NumberedNode]) -> u64
+    ensures { result ≡ map.len (files_of files.now) }
+{
+    let mut count: u64 = 0;
+    let mut index = files.len();
+    'files: while index > 0 {
+        index -= 1;
+        count = count_with(files, index, count);
+    }
+    count
+}
+
+// All that FSSTAT tells of blocks and numbers.
+fn space_of(tree: &PlainTree) -> FileSystemSpace
+    ensures { result ≡ space_of (tree_of tree.now) }
+{
+    let free_bytes = BLOCK_BYTES as u64 * free_blocks(tree) as u64;
+    let total_files = (tree.inodes as u64).saturating_sub(1);
+    let free_files = total_files.saturating_sub(count_of(&tree.nodes));
+    FileSystemSpace {
+        total_bytes: BLOCK_BYTES as u64 * tree.data_blocks as u64,
+        free_bytes,
+        available_bytes: free_bytes,
+        total_files,
+        free_files,
+        available_files: free_files,
+        unchanged_seconds: 0,
+    }
+}
+
+/// What is in use and free of the file system (RFC 1813, section 3.3.18).
+pub fn file_system_space(tree: &PlainTree, object: &Handle) -> Told<FileSystemSpace>
+    ensures { FsStatStep (tree_of tree.now) object.now.bytes result.outcome result.object (tree_of tree.now) }
+{
+    match found(tree, object) {
+        Err(status) => Told {
+            outcome: Err(status),
+            object: None,
+        },
+        Ok(file) => Told {
+            outcome: Ok(space_of(tree)),
+            object: attributes_of(file),
+        },
     }
 }

@@ -1,4 +1,5 @@
 pub mod Answer
+pub mod Failures
 pub mod Numbers
 pub mod Sums
 pub mod Unchanged

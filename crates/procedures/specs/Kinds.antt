@@ -1,9 +1,11 @@
--- Which calls only tell something, and which replies are refusals.
-use Rattle.std.specs.Prelude.{Bool, true, false, is_err}
+-- Which calls only tell something, and which replies are refusals or tell of a failure.
+use Rattle.std.specs.Prelude.{Bool, true, false, is_err, Result, Ok, Err}
 use Rattle.nfs_types.specs.declared.call.Call.{Call}
 use Rattle.nfs_types.specs.declared.call.Call.TheVariants as call
 use Rattle.nfs_types.specs.declared.reply.Reply.{Reply}
 use Rattle.nfs_types.specs.declared.reply.Reply.TheVariants as reply
+use Rattle.nfs_types.specs.declared.status.Status.{Status}
+use Rattle.nfs_types.specs.declared.status.Status.TheVariants as status
 
 -- the calls that change nothing, whatever comes of them
 abbrev pub only_tells : Call → Bool
@@ -54,3 +56,56 @@ is_refusal (reply.FsStat outcome _) = is_err outcome
 is_refusal (reply.FsInfo outcome _) = is_err outcome
 is_refusal (reply.PathConf outcome _) = is_err outcome
 is_refusal (reply.Commit outcome _) = is_err outcome
+
+-- the statuses that tell that the store failed, and not what a procedure found
+abbrev pub is_failure : Status → Bool
+is_failure status.Io = true
+is_failure status.ServerFault = true
+is_failure status.Perm = false
+is_failure status.NoEnt = false
+is_failure status.Acces = false
+is_failure status.Exist = false
+is_failure status.NotDir = false
+is_failure status.IsDir = false
+is_failure status.Inval = false
+is_failure status.FBig = false
+is_failure status.NoSpc = false
+is_failure status.MLink = false
+is_failure status.NameTooLong = false
+is_failure status.NotEmpty = false
+is_failure status.Stale = false
+is_failure status.BadHandle = false
+is_failure status.NotSync = false
+is_failure status.BadCookie = false
+is_failure status.NotSupp = false
+is_failure status.TooSmall = false
+
+-- an outcome with such a status
+abbrev pub fails : {A : Type 0} → Result A Status → Bool
+fails (Ok answer) = false
+fails (Err status) = is_failure status
+
+-- a reply with such an outcome
+abbrev pub tells_failure : Reply → Bool
+tells_failure reply.Null = false
+tells_failure (reply.GetAttr outcome) = fails outcome
+tells_failure (reply.SetAttr outcome _) = fails outcome
+tells_failure (reply.Lookup outcome _) = fails outcome
+tells_failure (reply.Access outcome _) = fails outcome
+tells_failure (reply.ReadLink outcome _) = fails outcome
+tells_failure (reply.Read outcome _) = fails outcome
+tells_failure (reply.Write outcome _) = fails outcome
+tells_failure (reply.Create outcome _) = fails outcome
+tells_failure (reply.MkDir outcome _) = fails outcome
+tells_failure (reply.SymLink outcome _) = fails outcome
+tells_failure (reply.MkNod outcome _) = fails outcome
+tells_failure (reply.Remove outcome _) = fails outcome
+tells_failure (reply.RmDir outcome _) = fails outcome
+tells_failure (reply.Rename outcome _ _) = fails outcome
+tells_failure (reply.Link outcome _ _) = fails outcome
+tells_failure (reply.ReadDir outcome _) = fails outcome
+tells_failure (reply.ReadDirPlus outcome _) = fails outcome
+tells_failure (reply.FsStat outcome _) = fails outcome
+tells_failure (reply.FsInfo outcome _) = fails outcome
+tells_failure (reply.PathConf outcome _) = fails outcome
+tells_failure (reply.Commit outcome _) = fails outcome

@@ -1,5 +1,5 @@
 //! Laws on what READ and WRITE do with the bytes of a file, and on what WRITE takes of the blocks.
-ghost use Rattle.std.specs.Prelude.{◌≡◌, ◌≤◌, ◌<◌, ◌-◌, ℕ, List, length, get_or, Some};
+ghost use Rattle.std.specs.Prelude.{◌≡◌, ◌≤◌, ◌<◌, ◌+◌, ◌-◌, ℕ, List, length, get_or, Some};
 ghost use Rattle.limits.specs.declared.TheConstants.{TRANSFER_BYTES};
 ghost use Rattle.model.specs.Cost.{cost};
 ghost use Rattle.model.specs.Node.{Node};
@@ -22,6 +22,12 @@ pub fn a_hole_is_zeros()
 /// The bytes before what is written stay.
 pub fn what_lies_before_stays()
     ensures { (offset at : ℕ) (text bytes : List ℕ) → at < offset
+        → get_or (overwritten offset text bytes) at 0 ≡ get_or bytes at 0 }
+{}
+
+/// The bytes behind what is written stay.
+pub fn what_lies_behind_stays()
+    ensures { (offset at : ℕ) (text bytes : List ℕ) → offset + length text ≤ at
         → get_or (overwritten offset text bytes) at 0 ≡ get_or bytes at 0 }
 {}
 

@@ -15,8 +15,9 @@ pub use bits::{
 pub use cookies::{FIRST_SLOT_COOKIE, ITSELF_COOKIE, PARENT_COOKIE};
 pub use files::{
     a_hole_is_zeros, one_file_needs_what_it_adds, what_is_written_is_read, what_lies_before_stays,
+    what_lies_behind_stays,
 };
 pub use steps::{
     a_numbered_step_is_determined, a_refusal_leaves_the_tree, each_call_has_a_step,
-    what_only_tells_leaves_the_tree,
+    no_step_tells_a_failure, what_only_tells_leaves_the_tree,
 };

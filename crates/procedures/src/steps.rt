@@ -1,11 +1,11 @@
 //! Laws on the steps of all procedures.
-ghost use Rattle.std.specs.Prelude.{◌≡◌, ◌≢◌, ℕ, Option, true};
+ghost use Rattle.std.specs.Prelude.{◌≡◌, ◌≢◌, ℕ, Option, true, false};
 ghost use Rattle.nfs_types.specs.declared.call.Call.{Call};
 ghost use Rattle.nfs_types.specs.declared.call.Call.TheVariants as call;
 ghost use Rattle.nfs_types.specs.declared.ctx.Ctx.{Ctx};
 ghost use Rattle.nfs_types.specs.declared.reply.Reply.{Reply};
 ghost use Rattle.model.specs.Tree.{Tree};
-ghost use Rattle.procedures.specs.Kinds.{is_refusal, only_tells};
+ghost use Rattle.procedures.specs.Kinds.{is_refusal, only_tells, tells_failure};
 ghost use Rattle.procedures.specs.WholeStep.{WholeStep, numbered_step};
 
 /// Where the number of a new file is known, a call has one reply and one next tree.
@@ -31,4 +31,10 @@ pub fn a_refusal_leaves_the_tree()
 pub fn what_only_tells_leaves_the_tree()
     ensures { (tree next : Tree) (ctx : Ctx) (asked : Call) (reply : Reply)
         → WholeStep tree ctx asked reply next → only_tells asked ≡ true → next ≡ tree }
+{}
+
+/// No step replies IO or SERVERFAULT: those tell that the store failed, and not what the procedure found.
+pub fn no_step_tells_a_failure()
+    ensures { (tree next : Tree) (ctx : Ctx) (asked : Call) (reply : Reply)
+        → WholeStep tree ctx asked reply next → tells_failure reply ≡ false }
 {}
