@@ -6,8 +6,8 @@ import shutil
 from cases import wire
 from cases.running import FORMATTED, MADE, NEW_MODE, Skipped, contents, expect, is_so, same
 
-# Stands before the C library, and lets the allocation fail whose number is in FAILED_ALLOCATION. When the program ends,
-# it writes how many there were into the file that COUNTED_ALLOCATIONS names.
+# It stands before the C library, and lets the allocation fail whose number is in FAILED_ALLOCATION. When the program
+# ends, it writes how many there were into the file that COUNTED_ALLOCATIONS names.
 LIBRARY = r"""
 #include <errno.h>
 #include <fcntl.h>
@@ -15,7 +15,8 @@ LIBRARY = r"""
 #include <stdlib.h>
 #include <unistd.h>
 
-void *__libc_malloc(size_t), *__libc_calloc(size_t, size_t), *__libc_realloc(void *, size_t), *__libc_memalign(size_t, size_t);
+void *__libc_malloc(size_t), *__libc_calloc(size_t, size_t);
+void *__libc_realloc(void *, size_t), *__libc_memalign(size_t, size_t);
 static unsigned long made, failed;
 static int is_begun;
 
@@ -68,7 +69,7 @@ def library(place):
 
 
 def run_failing(place, shared, failed, arguments, data=b""):
-    """Runs the program while the allocation of this number fails, and returns how many there were beside what came."""
+    """Runs the program while the allocation of this number fails: how many there were, and what came of it."""
     count = place.path("count")
     given = {**os.environ, "LD_PRELOAD": shared, "FAILED_ALLOCATION": str(failed), "COUNTED_ALLOCATIONS": count}
     ran = place.run(arguments, data, env=given)
@@ -84,19 +85,30 @@ def is_refused(command, ran):
     return ran.status == 1 and ran.errors in REFUSED[command]
 
 
+def assert_most_refused(count, refusals):
+    """Few allocations can be done without: those of room that is only asked for ahead."""
+    is_so(f"of {count} allocations {refusals} were missed", count > 20 and refusals >= count - 8)
+
+
 def test_each_allocation_of_format_that_fails_leaves_the_old_image(place):
     shared, image = library(place), place.image()
     old = contents(image)
     arguments = ["format", image, "--blocks", "1024", "--inodes", "64", "--time", str(MADE + 1)]
     count, ran = run_failing(place, shared, 0, arguments)
     expect("with all of them", ran, 0, FORMATTED, b"")
-    is_so("it allocates nothing", count > 0)
+    new, refusals = contents(image), 0
     for failed in range(1, count + 1):
         restore(image, old)
         _, ran = run_failing(place, shared, failed, arguments)
-        is_so(f"{failed}: status {ran.status} and {ran.errors[:80]!r}", is_refused("format", ran))
-        same(f"{failed}: standard output", ran.output, b"")
-        same(f"{failed}: the image", contents(image), old)
+        if ran.status == 0:
+            expect(f"without {failed}", ran, 0, FORMATTED, b"")
+            same(f"the image without {failed}", contents(image), new)
+            continue
+        refusals += 1
+        is_so(f"without {failed}: status {ran.status} and {ran.errors[:80]!r}", is_refused("format", ran))
+        same(f"standard output without {failed}", ran.output, b"")
+        same(f"the image without {failed}", contents(image), old)
+    assert_most_refused(count, refusals)
 
 
 def set_mode(place, image):
@@ -111,12 +123,16 @@ def test_each_allocation_of_an_opening_that_fails_loses_nothing(place):
     old, arguments = contents(image), ["once", image, "--time", str(NOW + 1)]
     count, ran = run_failing(place, shared, 0, arguments)
     expect("with all of them", ran, 0, b"", b"")
+    refusals = 0
     for failed in range(1, count + 1):
         restore(image, old)
         _, ran = run_failing(place, shared, failed, arguments)
-        is_so(f"{failed}: status {ran.status} and {ran.errors[:80]!r}", is_refused("once", ran))
-        same(f"{failed}: standard output", ran.output, b"")
-        place.attributes(image, CHANGED_MODE, NOW, f"{failed}: the root's attributes")
+        if ran.status:
+            refusals += 1
+            is_so(f"without {failed}: status {ran.status} and {ran.errors[:80]!r}", is_refused("once", ran))
+        same(f"standard output without {failed}", ran.output, b"")
+        place.attributes(image, CHANGED_MODE, NOW, f"the root's attributes after {failed}")
+    assert_most_refused(count, refusals)
 
 
 # What a SETATTR is answered: it was done, or an allocation failed in its procedure (RFC 5531, section 9).

@@ -2,6 +2,9 @@
 
 mod by_hand;
 mod changed_bytes;
+mod changed_log;
+mod changed_root;
+mod changed_super;
 mod compared;
 mod failures;
 mod first_path;
@@ -19,3 +22,4 @@ mod spent;
 mod stopped_formats;
 mod stopped_openings;
 mod streams;
+mod worker;

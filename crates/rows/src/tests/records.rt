@@ -1,9 +1,11 @@
 //! Records that are written and room that is made, with ample memory: what comes of functions that may answer want
 //! of memory, past their smallest sizes.
+ghost use Rattle.std.specs.Prelude.{◌≡◌, IfOk, length};
+ghost use Rattle.limits.specs.declared.TheConstants.{BLOCK_BYTES};
 
 use crate::tests::by_hand::{FILE, put_words};
 use disk::BlockNo;
-use layout::{Geometry, Inode, InodeKind, Super};
+use layout::{Inode, InodeKind, Super};
 use limits::{BLOCK_BYTES, INODE_BYTES, INODES_PER_BLOCK};
 use nfs_types::{Moment, Stamp};
 use objects::Addr;
@@ -57,16 +59,22 @@ const LARGEST: [u8; 32] = [
     0, 8, 7, 6, 5, 4, 3, 2, 1,
 ];
 
+// The bytes of that super block.
+fn largest(alloc: Global) -> Result<Vec<u8>, AllocError>
+    ensures { IfOk result (λ bytes. length bytes.items ≡ BLOCK_BYTES) }
+{
+    let mut bytes = Vec::new(alloc);
+    bytes.extend_from_slice(&LARGEST)?;
+    bytes.resize(BLOCK_BYTES, 0)?;
+    Ok(bytes)
+}
+
 #[test]
 fn a_super_block_is_written(rt: HostRuntime) -> Result<(), Fail> {
-    let found = Super {
-        geometry: Geometry::new(1_048_576, 65_536)?,
-        boot: 0x0102_0304_0506_0708,
-    };
-    let mut wanted = Vec::new(rt.alloc());
-    wanted.extend_from_slice(&LARGEST)?;
-    wanted.resize(BLOCK_BYTES, 0)?;
-    assert!(rt; found.write(rt.alloc())? == wanted);
+    let bytes = largest(rt.alloc())?;
+    let found = Super::read(&bytes)?;
+    assert_eq!(rt; found.boot, 0x0102_0304_0506_0708);
+    assert!(rt; found.write(rt.alloc())? == bytes);
     Ok(())
 }
 
@@ -93,7 +101,8 @@ const OBJECTS: u32 = 200;
 
 #[test]
 fn room_is_made_for_many_objects(rt: HostRuntime) -> Result<(), Fail> {
-    let mut snap = Snap::new(rt.alloc(), Geometry::new(1024, 64)?);
+    let bytes = largest(rt.alloc())?;
+    let mut snap = Snap::new(rt.alloc(), Super::read(&bytes)?.geometry);
     for number in 0..OBJECTS {
         add(rt.alloc(), &mut snap, number)?;
     }
