@@ -65,8 +65,10 @@ module _ (P : ℕ → ℕ → List ObjectBytes → List ObjectBytes → Type 0) 
 
   pub wanted_law : (old new : CoreState) (tx : ℕ) (addr : Addr) (mode : Mode) (answer : Want) → IsOut old tx
       → IsWantedExactly old tx addr mode answer new → IsLawfulCore P old → IsLawfulCore P new
-  wanted_law old new tx addr mode (want.Held back bytes) is_out h = lawful_held P old new tx addr mode bytes.items is_out h.1 h.2
-  wanted_law old new tx addr mode (want.Fetch back io) is_out h = lawful_fetch P old new tx addr mode io is_out h.1 h.2
+  wanted_law old new tx addr mode (want.Held back bytes) is_out h =
+      lawful_held P old new tx addr mode bytes.items is_out h.1 h.2
+  wanted_law old new tx addr mode (want.Fetch back io) is_out h =
+      lawful_fetch P old new tx addr mode io is_out h.1 h.2
   wanted_law old new tx addr mode (want.Busy back) is_out h = same_law old new h.2
   wanted_law old new tx addr mode (want.Loading back) is_out h = same_law old new h.2
   wanted_law old new tx addr mode (want.Outside back) is_out h = same_law old new h.2
@@ -88,11 +90,16 @@ module _ (P : ℕ → ℕ → List ObjectBytes → List ObjectBytes → Type 0) 
       subst (λ (now : CoreState). IsLawfulCore P now) (sym h.core)
       (lawful_commit P old tx plan h.group.group new.log h.tried.own h.group.sizes h.group.blocks h.group.contents
       h.group.grown h.still.blocks lawful whole is_plan core)
-  commit_law old new tx plan change (commit.Full back same) h lawful whole is_plan core = same_law old new h.0.core core
-  commit_law old new tx plan change (commit.Foreign back same) h lawful whole is_plan core = same_law old new h.0.core core
-  commit_law old new tx plan change (commit.NoMemory back same) h lawful whole is_plan core = same_law old new h.0.core core
-  commit_law old new tx plan change (commit.Broken back same) h lawful whole is_plan core = same_law old new h.0.core core
-  commit_law old new tx plan change (commit.Spent back same) h lawful whole is_plan core = same_law old new h.0.core core
+  commit_law old new tx plan change (commit.Full back same) h lawful whole is_plan core =
+      same_law old new h.0.core core
+  commit_law old new tx plan change (commit.Foreign back same) h lawful whole is_plan core =
+      same_law old new h.0.core core
+  commit_law old new tx plan change (commit.NoMemory back same) h lawful whole is_plan core =
+      same_law old new h.0.core core
+  commit_law old new tx plan change (commit.Broken back same) h lawful whole is_plan core =
+      same_law old new h.0.core core
+  commit_law old new tx plan change (commit.Spent back same) h lawful whole is_plan core =
+      same_law old new h.0.core core
 
 pub commit_keeps : {C : Type 0} (old new : CoreState) (tx : ℕ) (plan : Planned) (change : C) (answer : Commit C)
     → IsLawful old.log → AreTidy old → IsCommitExactly old tx plan change answer new → KeepsHome old new
@@ -155,7 +162,8 @@ same_reads old new e other = subst (λ (core : CoreState). KeepsReads old core o
 
 pub wanted_reads : (old new : CoreState) (tx : ℕ) (addr : Addr) (mode : Mode) (answer : Want)
     → IsWantedExactly old tx addr mode answer new → (other : ℕ) → KeepsReads old new other
-wanted_reads old new tx addr mode (want.Held back bytes) h other = reads_held old new tx addr mode bytes.items other h.2
+wanted_reads old new tx addr mode (want.Held back bytes) h other =
+    reads_held old new tx addr mode bytes.items other h.2
 wanted_reads old new tx addr mode (want.Fetch back io) h other = reads_fetch old new tx addr mode io other h.2
 wanted_reads old new tx addr mode (want.Busy back) h other = same_reads old new h.2 other
 wanted_reads old new tx addr mode (want.Loading back) h other = same_reads old new h.2 other

@@ -118,7 +118,8 @@ module _ (d : Device) (base : Image) (log : Log) (places : ℕ) (changes : List 
       start_barrier = h.start_barrier;
     }
 
-    pub next_inst_appended : (io : Io) → IsNextInstCall log io → IsNextInstCall (with_tail log places changes) io
+    pub next_inst_appended : (io : Io) → IsNextInstCall log io
+        → IsNextInstCall (with_tail log places changes) io
     next_inst_appended io h = record {
       beginning = h.beginning;
       step = h.step;
