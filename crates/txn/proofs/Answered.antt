@@ -1,25 +1,18 @@
 -- Lemmas: whatever the core answers, it keeps what is true of every core, and what may be at home.
-use Rattle.std.proofs.Common.{◌≡◌, ℕ, ◌+◌, List, [], ◌∷◌, ◌++◌, All, length, refl, sym, ap, subst, ◌∙◌}
+use Rattle.std.proofs.Common.{◌≡◌, ℕ, ◌+◌, List, All, refl, sym, ap, subst, ◌∙◌}
 use Rattle.std.proofs.Common.{Option, Some, None, Result, Ok, Err}
 use Rattle.std.specs.Prelude.{IsSome, IsNone, IfOk, OnErr}
-use Rattle.std.proofs.lemmas.List.Elements.{All-append, All-map}
-use Rattle.std.proofs.Common.{false, true, nat_eq}
-use Rattle.std.specs.List.{list_any}
-use Rattle.limits.specs.declared.TheConstants.{BLOCK_BYTES}
-use Rattle.disk.specs.Device.{Content}
 use Rattle.disk.specs.declared.block.BlockNo.{BlockNo}
 use Rattle.objects.specs.declared.addr.Addr.{Addr}
 use Rattle.objects.specs.declared.mode.Mode.{Mode}
-use Rattle.wal_law.specs.declared.change.LogChange.{LogChange}
 use Rattle.wal_law.specs.Grows.{IsWholeChange}
-use Rattle.wal_law.specs.Log.{Log, IsLawful, newest, changes_of}
+use Rattle.wal_law.specs.Log.{Log, IsLawful, newest}
 use Rattle.txn_law.specs.Commit.{Planned, with_record, refreshed_content}
 use Rattle.txn_law.specs.Core.{CoreState, IsOut, with_begun, without}
 use Rattle.txn_law.specs.CoreLaw.{IsLawfulCore}
 use Rattle.txn_law.specs.CoreWindow.{IsHomeOf, KeepsHome, KeepsReads, SetsOnly}
 use Rattle.txn_law.specs.Leaves.{Leaves, taken_by, is_fetching, in_memory, but_by}
 use Rattle.txn_law.specs.Object.{ObjectBytes}
-use Rattle.txn_law.specs.Steps.{StandsStill}
 use Rattle.txn_law.specs.Tidy.{AreTidy}
 use Rattle.txn_law.specs.Wishes.{IsWhole}
 use Rattle.txn_law.proofs.CoreLaws.{home_held, home_fetch, home_claim, lawful_held, lawful_fetch, lawful_claim}
