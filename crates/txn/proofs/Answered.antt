@@ -1,25 +1,18 @@
 -- Lemmas: whatever the core answers, it keeps what is true of every core, and what may be at home.
-use Rattle.std.proofs.Common.{◌≡◌, ℕ, ◌+◌, List, [], ◌∷◌, ◌++◌, All, length, refl, sym, ap, subst, ◌∙◌}
+use Rattle.std.proofs.Common.{◌≡◌, ℕ, ◌+◌, List, All, refl, sym, ap, subst, ◌∙◌}
 use Rattle.std.proofs.Common.{Option, Some, None, Result, Ok, Err}
 use Rattle.std.specs.Prelude.{IsSome, IsNone, IfOk, OnErr}
-use Rattle.std.proofs.lemmas.List.Elements.{All-append, All-map}
-use Rattle.std.proofs.Common.{false, true, nat_eq}
-use Rattle.std.specs.List.{list_any}
-use Rattle.limits.specs.declared.TheConstants.{BLOCK_BYTES}
-use Rattle.disk.specs.Device.{Content}
 use Rattle.disk.specs.declared.block.BlockNo.{BlockNo}
 use Rattle.objects.specs.declared.addr.Addr.{Addr}
 use Rattle.objects.specs.declared.mode.Mode.{Mode}
-use Rattle.wal_law.specs.declared.change.LogChange.{LogChange}
 use Rattle.wal_law.specs.Grows.{IsWholeChange}
-use Rattle.wal_law.specs.Log.{Log, IsLawful, newest, changes_of}
+use Rattle.wal_law.specs.Log.{Log, IsLawful, newest}
 use Rattle.txn_law.specs.Commit.{Planned, with_record, refreshed_content}
 use Rattle.txn_law.specs.Core.{CoreState, IsOut, with_begun, without}
 use Rattle.txn_law.specs.CoreLaw.{IsLawfulCore}
 use Rattle.txn_law.specs.CoreWindow.{IsHomeOf, KeepsHome, KeepsReads, SetsOnly}
 use Rattle.txn_law.specs.Leaves.{Leaves, taken_by, is_fetching, in_memory, but_by}
 use Rattle.txn_law.specs.Object.{ObjectBytes}
-use Rattle.txn_law.specs.Steps.{StandsStill}
 use Rattle.txn_law.specs.Tidy.{AreTidy}
 use Rattle.txn_law.specs.Wishes.{IsWhole}
 use Rattle.txn_law.proofs.CoreLaws.{home_held, home_fetch, home_claim, lawful_held, lawful_fetch, lawful_claim}
@@ -65,8 +58,10 @@ module _ (P : ℕ → ℕ → List ObjectBytes → List ObjectBytes → Type 0) 
 
   pub wanted_law : (old new : CoreState) (tx : ℕ) (addr : Addr) (mode : Mode) (answer : Want) → IsOut old tx
       → IsWantedExactly old tx addr mode answer new → IsLawfulCore P old → IsLawfulCore P new
-  wanted_law old new tx addr mode (want.Held back bytes) is_out h = lawful_held P old new tx addr mode bytes.items is_out h.1 h.2
-  wanted_law old new tx addr mode (want.Fetch back io) is_out h = lawful_fetch P old new tx addr mode io is_out h.1 h.2
+  wanted_law old new tx addr mode (want.Held back bytes) is_out h =
+      lawful_held P old new tx addr mode bytes.items is_out h.1 h.2
+  wanted_law old new tx addr mode (want.Fetch back io) is_out h =
+      lawful_fetch P old new tx addr mode io is_out h.1 h.2
   wanted_law old new tx addr mode (want.Busy back) is_out h = same_law old new h.2
   wanted_law old new tx addr mode (want.Loading back) is_out h = same_law old new h.2
   wanted_law old new tx addr mode (want.Outside back) is_out h = same_law old new h.2
@@ -88,11 +83,16 @@ module _ (P : ℕ → ℕ → List ObjectBytes → List ObjectBytes → Type 0) 
       subst (λ (now : CoreState). IsLawfulCore P now) (sym h.core)
       (lawful_commit P old tx plan h.group.group new.log h.tried.own h.group.sizes h.group.blocks h.group.contents
       h.group.grown h.still.blocks lawful whole is_plan core)
-  commit_law old new tx plan change (commit.Full back same) h lawful whole is_plan core = same_law old new h.0.core core
-  commit_law old new tx plan change (commit.Foreign back same) h lawful whole is_plan core = same_law old new h.0.core core
-  commit_law old new tx plan change (commit.NoMemory back same) h lawful whole is_plan core = same_law old new h.0.core core
-  commit_law old new tx plan change (commit.Broken back same) h lawful whole is_plan core = same_law old new h.0.core core
-  commit_law old new tx plan change (commit.Spent back same) h lawful whole is_plan core = same_law old new h.0.core core
+  commit_law old new tx plan change (commit.Full back same) h lawful whole is_plan core =
+      same_law old new h.0.core core
+  commit_law old new tx plan change (commit.Foreign back same) h lawful whole is_plan core =
+      same_law old new h.0.core core
+  commit_law old new tx plan change (commit.NoMemory back same) h lawful whole is_plan core =
+      same_law old new h.0.core core
+  commit_law old new tx plan change (commit.Broken back same) h lawful whole is_plan core =
+      same_law old new h.0.core core
+  commit_law old new tx plan change (commit.Spent back same) h lawful whole is_plan core =
+      same_law old new h.0.core core
 
 pub commit_keeps : {C : Type 0} (old new : CoreState) (tx : ℕ) (plan : Planned) (change : C) (answer : Commit C)
     → IsLawful old.log → AreTidy old → IsCommitExactly old tx plan change answer new → KeepsHome old new
@@ -155,7 +155,8 @@ same_reads old new e other = subst (λ (core : CoreState). KeepsReads old core o
 
 pub wanted_reads : (old new : CoreState) (tx : ℕ) (addr : Addr) (mode : Mode) (answer : Want)
     → IsWantedExactly old tx addr mode answer new → (other : ℕ) → KeepsReads old new other
-wanted_reads old new tx addr mode (want.Held back bytes) h other = reads_held old new tx addr mode bytes.items other h.2
+wanted_reads old new tx addr mode (want.Held back bytes) h other =
+    reads_held old new tx addr mode bytes.items other h.2
 wanted_reads old new tx addr mode (want.Fetch back io) h other = reads_fetch old new tx addr mode io other h.2
 wanted_reads old new tx addr mode (want.Busy back) h other = same_reads old new h.2 other
 wanted_reads old new tx addr mode (want.Loading back) h other = same_reads old new h.2 other

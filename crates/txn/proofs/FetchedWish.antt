@@ -3,7 +3,6 @@ use Rattle.std.proofs.Common.{◌≡◌, ℕ, true, false, not, ◌&&◌, ◌||�
 use Rattle.std.proofs.Common.{◌∙◌, nat_eq}
 use Rattle.std.proofs.lemmas.Bool.{eq-eqb, eqb-true}
 use Rattle.disk.specs.Device.{Content}
-use Rattle.disk.specs.declared.block.BlockNo.{BlockNo}
 use Rattle.objects.specs.Mode.{raised}
 use Rattle.objects.specs.declared.addr.Addr.{Addr}
 use Rattle.objects.specs.declared.mode.Mode.{Mode}
@@ -24,7 +23,8 @@ use Rattle.txn.specs.declared.outcomes.Want.TheVariants as want
 
 -- a wish that nothing keeps off, of a block in memory, is met
 met_in_memory : (core new : CoreState) (tx : ℕ) (addr : Addr) (mode : Mode) (content : Content) (answer : Want)
-    → IsOpen core tx addr mode → in_memory core addr.block ≡ Some content → IsWanted core tx addr mode answer new
+    → IsOpen core tx addr mode → in_memory core addr.block ≡ Some content
+    → IsWanted core tx addr mode answer new
     → IsMet answer
 met_in_memory core new tx addr mode content (want.Held back bytes) open' there h = tt
 met_in_memory core new tx addr mode content (want.NoMemory back) open' there h = tt
@@ -62,7 +62,8 @@ met old core new tx addr hold mode content answer taken no_more fetching done ti
 
     brought : (if is_fetching old addr.block then with_content addr.block content (in_memory old)
         else in_memory old) addr.block ≡ Some content
-    brought = ap (λ b. (if b then with_content addr.block content (in_memory old) else in_memory old) addr.block)
+    brought =
+        ap (λ b. (if b then with_content addr.block content (in_memory old) else in_memory old) addr.block)
         fetching ∙ ap (λ b. if b then Some content else in_memory old addr.block)
         (eq-eqb addr.block.0 addr.block.0 refl)
 

@@ -15,8 +15,8 @@ use Rattle.txn.specs.declared.outcomes.Commit.{Commit}
 
 abbrev pub IsWantedExactly : CoreState → ℕ → Addr → Mode → Want → CoreState → Type 0
 IsWantedExactly old tx addr mode answer new =
-    IsWantedWith (λ bytes. IsHeldExactly old tx addr mode bytes new) (λ io. IsFetchedExactly old tx addr mode io new)
-    old tx addr mode answer new
+    IsWantedWith (λ bytes. IsHeldExactly old tx addr mode bytes new)
+    (λ io. IsFetchedExactly old tx addr mode io new) old tx addr mode answer new
 
 abbrev pub IsClaimedExactly : CoreState → ℕ → Addr → Claim → CoreState → Type 0
 IsClaimedExactly old tx addr answer new =

@@ -33,18 +33,21 @@ abbrev pub IsWantedWith : (List ℕ → Type 0) → (Fetch → Type 0) → CoreS
     → Type 0
 IsWantedWith held fetch old tx addr mode (want.Held back bytes) new = (back ≡ tx) × IsOpen old tx addr mode
     × held bytes.items
-IsWantedWith held fetch old tx addr mode (want.Busy back) new = (back ≡ tx) × IsBusy old tx addr mode × (new ≡ old)
-IsWantedWith held fetch old tx addr mode (want.Fetch back io) new = (back ≡ tx) × IsOpen old tx addr mode × fetch io
+IsWantedWith held fetch old tx addr mode (want.Busy back) new = (back ≡ tx) × IsBusy old tx addr mode
+    × (new ≡ old)
+IsWantedWith held fetch old tx addr mode (want.Fetch back io) new = (back ≡ tx) × IsOpen old tx addr mode
+    × fetch io
 IsWantedWith held fetch old tx addr mode (want.Loading back) new = (back ≡ tx) × IsLoading old tx addr mode
     × (new ≡ old)
-IsWantedWith held fetch old tx addr mode (want.Outside back) new = (back ≡ tx) × IsOutside old addr × (new ≡ old)
+IsWantedWith held fetch old tx addr mode (want.Outside back) new = (back ≡ tx) × IsOutside old addr
+    × (new ≡ old)
 IsWantedWith held fetch old tx addr mode (want.NoMemory back) new = (back ≡ tx) × IsOpen old tx addr mode
     × (new ≡ old)
 
 abbrev pub IsWanted : CoreState → ℕ → Addr → Mode → Want → CoreState → Type 0
 IsWanted old tx addr mode answer new =
-    IsWantedWith (λ bytes. IsHeld old tx addr mode bytes new) (λ io. IsFetched old tx addr mode io new) old tx addr
-    mode answer new
+    IsWantedWith (λ bytes. IsHeld old tx addr mode bytes new) (λ io. IsFetched old tx addr mode io new)
+    old tx addr mode answer new
 
 -- the wish was met, or there was no memory for it
 abbrev pub IsMet : Want → Type 0
@@ -64,11 +67,12 @@ IsWithin blocks len (want.Loading back) = Unit {0}
 IsWithin blocks len (want.Outside back) = Unit {0}
 IsWithin blocks len (want.NoMemory back) = Unit {0}
 
--- what came of a wish to write a whole block, alone, by what is left where it is held: as of a wish to read it, but
--- that nothing is fetched
+-- what came of a wish to write a whole block, alone, by what is left where it is held: as of a wish to read
+-- it, but that nothing is fetched
 abbrev pub IsClaimedWith : Type 0 → CoreState → ℕ → Addr → Claim → CoreState → Type 0
 IsClaimedWith held old tx addr (claim.Held back) new = (back ≡ tx) × IsOpen old tx addr modes.Exclusive × held
-IsClaimedWith held old tx addr (claim.Busy back) new = (back ≡ tx) × IsBusy old tx addr modes.Exclusive × (new ≡ old)
+IsClaimedWith held old tx addr (claim.Busy back) new = (back ≡ tx) × IsBusy old tx addr modes.Exclusive
+    × (new ≡ old)
 IsClaimedWith held old tx addr (claim.Loading back) new = (back ≡ tx) × IsLoading old tx addr modes.Exclusive
     × (new ≡ old)
 IsClaimedWith held old tx addr (claim.Outside back) new = (back ≡ tx) × IsOutside old addr × (new ≡ old)

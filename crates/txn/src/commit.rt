@@ -19,11 +19,7 @@ use std::alloc::Global;
 use wal::{Append, Room};
 
 impl<C: Change> State<C> {
-    /// Commits a change at the next place, and ends its transaction. Broken: a write or a barrier has failed.
-    /// Foreign: the change was planned for other counts than the core's, or writes what this transaction
-    /// doesn't hold, or read what it doesn't hold for reading or what differs. Spent: no place is left, or
-    /// too few positions of the log. Full: the open group and this change pass the log. These and NoMemory
-    /// change nothing.
+    /// Commits a change at the next place, and ends its transaction; `Core::commit` tells the answers.
     pub(crate) fn commit(&mut self, alloc: Global, tx: Tx, change: C) -> Commit<C>
         requires { length (blocks_of (C.planned change).written) ≤ CHANGED_BLOCKS }
         ensures { IsCommitExactly self.old tx (C.planned change) change result self.new }
@@ -42,8 +38,8 @@ impl<C: Change> State<C> {
         }
     }
 
-    // Commits a change of these blocks that is this transaction's and finds room. All room in memory is made before
-    // anything changes.
+    // Commits a change of these blocks that is this transaction's and finds room. All room in memory is made
+    // before anything changes.
     fn take_place(&mut self, alloc: Global, tx: Tx, change: C, blocks: &[BlockNo]) -> Commit<C>
         requires sound { self.old.log.broken ≡ false }
         requires own { IsOwn self.old tx (C.planned change) }

@@ -11,8 +11,8 @@ ghost use Rattle.txn_law.specs.declared.hold.Hold.{Hold};
 ghost use Rattle.txn.specs.Outcomes.{IsMet, IsWanted};
 ghost use Rattle.txn.specs.declared.outcomes.Want.{Want};
 
-/// A transaction has taken an address of a block that is being fetched. Once that fetch is given back, a wish for the
-/// address in a mode that adds nothing to the one that it has is told Held, or NoMemory.
+/// A transaction has taken an address of a block that is being fetched. Once that fetch is given back, a
+/// wish for the address in a mode that adds nothing to the one that it has is told Held, or NoMemory.
 pub fn a_wish_is_met_after_its_fetch()
     ensures { (old core new : CoreState) (tx : ℕ) (addr : Addr) (hold : Hold) (mode : Mode) (content : Content)
         (answer : Want) → taken_by old tx addr ≡ Some hold → raised hold.mode mode ≡ hold.mode

@@ -17,7 +17,8 @@ ghost use Rattle.txn_law.specs.CoreLaw.{IsFresh, IsLawfulCore};
 ghost use Rattle.txn_law.specs.CoreWindow.{IsHomeOf, KeepsHome, KeepsReads, IsPending};
 ghost use Rattle.txn_law.specs.Group.{blocks_of};
 ghost use Rattle.txn_law.specs.HomeRead.{IsReadable, HasContents};
-ghost use Rattle.txn_law.specs.Leaves.{Leaves, HasFetched, taken_by, is_fetching, in_memory, but_by, without_fetch};
+ghost use Rattle.txn_law.specs.Leaves.{Leaves, HasFetched, taken_by, is_fetching, in_memory, but_by};
+ghost use Rattle.txn_law.specs.Leaves.{without_fetch};
 ghost use Rattle.txn_law.specs.Wishes.{IsWhole};
 ghost use Rattle.txn.specs.Outcomes.{IsWanted, IsWithin, IsClaimed, IsCommit, IsSetBy};
 
@@ -99,11 +100,11 @@ impl<C: Change> Core<C> {
         self.state.begin()
     }
 
-    /// Takes an object for reading, alone, in a transaction that is out of this core. Outside: the block isn't one
-    /// that a change may write. Busy: another transaction has taken a byte of it, or this one by another address.
-    /// Loading: a fetch of the block is pending, and nothing is taken. Fetch: the block has to be read from home;
-    /// the object is taken, and the same want after `fetched` answers Held or NoMemory. NoMemory: nothing has
-    /// changed.
+    /// Takes an object for reading, alone, in a transaction that is out of this core. Outside: the block
+    /// isn't one that a change may write. Busy: another transaction has taken a byte of it, or this one by
+    /// another address. Loading: a fetch of the block is pending, and nothing is taken. Fetch: the block has
+    /// to be read from home; the object is taken, and the same want after `fetched` answers Held or
+    /// NoMemory. NoMemory: nothing has changed.
     pub fn want(&mut self, alloc: Global, tx: Tx, addr: Addr) -> Want
         requires { IsOut self.old tx }
         ensures answer { IsWanted self.old tx addr modes.Exclusive result self.new }
@@ -215,7 +216,8 @@ impl<C: Change> Core<C> {
         self.state.tail()
     }
 
-    /// How many blocks more the open tail of the log holds by a change of these objects: what a commit of it adds.
+    /// How many blocks more the open tail of the log holds by a change of these objects: what a commit of it
+    /// adds.
     pub fn added_blocks(&self, objects: &[Object]) -> usize
         requires { length (blocks_of objects.now) ≤ CHANGED_BLOCKS }
         ensures { result ≡ added_blocks self.now.log (blocks_of objects.now) }

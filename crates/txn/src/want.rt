@@ -25,11 +25,7 @@ enum Source {
 }
 
 impl<C: Change> State<C> {
-    /// Takes an object for reading, in a mode. Outside: the block isn't one that a change may write. Busy: another
-    /// transaction has taken a byte of it in a mode that keeps this one off, or this one by another address.
-    /// Loading: a fetch of the block is pending, and nothing is taken. Fetch: the block has to be read from home;
-    /// the object is taken, and the same want after `fetched` answers Held or NoMemory. NoMemory: nothing has
-    /// changed.
+    /// Takes an object for reading, in a mode; `Core::want` tells the answers.
     pub(crate) fn want(&mut self, alloc: Global, tx: Tx, addr: Addr, mode: Mode) -> Want
         ensures answer { IsWantedExactly self.old tx addr mode result self.new }
         ensures within { IsWithin self.old.log.blocks addr.len result }

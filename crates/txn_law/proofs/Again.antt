@@ -68,7 +68,8 @@ one_or_apart (h ∷ hs) x y apart one other =
     go rest (inl is) (inr later) =
         inr (subst (λ (z : Hold). AreBeside z y) is (All-contains (AreBeside h) hs y apart.0 later))
     go rest (inr later) (inl is) =
-        inr (subst (λ (z : Hold). AreBeside x z) is (beside_back h x (All-contains (AreBeside h) hs x apart.0 later)))
+        inr (subst (λ (z : Hold). AreBeside x z) is (beside_back h x (All-contains (AreBeside h) hs x apart.0
+        later)))
     go rest (inr one) (inr other) = rest one other
 
 -- what keeps off a wish keeps off a stronger one

@@ -1,5 +1,6 @@
 -- Lemmas: each step of the core keeps what is true of every core.
-use Rattle.std.proofs.Common.{◌≡◌, ℕ, ◌+◌, ◌-◌, Bool, true, false, ◌||◌, if◌then◌else◌, nat_lt, nat_eq, List, [], ◌∷◌, ◌++◌}
+use Rattle.std.proofs.Common.{◌≡◌, ℕ, ◌+◌, ◌-◌, Bool, true, false, ◌||◌, if◌then◌else◌, nat_lt, nat_eq}
+use Rattle.std.proofs.Common.{List, [], ◌∷◌, ◌++◌}
 use Rattle.std.proofs.Common.{length, drop, replicate, All, refl, sym, ap, subst, ◌∙◌, arith}
 use Rattle.std.proofs.lemmas.List.Elements.{All-push, All-drop, All-filter, All-weaker}
 use Rattle.std.proofs.Math.ListN.{length-replicate}
@@ -44,14 +45,16 @@ use Rattle.txn_law.proofs.Wishes.{core_held, core_fetch, core_claim, core_end}
 
 -- Steps that keep the window of the core, over the same blocks at home.
 
-pub home_held : (old new : CoreState) (tx : ℕ) (addr : Addr) (mode : Mode) (bytes : List ℕ) → IsHeldExactly old tx addr mode bytes new
+pub home_held : (old new : CoreState) (tx : ℕ) (addr : Addr) (mode : Mode) (bytes : List ℕ)
+    → IsHeldExactly old tx addr mode bytes new
     → KeepsHome old new
 home_held old new tx addr mode bytes held base h = record {
   whole = subst (λ (core : CoreState). AreBlocks core.log.blocks base) (sym held.core) h.whole;
   window = core_held base old new tx addr mode bytes held h.window;
 }
 
-pub home_fetch : (old new : CoreState) (tx : ℕ) (addr : Addr) (mode : Mode) (io : Fetch) → IsFetchedExactly old tx addr mode io new
+pub home_fetch : (old new : CoreState) (tx : ℕ) (addr : Addr) (mode : Mode) (io : Fetch)
+    → IsFetchedExactly old tx addr mode io new
     → KeepsHome old new
 home_fetch old new tx addr mode io fetch base h = record {
   whole = subst (λ (core : CoreState). AreBlocks core.log.blocks base) (sym fetch.core) h.whole;
@@ -233,7 +236,8 @@ module _ (P : ℕ → ℕ → List ObjectBytes → List ObjectBytes → Type 0) 
     tidy = record {
       owned = All-weaker (IsOfOne old) (IsOfOne (with_begun old))
           (λ x own. (
-            ap (λ b. nat_eq (old.begun + 1) x.transaction || b) own.0 ∙ or-true (nat_eq (old.begun + 1) x.transaction),
+            ap (λ b. nat_eq (old.begun + 1) x.transaction || b) own.0
+                ∙ or-true (nat_eq (old.begun + 1) x.transaction),
             own.1,
           )) old.holds h.tidy.owned;
       placed = h.tidy.placed;
@@ -249,7 +253,8 @@ module _ (P : ℕ → ℕ → List ObjectBytes → List ObjectBytes → Type 0) 
   }
 
   pub lawful_held : (old new : CoreState) (tx : ℕ) (addr : Addr) (mode : Mode) (bytes : List ℕ) → IsOut old tx
-      → IsOpen old tx addr mode → IsHeldExactly old tx addr mode bytes new → IsLawfulCore P old → IsLawfulCore P new
+      → IsOpen old tx addr mode → IsHeldExactly old tx addr mode bytes new → IsLawfulCore P old
+      → IsLawfulCore P new
   lawful_held old new tx addr mode bytes is_out open' held h = record {
     log = subst (λ (core : CoreState). IsLawful core.log) (sym held.core) h.log;
     tidy = tidy_held old new tx addr mode bytes is_out open' held h.tidy;
@@ -259,7 +264,8 @@ module _ (P : ℕ → ℕ → List ObjectBytes → List ObjectBytes → Type 0) 
   }
 
   pub lawful_fetch : (old new : CoreState) (tx : ℕ) (addr : Addr) (mode : Mode) (io : Fetch) → IsOut old tx
-      → IsOpen old tx addr mode → IsFetchedExactly old tx addr mode io new → IsLawfulCore P old → IsLawfulCore P new
+      → IsOpen old tx addr mode → IsFetchedExactly old tx addr mode io new → IsLawfulCore P old
+      → IsLawfulCore P new
   lawful_fetch old new tx addr mode io is_out open' fetch h = record {
     log = subst (λ (core : CoreState). IsLawful core.log) (sym fetch.core) h.log;
     tidy = tidy_fetch old new tx addr mode io is_out open' fetch h.tidy;
@@ -269,7 +275,8 @@ module _ (P : ℕ → ℕ → List ObjectBytes → List ObjectBytes → Type 0) 
   }
 
   pub lawful_claim : (old : CoreState) (tx : ℕ) (block : BlockNo) (addr : Addr) → IsWhole block addr
-      → IsOut old tx → IsOpen old tx addr modes.Exclusive → IsLawfulCore P old → IsLawfulCore P (claimed old tx addr)
+      → IsOut old tx → IsOpen old tx addr modes.Exclusive → IsLawfulCore P old
+      → IsLawfulCore P (claimed old tx addr)
   lawful_claim old tx block addr whole is_out open' h = record {
     log = h.log;
     tidy = tidy_claim old tx block addr whole is_out open' h.tidy;

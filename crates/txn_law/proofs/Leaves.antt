@@ -120,7 +120,8 @@ reads_new (Some x) hold e = go x.is_read
     go true = refl
     go false = e
 
-writes_new : (had : Option Hold) (tx : ℕ) (addr : Addr) → is_written (Some (joined had (for_writing tx addr))) ≡ true
+writes_new : (had : Option Hold) (tx : ℕ) (addr : Addr) → is_written (Some (joined had (for_writing tx
+    addr))) ≡ true
 writes_new None tx addr = refl
 writes_new (Some x) tx addr = go x.is_read x.is_claimed
   where
@@ -129,7 +130,8 @@ writes_new (Some x) tx addr = go x.is_read x.is_claimed
     go false true = refl
     go false false = refl
 
-pub leaves_claim : (old new : CoreState) (tx : ℕ) (addr : Addr) → IsOpen old tx addr modes.Exclusive → new ≡ claimed old tx addr
+pub leaves_claim : (old new : CoreState) (tx : ℕ) (addr : Addr) → IsOpen old tx addr modes.Exclusive
+    → new ≡ claimed old tx addr
     → IsTaken old tx addr new
 leaves_claim old new tx addr open' is = subst (λ (core : CoreState). IsTaken old tx addr core) (sym is) (record {
   only = refl;
@@ -189,9 +191,11 @@ module _ (old : CoreState) (block : BlockNo) (content : Content)
           (same_block at block (eqb-true at.0 block.0 same)) ∙ own (present_of old.present block) refl
       go false other = ap content_in (other_block old.present block (Some content) at other)
 
-pub leaves_held : (old new : CoreState) (tx : ℕ) (addr : Addr) (mode : Mode) (bytes : List ℕ) → IsOpen old tx addr mode
+pub leaves_held : (old new : CoreState) (tx : ℕ) (addr : Addr) (mode : Mode) (bytes : List ℕ)
+    → IsOpen old tx addr mode
     → IsHeldExactly old tx addr mode bytes new → IsHeld old tx addr mode bytes new
-leaves_held old new tx addr mode bytes open' held = subst (λ (core : CoreState). IsHeld old tx addr mode bytes core) (sym held.core)
+leaves_held old new tx addr mode bytes open' held = subst (λ (core : CoreState). IsHeld old tx addr mode
+    bytes core) (sym held.core)
     (record {
       content = held.content;
       current = held.current;
@@ -218,7 +222,8 @@ leaves_held old new tx addr mode bytes open' held = subst (λ (core : CoreState)
 
 pub leaves_fetch : (old new : CoreState) (tx : ℕ) (addr : Addr) (mode : Mode) (io : Fetch)
     → IsFetchedExactly old tx addr mode io new → IsFetched old tx addr mode io new
-leaves_fetch old new tx addr mode io fetch = subst (λ (core : CoreState). IsFetched old tx addr mode io core) (sym fetch.core)
+leaves_fetch old new tx addr mode io fetch = subst (λ (core : CoreState). IsFetched old tx addr mode io core)
+    (sym fetch.core)
     (record {
       block = fetch.block;
       absent = ap content_in fetch.absent;

@@ -26,3 +26,4 @@ pub mod Leaves
 pub mod HeldReads
 pub mod Beside
 pub mod OtherReads
+pub mod HeldNow

@@ -84,7 +84,8 @@ module _ (holds : List Hold) (hold : Hold) where
   -- each of the others is one
   each_other : All IsOther others
   each_other =
-      passing (Contains holds) (λ x. not (is_hold_of hold.transaction hold.addr x)) holds (All-contains_itself holds)
+      passing (Contains holds) (λ x. not (is_hold_of hold.transaction hold.addr x)) holds
+      (All-contains_itself holds)
 
   is_not : (x : Hold) → IsOther x → is_hold_of hold.transaction hold.addr x ≡ true → ⊥
   is_not x h it = let no : not true ≡ true = ap not (sym it) ∙ h.0 in absurd (cc)
@@ -279,7 +280,8 @@ owned_with : (core : CoreState) (hold : Hold) → IsOfOne core hold → All (IsO
 owned_with core hold own each =
     each_with core.holds hold (IsOfOne core) (IsOfOne core) (λ x h. h) each own (λ had h block offset len. own)
 
-pub tidy_held : (old new : CoreState) (tx : ℕ) (addr : Addr) (mode : Mode) (bytes : List ℕ) → IsOut old tx → IsOpen old tx addr mode
+pub tidy_held : (old new : CoreState) (tx : ℕ) (addr : Addr) (mode : Mode) (bytes : List ℕ)
+    → IsOut old tx → IsOpen old tx addr mode
     → IsHeldExactly old tx addr mode bytes new → AreTidy old → AreTidy new
 tidy_held old new tx addr mode bytes is_out open' held tidy =
     let hold : Hold = for_reading tx addr mode in
@@ -297,7 +299,8 @@ tidy_held old new tx addr mode bytes is_out open' held tidy =
       changes = tidy.changes;
     })
 
-pub tidy_fetch : (old new : CoreState) (tx : ℕ) (addr : Addr) (mode : Mode) (io : Fetch) → IsOut old tx → IsOpen old tx addr mode
+pub tidy_fetch : (old new : CoreState) (tx : ℕ) (addr : Addr) (mode : Mode) (io : Fetch) → IsOut old tx
+    → IsOpen old tx addr mode
     → IsFetchedExactly old tx addr mode io new → AreTidy old → AreTidy new
 tidy_fetch old new tx addr mode io is_out open' fetch tidy =
     let hold : Hold = for_fetching tx addr mode in

@@ -27,16 +27,16 @@ taken core hold content = record core {
 }
 
 -- an object is held: its bytes are the current ones
-pub record IsHeldExactly (old : CoreState) (tx : ℕ) (addr : Addr) (mode : Mode) (bytes : List ℕ) (new : CoreState)
-    : Type 0 where
+pub record IsHeldExactly (old : CoreState) (tx : ℕ) (addr : Addr) (mode : Mode) (bytes : List ℕ)
+    (new : CoreState) : Type 0 where
   pub content : Content
   pub current : current old addr.block ≡ Some content
   pub bytes_there : bytes ≡ part content addr
   pub core : new ≡ taken old (for_reading tx addr mode) (Some content)
 
 -- a block is to be fetched: it is nowhere in memory
-pub record IsFetchedExactly (old : CoreState) (tx : ℕ) (addr : Addr) (mode : Mode) (io : Fetch) (new : CoreState)
-    : Type 0 where
+pub record IsFetchedExactly (old : CoreState) (tx : ℕ) (addr : Addr) (mode : Mode) (io : Fetch)
+    (new : CoreState) : Type 0 where
   pub block : io.block ≡ addr.block
   pub absent : present_of old.present addr.block ≡ None
   pub unlogged : newest old.log addr.block.0 ≡ None

@@ -7,7 +7,8 @@ mod present;
 mod reads;
 mod window;
 
-ghost use Rattle.std.specs.Prelude.{◌≡◌, ◌≢◌, ◌∷◌, ◌+◌, ◌-◌, ◌≤◌, ℕ, List, [], All, Bool, None, length, take, drop};
+ghost use Rattle.std.specs.Prelude.{◌≡◌, ◌≢◌, ◌∷◌, ◌+◌, ◌-◌, ◌≤◌, ℕ, List, [], All, Bool, None, length};
+ghost use Rattle.std.specs.Prelude.{take, drop};
 ghost use Rattle.std.specs.Prelude.{true, false, Some};
 ghost use Rattle.disk.specs.Device.{Content};
 ghost use Rattle.disk.specs.Crash.{Image};
@@ -27,18 +28,19 @@ ghost use Rattle.txn_law.specs.Fetch.{Fetch};
 ghost use Rattle.objects.specs.Mode.{raised};
 ghost use Rattle.objects.specs.declared.addr.Addr.{Addr};
 ghost use Rattle.objects.specs.declared.mode.Mode.{Mode};
-ghost use Rattle.txn_law.specs.CoreWindow.{IsCoreWindow, held_of};
+ghost use Rattle.txn_law.specs.CoreWindow.{IsCoreWindow, IsHomeOf, held_of};
 ghost use Rattle.txn_law.specs.Tidy.{AreTidy};
 ghost use Rattle.txn_law.specs.Object.{ObjectBytes};
 ghost use Rattle.txn_law.specs.Present.{present_of, content_in};
 ghost use Rattle.txn_law.specs.Fetched.{fetched, fetch_failed};
 ghost use Rattle.txn_law.specs.Leaves.{taken_by, is_fetching};
-ghost use Rattle.txn_law.specs.Wishes.{IsOpen};
-ghost use Rattle.txn_law.specs.Commit.{Planned, IsCommitted, committed, IsWrittenBy};
+ghost use Rattle.txn_law.specs.Wishes.{IsHeld, IsOpen};
+ghost use Rattle.txn_law.specs.Commit.{Planned, IsCommitted, committed, IsReadBy, IsWrittenBy};
 ghost use Rattle.txn_law.specs.declared.present.Present.{Present};
 ghost use Rattle.wal_law.specs.Room.{with_group};
 ghost use Rattle.txn_law.specs.Window.{Footprint, with_objects, after_commits};
-ghost use Rattle.txn_law.specs.Window.{IsWindowOver, IsCurrent, ArePinned, now_of, opening};
+ghost use Rattle.txn_law.specs.Window.{IsWindowOver, IsAsRead, IsCurrent, ArePinned, now_of, object_at};
+ghost use Rattle.txn_law.specs.Window.{opening};
 ghost use Rattle.txn_law.specs.Absorb.{fresh, with_absorbed};
 ghost use Rattle.txn_law.specs.Steps.{IsBrought, IsMade, with_commit, IsWholeIn};
 
@@ -177,9 +179,11 @@ pub fn what_is_not_in_memory_is_written_whole()
 /// What a transaction takes, and its end, keep the window of the core.
 pub fn a_transaction_keeps_the_window_of_the_core()
     ensures held { (base : Image) (old new : CoreState) (tx : ℕ) (addr : Addr) (mode : Mode)
-        (bytes : List ℕ) → IsHeldExactly old tx addr mode bytes new → IsCoreWindow base old → IsCoreWindow base new }
+        (bytes : List ℕ) → IsHeldExactly old tx addr mode bytes new → IsCoreWindow base old
+        → IsCoreWindow base new }
     ensures fetch { (base : Image) (old new : CoreState) (tx : ℕ) (addr : Addr) (mode : Mode)
-        (io : Fetch) → IsFetchedExactly old tx addr mode io new → IsCoreWindow base old → IsCoreWindow base new }
+        (io : Fetch) → IsFetchedExactly old tx addr mode io new → IsCoreWindow base old
+        → IsCoreWindow base new }
     ensures claim { (base : Image) (old : CoreState) (tx : ℕ) (addr : Addr) → IsCoreWindow base old
         → IsCoreWindow base (claimed old tx addr) }
     ensures end { (base : Image) (old : CoreState) (tx : ℕ) → IsCoreWindow base old
@@ -198,11 +202,22 @@ pub fn a_fetch_keeps_the_window_of_the_core()
         → home_after base log ok block ≡ base block }
 {}
 
-/// A transaction that has taken an address may wish for it again, once no fetch of its block is pending, in a mode
-/// that adds nothing to the one that it has: the wish is told neither Outside nor Busy nor Loading. So one that was
-/// told Fetch is met after its fetch was given back, as the block is in memory then, or finds no memory.
+/// A transaction that has taken an address may wish for it again, once no fetch of its block is pending, in
+/// a mode that adds nothing to the one that it has: the wish is told neither Outside nor Busy nor Loading.
+/// So one that was told Fetch is met after its fetch was given back, as the block is in memory then, or
+/// finds no memory.
 pub fn what_is_taken_may_be_wished_for_again()
     ensures { (core : CoreState) (tx : ℕ) (addr : Addr) (hold : Hold) (mode : Mode) → AreTidy core
         → taken_by core tx addr ≡ Some hold → raised hold.mode mode ≡ hold.mode
         → is_fetching core addr.block ≡ false → IsOpen core tx addr mode }
+{}
+
+/// What a transaction is told of an object is what the commits have left there, and so is what it holds for
+/// reading, whatever may be at home.
+pub fn what_is_held_is_current()
+    ensures told { (base : Image) (old new : CoreState) (tx : ℕ) (addr : Addr) (mode : Mode) (bytes : List ℕ)
+        → IsHomeOf base old → IsHeld old tx addr mode bytes new
+        → bytes ≡ object_at (now_of base old.log old.records) addr }
+    ensures held { (base : Image) (core : CoreState) (tx : ℕ) (object : ObjectBytes) → IsHomeOf base core
+        → IsReadBy core tx object → IsAsRead (now_of base core.log core.records) object }
 {}

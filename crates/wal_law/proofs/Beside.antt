@@ -1,5 +1,6 @@
 -- Lemmas: each step of the log, and each of its calls, leads from agreement to agreement.
-use Rattle.std.proofs.Common.{◌≡◌, ◌≢◌, ℕ, ◌+◌, Bool, true, false, ◌&&◌, List, take, arith, Option, Some, None, IsSome}
+use Rattle.std.proofs.Common.{◌≡◌, ◌≢◌, ℕ, ◌+◌, Bool, true, false, ◌&&◌, List, take, arith, Option}
+use Rattle.std.proofs.Common.{Some, None, IsSome}
 use Rattle.std.proofs.Common.{refl, sym, ap, subst, ◌∙◌, nat_eq, if◌then◌else◌, Result, Ok, Err}
 use Rattle.std.specs.Prelude.{nat_lt, is_ok, IfSome}
 use Rattle.std.proofs.lemmas.Bool.{eq-eqb, and_from}
@@ -28,7 +29,8 @@ use Rattle.wal_law.specs.Calls.{LogCallComesBack, InstCallGoesOut, InstCallComes
 use Rattle.wal_law.proofs.Contents.{keeps_read}
 use Rattle.wal_law.proofs.LogCalls.{own_kept, log_made_kept, own_called, log_made, homes_spared}
 use Rattle.wal_law.proofs.Ends.{grows}
-use Rattle.wal_law.proofs.LogMoves.{with_tail, beside, own_beside, log_made_beside, next_log_beside, own_out, own_made}
+use Rattle.wal_law.proofs.LogMoves.{with_tail, beside, own_beside, log_made_beside, next_log_beside}
+use Rattle.wal_law.proofs.LogMoves.{own_out, own_made}
 use Rattle.wal_law.proofs.LogMoves.{own_appended, log_made_appended, next_log_appended, own_installed}
 use Rattle.wal_law.proofs.LogMoves.{log_made_installed, next_log_installed}
 use Rattle.wal_law.proofs.HomeCalls.{homes_kept, inst_made_kept, homes_called, inst_made, own_spared}

@@ -8,7 +8,6 @@ use Rattle.std.proofs.lemmas.List.{take-take, length-take-le, get_or-take}
 use Rattle.std.proofs.lemmas.Option.{get_or_from_slice_get}
 use Rattle.disk.specs.Device.{Content, Device, current, newest}
 use Rattle.disk.specs.Crash.{Image}
-use Rattle.disk.specs.declared.block.BlockNo.{BlockNo}
 use Rattle.wal_law.specs.declared.change.LogChange.{LogChange}
 use Rattle.wal_law.specs.Io.{Io}
 use Rattle.wal_law.specs.Log.{Log, IsLawful, newest_of, or_else}
@@ -118,7 +117,8 @@ module _ (d : Device) (base : Image) (log : Log) (places : ℕ) (changes : List 
       start_barrier = h.start_barrier;
     }
 
-    pub next_inst_appended : (io : Io) → IsNextInstCall log io → IsNextInstCall (with_tail log places changes) io
+    pub next_inst_appended : (io : Io) → IsNextInstCall log io
+        → IsNextInstCall (with_tail log places changes) io
     next_inst_appended io h = record {
       beginning = h.beginning;
       step = h.step;

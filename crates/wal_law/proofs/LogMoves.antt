@@ -3,11 +3,10 @@ use Rattle.std.proofs.Common.{◌≡◌, ℕ, ◌+◌, ◌-◌, ◌*◌, ◌%◌
 use Rattle.std.proofs.Common.{length, take, slice_get, Some, refl, sym, ap, subst, ◌∙◌, arith, nat_eq}
 use Rattle.std.proofs.Common.{if◌then◌else◌}
 use Rattle.std.specs.Prelude.{nat_lt}
-use Rattle.std.proofs.lemmas.List.{length-take, length-drop, take-append-le}
+use Rattle.std.proofs.lemmas.List.{length-take, length-drop}
 use Rattle.std.proofs.lemmas.Bool.{cases_lt, eqb-true, eqb-false, ltb-false}
 use Rattle.limits.specs.declared.TheConstants.{LOG_SLOTS, LOG_HEADER_BLOCK}
 use Rattle.disk.specs.Device.{Content, Device, current, newest}
-use Rattle.disk.specs.declared.block.BlockNo.{BlockNo}
 use Rattle.wal_law.specs.declared.change.LogChange.{LogChange}
 use Rattle.wal_law.specs.Io.{Io}
 use Rattle.wal_law.specs.Log.{Log, IsLawful, log_end}

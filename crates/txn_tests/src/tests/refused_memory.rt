@@ -59,7 +59,8 @@ fn commit_again(alloc: Global, core: &mut Core<Toy>, tx: Tx, toy: Toy) -> Ended
     }
 }
 
-// Changes an object to 7, asking once more where memory was refused. Tells what was read, and what came of the commit.
+// Changes an object to 7, asking once more where memory was refused. Tells what was read, and what came of
+// the commit.
 fn change_again<D: CrashDisk>(
     alloc: Global,
     core: &mut Core<Toy>,

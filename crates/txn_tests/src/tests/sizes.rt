@@ -53,7 +53,8 @@ fn whole_blocks(alloc: Global, count: u8) -> Result<Vec<Object>, Fail> {
     Ok(objects)
 }
 
-// Claims so many blocks and writes them all by one change. Tells what it would add to the tail, and what came of it.
+// Claims so many blocks and writes them all by one change. Tells what it would add to the tail, and what
+// came of it.
 fn write_many(alloc: Global, core: &mut Core<Toy>, count: u8) -> Result<(usize, Ended), Fail>
     requires { core.old.out ≡ [] }
     ensures { core.new.out ≡ [] }

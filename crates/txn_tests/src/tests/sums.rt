@@ -54,8 +54,8 @@ fn transfer<D: CrashDisk>(alloc: Global, core: &mut Core<Toy>, disk: &mut D) -> 
     Ok(commit(alloc, core, tx, toy))
 }
 
-// What is left where the call of this number failed. The one gets its 10 by calls 1 to 9. The transfer fetches by
-// calls 10 and 11, the log has five calls behind them, and the installer five.
+// What is left where the call of this number failed. The one gets its 10 by calls 1 to 9. The transfer
+// fetches by calls 10 and 11, the log has five calls behind them, and the installer five.
 fn transferred(alloc: Global, failing: u64) -> Result<MemDisk, Fail> {
     let mut disk = MemDisk::new(alloc, BLOCKS)?;
     disk.fail_at(&[failing])?;

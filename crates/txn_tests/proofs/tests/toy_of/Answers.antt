@@ -4,6 +4,11 @@ use Rattle.txn_tests.proofs.tests.toy_of.Goals as goal
 
 pub invariant_of-result : goal.invariant_of-result
 invariant_of-result c = record {
-  few = omega (arith, c.if-len-le-CHANGED_BLOCKS.true, c.len.ensures, c.args.written.ok,
-      no_more_blocks c.args.written.items);
+  few = omega (
+    arith,
+    c.if-len-le-CHANGED_BLOCKS.true,
+    c.len.ensures,
+    c.args.written.ok,
+    no_more_blocks c.args.written.items,
+  );
 }

@@ -10,11 +10,13 @@ pub returns : goal.returns
 returns g c =
     let core = c.self.inside in
     let kept = c.sweep.ensures
-    ∙ swept_of_map (λ kept. footprint kept.place.0 (g.C.Change.planned kept.change)) c.deref.result.now core.records.items
+    ∙ swept_of_map (λ kept. footprint kept.place.0 (g.C.Change.planned kept.change)) c.deref.result.now
+    core.records.items
     core.present.items in
     let there = ap
     (λ holds. swept holds
-    (map (λ kept. footprint kept.place.0 (g.C.Change.planned kept.change)) core.records.items) core.present.items)
+    (map (λ kept. footprint kept.place.0 (g.C.Change.planned kept.change)) core.records.items)
+    core.present.items)
     c.deref.ensures.value in
     ap (λ present. record {
       log = core.log;

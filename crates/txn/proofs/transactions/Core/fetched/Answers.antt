@@ -37,7 +37,8 @@ returns-clause-stays g c = λ other.
 
 pub returns-clause-leaves : goal.returns-clause-leaves
 returns-clause-leaves g c =
-    subst (λ (old : CoreState). HasFetched old c.args.io.block c.args.io.content c.fetched.new.self) c.self.view_is
+    subst (λ (old : CoreState). HasFetched old c.args.io.block c.args.io.content c.fetched.new.self)
+    c.self.view_is
     (subst (λ (core : CoreState). HasFetched c.self.inside.state c.args.io.block c.args.io.content core)
     (sym c.fetched.ensures)
     (leaves_fetched c.self.inside.state c.args.io.block c.args.io.content c.self.invariant.tidy))

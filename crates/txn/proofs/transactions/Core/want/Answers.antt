@@ -10,21 +10,26 @@ use Rattle.txn.proofs.transactions.Core.want.Goals as goal
 
 pub invariant_of-self : goal.invariant_of-self
 invariant_of-self g c =
-    wanted_law g.C.Change.is_plan c.self.inside.state c.want.new.self c.args.tx c.args.addr modes.Exclusive c.want.result
+    wanted_law g.C.Change.is_plan c.self.inside.state c.want.new.self c.args.tx c.args.addr modes.Exclusive
+    c.want.result
     (subst (λ (old : CoreState). IsOut old c.args.tx) (sym c.self.view_is) c.requires) c.want.ensures.answer
     c.self.invariant
 
 pub returns-clause-keeps : goal.returns-clause-keeps
 returns-clause-keeps g c =
     subst (λ (old : CoreState). KeepsHome old c.want.new.self) c.self.view_is
-    (wanted_home c.self.inside.state c.want.new.self c.args.tx c.args.addr modes.Exclusive c.want.result c.want.ensures.answer)
+    (wanted_home c.self.inside.state c.want.new.self c.args.tx c.args.addr modes.Exclusive c.want.result
+    c.want.ensures.answer)
 
 pub returns-clause-stays : goal.returns-clause-stays
 returns-clause-stays g c = λ other.
     subst (λ (old : CoreState). KeepsReads old c.want.new.self other) c.self.view_is
-    (wanted_reads c.self.inside.state c.want.new.self c.args.tx c.args.addr modes.Exclusive c.want.result c.want.ensures.answer other)
+    (wanted_reads c.self.inside.state c.want.new.self c.args.tx c.args.addr modes.Exclusive c.want.result
+    c.want.ensures.answer other)
 
 pub returns-clause-answer : goal.returns-clause-answer
 returns-clause-answer g c =
-    subst (λ (old : CoreState). IsWanted old c.args.tx c.args.addr modes.Exclusive c.want.result c.want.new.self) c.self.view_is
-    (wanted_leaves c.self.inside.state c.want.new.self c.args.tx c.args.addr modes.Exclusive c.want.result c.want.ensures.answer)
+    subst (λ (old : CoreState). IsWanted old c.args.tx c.args.addr modes.Exclusive c.want.result
+    c.want.new.self) c.self.view_is
+    (wanted_leaves c.self.inside.state c.want.new.self c.args.tx c.args.addr modes.Exclusive c.want.result
+    c.want.ensures.answer)
