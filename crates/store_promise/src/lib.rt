@@ -22,8 +22,8 @@ pub use answers::{CallAnswer, Entry, Verdict};
 pub use events::{Cause, Committing, Ending, Event, Step, Wish};
 pub use fault::OpenFault;
 pub use file_blocks::{
-    only_a_commit_changes_the_files, what_is_held_is_what_the_files_are,
-    what_is_settled_stays_settled,
+    earlier_files_keep_their_blocks, only_a_commit_changes_the_files,
+    what_is_held_is_what_the_files_are, what_is_settled_stays_settled,
 };
 pub use fresh::{a_fresh_image_is_good, a_made_image_may_run};
 pub use log_steps::{a_commit_is_told, the_installer_is_told, the_logger_is_told};
