@@ -16,7 +16,8 @@ use Rattle.layout.specs.Stands.{Stands}
 use Rattle.model.specs.Step as server
 use Rattle.model.specs.Tree.{Tree}
 use Rattle.store_promise.specs.Headline.{StandsAfter}
-use Rattle.store_promise.specs.OneSetAttr.{OneSetAttr, asked, blocks_at, ctx_in, events_of, setting_of, steps_of, told_of}
+use Rattle.store_promise.specs.OneSetAttr.{OneSetAttr, asked, blocks_at, ctx_in, events_of, setting_of}
+use Rattle.store_promise.specs.OneSetAttr.{steps_of, told_of}
 use Rattle.store_promise.specs.Schedule.{AreTaken, IsOfOne, IsStepOf, IsStepOfCalled, IsTaken}
 use Rattle.store_promise.specs.Schedule.{Setting, Told, at_first, told_before, worker_of}
 use Rattle.store_promise.specs.Transcript.{entries_of}

@@ -1,5 +1,5 @@
--- An installation that came to an end leaves a store open over what it has brought home, without the entries that are
--- home by then.
+-- An installation that came to an end leaves a store open over what it has brought home, without the entries
+-- that are home by then.
 use Rattle.std.proofs.Common.{◌≡◌, ℕ, zero, suc, ◌+◌, ◌-◌, ◌<◌, ◌≤◌, ap, sym, ◌∙◌, refl, subst, arith}
 use Rattle.std.proofs.Common.{Bool, true, false, if◌then◌else◌, ◌&&◌, List, [], Option}
 use Rattle.std.proofs.Common.{length, take, drop, nat_le, nat_lt}

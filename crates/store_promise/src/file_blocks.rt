@@ -1,5 +1,5 @@
-//! Laws on the blocks that stand for the files of an open store: what is held for reading is theirs, and only a commit
-//! changes them.
+//! Laws on the blocks that stand for the files of an open store: what is held for reading is theirs, and only a
+//! commit changes them.
 ghost use Rattle.std.specs.Prelude.{◌≡◌, ℕ, ◌+◌, ◌-◌, ◌≤◌, Bool, List, if◌then◌else◌, length};
 ghost use Rattle.disk.specs.Crash.{Image};
 ghost use Rattle.disk.specs.Device.{Device};
@@ -14,7 +14,8 @@ ghost use Rattle.wal_law.specs.Calls.{Pending, home_after};
 ghost use Rattle.wal_law.specs.Installer.{with_inst_back, with_inst_out};
 ghost use Rattle.wal_law.specs.Log.{IsLawful, Log, installed_place, settled_place};
 ghost use Rattle.wal_law.specs.Logger.{with_log_back, with_log_out};
-ghost use Rattle.store_promise.specs.OpenSince.{HasFileBlocks, IsOpenSince, StandsBeside, blocks_after, file_blocks};
+ghost use Rattle.store_promise.specs.OpenSince.{HasFileBlocks, IsOpenSince, StandsBeside, blocks_after};
+ghost use Rattle.store_promise.specs.OpenSince.{file_blocks};
 
 /// The blocks stand for the files as they are, and have what any transaction holds for reading.
 pub fn what_is_held_is_what_the_files_are()

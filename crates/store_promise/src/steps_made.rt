@@ -145,8 +145,8 @@ pub fn what_is_asked_for_goes_by_the_disk()
         → KeepsPromise before later tree first workers events t → ⊥ }
 {}
 
-/// What an event made stays what it may make, whatever blocks stand for the files after later procedures: it goes by
-/// those of its own moment.
+/// What an event made stays what it may make, whatever blocks stand for the files after later procedures: it
+/// goes by those of its own moment.
 pub fn what_was_made_stays()
     ensures { (o : Setting) (workers : ℕ) (told : Told) (event : Event) (made : Option Step) (later : ℕ → Image)
         → later told.log.places ≡ o.blocks told.log.places → IsTaken o workers told event made

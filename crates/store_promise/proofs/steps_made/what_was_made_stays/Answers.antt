@@ -13,7 +13,8 @@ use Rattle.store_promise.specs.declared.events.Step.TheVariants as step
 use Rattle.store_promise.specs.LogTold.{CallTold, idle, out, was_made}
 use Rattle.store_promise.specs.Progress.{Again, At, Begun, Called, Idle, Planning, Progress, Read, Reading, Refused}
 use Rattle.store_promise.specs.Progress.{Stage, Waiting, addrs_of}
-use Rattle.store_promise.specs.Schedule.{HasNumbers, IsCommitting, IsStepByPlan, IsStepOf, IsStepOfInstaller, IsStepOfLog, IsStepOfWork}
+use Rattle.store_promise.specs.Schedule.{HasNumbers, IsCommitting, IsStepByPlan, IsStepOf}
+use Rattle.store_promise.specs.Schedule.{IsStepOfInstaller, IsStepOfLog, IsStepOfWork}
 use Rattle.store_promise.specs.Schedule.{IsStepWith, Setting, Told, objects_at}
 use Rattle.store_promise.proofs.steps_made.what_was_made_stays.Goals as goal
 
