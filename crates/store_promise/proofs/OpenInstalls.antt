@@ -167,7 +167,8 @@ module _ (base : Image) (d : Device) (old new : CoreState) (logging installing :
       ∙ sym (after_commits-append homes (take n old.records) (drop n old.records))
       ∙ ap (λ (rs : List Footprint). after_commits homes rs) (take-append-drop n old.records)
 
-  module _ (inodes : new.inodes ≡ old.inodes) (sound : IsSoundCore home new) (agrees : AgreesBeside d home new.log logging idle)
+  module _ (inodes : new.inodes ≡ old.inodes) (sound : IsSoundCore home new)
+      (agrees : AgreesBeside d home new.log logging idle)
       (readable : IsReadable d new.log idle) where
     further : installed_place old.log + n ≡ installed_place new.log
     further = let a = gone.installed in omega (arith, a)

@@ -22,7 +22,8 @@ beyond worker other less differs = elim (cases_lt other 1) [
 ]
 
 pub returns-clause-busy : goal.returns-clause-busy
-returns-clause-busy c = λ before later tree first index worker events t job begun addr mode is_event is_step planning kept.
+returns-clause-busy c = λ before later tree first index worker events t job begun addr mode is_event is_step
+    planning kept.
     let less : worker < 1 = only_of_some kept.setting 1 events t.steps kept.taken index worker _ is_event
     is_step in
     let step = planned_step kept.setting 1 events t.steps kept.taken index worker job begun _ is_event less
@@ -33,7 +34,8 @@ returns-clause-busy c = λ before later tree first index worker events t job beg
     step.1.so
 
 pub returns-clause-loading : goal.returns-clause-loading
-returns-clause-loading c = λ before later tree first index worker events t job begun addr mode is_event is_step planning kept.
+returns-clause-loading c = λ before later tree first index worker events t job begun addr mode is_event is_step
+    planning kept.
     let less : worker < 1 = only_of_some kept.setting 1 events t.steps kept.taken index worker _ is_event
     is_step in
     let step = planned_step kept.setting 1 events t.steps kept.taken index worker job begun _ is_event less

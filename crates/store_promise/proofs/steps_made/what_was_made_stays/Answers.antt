@@ -42,7 +42,8 @@ module _ (o : Setting) (told : Told) (later : ℕ → Image) (same : later told.
   by_plan worker call begun (step.Wanted addr mode answer) is = (
     record {
       unheld = is.0.unheld;
-      asks = subst (λ (blocks : Image). Asks o.geometry call (objects_at blocks (addrs_of begun.held)) addr) (sym same) is.0.asks;
+      asks = subst (λ (blocks : Image). Asks o.geometry call (objects_at blocks (addrs_of begun.held)) addr)
+          (sym same) is.0.asks;
       alone = is.0.alone;
     },
     is.1,
@@ -50,7 +51,8 @@ module _ (o : Setting) (told : Told) (later : ℕ → Image) (same : later told.
   by_plan worker call begun (step.Claimed block answer) is = (
     record {
       unclaimed = is.0.unclaimed;
-      claims = subst (λ (blocks : Image). Claims o.geometry call (objects_at blocks (addrs_of begun.held)) block) (sym same)
+      claims = subst (λ (blocks : Image). Claims o.geometry call (objects_at blocks (addrs_of begun.held)) block)
+          (sym same)
           is.0.claims;
     },
     is.1,
