@@ -16,7 +16,8 @@ use Rattle.layout.specs.Stands.{Stands}
 use Rattle.model.specs.Step as server
 use Rattle.model.specs.Tree.{Tree}
 use Rattle.store_promise.specs.Headline.{StandsAfter}
-use Rattle.store_promise.specs.OneSetAttr.{OneSetAttr, asked, blocks_at, ctx_in, events_of, setting_of, steps_of, told_of}
+use Rattle.store_promise.specs.OneSetAttr.{OneSetAttr, asked, blocks_at, ctx_in, events_of, setting_of}
+use Rattle.store_promise.specs.OneSetAttr.{steps_of, told_of}
 use Rattle.store_promise.specs.Schedule.{AreTaken, IsOfOne, IsStepOf, IsStepOfCalled, IsTaken}
 use Rattle.store_promise.specs.Schedule.{Setting, Told, at_first, told_before, worker_of}
 use Rattle.store_promise.specs.Transcript.{entries_of}
@@ -82,8 +83,8 @@ module _ (g : Geometry) (blocks changed : Image) (one : OneSetAttr) (room : one.
 
 -- the blocks stand for the tree before its entry, and after it for the next
 pub files_at : (g : Geometry) (blocks changed : Image) (tree next : Tree) (boot : ℕ) (one : OneSetAttr) (reply : Reply)
-    → Stands g blocks tree → Stands g changed next → server.step tree (ctx_in boot one) (asked one) reply next → (place : ℕ)
-    → StandsAfter g tree (take place (entries_of (told_of boot one reply))) (blocks_at blocks changed place)
+    → Stands g blocks tree → Stands g changed next → server.step tree (ctx_in boot one) (asked one) reply next
+    → (place : ℕ) → StandsAfter g tree (take place (entries_of (told_of boot one reply))) (blocks_at blocks changed place)
 files_at g blocks changed tree next boot one reply stands after_it stepped zero =
     record { left = tree; leads = refl; stands = stands }
 files_at g blocks changed tree next boot one reply stands after_it stepped (suc zero) =

@@ -34,7 +34,7 @@ use Rattle.txn_law.specs.HomeRead.{IsReadable}
 use Rattle.txn_law.specs.Object.{ObjectBytes}
 use Rattle.txn_law.specs.Window.{Footprint, after_commits, opening, with_objects}
 use Rattle.txn_law.proofs.Commits.{after_commits-append}
-use Rattle.store_promise.specs.OpenSince.{IsOpenSince, IsSoundCore, TellsOf, file_blocks}
+use Rattle.store_promise.specs.OpenSince.{IsOpenSince, IsSoundCore, TellsOf, blocks_after, file_blocks}
 use Rattle.store_promise.specs.OpenStore.{HasFilesOver, IsChain, IsOpenOver}
 use Rattle.store_promise.proofs.FileBlocks.{held_now, less, stands_now}
 use Rattle.store_promise.proofs.Chains.{after_both, chain_leads, chain_more, stamps_more}
@@ -155,8 +155,20 @@ module _ (base : Image) (d : Device) (old new : CoreState) (logging installing :
   after_it (inr at_once) = ap (λ (rs : List Footprint). after_commits homes rs) at_once.records
       ∙ sym (ap (λ (os : List ObjectBytes). with_objects now os) at_once.writes)
 
-  pub blocks_after : file_blocks base new ≡ with_objects now plan.written
-  blocks_after = ap (λ (image : Image). after_commits image new.records) (sym homes_are) ∙ after_it either
+  pub blocks_now : file_blocks base new ≡ with_objects now plan.written
+  blocks_now = ap (λ (image : Image). after_commits image new.records) (sym homes_are) ∙ after_it either
+
+  -- and those after each earlier commit
+  pub blocks_kept : (count : ℕ) → count ≤ length old.records → blocks_after base new count ≡ blocks_after base old count
+  blocks_kept count early =
+      ap (λ (image : Image). after_commits image (take count new.records)) (sym homes_are) ∙ by_case either
+    where
+      by_case : HasChange ⊎ IsHomeAtOnce
+          → after_commits homes (take count new.records) ≡ after_commits homes (take count old.records)
+      by_case (inl has) = ap (λ (rs : List Footprint). after_commits homes (take count rs)) has.records
+          ∙ ap (λ (rs : List Footprint). after_commits homes rs)
+          (take-append-le count old.records (commit ∷ []) early)
+      by_case (inr at_once) = ap (λ (rs : List Footprint). after_commits homes (take count rs)) at_once.records
 
   module _ (entry : Entry) (tells : TellsOf boot plan entry)
       (one_geometry : (g h : Geometry) → g.blocks ≡ h.blocks → g.inodes ≡ h.inodes → g ≡ h) where

@@ -1,10 +1,11 @@
--- An installation that came to an end leaves a store open over what it has brought home, without the entries that are
--- home by then.
+-- An installation that came to an end leaves a store open over what it has brought home, without the entries
+-- that are home by then.
 use Rattle.std.proofs.Common.{◌≡◌, ℕ, zero, suc, ◌+◌, ◌-◌, ◌<◌, ◌≤◌, ap, sym, ◌∙◌, refl, subst, arith}
 use Rattle.std.proofs.Common.{Bool, true, false, if◌then◌else◌, ◌&&◌, List, [], Option}
 use Rattle.std.proofs.Common.{length, take, drop, nat_le, nat_lt}
 use Rattle.std.proofs.lemmas.Bool.{ltb-true, ltb-false, le-leb, lt-leb}
 use Rattle.std.proofs.lemmas.List.{drop-drop, take-append-drop}
+use Rattle.std.proofs.Math.Seq.{take-add}
 use Rattle.limits.specs.declared.TheConstants.{SUPER_BLOCK}
 use Rattle.disk.specs.Crash.{Image}
 use Rattle.disk.specs.Device.{Content, Device}
@@ -28,7 +29,7 @@ use Rattle.txn_law.specs.CoreWindow.{held_of}
 use Rattle.txn_law.specs.HomeRead.{IsReadable}
 use Rattle.txn_law.specs.Window.{Footprint, IsWindowOver, after_commits, at_installed, opening}
 use Rattle.txn_law.proofs.Commits.{after_commits-append, past-drop}
-use Rattle.store_promise.specs.OpenSince.{IsOpenSince, IsSoundCore, file_blocks}
+use Rattle.store_promise.specs.OpenSince.{IsOpenSince, IsSoundCore, blocks_after, file_blocks}
 use Rattle.store_promise.specs.OpenStore.{HasFilesOver, IsChain, IsOpenOver}
 use Rattle.store_promise.proofs.Chains.{after_both, chain_past, stamps_past}
 use Rattle.store_promise.proofs.HomesAfter.{homes_after}
@@ -152,13 +153,22 @@ module _ (base : Image) (d : Device) (old new : CoreState) (logging installing :
       sym (ap (λ (k : ℕ). homes_of k (opening home new.log)) gone.blocks
       ∙ homes_after base old since.over.lawful files.home n (opening home new.log) there)
 
+  pub earlier_then : (count : ℕ) → blocks_after home new count ≡ blocks_after base old (n + count)
+  earlier_then count =
+      ap (λ (image : Image). after_commits image (take count new.records)) (sym homes_are)
+      ∙ ap (λ (rs : List Footprint). after_commits (after_commits homes (take n old.records)) (take count rs))
+      records_are
+      ∙ sym (after_commits-append homes (take n old.records) (take count (drop n old.records)))
+      ∙ ap (λ (rs : List Footprint). after_commits homes rs) (sym (take-add n count old.records))
+
   pub blocks_then : file_blocks home new ≡ file_blocks base old
   blocks_then = ap (λ (image : Image). after_commits image new.records) (sym homes_are)
       ∙ ap (λ (rs : List Footprint). after_commits (after_commits homes (take n old.records)) rs) records_are
       ∙ sym (after_commits-append homes (take n old.records) (drop n old.records))
       ∙ ap (λ (rs : List Footprint). after_commits homes rs) (take-append-drop n old.records)
 
-  module _ (inodes : new.inodes ≡ old.inodes) (sound : IsSoundCore home new) (agrees : AgreesBeside d home new.log logging idle)
+  module _ (inodes : new.inodes ≡ old.inodes) (sound : IsSoundCore home new)
+      (agrees : AgreesBeside d home new.log logging idle)
       (readable : IsReadable d new.log idle) where
     further : installed_place old.log + n ≡ installed_place new.log
     further = let a = gone.installed in omega (arith, a)

@@ -1,6 +1,7 @@
 -- What an opening leaves, over what is at home.
 use Rattle.std.proofs.Common.{◌≡◌, ℕ, zero, suc, ◌+◌, ◌≤◌, ◌⊎◌, inl, inr, ap, sym, ◌∙◌, refl, subst, arith}
-use Rattle.std.proofs.Common.{Bool, true, false, cond, if◌then◌else◌, ◌&&◌, List, [], All, nat_eq, nat_le, nat_lt, take, drop}
+use Rattle.std.proofs.Common.{Bool, true, false, cond, if◌then◌else◌, ◌&&◌, List, [], All, nat_eq}
+use Rattle.std.proofs.Common.{nat_le, nat_lt, take, drop}
 use Rattle.std.proofs.Common.{length, replicate}
 use Rattle.std.proofs.lemmas.Bool.Decides.{nat_tests}
 use Rattle.limits.specs.declared.TheConstants.{BLOCK_BYTES, FIRST_HOME_BLOCK, SUPER_BLOCK}
@@ -23,7 +24,8 @@ use Rattle.wal_law.specs.Overlay.{over}
 use Rattle.txn_law.specs.Core.{CoreState}
 use Rattle.txn_law.specs.CoreWindow.{AreBlocks, IsCoreWindow, held_of}
 use Rattle.txn_law.specs.declared.present.Present.{Present}
-use Rattle.txn_law.specs.Window.{Follow, Footprint, IsCurrent, LeadsTo, after_commits, commits_among, now_of, opening}
+use Rattle.txn_law.specs.Window.{Follow, Footprint, IsCurrent, LeadsTo, after_commits, commits_among}
+use Rattle.txn_law.specs.Window.{now_of, opening}
 use Rattle.store_promise.specs.GoodImage.{IsGoodImage}
 use Rattle.store_promise.specs.Openings.{IsOpened}
 use Rattle.store_promise.specs.OpenSince.{IsOpenSince}

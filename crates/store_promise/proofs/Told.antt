@@ -2,14 +2,16 @@
 use Rattle.std.proofs.Common.{◌≡◌, ℕ, zero, suc, ap, sym, ◌∙◌, refl, subst, Bool, true, false, if◌then◌else◌}
 use Rattle.std.proofs.Common.{◌<◌, ◌≤◌}
 use Rattle.std.proofs.lemmas.Bool.{cases_lt}
-use Rattle.std.proofs.Common.{List, [], ◌∷◌, ◌++◌, Option, Some, None, take, slice_get, nat_eq, arith, ◌⊎◌, inl, inr}
+use Rattle.std.proofs.Common.{List, [], ◌∷◌, ◌++◌, Option, Some, None, take, slice_get, nat_eq, arith}
+use Rattle.std.proofs.Common.{◌⊎◌, inl, inr}
 use Rattle.std.specs.List.{zip}
 use Rattle.std.specs.Option.{option_map}
 use Rattle.std.proofs.lemmas.Bool.Decides.{nat_tests}
 use Rattle.store_promise.specs.declared.events.Event.{Event}
 use Rattle.store_promise.specs.declared.events.Event.TheVariants as event
 use Rattle.store_promise.specs.declared.events.Step.{Step}
-use Rattle.store_promise.specs.Progress.{Begun, Job, Progress, Idle, At, Stage, Called, Planning, going_on, progressed}
+use Rattle.store_promise.specs.Progress.{Begun, Job, Progress, Idle, At, Stage, Called, Planning}
+use Rattle.store_promise.specs.Progress.{going_on, progressed}
 use Rattle.store_promise.specs.Schedule.{Schedule, Setting, Told, at_first, told_after, told_along, told_before}
 use Rattle.store_promise.specs.Schedule.{AreTaken, IsOfOne, IsStepByPlan, IsStepOfWork, IsTaken}
 use Rattle.store_promise.specs.Schedule.{progress_before, worker_of}

@@ -62,8 +62,8 @@ IsBoot boot found = found ≡ boot
 abbrev pub IsSettledOf : Log → ℕ → Type 0
 IsSettledOf log place = place ≤ settled_place log - installed_place log
 
--- What an opening is to leave of a core, over what is at home: the device agrees with it, nothing is in the log or in
--- memory, no commit was made, no transaction begun, and nothing has failed.
+-- What an opening is to leave of a core, over what is at home: the device agrees with it, nothing is in the log
+-- or in memory, no commit was made, no transaction begun, and nothing has failed.
 pub record IsNewOver (base : Image) (d : Device) (core : CoreState) : Type 0 where
   pub lawful : IsLawful core.log
   pub agrees : AgreesBeside d base core.log idle idle

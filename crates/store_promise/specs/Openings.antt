@@ -91,8 +91,8 @@ abbrev pub HasBootLeft : ℕ → Content → Type 0
 HasBootLeft size content = (super : Super) × IsSuper content super × (super.geometry.blocks ≡ size)
     × (super.boot + 1 < 2 ^ 64)
 
--- an image of so many blocks shows why it isn't opened: by its super block first, whose boot number is the last of it, then by its log's
--- headers
+-- an image of so many blocks shows why it isn't opened: by its super block first, whose boot number is the last
+-- of it, then by its log's headers
 abbrev pub IsShownBy : OpenFault → ℕ → Image → Type 0
 IsShownBy fault.Magic size image = (size ≡ 0) ⊎ IsNoSuper (image SUPER_BLOCK) layout_fault.Magic
 IsShownBy fault.Version size image = IsNoSuper (image SUPER_BLOCK) layout_fault.Version

@@ -1,6 +1,6 @@
-//! Laws on the blocks that stand for the files of an open store: what is held for reading is theirs, and only a commit
-//! changes them.
-ghost use Rattle.std.specs.Prelude.{◌≡◌, ℕ, ◌≤◌, Bool, List, if◌then◌else◌};
+//! Laws on the blocks that stand for the files of an open store: what is held for reading is theirs, and only a
+//! commit changes them.
+ghost use Rattle.std.specs.Prelude.{◌≡◌, ℕ, ◌+◌, ◌-◌, ◌≤◌, Bool, List, if◌then◌else◌, length};
 ghost use Rattle.disk.specs.Crash.{Image};
 ghost use Rattle.disk.specs.Device.{Device};
 ghost use Rattle.model.specs.After.{Entry};
@@ -14,7 +14,8 @@ ghost use Rattle.wal_law.specs.Calls.{Pending, home_after};
 ghost use Rattle.wal_law.specs.Installer.{with_inst_back, with_inst_out};
 ghost use Rattle.wal_law.specs.Log.{IsLawful, Log, installed_place, settled_place};
 ghost use Rattle.wal_law.specs.Logger.{with_log_back, with_log_out};
-ghost use Rattle.store_promise.specs.OpenSince.{HasFileBlocks, IsOpenSince, StandsBeside, file_blocks};
+ghost use Rattle.store_promise.specs.OpenSince.{HasFileBlocks, IsOpenSince, StandsBeside, blocks_after};
+ghost use Rattle.store_promise.specs.OpenSince.{file_blocks};
 
 /// The blocks stand for the files as they are, and have what any transaction holds for reading.
 pub fn what_is_held_is_what_the_files_are()
@@ -46,6 +47,20 @@ pub fn only_a_commit_changes_the_files()
         → IsOpenSince base d old logging installing boot first entries last
         → new.log ≡ with_inst_back old.log ok → new.records ≡ past (installed_place new.log) old.records
         → file_blocks (home_after base old.log ok) new ≡ file_blocks base old }
+{}
+
+/// The blocks after each earlier commit stay what they were, through a commit and through an installation.
+pub fn earlier_files_keep_their_blocks()
+    ensures commit { (base : Image) (d : Device) (old new : CoreState) (logging installing : Pending) (boot : ℕ)
+        (first last : Tree) (entries : List Entry) (tx place count : ℕ) (plan : Planned)
+        → IsOpenSince base d old logging installing boot first entries last → TakesPlace old tx plan place new
+        → count ≤ length old.records → blocks_after base new count ≡ blocks_after base old count }
+    ensures installed { (base : Image) (d : Device) (old new : CoreState) (logging installing : Pending) (ok : Bool)
+        (boot : ℕ) (first last : Tree) (entries : List Entry) (count : ℕ)
+        → IsOpenSince base d old logging installing boot first entries last
+        → new.log ≡ with_inst_back old.log ok → new.records ≡ past (installed_place new.log) old.records
+        → blocks_after (home_after base old.log ok) new count
+        ≡ blocks_after base old (installed_place new.log - installed_place old.log + count) }
 {}
 
 /// What is settled stays settled: no step takes a settled place back.

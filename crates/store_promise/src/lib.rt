@@ -22,8 +22,8 @@ pub use answers::{CallAnswer, Entry, Verdict};
 pub use events::{Cause, Committing, Ending, Event, Step, Wish};
 pub use fault::OpenFault;
 pub use file_blocks::{
-    only_a_commit_changes_the_files, what_is_held_is_what_the_files_are,
-    what_is_settled_stays_settled,
+    earlier_files_keep_their_blocks, only_a_commit_changes_the_files,
+    what_is_held_is_what_the_files_are, what_is_settled_stays_settled,
 };
 pub use fresh::{a_fresh_image_is_good, a_made_image_may_run};
 pub use log_steps::{a_commit_is_told, the_installer_is_told, the_logger_is_told};
@@ -60,7 +60,8 @@ pub use steps_made::{
     a_call_changes_no_more_than_it_may, a_call_that_is_out_is_made, a_full_log_is_full,
     a_worker_goes_by_its_plan, a_worker_passes_over_no_event, nothing_is_asked_for_twice,
     one_worker_is_never_busy, the_installer_comes_to_an_end, the_log_passes_over_no_event,
-    the_log_takes_its_next_call, what_is_asked_for_goes_by_the_files, what_was_made_stays,
+    the_log_takes_its_next_call, what_is_asked_for_goes_by_the_disk,
+    what_is_asked_for_goes_by_the_files, what_was_made_stays,
 };
 pub use told_log::{
     the_installer_stands_at_a_home, the_installers_next_call_is_told,

@@ -26,7 +26,8 @@ pub fn a_run_of_one_setattr_keeps_the_promise()
         (one : OneSetAttr) (reply : Reply)
         → IsOpened before opened tree first one.position → IsGeometryOf opened.size tree g
         → Stands g blocks tree → Stands g changed next
-        → one.position + 1 < 2 ^ 64 → WentOnByFive opened later → LeavesTrees opened later (first + 1) tree next blocks changed
+        → one.position + 1 < 2 ^ 64 → WentOnByFive opened later
+        → LeavesTrees opened later (first + 1) tree next blocks changed
         → sets_only_mode one.attributes ≡ true → Asks g (asked one) [] one.addr
         → step tree (ctx_in (first + 1) one) (asked one) reply next
         → KeepsPromise before later tree first 1 (events_of one) (told_of (first + 1) one reply) }

@@ -1,6 +1,8 @@
 //! Laws on the steps of an open store: each leaves it open, with the entries that there were, and a commit with one
-//! more. So a run's steps keep one invariant, and whatever a stop leaves has the files after a beginning of the entries.
-ghost use Rattle.std.specs.Prelude.{◌≡◌, ℕ, ◌+◌, ◌≤◌, ◌++◌, ◌∷◌, [], Bool, List, Result, if◌then◌else◌, is_ok, length};
+//! more. So a run's steps keep one invariant, and whatever a stop leaves has the files after a beginning of the
+//! entries.
+ghost use Rattle.std.specs.Prelude.{◌≡◌, ℕ, ◌+◌, ◌≤◌, ◌++◌, ◌∷◌, [], Bool, List, Result, if◌then◌else◌};
+ghost use Rattle.std.specs.Prelude.{is_ok, length};
 ghost use Rattle.std.specs.Prelude.{true};
 ghost use Rattle.disk.specs.Crash.{Image, IsCrashImage};
 ghost use Rattle.disk.specs.Device.{Device, HasRead, OneLater};

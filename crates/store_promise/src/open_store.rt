@@ -19,8 +19,8 @@ ghost use Rattle.store_promise.specs.Openings.{IsOpened};
 ghost use Rattle.store_promise.specs.Prefix.{HasPrefix};
 
 /// An image that has whole groups over what is at home is good, and has the tree after the first so many of the
-/// entries, not fewer than are settled, and the blocks after their commits. It needs no device that agrees, and so holds within the write of a super
-/// block too.
+/// entries, not fewer than are settled, and the blocks after their commits. It needs no device that agrees, and
+/// so holds within the write of a super block too.
 pub fn whole_groups_are_a_good_image()
     ensures { (base : Image) (core : CoreState) (boot : ℕ) (tree last : Tree) (entries : List Entry)
         (image : Image)

@@ -1,5 +1,6 @@
 //! Laws on a run that goes on: what its device has counted, and what its reads have brought.
-ghost use Rattle.std.specs.Prelude.{◌≡◌, ◌+◌, ◌++◌, ◌∷◌, [], All, Contains, List, Option, Result, is_err, ℕ, Bool, false, true};
+ghost use Rattle.std.specs.Prelude.{◌≡◌, ◌+◌, ◌++◌, ◌∷◌, [], All, Contains, List, Option, Result};
+ghost use Rattle.std.specs.Prelude.{is_err, ℕ, Bool, false, true};
 ghost use Rattle.disk.specs.Crash.{Image};
 ghost use Rattle.disk.specs.Device.{CountsFailure, Device, OneLater, current, newest};
 ghost use Rattle.disk.specs.declared.block.BlockNo.{BlockNo};
@@ -20,8 +21,8 @@ ghost use Rattle.store_promise.specs.Schedule.{Setting, at_first};
 ghost use Rattle.store_promise.specs.Running.{IsFetchOver, IsMovedAlong, IsMovedBy, IsRunningOver, IsTold, at_rest};
 ghost use Rattle.store_promise.specs.Transcript.{calls_device, fails};
 
-/// What an opening leaves begins a run, over what is at home: with the files that were found, no entry, no read that is
-/// out, and a log of which nothing is told yet.
+/// What an opening leaves begins a run, over what is at home: with the files that were found, no entry, no read
+/// that is out, and a log of which nothing is told yet.
 pub fn an_opening_begins_a_run()
     ensures runs { (before opened : Device) (base : Image) (core : CoreState) (tree : Tree) (first : ℕ) (o : Setting)
         → IsOpened before opened tree first o.position → IsNewOver base opened core

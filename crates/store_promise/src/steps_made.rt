@@ -1,8 +1,8 @@
 //! Laws on the steps that events make, which the promise of a run pins.
 ghost use Rattle.std.specs.Prelude.{◌≡◌, ◌≢◌, ◌+◌, ◌<◌, ◌≤◌, ℕ, Bool, List, Option, slice_get, Some, None, true};
-ghost use Rattle.std.specs.Prelude.{take};
+ghost use Rattle.std.specs.Prelude.{[], take};
 ghost use Rattle.limits.specs.declared.TheConstants.{LOG_SLOTS, START_BLOCK};
-ghost use Rattle.disk.specs.Crash.{Image};
+ghost use Rattle.disk.specs.Crash.{Image, IsCrashImage};
 ghost use Rattle.disk.specs.Device.{Device};
 ghost use Rattle.disk.specs.declared.block.BlockNo.{BlockNo};
 ghost use Rattle.model.specs.After.{after};
@@ -10,7 +10,9 @@ ghost use Rattle.model.specs.Tree.{Tree};
 ghost use Rattle.objects.specs.declared.addr.Addr.{Addr};
 ghost use Rattle.objects.specs.declared.mode.Mode.{Mode};
 ghost use Rattle.layout.specs.declared.geometry.Geometry.{Geometry};
+ghost use Rattle.layout.specs.Homes.{homes_of};
 ghost use Rattle.layout.specs.Stands.{Stands};
+ghost use Rattle.wal_law.specs.Overlay.{over};
 ghost use Rattle.procs.specs.Asks.{Asks};
 ghost use Rattle.procs.specs.MostChanged.{most_changed};
 ghost use Rattle.txn.specs.Object.{ObjectBytes};
@@ -128,8 +130,23 @@ pub fn what_is_asked_for_goes_by_the_files()
         → KeepsPromise before later tree first workers events t → ⊥ }
 {}
 
-/// What an event made stays what it may make, whatever blocks stand for the files after later procedures: it goes by
-/// those of its own moment.
+/// Before any commit the files are what a stop leaves: a transaction for which something is asked that these homes
+/// don't lead to breaks the promise.
+pub fn what_is_asked_for_goes_by_the_disk()
+    ensures { (before later : Device) (tree : Tree) (first workers index worker : ℕ) (events : Schedule)
+        (t : Transcript) (job : Job) (begun : Begun) (addr : Addr) (mode : Mode) (answer : Wish) (image : Image)
+        → t.history ≡ [] → (told_before events t.steps index).log.places ≡ 0
+        → slice_get events index ≡ Some (event.Work worker) → worker < workers
+        → slice_get t.steps index ≡ Some (Some (step.Wanted addr mode answer))
+        → progress_before events t.steps worker index ≡ At job (Planning begun)
+        → IsCrashImage later later.clock image
+        → ((g : Geometry) → Asks g job.call
+        (objects_at (homes_of later.size (over image)) (addrs_of begun.held)) addr → ⊥)
+        → KeepsPromise before later tree first workers events t → ⊥ }
+{}
+
+/// What an event made stays what it may make, whatever blocks stand for the files after later procedures: it
+/// goes by those of its own moment.
 pub fn what_was_made_stays()
     ensures { (o : Setting) (workers : ℕ) (told : Told) (event : Event) (made : Option Step) (later : ℕ → Image)
         → later told.log.places ≡ o.blocks told.log.places → IsTaken o workers told event made
@@ -147,12 +164,18 @@ pub fn nothing_is_asked_for_twice()
         → KeepsPromise before later tree first workers events t → ⊥ }
 {}
 
-/// One worker alone that is told Busy, of which it could wait for ever, breaks the promise.
+/// One worker alone that is told Busy or Loading, of which it could wait for ever, breaks the promise.
 pub fn one_worker_is_never_busy()
-    ensures { (before later : Device) (tree : Tree) (first index worker : ℕ) (events : Schedule)
+    ensures busy { (before later : Device) (tree : Tree) (first index worker : ℕ) (events : Schedule)
         (t : Transcript) (job : Job) (begun : Begun) (addr : Addr) (mode : Mode)
         → slice_get events index ≡ Some (event.Work worker)
         → slice_get t.steps index ≡ Some (Some (step.Wanted addr mode wish.Busy))
+        → progress_before events t.steps worker index ≡ At job (Planning begun)
+        → KeepsPromise before later tree first 1 events t → ⊥ }
+    ensures loading { (before later : Device) (tree : Tree) (first index worker : ℕ) (events : Schedule)
+        (t : Transcript) (job : Job) (begun : Begun) (addr : Addr) (mode : Mode)
+        → slice_get events index ≡ Some (event.Work worker)
+        → slice_get t.steps index ≡ Some (Some (step.Wanted addr mode wish.Loading))
         → progress_before events t.steps worker index ≡ At job (Planning begun)
         → KeepsPromise before later tree first 1 events t → ⊥ }
 {}

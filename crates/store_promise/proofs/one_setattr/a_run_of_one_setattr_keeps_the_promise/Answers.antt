@@ -8,8 +8,8 @@ use Rattle.store_promise.proofs.OneSetAttrTold.{answers, history}
 use Rattle.store_promise.proofs.one_setattr.a_run_of_one_setattr_keeps_the_promise.Goals as goal
 
 pub returns : goal.returns
-returns c = λ before opened later g blocks changed tree next first one reply opens geometry stands after_it room went trees rules
-    asks steps.
+returns c = λ before opened later g blocks changed tree next first one reply opens geometry stands after_it room went trees
+    rules asks steps.
     record {
       opened = opened;
       setting = setting_of g blocks changed one;

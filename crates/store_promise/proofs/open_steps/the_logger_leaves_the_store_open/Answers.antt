@@ -40,12 +40,14 @@ returns-clause-made c = λ base d later core io answer installing boot first las
     since.over.lawful made since.over.agrees since.over.readable)
 
 pub returns-clause-given_back : goal.returns-clause-given_back
-returns-clause-given_back c = λ base d old new io answer ok installing boot first last entries since answered is log_is back sound.
+returns-clause-given_back c = λ base d old new io answer ok installing boot first last entries since answered is log_is
+    back sound.
     still_open base old new (record {
       log = subst (HasSameChanges old.log) (sym log_is) (log_given_same old.log (is_log_out old.log io) ok);
       inodes = ap (λ (core : CoreState). core.inodes) is;
       records = ap (λ (core : CoreState). core.records) is;
     }) d d (pending.was_made io answer) installing pending.idle installing boot first last entries since sound
     (back d base answer installing answered since.over.agrees)
-    (subst (λ (log : Log). IsReadable d log installing) (sym log_is) (readable_back d old.log installing (is_log_out old.log io) ok since.over.readable
+    (subst (λ (log : Log). IsReadable d log installing) (sym log_is)
+    (readable_back d old.log installing (is_log_out old.log io) ok since.over.readable
     (c.the_logger_keeps_what_may_be_read.ensures.comes_back d old.log ok installing since.over.readable)))

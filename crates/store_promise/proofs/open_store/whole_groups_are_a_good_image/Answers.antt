@@ -51,7 +51,8 @@ module _ (base : Image) (core : CoreState) (boot : ℕ) (tree last : Tree) (entr
       boot_is = files.boot_is;
       range = boundary.range;
       homes = boundary.homes;
-      stands = subst (λ (blocks : Image). Stands files.super.geometry blocks found.0) (sym (homes_after base core lawful files.home k (over image) there))
+      stands = subst (λ (blocks : Image). Stands files.super.geometry blocks found.0)
+          (sym (homes_after base core lawful files.home k (over image) there))
           found.2;
       stamps = files.stamps k found.0 found.1;
     }

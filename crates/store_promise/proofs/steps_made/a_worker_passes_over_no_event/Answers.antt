@@ -1,5 +1,6 @@
 use Rattle.std.proofs.Common.{◌≢◌, ℕ, None, refl, subst}
-use Rattle.store_promise.specs.Progress.{At, Begun, Job, Stage, Called, Planning, Reading, Read, Refused, Again, Taken}
+use Rattle.store_promise.specs.Progress.{At, Begun, Job, Stage, Called, Planning, Reading, Read}
+use Rattle.store_promise.specs.Progress.{Refused, Again, Taken}
 use Rattle.store_promise.specs.Progress.{Waiting}
 use Rattle.store_promise.specs.Schedule.{IsStepOfRead, IsStepOfWork, Setting, Told, told_before}
 use Rattle.store_promise.proofs.steps_made.a_worker_passes_over_no_event.Goals as goal

@@ -13,7 +13,8 @@ use Rattle.store_promise.specs.declared.events.Step.TheVariants as step
 use Rattle.store_promise.specs.LogTold.{CallTold, idle, out, was_made}
 use Rattle.store_promise.specs.Progress.{Again, At, Begun, Called, Idle, Planning, Progress, Read, Reading, Refused}
 use Rattle.store_promise.specs.Progress.{Stage, Waiting, addrs_of}
-use Rattle.store_promise.specs.Schedule.{HasNumbers, IsCommitting, IsStepByPlan, IsStepOf, IsStepOfInstaller, IsStepOfLog, IsStepOfWork}
+use Rattle.store_promise.specs.Schedule.{HasNumbers, IsCommitting, IsStepByPlan, IsStepOf}
+use Rattle.store_promise.specs.Schedule.{IsStepOfInstaller, IsStepOfLog, IsStepOfWork}
 use Rattle.store_promise.specs.Schedule.{IsStepWith, Setting, Told, objects_at}
 use Rattle.store_promise.proofs.steps_made.what_was_made_stays.Goals as goal
 
@@ -41,7 +42,8 @@ module _ (o : Setting) (told : Told) (later : ℕ → Image) (same : later told.
   by_plan worker call begun (step.Wanted addr mode answer) is = (
     record {
       unheld = is.0.unheld;
-      asks = subst (λ (blocks : Image). Asks o.geometry call (objects_at blocks (addrs_of begun.held)) addr) (sym same) is.0.asks;
+      asks = subst (λ (blocks : Image). Asks o.geometry call (objects_at blocks (addrs_of begun.held)) addr)
+          (sym same) is.0.asks;
       alone = is.0.alone;
     },
     is.1,
@@ -49,7 +51,8 @@ module _ (o : Setting) (told : Told) (later : ℕ → Image) (same : later told.
   by_plan worker call begun (step.Claimed block answer) is = (
     record {
       unclaimed = is.0.unclaimed;
-      claims = subst (λ (blocks : Image). Claims o.geometry call (objects_at blocks (addrs_of begun.held)) block) (sym same)
+      claims = subst (λ (blocks : Image). Claims o.geometry call (objects_at blocks (addrs_of begun.held)) block)
+          (sym same)
           is.0.claims;
     },
     is.1,
