@@ -7,7 +7,7 @@ use Rattle.limits.specs.declared.TheConstants.{LOG_SLOTS}
 use Rattle.disk.specs.Device.{CountsFailure, Device}
 use Rattle.disk.specs.declared.device.Failed.{Failed}
 use Rattle.wal.specs.Io.{Io}
-use Rattle.wal_law.specs.Log.{Log, IsLawful, log_end, place_before, settled_place}
+use Rattle.wal_law.specs.Log.{Log, IsLawful, place_before, settled_place}
 use Rattle.wal_law.specs.declared.change.LogChange.{LogChange}
 use Rattle.txn_law.specs.Core.{CoreState}
 use Rattle.txn_law.specs.CoreLaw.{IsLawfulCore}

@@ -1,8 +1,7 @@
 -- Each step of the log's side leads from what is told to what is told next, and keeps the agreement.
 use Rattle.std.proofs.Common.{◌≡◌, ◌≤◌, ℕ, ◌+◌, ap, sym, ◌∙◌, refl, subst, arith, length}
-use Rattle.std.proofs.Common.{Bool, true, false, if◌then◌else◌, ◌&&◌, Option, Some, None, Result, Ok, Err, is_ok}
+use Rattle.std.proofs.Common.{Bool, true, false, if◌then◌else◌, Option, Some, None, Result, Ok, Err, is_ok}
 use Rattle.std.proofs.Common.{nat_eq, nat_lt}
-use Rattle.std.proofs.lemmas.Bool.Decides.{nat_tests}
 use Rattle.std.proofs.lemmas.List.{length-drop}
 use Rattle.disk.specs.Crash.{Image}
 use Rattle.disk.specs.Device.{Device}
@@ -13,7 +12,7 @@ use Rattle.wal_law.specs.Calls.{LogCallGoesOut, LogCallIsMade, was_made}
 use Rattle.wal_law.specs.Installer.{IsNextInstCall, is_inst_out, may_install, next_home, with_inst_back}
 use Rattle.wal_law.specs.Installer.{with_inst_out, with_installed}
 use Rattle.wal_law.specs.Io.{Io}
-use Rattle.wal_law.specs.Log.{IsLawful, Log, log_end}
+use Rattle.wal_law.specs.Log.{IsLawful, Log}
 use Rattle.wal_law.specs.Logger.{IsNextLogCall, is_log_out, may_log, with_log_back, with_log_out}
 use Rattle.store_promise.specs.declared.events.Step.{Step}
 use Rattle.store_promise.specs.declared.events.Step.TheVariants as step

@@ -7,6 +7,7 @@ pub mod Phases
 pub mod Running
 pub mod Seen
 pub mod Settling
+pub mod Telling
 pub mod Worker
 pub mod WorkerAnswers
 pub mod WorkerReads

@@ -1,6 +1,6 @@
 -- The step by which a worker goes on, by its phase: which step, and what it leaves of the worker and of the core.
 use Rattle.std.specs.Prelude.{◌≡◌, ◌↔◌, ℕ, ◌+◌, ◌^◌, ◌≤◌, Bool, true, false, if◌then◌else◌, IsTrue}
-use Rattle.std.specs.Prelude.{Option, Some, None, Ok, Err, List, [], ◌∷◌, length, IsSomeAnd}
+use Rattle.std.specs.Prelude.{Option, Some, None, Ok, Err, List, [], ◌∷◌, IsSomeAnd}
 use Rattle.disk.specs.Crash.{Image}
 use Rattle.disk.specs.declared.block.BlockNo.{BlockNo}
 use Rattle.objects.specs.declared.addr.Addr.{Addr}

@@ -164,9 +164,10 @@ impl Worker {
         let State {
             boot: _,
             phase: _,
-            work: _,
+            work,
             begun,
         } = state;
+        drop(work);
         begun.end(core);
     }
 }

@@ -1,10 +1,16 @@
 //! The events of a run.
-ghost use Rattle.std.specs.Prelude.{◌≡◌, None};
+ghost use Rattle.std.specs.Prelude.{◌≡◌, ◌<◌, ◌++◌, None, MatchOption, length, vec_len, vec_capacity};
+ghost use Rattle.txn.specs.Core.{CoreState};
 ghost use Rattle.store_promise.specs.Room.{HasRoom};
 ghost use Rattle.store_promise.specs.Running.{IsLogStep};
 ghost use Rattle.store.specs.LogSide.{MayInstIo, MayInstall, MayLog, MayLogIo, side_of};
 ghost use Rattle.store.specs.Running.{RunsWell, counted, one_more};
 ghost use Rattle.store.specs.Settling.{IsIdle};
+ghost use Rattle.store.specs.Telling.{HasWorked, TakesCall, TellsWork, answers_told, entries_told, told};
+ghost use Rattle.store.specs.Worker.{Fits, ctx_of};
+ghost use Rattle.store.specs.WorkerReads.{HasReadBlock};
+ghost use Rattle.store.specs.WorkerSteps.{side};
+ghost use Rattle.store.specs.declared.workers.parts.Phase.TheVariants.{Reading};
 
 use crate::opened::Store;
 use crate::options::put;
@@ -14,8 +20,9 @@ use nfs_types::{Call, Credential, Moment};
 use procs::Done;
 use std::alloc::Global;
 use store_promise::{
-    Event, Run, Step, a_device_counts_the_calls_of_its_steps, the_installer_leaves_the_store_open,
-    the_logger_leaves_the_store_open, what_was_read_is_at_home,
+    CallAnswer, Entry, Event, Run, Step, a_device_counts_the_calls_of_its_steps,
+    the_installer_leaves_the_store_open, the_logger_leaves_the_store_open,
+    what_was_read_is_at_home,
 };
 use txn::{Core, InstIo, LogIo};
 
@@ -91,7 +98,9 @@ impl<D: CrashDisk> Running<D> {
     ) -> Option<Step>
         requires { RunsWell self.old.worker self.old.store.core self.old.calls }
         ensures well { RunsWell self.new.worker self.new.store.core self.new.calls }
-        ensures model { D.keeps_model self.new.store.disk → D.keeps_model self.old.store.disk }
+        ensures rest { self.new ≡ record self.old { worker = self.new.worker } }
+        ensures step { TakesCall worker (ctx_of credential moment self.old.worker.state.boot) call
+            self.old.worker.state result self.new.worker.state }
     {
         if worker == 0 && self.worker.hand(credential, moment, call) {
             Some(Step::Called)
@@ -105,20 +114,34 @@ impl<D: CrashDisk> Running<D> {
         requires well { RunsWell self.old.worker self.old.store.core self.old.calls }
         requires room { HasRoom run.old }
         ensures well { RunsWell self.new.worker self.new.store.core self.new.calls }
-        ensures model { D.keeps_model self.new.store.disk → D.keeps_model self.old.store.disk }
+        ensures rest { (self.new.calls ≡ self.old.calls) × (self.new.clock ≡ self.old.clock) }
+        ensures disk { self.new.store.disk ≡ self.old.store.disk }
         ensures steps { run.new.steps ≡ run.old.steps }
+        ensures step { worker ≡ 0 → HasWorked worker self.old.clock
+            (side self.old.worker.state self.old.store.core) result
+            (side self.new.worker.state self.new.store.core) run.old run.new }
+        ensures none { (worker ≡ 0 → ⊥) → (result ≡ None) × (self.new ≡ self.old) × (run.new ≡ run.old) }
     {
         if worker != 0 {
             return None;
         }
         let step = self.worker.step(alloc, &mut self.store.core);
-        if let Some(entry) = self.worker.take_entry() {
-            run.note_entry(worker, self.clock, entry);
-        }
-        if let Some(answer) = self.worker.take_answer() {
-            run.note_answer(worker, self.clock, answer);
-        }
+        self.tell(worker, run);
         step
+    }
+
+    // What the worker's last step committed and answered is told, and doesn't lie ready any more.
+    fn tell(&mut self, worker: usize, run: &mut Run)
+        requires { HasRoom run.old }
+        ensures fits { (core : CoreState) → Fits self.old.worker core → Fits self.new.worker core }
+        ensures rest { self.new ≡ record self.old { worker = self.new.worker } }
+        ensures worker { self.new.worker.state ≡ told self.old.worker.state }
+        ensures run { TellsWork worker self.old.clock self.old.worker.state run.old run.new }
+    {
+        let entry = self.worker.take_entry();
+        let answer = self.worker.take_answer();
+        note_entry(run, worker, self.clock, entry);
+        note_answer(run, worker, self.clock, answer);
     }
 
     // The worker's read is made.
@@ -126,6 +149,14 @@ impl<D: CrashDisk> Running<D> {
         requires { RunsWell self.old.worker self.old.store.core self.old.calls }
         ensures well { RunsWell self.new.worker self.new.store.core self.new.calls }
         ensures model { D.keeps_model self.new.store.disk → D.keeps_model self.old.store.disk }
+        ensures rest { (self.new.calls ≡ self.old.calls) × (self.new.store.core ≡ self.old.store.core) }
+        ensures clock { self.new.clock ≡ counted self.old.clock result }
+        ensures step { MatchOption result
+            ((self.new.worker ≡ self.old.worker) × (D.device self.new.store.disk ≡ D.device self.old.store.disk)
+            × ((worker ≡ 0) × (self.old.worker.state.phase ≡ Reading) → ⊥))
+            (λ made. (worker ≡ 0) × HasReadBlock (D.keeps_model self.new.store.disk)
+            (D.device self.old.store.disk) self.old.worker.state made (D.device self.new.store.disk)
+            self.new.worker.state) }
     {
         if worker != 0 {
             return None;
@@ -303,5 +334,33 @@ impl Calls {
         if let Some(io) = inst {
             core.inst_done(io, false);
         }
+    }
+}
+
+// Tells of the procedure that was committed, if one was.
+fn note_entry(run: &mut Run, worker: usize, clock: u64, entry: Option<Entry>)
+    requires { vec_len run.old.history < vec_capacity run.old.history }
+    ensures history { run.new.history.items
+        ≡ run.old.history.items ++ entries_told worker (length run.old.steps.items) clock entry }
+    ensures answers { run.new.answers ≡ run.old.answers }
+    ensures steps { run.new.steps ≡ run.old.steps }
+    ensures boot { run.new.boot ≡ run.old.boot }
+{
+    if let Some(entry) = entry {
+        run.note_entry(worker, clock, entry);
+    }
+}
+
+// Tells of the answer that was given, if one was.
+fn note_answer(run: &mut Run, worker: usize, clock: u64, answer: Option<CallAnswer>)
+    requires { vec_len run.old.answers < vec_capacity run.old.answers }
+    ensures answers { run.new.answers.items
+        ≡ run.old.answers.items ++ answers_told worker (length run.old.steps.items) clock answer }
+    ensures history { run.new.history ≡ run.old.history }
+    ensures steps { run.new.steps ≡ run.old.steps }
+    ensures boot { run.new.boot ≡ run.old.boot }
+{
+    if let Some(answer) = answer {
+        run.note_answer(worker, clock, answer);
     }
 }

@@ -106,8 +106,9 @@ impl State {
     fn wait_for(&mut self, job: &Job, place: Seq, told: Reply)
         ensures { self.new ≡ with_replies job.now told place self.old }
     {
-        self.work.reply = Some(told);
-        self.work.broken_reply = Some(refused_reply(&job.call, Status::Io));
+        let broken = refused_reply(&job.call, Status::Io);
+        drop(self.work.reply.replace(told));
+        drop(self.work.broken_reply.replace(broken));
         self.phase = Phase::Waiting(place);
     }
 
@@ -117,8 +118,7 @@ impl State {
         ensures { self.new ≡ with_entry job reply self.old }
     {
         let Job { ctx, call } = job;
-        let old = self.work.entry.replace(Entry { ctx, call, reply });
-        drop(old);
+        drop(self.work.entry.replace(Entry { ctx, call, reply }));
     }
 }
 

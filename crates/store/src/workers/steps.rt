@@ -47,7 +47,7 @@ impl State {
     pub(super) fn take_call(&mut self, ctx: Ctx, call: Call)
         ensures { self.new ≡ with_call ctx call self.old }
     {
-        self.work.job = Some(Job { ctx, call });
+        drop(self.work.job.replace(Job { ctx, call }));
         self.phase = Phase::Called;
     }
 

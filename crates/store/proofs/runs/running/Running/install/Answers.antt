@@ -1,4 +1,4 @@
-use Rattle.std.proofs.Common.{rules, ◌≡◌, ◌∙◌, ap, refl, sym, subst, true, Some, None}
+use Rattle.std.proofs.Common.{rules, ◌≡◌, ◌∙◌, ap, refl, sym, subst, true, Some}
 use Rattle.store_promise.specs.OpenSince.{IsOpenSince}
 use Rattle.store_promise.specs.Running.{IsLogStep, KeepsTransactions}
 use Rattle.store_promise.specs.declared.events.Step.TheVariants as step
