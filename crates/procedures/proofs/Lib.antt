@@ -3,3 +3,4 @@ pub mod Failures
 pub mod Numbers
 pub mod Sums
 pub mod Unchanged
+pub mod Verifiers
