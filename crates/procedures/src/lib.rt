@@ -20,5 +20,5 @@ pub use files::{
 };
 pub use steps::{
     a_numbered_step_is_determined, a_refusal_leaves_the_tree, each_call_has_a_step,
-    no_step_tells_a_failure, what_only_tells_leaves_the_tree,
+    no_step_makes_a_later_stamp, no_step_tells_a_failure, what_only_tells_leaves_the_tree,
 };
