@@ -1,5 +1,6 @@
 -- What a list of entries shows of the map that it stands for.
-use Rattle.std.proofs.Common.{◌≡◌, ℕ, zero, suc, ◌+◌, ◌<◌, sym, ap, ◌∙◌, refl, Bool, true, false, cond, List, []}
+use Rattle.std.proofs.Common.{◌≡◌, ℕ, zero, suc, ◌+◌, ◌<◌, sym, ap, ◌∙◌, refl, Bool, true, false, cond, List}
+use Rattle.std.proofs.Common.{[]}
 use Rattle.std.proofs.Common.{◌∷◌, length, get_or, map, position, Option, Some, None, arith}
 use Rattle.std.proofs.lemmas.Iterator.Adapters.{position_from-zero}
 use Rattle.std.proofs.lemmas.List.Quantifiers.{position-Some}
@@ -30,7 +31,8 @@ find_at [] index q e inside here first = absurd (omega arith)
 find_at (x ∷ xs) zero q e inside here first =
     taken (eq q x.name) (entry_of x).1 (map.find (slice_cmp nat_cmp) q (map entry_of xs)) here
 find_at (x ∷ xs) (suc index) q e inside here first =
-    skipped (eq q x.name) (entry_of x).1 (map.find (slice_cmp nat_cmp) q (map entry_of xs)) (first 0 (omega arith))
+    skipped (eq q x.name) (entry_of x).1 (map.find (slice_cmp nat_cmp) q (map entry_of xs)) (first 0
+    (omega arith))
     ∙ find_at xs index q e (omega arith) here (λ k below. first (suc k) (omega arith))
 
 neither : (b : Bool) (i : ℕ) (o : Option ℕ) → cond b (Some i) o ≡ None → (b ≡ false) × (o ≡ None)

@@ -1,6 +1,7 @@
 -- What a list of files stands for, file by file.
 use Rattle.std.proofs.Common.{rules, ◌≡◌, ℕ, ◌+◌, ◌<◌, sym, ap, ◌∙◌, refl, true}
-use Rattle.std.proofs.Common.{List, [], ◌∷◌, length, get_or, drop, map, position, nat_eq, Bool, true, cond, Option, Some, None}
+use Rattle.std.proofs.Common.{List, [], ◌∷◌, length, get_or, drop, map, position, nat_eq, Bool, true, cond}
+use Rattle.std.proofs.Common.{Option, Some, None}
 use Rattle.std.proofs.Common.{arith, sum_by, is_some}
 use Rattle.std.proofs.lemmas.List.{drop_more, get_or_default}
 use Rattle.std.proofs.lemmas.Iterator.Adapters.{position_from-zero}
@@ -41,7 +42,8 @@ got_some xs q index file is here =
     (λ k below. ap (λ p. nat_eq p (get_or xs k file).number) (sym number_is) ∙ at.2 k below)
 
 -- a file before others: one of its number among those is hidden by it
-with_known : (x : NumberedNode) (xs : List NumberedNode) (at : Option Node) → map.get (files_of xs) x.number ≡ at
+with_known : (x : NumberedNode) (xs : List NumberedNode) (at : Option Node)
+    → map.get (files_of xs) x.number ≡ at
     → blocks_of (x ∷ xs) + cost_at at ≡ blocks_of xs + cost (body_of x.node.body)
 with_known x xs None is =
     let sum = sum_insert_new (λ e. cost e.1.body) x.number (node_of x.node) (files_of xs) is in
@@ -49,7 +51,8 @@ with_known x xs None is =
 with_known x xs (Some old) is = sum_insert (λ e. cost e.1.body) x.number old (node_of x.node) (files_of xs) is
 
 pub with_one : (x : NumberedNode) (xs : List NumberedNode)
-    → blocks_of (x ∷ xs) + cost_at (map.get (files_of xs) x.number) ≡ blocks_of xs + cost (body_of x.node.body)
+    → blocks_of (x ∷ xs) + cost_at (map.get (files_of xs) x.number) ≡ blocks_of xs + cost
+    (body_of x.node.body)
 with_one x xs = with_known x xs (map.get (files_of xs) x.number) refl
 
 pub with_first : (xs : List NumberedNode) (index : ℕ) (file : NumberedNode) → index < length xs

@@ -27,7 +27,8 @@ module _ {A : Type 0} (tree : Tree) (handle : List ℕ) where
     unchanged = refl;
   }
 
-  pub tells_none : (tell : ℕ → Node → Result A Status) (outcome : Result A Status) (object : Option Attributes)
+  pub tells_none : (tell : ℕ → Node → Result A Status) (outcome : Result A Status)
+      (object : Option Attributes)
       (status : Status) → find_file tree handle ≡ Err status → outcome ≡ Err status → object ≡ None
       → Tells tree handle tell outcome object tree
   tells_none tell outcome object status is told parts = record {

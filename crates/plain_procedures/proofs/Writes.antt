@@ -1,5 +1,6 @@
 -- A WRITE of the file that was found is a step, where the file alone says so.
-use Rattle.std.proofs.Common.{◌≡◌, ℕ, ◌-◌, sym, ap, subst, ◌∙◌, refl, Bool, true, false, cond, nat_lt, List, Option}
+use Rattle.std.proofs.Common.{◌≡◌, ℕ, ◌-◌, sym, ap, subst, ◌∙◌, refl, Bool, true, false, cond, nat_lt, List}
+use Rattle.std.proofs.Common.{Option}
 use Rattle.std.proofs.Common.{Some, None, Result, Ok, Err}
 use Rattle.std.specs.Cmp.{nat_cmp_total}
 use Rattle.std.specs.FinMap.{get-insert}
@@ -45,11 +46,13 @@ module _ (tree : Tree) (ctx : Ctx) (offset count : ℕ) (stability : Stability) 
   kept = λ i. record { geometry = tree.geometry; nodes = insert_same tree.nodes number node was i }
 
   -- the file alone tells the answer and the tree
-  record Agree (local : Result (Written × Node) Status) (whole : Result (Effect Written) Status) : Type 0 where
+  record Agree (local : Result (Written × Node) Status) (whole : Result
+      (Effect Written) Status) : Type 0 where
     answer_is : answer_of whole ≡ outcome_of local
     tree_is : tree_after tree whole ≡ with_node tree number (node_after node local)
 
-  by_room : (b : Bool) → Agree (cond b (Err status.NoSpc) (Ok (given, new))) (cond b (Err status.NoSpc) (Ok effect))
+  by_room : (b : Bool) → Agree (cond b (Err status.NoSpc) (Ok (given, new))) (cond b (Err status.NoSpc)
+      (Ok effect))
   by_room true = record { answer_is = refl; tree_is = sym kept }
   by_room false = record { answer_is = refl; tree_is = refl }
 
@@ -57,7 +60,8 @@ module _ (tree : Tree) (ctx : Ctx) (offset count : ℕ) (stability : Stability) 
   with_room =
       subst (λ n. Agree (if_free (free tree) given new node)
       (cond (nat_lt (free tree) n) (Err status.NoSpc) (Ok effect)))
-      (sym (need_of_one tree number node new was)) (by_room (nat_lt (free tree) (cost new.body - cost node.body)))
+      (sym (need_of_one tree number node new was)) (by_room (nat_lt (free tree)
+      (cost new.body - cost node.body)))
 
   by_test : (test : Option Status)
       → Agree (unless test (if_free (free tree) given new node)) (unless test (if_room tree effect))
@@ -75,7 +79,8 @@ pub writes : (tree next : Tree) (ctx : Ctx) (handle : List ℕ) (offset count : 
     → new ≡ node_after file.1 (write_file (free tree) ctx offset count stability text file.1)
     → next ≡ with_node tree file.0 new → told ≡ change_of file.0 file.1 new
     → WriteStep tree ctx handle offset count stability text outcome told next
-writes tree next ctx handle offset count stability text file new outcome told is answered node_is next_is parts =
+writes tree next ctx handle offset count stability text file new outcome told is answered node_is next_is
+    parts =
     let was = found-stands tree handle file is in
     let same = agree tree ctx offset count stability text file.0 file.1 was in
     let act = write tree ctx offset count stability text in

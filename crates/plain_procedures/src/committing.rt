@@ -22,7 +22,8 @@ fn commit_refusal(caller: &Credential, node: &PlainNode) -> Option<Status>
 
 /// The verifier of this boot, where the caller may write the file.
 pub fn commit(tree: &PlainTree, ctx: &Ctx, file: &Handle) -> Changed<Verifier>
-    ensures { CommitStep (tree_of tree.now) ctx.now file.now.bytes result.outcome result.file (tree_of tree.now) }
+    ensures { CommitStep (tree_of tree.now) ctx.now file.now.bytes result.outcome result.file
+        (tree_of tree.now) }
 {
     match found(tree, file) {
         Err(status) => Changed {

@@ -45,7 +45,8 @@ pub fn file_system_info(tree: &PlainTree, object: &Handle) -> Told<FileSystemInf
 
 /// What the server tells of names and links.
 pub fn path_limits(tree: &PlainTree, object: &Handle) -> Told<PathLimits>
-    ensures { PathConfStep (tree_of tree.now) object.now.bytes result.outcome result.object (tree_of tree.now) }
+    ensures { PathConfStep (tree_of tree.now) object.now.bytes result.outcome result.object
+        (tree_of tree.now) }
 {
     match found(tree, object) {
         Err(status) => Told {

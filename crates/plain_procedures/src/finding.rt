@@ -23,7 +23,8 @@ pub struct Changed<A> {
 
 /// The file that a handle names.
 pub fn found<'t>(tree: &'t PlainTree, handle: &Handle) -> Result<&'t NumberedNode, Status>
-    ensures ok { IfOk result (λ file. find_file (tree_of tree.now) handle.now.bytes ≡ Ok (numbered file.now)) }
+    ensures ok { IfOk result (λ file. find_file (tree_of tree.now) handle.now.bytes ≡ Ok
+        (numbered file.now)) }
     ensures err { IfErr result (λ status. find_file (tree_of tree.now) handle.now.bytes ≡ Err status) }
 {
     let index = tree.find(handle)?;

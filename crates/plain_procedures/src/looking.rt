@@ -76,7 +76,8 @@ pub fn look_up(
     ctx: &Ctx,
     name: &DirectoryName,
 ) -> Result<Told<Looked>, AllocError>
-    ensures { IfOk result (λ told. LookupStep (tree_of tree.now) ctx.now name.now.directory.bytes name.now.name
+    ensures { IfOk result (λ told. LookupStep
+        (tree_of tree.now) ctx.now name.now.directory.bytes name.now.name
         told.outcome told.object (tree_of tree.now)) }
 {
     match found(tree, &name.directory) {

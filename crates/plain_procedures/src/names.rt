@@ -87,7 +87,8 @@ fn position_of_name(entries: &[PlainEntry], name: &[u8]) -> Option<usize>
 
 /// What a name in a directory leads to.
 pub(crate) fn entry_at<'t>(body: &'t PlainBody, name: &[u8]) -> Option<&'t PlainEntry>
-    ensures some { IfSome result (λ entry. entry_at (body_of body.now) name.now ≡ Some (entry_of entry.now).1) }
+    ensures some { IfSome result (λ entry. entry_at (body_of body.now) name.now ≡ Some
+        (entry_of entry.now).1) }
     ensures none { IfNone result (entry_at (body_of body.now) name.now ≡ None) }
 {
     let PlainBody::Directory { entries, .. } = body else {

@@ -1,6 +1,7 @@
 //! READ (RFC 1813, section 3.3.6).
 ghost use Rattle.std.specs.Prelude.{◌≡◌, ◌||◌, IfOk, nat_eq};
-ghost use Rattle.procedures.specs.Read.{ReadStep, bytes_of, may_read_file, piece, read, read_bytes, read_refusal};
+ghost use Rattle.procedures.specs.Read.{ReadStep, bytes_of, may_read_file, piece, read, read_bytes};
+ghost use Rattle.procedures.specs.Read.{read_refusal};
 ghost use Rattle.plain_server.specs.Plain.{body_of, node_of, tree_of};
 
 use crate::Told;
@@ -98,7 +99,8 @@ pub fn read(
     offset: u64,
     count: u32,
 ) -> Result<Told<ReadBytes>, AllocError>
-    ensures { IfOk result (λ told. ReadStep (tree_of tree.now) ctx.now file.now.bytes offset count told.outcome told.object (tree_of tree.now)) }
+    ensures { IfOk result (λ told. ReadStep
+        (tree_of tree.now) ctx.now file.now.bytes offset count told.outcome told.object (tree_of tree.now)) }
 {
     match found(tree, file) {
         Err(status) => Ok(Told {

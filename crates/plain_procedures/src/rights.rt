@@ -36,7 +36,8 @@ fn rights_on(caller: &Credential, node: &PlainNode) -> u32
 
 /// What of the bits that are asked for the caller may do.
 pub fn access(tree: &PlainTree, ctx: &Ctx, object: &Handle, bits: u32) -> Told<u32>
-    ensures { AccessStep (tree_of tree.now) ctx.now object.now.bytes bits result.outcome result.object (tree_of tree.now) }
+    ensures { AccessStep (tree_of tree.now) ctx.now object.now.bytes bits result.outcome result.object
+        (tree_of tree.now) }
 {
     match found(tree, object) {
         Err(status) => Told {

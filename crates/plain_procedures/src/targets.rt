@@ -20,7 +20,8 @@ fn target_of(body: &PlainBody) -> Result<Result<Octets, Status>, AllocError>
 
 /// The target of a link.
 pub fn read_link(tree: &PlainTree, link: &Handle) -> Result<Told<Octets>, AllocError>
-    ensures { IfOk result (λ told. ReadLinkStep (tree_of tree.now) link.now.bytes told.outcome told.object (tree_of tree.now)) }
+    ensures { IfOk result (λ told. ReadLinkStep (tree_of tree.now) link.now.bytes told.outcome told.object
+        (tree_of tree.now)) }
 {
     match found(tree, link) {
         Err(status) => Ok(Told {

@@ -1,7 +1,8 @@
 //! WRITE (RFC 1813, section 3.3.7).
 ghost use Rattle.std.specs.Prelude.{◌≡◌, ◌<◌, ◌≤◌, ◌+◌, ◌-◌, not, cond, nat_lt, length, IfOk, OnOk, OnErr};
 ghost use Rattle.model.specs.Cost.{cost};
-ghost use Rattle.procedures.specs.Write.{WriteStep, committed, is_wrong_count, mapped_with, overwritten, touched};
+ghost use Rattle.procedures.specs.Write.{WriteStep, committed, is_wrong_count, mapped_with, overwritten};
+ghost use Rattle.procedures.specs.Write.{touched};
 ghost use Rattle.procedures.specs.Write.{with_text, write_refusal, written_reply};
 ghost use Rattle.plain_server.specs.Plain.{body_of, node_of, tree_of};
 ghost use Rattle.plain_procedures.specs.Writing.{node_after, outcome_of, write_file};
@@ -100,7 +101,8 @@ fn overwritten(
     Ok(all)
 }
 
-/// Writes the bytes of a regular file, where the blocks that are free suffice. Ok(false) means that they don't.
+/// Writes the bytes of a regular file, where the blocks that are free suffice. Ok(false) means that they
+/// don't.
 fn write_body(
     alloc: Global,
     body: &mut PlainBody,
@@ -139,9 +141,11 @@ fn write_node(
     stability: Stability,
     text: &[u8],
 ) -> Result<Result<Written, Status>, AllocError>
-    ensures answered { IfOk result (λ r. r ≡ outcome_of (write_file free ctx.now offset count stability text.now (node_of node.old))) }
+    ensures answered { IfOk result (λ r. r ≡ outcome_of
+        (write_file free ctx.now offset count stability text.now (node_of node.old))) }
     ensures node { IfOk result (λ r. node_of node.new
-        ≡ node_after (node_of node.old) (write_file free ctx.now offset count stability text.now (node_of node.old))) }
+        ≡ node_after (node_of node.old) (write_file free ctx.now offset count stability text.now
+        (node_of node.old))) }
     ensures err { OnErr result (node_of node.new ≡ node_of node.old) }
 {
     if let Some(status) = write_refusal(&ctx.credential, offset, count, text, node) {
@@ -169,7 +173,8 @@ pub fn write(
     stability: Stability,
     text: &[u8],
 ) -> Result<Changed<Written>, AllocError>
-    ensures step { IfOk result (λ r. WriteStep (tree_of tree.old) ctx.now handle.now.bytes offset count stability
+    ensures step { IfOk result (λ r. WriteStep
+        (tree_of tree.old) ctx.now handle.now.bytes offset count stability
         text.now r.outcome r.file (tree_of tree.new)) }
     ensures err { OnErr result (tree_of tree.new ≡ tree_of tree.old) }
 {

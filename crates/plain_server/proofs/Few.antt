@@ -1,8 +1,10 @@
 -- Of numbers below a bound there are no more than the bound says.
-use Rattle.std.proofs.Common.{rules, ◌≡◌, ℕ, zero, suc, ◌+◌, ◌-◌, ◌<◌, ◌≤◌, sym, ap, ◌∙◌, refl, Bool, true, false, cond, ◌&&◌}
+use Rattle.std.proofs.Common.{rules, ◌≡◌, ℕ, zero, suc, ◌+◌, ◌-◌, ◌<◌, ◌≤◌, sym, ap, ◌∙◌, refl, Bool, true}
+use Rattle.std.proofs.Common.{false, cond, ◌&&◌}
 use Rattle.std.proofs.Common.{◌||◌, not, nat_eq, arith}
 use Rattle.std.specs.Cmp.{nat_cmp_total}
-use Rattle.std.specs.FinSet.{FinSet, contains, contains-empty, contains-insert, contains-remove, empty, insert, len}
+use Rattle.std.specs.FinSet.{FinSet, contains, contains-empty, contains-insert, contains-remove, empty}
+use Rattle.std.specs.FinSet.{insert, len}
 use Rattle.std.specs.FinSet.{len-empty, len-remove, nat_cmp-IsAntisymmetric, remove, retain, same_set}
 use Rattle.std.specs.Ordering.{eq_by_cmp, nat_cmp}
 use Rattle.limits.specs.declared.TheConstants.{FILE_INDEXES}

@@ -143,7 +143,8 @@ same_there m k q v true is got = sym got ∙ ap (map.get m) (sym (eq_by_cmp-is q
 same_there m k q v false is got = refl
 
 -- to put in what is there changes nothing
-pub insert_same : (m : map.FinMap nat_cmp Node) (k : ℕ) (v : Node) → map.get m k ≡ Some v → map.insert m k v ≡ m
+pub insert_same : (m : map.FinMap nat_cmp Node) (k : ℕ) (v : Node) → map.get m k ≡ Some v
+    → map.insert m k v ≡ m
 insert_same m k v got =
     map.same_map nat_cmp_total map.nat_cmp-IsAntisymmetric _ _ (λ q. map.get-insert nat_cmp_total m k v q
     ∙ same_there m k q v (eq q k) refl got)

@@ -1,9 +1,7 @@
 -- Which tree the plain structs of this crate stand for.
-use Rattle.std.specs.Prelude.{◌≡◌, ℕ, ◌<◌, Bool, true, false, nat_eq, List, map, length, get_or, Result, Ok}
+use Rattle.std.specs.Prelude.{◌≡◌, ℕ, ◌<◌, false, nat_eq, List, map, length, get_or, Result, Ok}
 use Rattle.std.specs.Prelude.{Err}
 use Rattle.std.specs.FinMap.{from_entries}
-use Rattle.nfs_types.specs.declared.call.Call.{Call}
-use Rattle.nfs_types.specs.declared.call.Call.TheVariants as call
 use Rattle.nfs_types.specs.declared.status.Status.{Status}
 use Rattle.model.specs.Node.{Node, Body, Regular, Directory, Link, DirectoryEntry}
 use Rattle.model.specs.Tree.{Tree}

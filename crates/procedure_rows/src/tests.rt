@@ -1,11 +1,13 @@
-//! Calls on a small tree: the root with one name, `a`, in its first slot, and the file 2 of user 7 that it leads to.
+//! Calls on a small tree: the root with one name, `a`, in its first slot, and the file 2 of user 7 that it
+//! leads to.
 
 use nfs_types::{
-    Call, Credential, Ctx, DirectoryName, Handle, Moment, NewAttributes, NumberList, Octets,
-    SetTime, Stability, Stamp, Status, WeakCacheData,
+    Call, Credential, Ctx, DirectoryName, FileSystemSpace, Handle, Moment, NewAttributes,
+    NumberList, Octets, SetTime, Stability, Stamp, Status, WeakCacheData,
 };
 use plain_procedures::{
-    access, commit, file_system_info, look_up, path_limits, read, read_link, write,
+    access, commit, file_system_info, file_system_space, look_up, path_limits, read, read_link,
+    write,
 };
 use plain_server::{
     MappedIndexes, NumberedNode, PlainBody, PlainEntry, PlainNode, PlainTree, serve,
@@ -326,6 +328,26 @@ fn what_is_told_of_the_file_system(rt: HostRuntime) -> Result<(), AllocError> {
     assert!(rt;
         matches!(&limits, Ok(limits) if limits.links == 32_000 && limits.name_bytes == 112)
     );
+    Ok(())
+}
+
+#[test]
+fn the_space_of_a_fresh_tree(rt: HostRuntime) -> Result<(), AllocError> {
+    let alloc = rt.alloc();
+    let tree = PlainTree::formatted(alloc, 506, 64, MADE)?;
+    let root = handle_of(alloc, 1, 0)?;
+    let space = file_system_space(&tree, &root).outcome;
+    // 506 blocks of 4,096 bytes, all free; 63 numbers, of which the root has one
+    let wanted = FileSystemSpace {
+        total_bytes: 2_072_576,
+        free_bytes: 2_072_576,
+        available_bytes: 2_072_576,
+        total_files: 63,
+        free_files: 62,
+        available_files: 62,
+        unchanged_seconds: 0,
+    };
+    assert_eq!(rt; space, Ok(wanted));
     Ok(())
 }
 

@@ -1,5 +1,6 @@
 -- The one answer to a call where the number of a new file is known: it is a step, and each step is it.
-use Rattle.std.proofs.Common.{◌≡◌, ◌≢◌, ℕ, sym, ap, subst, ◌∙◌, refl, List, Option, Some, None, Result, Ok, Err}
+use Rattle.std.proofs.Common.{◌≡◌, ◌≢◌, ℕ, sym, ap, subst, ◌∙◌, refl, List, Option, Some, None, Result, Ok}
+use Rattle.std.proofs.Common.{Err}
 use Rattle.nfs_types.specs.declared.attributes.Attributes.{Attributes}
 use Rattle.nfs_types.specs.declared.attributes.WeakCacheData.{WeakCacheData}
 use Rattle.nfs_types.specs.declared.attributes.NewAttributes.{NewAttributes}
@@ -49,7 +50,8 @@ module _ {A : Type 0} (tree : Tree) (handle : List ℕ) where
     is_told outcome object next t = λ i. (put (t.answered i) (t.parts i), t.unchanged i)
 
   tells : (tell : ℕ → Node → Result A Status)
-      → Tells tree handle tell (found_then (find_file tree handle) tell) (told_in tree (find_file tree handle))
+      → Tells tree handle tell (found_then (find_file tree handle) tell) (told_in tree
+      (find_file tree handle))
       tree
   tells tell = record { answered = refl; parts = refl; unchanged = refl }
 
@@ -156,22 +158,32 @@ module _ (tree : Tree) (ctx : Ctx) (new : Option ℕ) where
   answer (call.SetAttr object wanted guard) =
       let set = set_answer tree ctx wanted guard (find_file tree object.bytes) in
       (reply.SetAttr set.outcome set.told, set.next)
-  answer (call.Lookup name) = told_reply tree name.directory.bytes reply.Lookup (look_up tree ctx.credential name.name)
+  answer (call.Lookup name) =
+      told_reply tree name.directory.bytes reply.Lookup (look_up tree ctx.credential name.name)
   answer (call.Access object bits) = told_reply tree object.bytes reply.Access (granted ctx.credential bits)
   answer (call.ReadLink link) = told_reply tree link.bytes reply.ReadLink (λ _ node. target_of node.body)
-  answer (call.Read file offset count) = told_reply tree file.bytes reply.Read (read ctx.credential offset count)
-  answer (call.ReadDir directory cookie verifier count) = told_reply tree directory.bytes reply.ReadDir (list ctx.credential cookie verifier count)
-  answer (call.ReadDirPlus directory cookie verifier names_count count) = told_reply tree directory.bytes reply.ReadDirPlus (list_plus tree ctx.credential cookie verifier names_count count)
+  answer (call.Read file offset count) =
+      told_reply tree file.bytes reply.Read (read ctx.credential offset count)
+  answer (call.ReadDir directory cookie verifier count) =
+      told_reply tree directory.bytes reply.ReadDir (list ctx.credential cookie verifier count)
+  answer (call.ReadDirPlus directory cookie verifier names_count count) = told_reply tree directory.bytes
+      reply.ReadDirPlus (list_plus tree ctx.credential cookie verifier names_count count)
   answer (call.FsStat object) = told_reply tree object.bytes reply.FsStat (λ _ _. Ok (space_of tree))
   answer (call.FsInfo object) = told_reply tree object.bytes reply.FsInfo (λ _ _. Ok file_system_info)
   answer (call.PathConf object) = told_reply tree object.bytes reply.PathConf (λ _ _. Ok path_limits)
-  answer (call.Write file offset count stability text) = acted_reply tree file.bytes reply.Write (write tree ctx offset count stability text)
-  answer (call.Create name how) = acted_reply tree name.directory.bytes reply.Create (create tree ctx name.name how new)
-  answer (call.MkDir name wanted) = acted_reply tree name.directory.bytes reply.MkDir (make_directory tree ctx name.name wanted new)
-  answer (call.SymLink name wanted target) = acted_reply tree name.directory.bytes reply.SymLink (make_link tree ctx name.name wanted target new)
-  answer (call.MkNod name special) = acted_reply tree name.directory.bytes reply.MkNod (λ _ _. Err status.NotSupp)
+  answer (call.Write file offset count stability text) =
+      acted_reply tree file.bytes reply.Write (write tree ctx offset count stability text)
+  answer (call.Create name how) =
+      acted_reply tree name.directory.bytes reply.Create (create tree ctx name.name how new)
+  answer (call.MkDir name wanted) =
+      acted_reply tree name.directory.bytes reply.MkDir (make_directory tree ctx name.name wanted new)
+  answer (call.SymLink name wanted target) =
+      acted_reply tree name.directory.bytes reply.SymLink (make_link tree ctx name.name wanted target new)
+  answer (call.MkNod name special) =
+      acted_reply tree name.directory.bytes reply.MkNod (λ _ _. Err status.NotSupp)
   answer (call.Remove name) = acted_reply tree name.directory.bytes reply.Remove (remove tree ctx name.name)
-  answer (call.RmDir name) = acted_reply tree name.directory.bytes reply.RmDir (remove_directory tree ctx name.name)
+  answer (call.RmDir name) =
+      acted_reply tree name.directory.bytes reply.RmDir (remove_directory tree ctx name.name)
   answer (call.Commit file offset count) = acted_reply tree file.bytes reply.Commit (commit tree ctx)
   answer (call.Rename source target) =
       let result = renaming tree ctx source.directory.bytes source.name target.directory.bytes target.name in
@@ -197,15 +209,20 @@ module _ (tree : Tree) (ctx : Ctx) (new : Option ℕ) where
   answered (call.Access object bits) some = tells tree object.bytes (granted ctx.credential bits)
   answered (call.ReadLink link) some = tells tree link.bytes (λ _ node. target_of node.body)
   answered (call.Read file offset count) some = tells tree file.bytes (read ctx.credential offset count)
-  answered (call.ReadDir directory cookie verifier count) some = tells tree directory.bytes (list ctx.credential cookie verifier count)
-  answered (call.ReadDirPlus directory cookie verifier names_count count) some = tells tree directory.bytes (list_plus tree ctx.credential cookie verifier names_count count)
+  answered (call.ReadDir directory cookie verifier count) some =
+      tells tree directory.bytes (list ctx.credential cookie verifier count)
+  answered (call.ReadDirPlus directory cookie verifier names_count count) some =
+      tells tree directory.bytes (list_plus tree ctx.credential cookie verifier names_count count)
   answered (call.FsStat object) some = tells tree object.bytes (λ _ _. Ok (space_of tree))
   answered (call.FsInfo object) some = tells tree object.bytes (λ _ _. Ok file_system_info)
   answered (call.PathConf object) some = tells tree object.bytes (λ _ _. Ok path_limits)
-  answered (call.Write file offset count stability text) some = acts tree file.bytes (write tree ctx offset count stability text)
+  answered (call.Write file offset count stability text) some =
+      acts tree file.bytes (write tree ctx offset count stability text)
   answered (call.Create name how) some = acts tree name.directory.bytes (create tree ctx name.name how new)
-  answered (call.MkDir name wanted) some = acts tree name.directory.bytes (make_directory tree ctx name.name wanted new)
-  answered (call.SymLink name wanted target) some = acts tree name.directory.bytes (make_link tree ctx name.name wanted target new)
+  answered (call.MkDir name wanted) some =
+      acts tree name.directory.bytes (make_directory tree ctx name.name wanted new)
+  answered (call.SymLink name wanted target) some =
+      acts tree name.directory.bytes (make_link tree ctx name.name wanted target new)
   answered (call.MkNod name special) some = acts tree name.directory.bytes (λ _ _. Err status.NotSupp)
   answered (call.Remove name) some = acts tree name.directory.bytes (remove tree ctx name.name)
   answered (call.RmDir name) some = acts tree name.directory.bytes (remove_directory tree ctx name.name)
@@ -222,9 +239,11 @@ module _ (tree : Tree) (ctx : Ctx) (new : Option ℕ) where
       λ i. (reply.GetAttr (s.told i), s.unchanged i)
   is_answer (call.SetAttr object wanted guard) (reply.SetAttr outcome told) next s =
       let set = set_answer tree ctx wanted guard (find_file tree object.bytes) in
-      set_same tree ctx wanted guard (find_file tree object.bytes) outcome set.outcome told set.told next set.next s set.is
+      set_same tree ctx wanted guard (find_file tree object.bytes) outcome set.outcome told set.told next
+      set.next s set.is
   is_answer (call.Lookup name) (reply.Lookup outcome told) next s =
-      is_told tree name.directory.bytes reply.Lookup (look_up tree ctx.credential name.name) outcome told next s
+      is_told tree name.directory.bytes reply.Lookup
+      (look_up tree ctx.credential name.name) outcome told next s
   is_answer (call.Access object bits) (reply.Access outcome told) next s =
       is_told tree object.bytes reply.Access (granted ctx.credential bits) outcome told next s
   is_answer (call.ReadLink link) (reply.ReadLink outcome told) next s =
@@ -232,9 +251,12 @@ module _ (tree : Tree) (ctx : Ctx) (new : Option ℕ) where
   is_answer (call.Read file offset count) (reply.Read outcome told) next s =
       is_told tree file.bytes reply.Read (read ctx.credential offset count) outcome told next s
   is_answer (call.ReadDir directory cookie verifier count) (reply.ReadDir outcome told) next s =
-      is_told tree directory.bytes reply.ReadDir (list ctx.credential cookie verifier count) outcome told next s
-  is_answer (call.ReadDirPlus directory cookie verifier names_count count) (reply.ReadDirPlus outcome told) next s =
-      is_told tree directory.bytes reply.ReadDirPlus (list_plus tree ctx.credential cookie verifier names_count count) outcome told next s
+      is_told tree directory.bytes reply.ReadDir
+      (list ctx.credential cookie verifier count) outcome told next s
+  is_answer (call.ReadDirPlus directory cookie verifier names_count count)
+      (reply.ReadDirPlus outcome told) next s =
+      is_told tree directory.bytes reply.ReadDirPlus
+      (list_plus tree ctx.credential cookie verifier names_count count) outcome told next s
   is_answer (call.FsStat object) (reply.FsStat outcome told) next s =
       is_told tree object.bytes reply.FsStat (λ _ _. Ok (space_of tree)) outcome told next s
   is_answer (call.FsInfo object) (reply.FsInfo outcome told) next s =
@@ -246,9 +268,11 @@ module _ (tree : Tree) (ctx : Ctx) (new : Option ℕ) where
   is_answer (call.Create name how) (reply.Create outcome told) next s =
       is_acted tree name.directory.bytes reply.Create (create tree ctx name.name how new) outcome told next s
   is_answer (call.MkDir name wanted) (reply.MkDir outcome told) next s =
-      is_acted tree name.directory.bytes reply.MkDir (make_directory tree ctx name.name wanted new) outcome told next s
+      is_acted tree name.directory.bytes reply.MkDir
+      (make_directory tree ctx name.name wanted new) outcome told next s
   is_answer (call.SymLink name wanted target) (reply.SymLink outcome told) next s =
-      is_acted tree name.directory.bytes reply.SymLink (make_link tree ctx name.name wanted target new) outcome told next s
+      is_acted tree name.directory.bytes reply.SymLink
+      (make_link tree ctx name.name wanted target new) outcome told next s
   is_answer (call.MkNod name special) (reply.MkNod outcome told) next s =
       is_acted tree name.directory.bytes reply.MkNod (λ _ _. Err status.NotSupp) outcome told next s
   is_answer (call.Remove name) (reply.Remove outcome told) next s =

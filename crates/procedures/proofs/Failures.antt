@@ -1,11 +1,13 @@
 -- No procedure answers IO or SERVERFAULT.
-use Rattle.std.proofs.Common.{◌≡◌, ℕ, ap, ◌∙◌, refl, ◌+◌, ◌||◌, is_none, Bool, true, false, cond, not, ◌&&◌, List, [], ◌∷◌, ◌++◌, length, map}
+use Rattle.std.proofs.Common.{◌≡◌, ℕ, ap, ◌∙◌, refl, ◌+◌, ◌||◌, is_none, Bool, true, false, cond, not, ◌&&◌}
+use Rattle.std.proofs.Common.{List, [], ◌∷◌, ◌++◌, length, map}
 use Rattle.std.proofs.Common.{Option, Some, None, Result, Ok, Err, nat_eq, nat_lt}
 use Rattle.std.specs.FinMap as map
 use Rattle.std.specs.List.{list_all}
 use Rattle.std.specs.Option.{ok_or, option_map}
 use Rattle.limits.specs.declared.TheConstants.{EXCLUSIVE_MODE, NEW_FILE_MODE}
-use Rattle.limits.specs.declared.TheConstants.{HANDLE_BYTES, LARGEST_FILE, NEW_DIRECTORY_MODE, NEW_LINK_MODE, TARGET_BYTES}
+use Rattle.limits.specs.declared.TheConstants.{HANDLE_BYTES, LARGEST_FILE, NEW_DIRECTORY_MODE, NEW_LINK_MODE}
+use Rattle.limits.specs.declared.TheConstants.{TARGET_BYTES}
 use Rattle.nfs_types.specs.Verifier.{boot_verifier}
 use Rattle.nfs_types.specs.declared.attributes.Attributes.{Attributes}
 use Rattle.nfs_types.specs.declared.attributes.NewAttributes.{NewAttributes}
@@ -30,13 +32,15 @@ use Rattle.model.specs.Node.{Node, Body, DirectoryEntry, Regular, Directory, Lin
 use Rattle.model.specs.Names.{is_directory}
 use Rattle.model.specs.Permissions.{may_write_file}
 use Rattle.model.specs.SetAttr.{fails_guard, is_invalid, is_no_access, is_not_permitted}
-use Rattle.model.specs.SetAttr.{SetFound, SetOrLeft, first_of_tests, given, is_regular, refusal, with_attributes}
+use Rattle.model.specs.SetAttr.{SetFound, SetOrLeft, first_of_tests, given, is_regular, refusal}
+use Rattle.model.specs.SetAttr.{with_attributes}
 use Rattle.model.specs.Tree.{Tree, node_at, with_node}
 use Rattle.procedures.specs.Changes.{if_entry, if_room, lacks_room, without_name}
 use Rattle.procedures.specs.Commit.{commit_refusal}
 use Rattle.procedures.specs.Create.{becomes, create_at, create_new, create_over, is_made_with, no_bytes}
 use Rattle.procedures.specs.Create.{only_size, resize}
-use Rattle.procedures.specs.FirstTests.{found_then, is_long, is_no_directory, is_no_name, may_change, may_list}
+use Rattle.procedures.specs.FirstTests.{found_then, is_long, is_no_directory, is_no_name, may_change}
+use Rattle.procedures.specs.FirstTests.{may_list}
 use Rattle.procedures.specs.FirstTests.{may_search, place_tests, unless}
 use Rattle.procedures.specs.Fresh.{fresh, make, made, new_entry, nothing_given, with_new, without_size}
 use Rattle.procedures.specs.Kinds.{fails, is_failure, tells_failure}
@@ -45,7 +49,8 @@ use Rattle.procedures.specs.Lookup.{found_under, looked}
 use Rattle.procedures.specs.MkDir.{is_full, is_there}
 use Rattle.procedures.specs.Listing.{entry_bytes, entry_room, fitting, is_bad_cookie, is_end, is_too_small}
 use Rattle.procedures.specs.Listing.{listed_behind, listing_verifier}
-use Rattle.procedures.specs.Places.{is_found_directory, is_found_other, is_own_name, least_free_slot, named_file}
+use Rattle.procedures.specs.Places.{is_found_directory, is_found_other, is_own_name, least_free_slot}
+use Rattle.procedures.specs.Places.{named_file}
 use Rattle.procedures.specs.Read.{bytes_of, may_read_file, piece, read_bytes, read_refusal}
 use Rattle.procedures.specs.ReadDir.{listing_refusal}
 use Rattle.procedures.specs.ReadDirPlus.{fitting_both, plus}
@@ -54,7 +59,8 @@ use Rattle.procedures.specs.RmDir.{is_found_filled, rmdir_refusal}
 use Rattle.procedures.specs.Write.{is_wrong_count, write_refusal, written, written_reply}
 use Rattle.procedures.specs.ReadLink.{target_of}
 use Rattle.procedures.specs.Rename.{Place, file_in, move, move_refusal, new_slot, places_refusal, rename}
-use Rattle.procedures.specs.Rename.{goes_below_itself, has_no_link, is_other_sort, rename_file, renaming, with_moved}
+use Rattle.procedures.specs.Rename.{goes_below_itself, has_no_link, is_other_sort, rename_file, renaming}
+use Rattle.procedures.specs.Rename.{with_moved}
 use Rattle.procedures.specs.Told.{Acts, Effect, Tells, answer_of}
 use Rattle.procedures.specs.WholeStep.{numbered_step}
 
@@ -87,7 +93,8 @@ by_tests : (tests : List (Bool × Status)) → are_fine tests ≡ true → fails
 unfolding fails_test
 by_tests [] e = refl
 by_tests (test ∷ tests) e =
-    chosen test.0 test.1 (first_of_tests tests) (not_true _ (first_of _ _ e)) (by_tests tests (second_of _ _ e))
+    chosen test.0 test.1 (first_of_tests tests) (not_true _ (first_of _ _ e)) (by_tests tests
+    (second_of _ _ e))
 
 -- the tests of each list have other statuses
 set_tests : (ctx : Ctx) (wanted : NewAttributes) (guard : Option Moment) (node : Node)
@@ -109,7 +116,8 @@ by_lack true effect = refl
 by_lack false effect = refl
 
 module _ {A : Type 0} where
-  by_cond : (b : Bool) (x y : Result A Status) → fails x ≡ false → fails y ≡ false → fails (cond b x y) ≡ false
+  by_cond : (b : Bool) (x y : Result A Status) → fails x ≡ false → fails y ≡ false
+      → fails (cond b x y) ≡ false
   by_cond true x y one two = one
   by_cond false x y one two = two
 
@@ -119,11 +127,13 @@ module _ {A : Type 0} where
   by_unless None r one two = two
   by_unless (Some s) r one two = one
 
-  by_ok : (test : Option Status) (answer : A) → fails_test test ≡ false → fails (unless test (Ok answer)) ≡ false
+  by_ok : (test : Option Status) (answer : A) → fails_test test ≡ false
+      → fails (unless test (Ok answer)) ≡ false
   by_ok test answer one = by_unless test (Ok answer) one refl
 
   by_found : (found : Result (ℕ × Node) Status) (rest : ℕ → Node → Result A Status) → fails found ≡ false
-      → ((number : ℕ) (node : Node) → fails (rest number node) ≡ false) → fails (found_then found rest) ≡ false
+      → ((number : ℕ) (node : Node) → fails (rest number node) ≡ false)
+      → fails (found_then found rest) ≡ false
   by_found (Ok found) rest one two = two found.0 found.1
   by_found (Err s) rest one two = one
 
@@ -194,7 +204,8 @@ ok_or_fine None s e = e
 ok_or_fine (Some x) s e = refl
 
 make_fine : (tree : Tree) (ctx : Ctx) (number : Option ℕ) (at : ℕ) (directory : Node) (name : List ℕ)
-    (wanted : NewAttributes) (node : Node) → fails (make tree ctx number at directory name wanted node) ≡ false
+    (wanted : NewAttributes) (node : Node) → fails (make tree ctx number at directory name wanted node)
+    ≡ false
 make_fine tree ctx number at directory name wanted node =
     by_unless (refusal ctx wanted None node)
     (if_entry tree (new_entry number (least_free_slot directory.body))
@@ -209,14 +220,16 @@ new_fine tree ctx number at directory name (Unchecked wanted) =
 new_fine tree ctx number at directory name (Guarded wanted) =
     make_fine tree ctx number at directory name wanted (fresh ctx NEW_FILE_MODE None no_bytes)
 new_fine tree ctx number at directory name (Exclusive verifier) =
-    make_fine tree ctx number at directory name nothing_given (fresh ctx EXCLUSIVE_MODE (Some verifier) no_bytes)
+    make_fine tree ctx number at directory name nothing_given (fresh ctx EXCLUSIVE_MODE
+    (Some verifier) no_bytes)
 
 resize_fine : (tree : Tree) (ctx : Ctx) (size : Option ℕ) (number : ℕ) (node : Node)
     → fails (resize tree ctx size number node) ≡ false
 resize_fine tree ctx None number node = refl
 resize_fine tree ctx (Some size) number node =
     by_unless (refusal ctx (only_size size) None node)
-    (Ok (becomes tree number (with_attributes ctx.moment (only_size size) node))) (set_tests ctx (only_size size) None node) refl
+    (Ok (becomes tree number (with_attributes ctx.moment (only_size size) node))) (set_tests ctx
+    (only_size size) None node) refl
 
 over_fine : (tree : Tree) (ctx : Ctx) (how : CreateHow) (number : ℕ) (node : Node)
     → fails (create_over tree ctx how number node) ≡ false
@@ -250,7 +263,8 @@ rename_file_fine tree ctx source target (Some file) replaced =
     (by_entry tree (new_entry (Some file.0) (new_slot source target))
     (with_moved tree ctx.moment file.0 file.1 source target replaced)))
 
-rename_fine : (tree : Tree) (ctx : Ctx) (source target : Place) → fails (rename tree ctx source target) ≡ false
+rename_fine : (tree : Tree) (ctx : Ctx) (source target : Place)
+    → fails (rename tree ctx source target) ≡ false
 rename_fine tree ctx source target =
     by_unless (places_refusal tree ctx.credential source target)
     (rename_file tree ctx source target (file_in tree source) (file_in tree target)) (by_tests (
@@ -272,7 +286,8 @@ link_fine : (tree : Tree) (ctx : Ctx) (name : List ℕ) (number : ℕ) (node : N
 link_fine tree ctx name number node at directory =
     by_unless (link_refusal tree ctx.credential name node directory)
     (if_entry tree (new_entry (Some number) (least_free_slot directory.body))
-    (with_link tree ctx.moment name number node at)) (place_fine (may_change ctx.credential directory) directory name (
+    (with_link tree ctx.moment name number node at)) (place_fine
+    (may_change ctx.credential directory) directory name (
     (is_directory node.body, status.Inval)
     ∷ (is_there tree directory name, status.Exist)
     ∷ (is_full node, status.MLink)
@@ -295,11 +310,13 @@ pub no_failure : (tree next : Tree) (ctx : Ctx) (new : Option ℕ) (asked : Call
 no_failure tree next ctx new (call.GetAttr object) (reply.GetAttr outcome) s =
     ap fails s.told ∙ attributes_fine (find_file tree object.bytes) (find_fine tree object.bytes)
 no_failure tree next ctx new (call.SetAttr object wanted guard) (reply.SetAttr outcome told) s =
-    set_fine tree next ctx wanted guard (find_file tree object.bytes) outcome told (find_fine tree object.bytes) s
+    set_fine tree next ctx wanted guard (find_file tree object.bytes) outcome told
+    (find_fine tree object.bytes) s
 no_failure tree next ctx new (call.Lookup name) (reply.Lookup outcome told) s =
     told_fine tree next _ _ outcome told s (λ number directory. by_unless
     (first_of_tests (place_tests (may_search ctx.credential directory) directory name.name))
-    (ok_or (option_map looked (found_under tree number directory name.name)) status.NoEnt) (by_tests (place_tests (may_search ctx.credential directory) directory name.name) refl)
+    (ok_or (option_map looked (found_under tree number directory name.name)) status.NoEnt) (by_tests
+    (place_tests (may_search ctx.credential directory) directory name.name) refl)
     (ok_or_fine _ status.NoEnt refl))
 no_failure tree next ctx new (call.Access object bits) (reply.Access outcome told) s =
     told_fine tree next _ _ outcome told s (λ _ _. refl)
@@ -316,13 +333,16 @@ no_failure tree next ctx new (call.ReadDir directory cookie verifier count) (rep
     let left = listed_behind cookie number node.body in
     let some = fitting entry_bytes (entry_room count) left in
     by_ok (listing_refusal ctx.credential cookie verifier count node left some)
-    (record { verifier = listing_verifier; entries = some; eof = is_end left some }) (listing_fine ctx.credential cookie verifier count node left some))
-no_failure tree next ctx new (call.ReadDirPlus directory cookie verifier names_count count) (reply.ReadDirPlus outcome told) s =
+    (record { verifier = listing_verifier; entries = some; eof = is_end left some })
+    (listing_fine ctx.credential cookie verifier count node left some))
+no_failure tree next ctx new (call.ReadDirPlus directory cookie verifier names_count count)
+    (reply.ReadDirPlus outcome told) s =
     told_fine tree next _ _ outcome told s (λ number node.
     let left = listed_behind cookie number node.body in
     let some = fitting_both names_count (entry_room count) left in
     by_ok (listing_refusal ctx.credential cookie verifier count node left some)
-    (record { verifier = listing_verifier; entries = map (plus tree) some; eof = is_end left some }) (listing_fine ctx.credential cookie verifier count node left some))
+    (record { verifier = listing_verifier; entries = map (plus tree) some; eof = is_end left some })
+    (listing_fine ctx.credential cookie verifier count node left some))
 no_failure tree next ctx new (call.FsStat object) (reply.FsStat outcome told) s =
     told_fine tree next _ _ outcome told s (λ _ _. refl)
 no_failure tree next ctx new (call.FsInfo object) (reply.FsInfo outcome told) s =
@@ -346,7 +366,8 @@ no_failure tree next ctx new (call.Create name how) (reply.Create outcome told) 
     acted_fine tree next _ _ outcome told s (λ at directory. by_unless
     (first_of_tests (place_tests (may_change ctx.credential directory) directory name.name
     ++ (is_own_name name.name, status.Exist) ∷ []))
-    (create_at tree ctx how new at directory name.name (named_file tree directory name.name)) (place_fine (may_change ctx.credential directory) directory name.name
+    (create_at tree ctx how new at directory name.name (named_file tree directory name.name)) (place_fine
+    (may_change ctx.credential directory) directory name.name
     ((is_own_name name.name, status.Exist) ∷ []) refl)
     (at_fine tree ctx how new at directory name.name (named_file tree directory name.name)))
 no_failure tree next ctx new (call.MkDir name wanted) (reply.MkDir outcome told) s =
@@ -354,7 +375,8 @@ no_failure tree next ctx new (call.MkDir name wanted) (reply.MkDir outcome told)
     (first_of_tests (place_tests (may_change ctx.credential directory) directory name.name
     ++ (is_there tree directory name.name, status.Exist) ∷ (is_full directory, status.MLink) ∷ []))
     (make tree ctx new at directory name.name (without_size wanted)
-    (fresh ctx NEW_DIRECTORY_MODE None (Directory map.empty 0 at))) (place_fine (may_change ctx.credential directory) directory name.name
+    (fresh ctx NEW_DIRECTORY_MODE None (Directory map.empty 0 at))) (place_fine
+    (may_change ctx.credential directory) directory name.name
     ((is_there tree directory name.name, status.Exist) ∷ (is_full directory, status.MLink) ∷ []) refl)
     (make_fine tree ctx new at directory name.name (without_size wanted)
     (fresh ctx NEW_DIRECTORY_MODE None (Directory map.empty 0 at))))
@@ -363,7 +385,8 @@ no_failure tree next ctx new (call.SymLink name wanted target) (reply.SymLink ou
     (first_of_tests (place_tests (may_change ctx.credential directory) directory name.name
     ++ (is_there tree directory name.name, status.Exist) ∷ (nat_eq (length target) 0, status.Inval)
     ∷ (nat_lt TARGET_BYTES (length target), status.NameTooLong) ∷ []))
-    (make tree ctx new at directory name.name (without_size wanted) (fresh ctx NEW_LINK_MODE None (Link target)))
+    (make tree ctx new at directory name.name (without_size wanted) (fresh ctx NEW_LINK_MODE None
+    (Link target)))
     (place_fine (may_change ctx.credential directory) directory name.name
     ((is_there tree directory name.name, status.Exist) ∷ (nat_eq (length target) 0, status.Inval)
     ∷ (nat_lt TARGET_BYTES (length target), status.NameTooLong) ∷ []) refl)

@@ -1,9 +1,11 @@
 -- On sums over the entries of a map of files, and what a change of one file needs.
-use Rattle.std.proofs.Common.{◌≡◌, ℕ, zero, suc, ◌+◌, ◌-◌, ◌<◌, sym, ap, ◌∙◌, refl, Bool, true, false, cond, ◌&&◌}
+use Rattle.std.proofs.Common.{◌≡◌, ℕ, zero, suc, ◌+◌, ◌-◌, ◌<◌, sym, ap, ◌∙◌, refl, Bool, true, false, cond}
+use Rattle.std.proofs.Common.{◌&&◌}
 use Rattle.std.proofs.Common.{T, List, [], ◌∷◌, length, get_or, Option, Some, None, sum_by, arith, subst}
 use Rattle.std.proofs.lemmas.List.Sums.{sum_by-cons}
 use Rattle.std.specs.Cmp.{nat_cmp_total}
-use Rattle.std.specs.FinMap.{FinMap, entries, entries-insert, entries_sorted, find, get, get-entries, insert, put}
+use Rattle.std.specs.FinMap.{FinMap, entries, entries-insert, entries_sorted, find, get, get-entries, insert}
+use Rattle.std.specs.FinMap.{put}
 use Rattle.std.specs.FinMap.{is_sorted}
 use Rattle.std.specs.FinMap.Entries.{below_all, by_order}
 use Rattle.std.specs.Ordering.{eq_by_cmp, is_eq, is_lt, nat_cmp}
@@ -79,7 +81,8 @@ module _ {X : Type 0} where
   found_at : (es : List (ℕ × X)) (d : ℕ × X) (index : ℕ) → index < length es → T (is_sorted nat_cmp es)
       → find nat_cmp (get_or es index d).0 es ≡ Some (get_or es index d).1
   found_at [] d index inside sorted = absurd (omega arith)
-  found_at (e ∷ es) d zero inside sorted = taken (eq_by_cmp nat_cmp e.0 e.0) e.1 (find nat_cmp e.0 es) (itself e.0)
+  found_at (e ∷ es) d zero inside sorted =
+      taken (eq_by_cmp nat_cmp e.0 e.0) e.1 (find nat_cmp e.0 es) (itself e.0)
   found_at (e ∷ es) d (suc index) inside sorted =
       let key = (get_or es index d).0 in
       skipped (eq_by_cmp nat_cmp key e.0) e.1 (find nat_cmp key es)

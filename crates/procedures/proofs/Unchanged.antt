@@ -1,5 +1,6 @@
 -- Steps that leave the tree: those of refused calls, and those of calls that only tell something.
-use Rattle.std.proofs.Common.{◌≡◌, ℕ, sym, ap, ◌∙◌, refl, true, List, Option, Some, None, Result, Ok, Err, is_err}
+use Rattle.std.proofs.Common.{◌≡◌, ℕ, sym, ap, ◌∙◌, refl, true, List, Option, Some, None, Result, Ok, Err}
+use Rattle.std.proofs.Common.{is_err}
 use Rattle.nfs_types.specs.Verifier.{boot_verifier}
 use Rattle.nfs_types.specs.declared.attributes.NewAttributes.{NewAttributes}
 use Rattle.nfs_types.specs.declared.attributes.WeakCacheData.{WeakCacheData}
@@ -25,7 +26,8 @@ use Rattle.procedures.specs.Told.{Acts, Effect, answer_of, tree_after}
 use Rattle.procedures.specs.WholeStep.{numbered_step}
 
 -- a result without an answer leaves the tree
-refused_leaves : {A : Type 0} (tree : Tree) (result : Result (Effect A) Status) → is_err (answer_of result) ≡ true
+refused_leaves : {A : Type 0} (tree : Tree) (result : Result (Effect A) Status)
+    → is_err (answer_of result) ≡ true
     → tree_after tree result ≡ tree
 refused_leaves tree (Ok effect) e = cc
 refused_leaves tree (Err status) e = refl
@@ -59,12 +61,15 @@ refusal_leaves tree next ctx new (call.Lookup name) (reply.Lookup outcome told) 
 refusal_leaves tree next ctx new (call.Access object bits) (reply.Access outcome told) s e = s.unchanged
 refusal_leaves tree next ctx new (call.ReadLink link) (reply.ReadLink outcome told) s e = s.unchanged
 refusal_leaves tree next ctx new (call.Read file offset count) (reply.Read outcome told) s e = s.unchanged
-refusal_leaves tree next ctx new (call.ReadDir directory cookie verifier count) (reply.ReadDir outcome told) s e = s.unchanged
-refusal_leaves tree next ctx new (call.ReadDirPlus directory cookie verifier names_count count) (reply.ReadDirPlus outcome told) s e = s.unchanged
+refusal_leaves tree next ctx new (call.ReadDir directory cookie verifier count)
+    (reply.ReadDir outcome told) s e = s.unchanged
+refusal_leaves tree next ctx new (call.ReadDirPlus directory cookie verifier names_count count)
+    (reply.ReadDirPlus outcome told) s e = s.unchanged
 refusal_leaves tree next ctx new (call.FsStat object) (reply.FsStat outcome told) s e = s.unchanged
 refusal_leaves tree next ctx new (call.FsInfo object) (reply.FsInfo outcome told) s e = s.unchanged
 refusal_leaves tree next ctx new (call.PathConf object) (reply.PathConf outcome told) s e = s.unchanged
-refusal_leaves tree next ctx new (call.Write file offset count stability text) (reply.Write outcome told) s e =
+refusal_leaves tree next ctx new (call.Write file offset count stability text)
+    (reply.Write outcome told) s e =
     acts_leaves tree _ _ outcome told next s e
 refusal_leaves tree next ctx new (call.Create name how) (reply.Create outcome told) s e =
     acts_leaves tree _ _ outcome told next s e
@@ -112,8 +117,10 @@ telling_leaves tree next ctx new (call.Lookup name) (reply.Lookup outcome told) 
 telling_leaves tree next ctx new (call.Access object bits) (reply.Access outcome told) s e = s.unchanged
 telling_leaves tree next ctx new (call.ReadLink link) (reply.ReadLink outcome told) s e = s.unchanged
 telling_leaves tree next ctx new (call.Read file offset count) (reply.Read outcome told) s e = s.unchanged
-telling_leaves tree next ctx new (call.ReadDir directory cookie verifier count) (reply.ReadDir outcome told) s e = s.unchanged
-telling_leaves tree next ctx new (call.ReadDirPlus directory cookie verifier names_count count) (reply.ReadDirPlus outcome told) s e = s.unchanged
+telling_leaves tree next ctx new (call.ReadDir directory cookie verifier count)
+    (reply.ReadDir outcome told) s e = s.unchanged
+telling_leaves tree next ctx new (call.ReadDirPlus directory cookie verifier names_count count)
+    (reply.ReadDirPlus outcome told) s e = s.unchanged
 telling_leaves tree next ctx new (call.FsStat object) (reply.FsStat outcome told) s e = s.unchanged
 telling_leaves tree next ctx new (call.FsInfo object) (reply.FsInfo outcome told) s e = s.unchanged
 telling_leaves tree next ctx new (call.PathConf object) (reply.PathConf outcome told) s e = s.unchanged

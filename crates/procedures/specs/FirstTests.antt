@@ -1,4 +1,5 @@
--- The tests that come first, in this order: of the handle, of what it names, of the name in it, and of what the
+-- The tests that come first, in this order: of the handle, of what it names, of the name in it, and of what
+-- the
 -- caller may do there (RFC 1813, sections 2.6, 3.2 and 4.4).
 use Rattle.std.specs.Prelude.{ℕ, Bool, not, ◌&&◌, ◌||◌, List, [], ◌∷◌, length, nat_eq, nat_lt, Option, Some}
 use Rattle.std.specs.Prelude.{None, Result, Ok, Err}
@@ -13,7 +14,8 @@ use Rattle.model.specs.Permissions.{has_right}
 use Rattle.model.specs.Sound.{SLASH}
 
 -- a call goes on with the file that its handle names; a handle that names none is its refusal
-abbrev pub found_then : {A : Type 0} → Result (ℕ × Node) Status → (ℕ → Node → Result A Status) → Result A Status
+abbrev pub found_then : {A : Type 0} → Result (ℕ × Node) Status → (ℕ → Node → Result A Status)
+    → Result A Status
 found_then (Ok found) rest = rest found.0 found.1
 found_then (Err status) rest = Err status
 

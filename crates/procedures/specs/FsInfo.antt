@@ -7,7 +7,8 @@ use Rattle.nfs_types.specs.declared.reply.FileSystemInfo.{FileSystemInfo}
 use Rattle.nfs_types.specs.declared.status.Status.{Status}
 use Rattle.model.specs.Tree.{Tree}
 use Rattle.procedures.specs.Told.{Tells}
-use Rattle.procedures.specs.declared.bits.TheConstants.{HAS_LINKS, HAS_SYMBOLIC_LINKS, IS_HOMOGENEOUS, SETS_TIMES}
+use Rattle.procedures.specs.declared.bits.TheConstants.{HAS_LINKS, HAS_SYMBOLIC_LINKS, IS_HOMOGENEOUS}
+use Rattle.procedures.specs.declared.bits.TheConstants.{SETS_TIMES}
 
 abbrev pub file_system_info : FileSystemInfo
 file_system_info = record {
@@ -24,4 +25,5 @@ file_system_info = record {
 }
 
 abbrev pub FsInfoStep : Tree → List ℕ → Result FileSystemInfo Status → Option Attributes → Tree → Type 0
-FsInfoStep tree object outcome told next = Tells tree object (λ number node. Ok file_system_info) outcome told next
+FsInfoStep tree object outcome told next =
+    Tells tree object (λ number node. Ok file_system_info) outcome told next

@@ -28,4 +28,5 @@ space_of tree = record {
 }
 
 abbrev pub FsStatStep : Tree → List ℕ → Result FileSystemSpace Status → Option Attributes → Tree → Type 0
-FsStatStep tree object outcome told next = Tells tree object (λ number node. Ok (space_of tree)) outcome told next
+FsStatStep tree object outcome told next =
+    Tells tree object (λ number node. Ok (space_of tree)) outcome told next

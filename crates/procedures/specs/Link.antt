@@ -47,10 +47,12 @@ link tree ctx name number node at directory =
 -- what comes of the call: the file's handle is tested first, and then the directory's
 abbrev pub linking : Tree → Ctx → List ℕ → List ℕ → List ℕ → Result (Effect (Unit {0})) Status
 linking tree ctx file directory name =
-    found_then (find_file tree file) (λ number node. found_then (find_file tree directory) (link tree ctx name number node))
+    found_then (find_file tree file) (λ number node. found_then (find_file tree directory)
+    (link tree ctx name number node))
 
 -- Both files are told of.
-pub record LinkStep (tree : Tree) (ctx : Ctx) (file directory name : List ℕ) (outcome : Result (Unit {0}) Status)
+pub record LinkStep (tree : Tree) (ctx : Ctx) (file directory name : List ℕ) (outcome : Result
+    (Unit {0}) Status)
     (told : Option Attributes) (directory_told : WeakCacheData) (next : Tree) : Type 0 where
   pub answered : outcome ≡ answer_of (linking tree ctx file directory name)
   pub leads : next ≡ tree_after tree (linking tree ctx file directory name)

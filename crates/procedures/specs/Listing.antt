@@ -22,7 +22,11 @@ slots_of (Link target) = []
 -- what lies in a slot
 abbrev pub listed_in : Body → ℕ → Option ListedEntry
 listed_in directory slot =
-    option_map (λ entry. record { number = entry.1.number; name = entry.0; cookie = slot + FIRST_SLOT_COOKIE })
+    option_map (λ entry. record {
+      number = entry.1.number;
+      name = entry.0;
+      cookie = slot + FIRST_SLOT_COOKIE;
+    })
     (find (λ entry. nat_eq entry.1.slot slot) (entries_of directory))
 
 -- all that a directory lists, by rising cookies: itself, its parent, and the names by their slots

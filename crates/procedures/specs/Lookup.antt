@@ -33,6 +33,7 @@ look_up tree caller name number directory =
     unless (first_of_tests (place_tests (may_search caller directory) directory name))
     (ok_or (option_map looked (found_under tree number directory name)) status.NoEnt)
 
-abbrev pub LookupStep : Tree → Ctx → List ℕ → List ℕ → Result Looked Status → Option Attributes → Tree → Type 0
+abbrev pub LookupStep : Tree → Ctx → List ℕ → List ℕ → Result Looked Status → Option Attributes → Tree
+    → Type 0
 LookupStep tree ctx directory name outcome told next =
     Tells tree directory (look_up tree ctx.credential name) outcome told next

@@ -19,4 +19,5 @@ path_limits = record {
 }
 
 abbrev pub PathConfStep : Tree → List ℕ → Result PathLimits Status → Option Attributes → Tree → Type 0
-PathConfStep tree object outcome told next = Tells tree object (λ number node. Ok path_limits) outcome told next
+PathConfStep tree object outcome told next =
+    Tells tree object (λ number node. Ok path_limits) outcome told next

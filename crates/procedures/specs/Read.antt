@@ -49,6 +49,7 @@ read caller offset count number node =
     unless (read_refusal caller node)
     (Ok (read_bytes offset (bytes_of node.body) (piece offset count (bytes_of node.body))))
 
-abbrev pub ReadStep : Tree → Ctx → List ℕ → ℕ → ℕ → Result ReadBytes Status → Option Attributes → Tree → Type 0
+abbrev pub ReadStep : Tree → Ctx → List ℕ → ℕ → ℕ → Result ReadBytes Status → Option Attributes → Tree
+    → Type 0
 ReadStep tree ctx file offset count outcome told next =
     Tells tree file (read ctx.credential offset count) outcome told next

@@ -13,7 +13,8 @@ use Rattle.nfs_types.specs.declared.verifier.Verifier.{Verifier}
 use Rattle.model.specs.Node.{Node}
 use Rattle.model.specs.Tree.{Tree, node_at}
 use Rattle.procedures.specs.FirstTests.{unless}
-use Rattle.procedures.specs.Listing.{entry_bytes, entry_room, fitting, is_end, listed_behind, listing_verifier}
+use Rattle.procedures.specs.Listing.{entry_bytes, entry_room, fitting, is_end, listed_behind}
+use Rattle.procedures.specs.Listing.{listing_verifier}
 use Rattle.procedures.specs.Listing.{padded}
 use Rattle.procedures.specs.ReadDir.{listing_refusal}
 use Rattle.procedures.specs.Told.{Tells, attributes_at, handle_of}

@@ -14,4 +14,5 @@ target_of (Directory named span parent) = Err status.Inval
 target_of (Link target) = Ok target
 
 abbrev pub ReadLinkStep : Tree → List ℕ → Result (List ℕ) Status → Option Attributes → Tree → Type 0
-ReadLinkStep tree link outcome told next = Tells tree link (λ number node. target_of node.body) outcome told next
+ReadLinkStep tree link outcome told next =
+    Tells tree link (λ number node. target_of node.body) outcome told next

@@ -1,5 +1,6 @@
 -- RENAME (RFC 1813, section 3.3.14).
-use Rattle.std.specs.Prelude.{◌≡◌, ℕ, Bool, true, false, cond, not, ◌&&◌, ◌||◌, List, [], ◌∷◌, nat_eq, is_none}
+use Rattle.std.specs.Prelude.{◌≡◌, ℕ, Bool, true, false, cond, not, ◌&&◌, ◌||◌, List, [], ◌∷◌, nat_eq}
+use Rattle.std.specs.Prelude.{is_none}
 use Rattle.std.specs.Prelude.{Option, Some, None, Result, Ok, Err}
 use Rattle.std.specs.List.{list_any, range_with_len}
 use Rattle.std.specs.Option.{option_map}
@@ -15,11 +16,13 @@ use Rattle.model.specs.Node.{Node, Body, DirectoryEntry, Regular, Directory, Lin
 use Rattle.model.specs.SetAttr.{first_of_tests, given}
 use Rattle.model.specs.Tree.{Tree}
 use Rattle.procedures.specs.Changes.{changed_at, departed, entered, if_entry, without_name}
-use Rattle.procedures.specs.FirstTests.{after_first, found_then, is_long, is_no_directory, is_no_name, may_change}
+use Rattle.procedures.specs.FirstTests.{after_first, found_then, is_long, is_no_directory, is_no_name}
+use Rattle.procedures.specs.FirstTests.{may_change}
 use Rattle.procedures.specs.FirstTests.{unless}
 use Rattle.procedures.specs.Fresh.{new_entry}
 use Rattle.procedures.specs.MkDir.{is_full}
-use Rattle.procedures.specs.Places.{entry_at, is_found_directory, is_found_other, is_own_name, least_free_slot}
+use Rattle.procedures.specs.Places.{entry_at, is_found_directory, is_found_other, is_own_name}
+use Rattle.procedures.specs.Places.{least_free_slot}
 use Rattle.procedures.specs.Places.{named_file}
 use Rattle.procedures.specs.RmDir.{is_found_filled}
 use Rattle.procedures.specs.Told.{Effect, answer_of, change_told, tree_after}
@@ -60,7 +63,8 @@ goes_below_itself tree number node target = is_directory node.body && is_within 
 
 -- what would be replaced is a directory and the file is none, or the other way round
 abbrev pub is_other_sort : Node → Option (ℕ × Node) → Bool
-is_other_sort node replaced = cond (is_directory node.body) (is_found_other replaced) (is_found_directory replaced)
+is_other_sort node replaced =
+    cond (is_directory node.body) (is_found_other replaced) (is_found_directory replaced)
 
 -- A directory is one link more of its new parent, unless it was in it or replaces another.
 abbrev pub has_no_link : Node → Place → Place → Option (ℕ × Node) → Bool
@@ -84,7 +88,8 @@ slot_for true source None target = option_map (λ entry. entry.slot) source
 slot_for false source None target = least_free_slot target
 
 abbrev pub new_slot : Place → Place → Option ℕ
-new_slot source target = slot_for (nat_eq source.number target.number) (entry_at source.directory.body source.name)
+new_slot source target =
+    slot_for (nat_eq source.number target.number) (entry_at source.directory.body source.name)
     (entry_at target.directory.body target.name) target.directory.body
 
 abbrev pub with_parent : ℕ → Body → Body
@@ -105,7 +110,8 @@ with_moved tree moment number node source target replaced entry =
     let named = changed_at cleared target.number (entered moment target.name entry node.body) in
     record { answer = tt; next = changed_at named number (moved moment target.number) }
 
-abbrev pub move : Tree → Ctx → ℕ → Node → Place → Place → Option (ℕ × Node) → Result (Effect (Unit {0})) Status
+abbrev pub move : Tree → Ctx → ℕ → Node → Place → Place → Option (ℕ × Node)
+    → Result (Effect (Unit {0})) Status
 move tree ctx number node source target replaced =
     unless (move_refusal tree number node source target replaced)
     (if_entry tree (new_entry (Some number) (new_slot source target))

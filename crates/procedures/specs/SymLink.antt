@@ -23,7 +23,8 @@ make_link tree ctx name wanted target number at directory =
     ∷ (nat_eq (length target) 0, status.Inval)
     ∷ (nat_lt TARGET_BYTES (length target), status.NameTooLong)
     ∷ []))
-    (make tree ctx number at directory name (without_size wanted) (fresh ctx NEW_LINK_MODE None (Link target)))
+    (make tree ctx number at directory name (without_size wanted) (fresh ctx NEW_LINK_MODE None
+    (Link target)))
 
 abbrev pub SymLinkStep : Tree → Ctx → List ℕ → List ℕ → NewAttributes → List ℕ → Option ℕ
     → Result Created Status → WeakCacheData → Tree → Type 0

@@ -1,4 +1,5 @@
--- The sequential server with all its procedures (RFC 1813, section 3.3): which replies it may give to a call, and
+-- The sequential server with all its procedures (RFC 1813, section 3.3): which replies it may give to a
+-- call, and
 -- which tree it then has.
 use Rattle.std.specs.Prelude.{ℕ, Option}
 use Rattle.nfs_types.specs.declared.call.Call.{Call}
@@ -30,7 +31,8 @@ use Rattle.procedures.specs.RmDir.{RmDirStep}
 use Rattle.procedures.specs.SymLink.{SymLinkStep}
 use Rattle.procedures.specs.Write.{WriteStep}
 
--- What a call may answer and lead to, where a new file would get this number. A call gets the reply of its own
+-- What a call may answer and lead to, where a new file would get this number. A call gets the reply of its
+-- own
 -- procedure and no other.
 abbrev pub numbered_step : Tree → Ctx → Option ℕ → Call → Reply → Tree → Type 0
 numbered_step tree ctx new (call.GetAttr object) (reply.GetAttr outcome) next =
@@ -60,7 +62,8 @@ numbered_step tree ctx new (call.Remove name) (reply.Remove outcome told) next =
 numbered_step tree ctx new (call.RmDir name) (reply.RmDir outcome told) next =
     RmDirStep tree ctx name.directory.bytes name.name outcome told next
 numbered_step tree ctx new (call.Rename source target) (reply.Rename outcome told tells) next =
-    RenameStep tree ctx source.directory.bytes source.name target.directory.bytes target.name outcome told tells
+    RenameStep tree ctx source.directory.bytes source.name target.directory.bytes target.name outcome told
+    tells
     next
 numbered_step tree ctx new (call.Link file name) (reply.Link outcome told tells) next =
     LinkStep tree ctx file.bytes name.directory.bytes name.name outcome told tells next

@@ -1,11 +1,17 @@
 //! Laws on what READ and WRITE do with the bytes of a file, and on what WRITE takes of the blocks.
-ghost use Rattle.std.specs.Prelude.{◌≡◌, ◌≤◌, ◌<◌, ◌+◌, ◌-◌, ℕ, List, length, get_or, Some};
+ghost use Rattle.std.specs.Prelude.{◌≡◌, ◌≤◌, ◌<◌, ◌+◌, ◌-◌, ℕ, List, length, get_or, Some, Ok};
 ghost use Rattle.limits.specs.declared.TheConstants.{TRANSFER_BYTES};
 ghost use Rattle.model.specs.Cost.{cost};
 ghost use Rattle.model.specs.Node.{Node};
 ghost use Rattle.model.specs.Tree.{Tree, need, node_at, with_node};
 ghost use Rattle.procedures.specs.Read.{piece};
-ghost use Rattle.procedures.specs.Write.{overwritten};
+ghost use Rattle.procedures.specs.Commit.{CommitStep};
+ghost use Rattle.procedures.specs.Write.{WriteStep, overwritten};
+ghost use Rattle.nfs_types.specs.declared.attributes.WeakCacheData.{WeakCacheData};
+ghost use Rattle.nfs_types.specs.declared.call.Stability.{Stability};
+ghost use Rattle.nfs_types.specs.declared.ctx.Ctx.{Ctx};
+ghost use Rattle.nfs_types.specs.declared.reply.Written.{Written};
+ghost use Rattle.nfs_types.specs.declared.verifier.Verifier.{Verifier};
 
 /// What was written is what a READ of as many bytes from there gives.
 pub fn what_is_written_is_read()
@@ -35,4 +41,13 @@ pub fn what_lies_behind_stays()
 pub fn one_file_needs_what_it_adds()
     ensures { (tree : Tree) (number : ℕ) (old new : Node) → node_at tree number ≡ Some old
         → need tree (with_node tree number new) ≡ cost new.body - cost old.body }
+{}
+
+/// A COMMIT that is answered OK bears the verifier of each WRITE of its boot that was.
+pub fn a_commit_bears_the_verifier_of_what_was_written()
+    ensures { (tree next other last : Tree) (ctx later : Ctx) (file another : List ℕ) (offset count : ℕ)
+        (stability : Stability) (text : List ℕ) (reply : Written) (verifier : Verifier)
+        (told tells : WeakCacheData) → ctx.boot ≡ later.boot
+        → WriteStep tree ctx file offset count stability text (Ok reply) told next
+        → CommitStep other later another (Ok verifier) tells last → verifier ≡ reply.verifier }
 {}

@@ -1,4 +1,5 @@
-//! The procedures of NFS version 3 over trees, as definitions: what each may answer and which tree it leads to
+//! The procedures of NFS version 3 over trees, as definitions: what each may answer and which tree it leads
+//! to
 //! (RFC 1813, section 3.3). They stand in `specs/`, one file a procedure; the functions here have laws about
 //! them as their contracts.
 #![tactic(auto)]
@@ -14,10 +15,10 @@ pub use bits::{
 };
 pub use cookies::{FIRST_SLOT_COOKIE, ITSELF_COOKIE, PARENT_COOKIE};
 pub use files::{
-    a_hole_is_zeros, one_file_needs_what_it_adds, what_is_written_is_read, what_lies_before_stays,
-    what_lies_behind_stays,
+    a_commit_bears_the_verifier_of_what_was_written, a_hole_is_zeros, one_file_needs_what_it_adds,
+    what_is_written_is_read, what_lies_before_stays, what_lies_behind_stays,
 };
 pub use steps::{
     a_numbered_step_is_determined, a_refusal_leaves_the_tree, each_call_has_a_step,
-    no_step_tells_a_failure, what_only_tells_leaves_the_tree,
+    no_step_makes_a_later_stamp, no_step_tells_a_failure, what_only_tells_leaves_the_tree,
 };

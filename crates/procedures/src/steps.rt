@@ -1,9 +1,10 @@
 //! Laws on the steps of all procedures.
-ghost use Rattle.std.specs.Prelude.{◌≡◌, ◌≢◌, ℕ, Option, true, false};
+ghost use Rattle.std.specs.Prelude.{◌≡◌, ◌≢◌, ◌≤◌, ℕ, Option, true, false};
 ghost use Rattle.nfs_types.specs.declared.call.Call.{Call};
 ghost use Rattle.nfs_types.specs.declared.call.Call.TheVariants as call;
 ghost use Rattle.nfs_types.specs.declared.ctx.Ctx.{Ctx};
 ghost use Rattle.nfs_types.specs.declared.reply.Reply.{Reply};
+ghost use Rattle.model.specs.Sound.{IsMadeBy};
 ghost use Rattle.model.specs.Tree.{Tree};
 ghost use Rattle.procedures.specs.Kinds.{is_refusal, only_tells, tells_failure};
 ghost use Rattle.procedures.specs.WholeStep.{WholeStep, numbered_step};
@@ -37,4 +38,11 @@ pub fn what_only_tells_leaves_the_tree()
 pub fn no_step_tells_a_failure()
     ensures { (tree next : Tree) (ctx : Ctx) (asked : Call) (reply : Reply)
         → WholeStep tree ctx asked reply next → tells_failure reply ≡ false }
+{}
+
+/// A step makes no file with a later boot in its stamp: where none has one above a bound and the store's boot
+/// isn't above it, none has afterwards.
+pub fn no_step_makes_a_later_stamp()
+    ensures { (boot : ℕ) (tree next : Tree) (ctx : Ctx) (asked : Call) (reply : Reply)
+        → IsMadeBy boot tree → ctx.boot ≤ boot → WholeStep tree ctx asked reply next → IsMadeBy boot next }
 {}
