@@ -26,11 +26,15 @@ numbered None = Err Value
 abbrev pub known : ProgramProcedure → Result ProgramProcedure XdrFault
 known p = if is_decoded p then Ok p else Err Value
 
+-- the caller that a body of AUTH_SYS names
+abbrev pub named_in : List ℕ → Result MessageCredential XdrFault
+named_in body = caller_at body >>= λ s. Ok (Caller s.stamp s.machine s.caller)
+
 -- the credential of a flavor and a body
 unfoldable pub credential_of : ℕ → List ℕ → Result MessageCredential XdrFault
 credential_of flavor body =
     if flavor == AUTH_NONE then (if length body == 0 then Ok Nobody else Err Value) else
-    if flavor == AUTH_SYS then (caller_at body >>= λ s. Ok (Caller s.stamp s.machine s.caller)) else Err Value
+    if flavor == AUTH_SYS then named_in body else Err Value
 
 -- the call that all of these bytes spell
 unfoldable pub message_of : List ℕ → Result CallMessage XdrFault

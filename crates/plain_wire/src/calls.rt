@@ -4,7 +4,7 @@ ghost use Rattle.session_wire.specs.declared.message.CallMessage.{CallMessage};
 ghost use Rattle.session_wire.specs.Reading.{Reads, Gives};
 ghost use Rattle.session_wire.specs.Calls.{SpellsCall};
 ghost use Rattle.session_wire.specs.Procedures as numbers;
-ghost use Rattle.plain_wire.specs.Messages.{wanted as is_wanted, numbered, known, credential_of, message_of};
+ghost use Rattle.plain_wire.specs.Messages.{wanted as is_wanted, numbered, known, named_in, credential_of, message_of};
 
 use nfs_types::{Octets, Program, ProgramProcedure};
 use session_wire::nfs_codec::{decode_call, is_decoded, procedure_of, program_of};
@@ -101,14 +101,20 @@ fn read_credential(alloc: Global, flavor: u32, body: &[u8]) -> Result<MessageCre
 {
     match flavor {
         AUTH_NONE if body.is_empty() => Ok(MessageCredential::Nobody),
-        AUTH_SYS => {
-            let system = read_caller(alloc, body)?;
-            Ok(MessageCredential::Caller {
-                stamp: system.stamp,
-                machine: Octets::copied(alloc, system.machine)?,
-                caller: system.caller,
-            })
-        }
+        AUTH_SYS => read_named(alloc, body),
         _ => Err(XdrFault::Value),
     }
+}
+
+// The caller that a body of AUTH_SYS names.
+fn read_named(alloc: Global, body: &[u8]) -> Result<MessageCredential, XdrFault>
+    ensures { Gives (λ c. c) result (named_in body.now) }
+{
+    let system = read_caller(alloc, body)?;
+    let machine = Octets::copied(alloc, system.machine)?;
+    Ok(MessageCredential::Caller {
+        stamp: system.stamp,
+        machine,
+        caller: system.caller,
+    })
 }
