@@ -115,8 +115,11 @@ module _ (before : Device) (tree : Tree) (first : ℕ) (holds : HoldsTree before
       let some = lawful.disk in
       let coming = subst (IsComingHome (image_of before) now) (sym is.log_is)
       (found_home before now reads holds.rest (omega (arith, some, size)) is.range blocks) in
-      record { coming = coming; keeps = found_stops before now reads holds.rest
-      (omega (arith, some, size)) is.range blocks raised log lawful coming }
+      record {
+        coming = coming;
+        keeps = found_stops before now reads holds.rest
+            (omega (arith, some, size)) is.range blocks raised log lawful coming;
+      }
 
   -- ---- the raised super block
 
@@ -231,14 +234,13 @@ module _ (before : Device) (tree : Tree) (first : ℕ) (holds : HoldsTree before
                 ∙ raises.write.later.past clock block below;
           } in
           let found = some_image before now (blocks_before now later went_on blocks) now.clock
-          raises.brings.keeps.past.clock (omega arith) in
-          (
+          raises.brings.keeps.past.clock (omega arith) in (
             found.0,
             written_holds found.0 found.1,
             subst (λ (size : ℕ). IsGoodImage size found.0 tree first) (sym size_is)
-            (old_good found.0 (subst (λ (size : ℕ). HasBlocksOf size (image_of before) (image_of before SUPER_BLOCK)
-            found.0) raises.brings.keeps.past.size
-            (stop_blocks (image_of before) now log found.0 lawful raises.brings.coming found.1))),
+                (old_good found.0 (subst (λ (size : ℕ). HasBlocksOf size (image_of before) (image_of before SUPER_BLOCK)
+                found.0) raises.brings.keeps.past.size
+                (stop_blocks (image_of before) now log found.0 lawful raises.brings.coming found.1))),
           )
 
       no_log : log.logged ≡ 0
@@ -306,11 +308,11 @@ module _ (before : Device) (tree : Tree) (first : ℕ) (holds : HoldsTree before
               agrees = agrees;
               readable = record {
                 logged = λ block within is_spoiled unlogged_is. absurd (
-                  let clean_is = clean spoiled block in let yes : later.spoiled block ≡ true = is_spoiled in cc
-                );
+                    let clean_is = clean spoiled block in let yes : later.spoiled block ≡ true = is_spoiled in cc
+                    );
                 stuck = λ block within is_spoiled. absurd (
-                  let clean_is = clean spoiled block in let yes : later.spoiled block ≡ true = is_spoiled in cc
-                );
+                    let clean_is = clean spoiled block in let yes : later.spoiled block ≡ true = is_spoiled in cc
+                    );
               };
               tidy = tidy;
               home = record { whole = whole_home; window = fresh_window home log lawful fresh };

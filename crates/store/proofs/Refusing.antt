@@ -97,7 +97,7 @@ module _ (keeps_model : Type 0) (before middle later : Device) (found : Super) (
       λ is. none kept (unspoiled_then before middle first clean) (
         subst IsInRange (sym image_is) is.0,
         subst (λ (size : ℕ). HasHomes size (image_of middle)) (sym first.size)
-        (subst (HasHomes before.size) (sym image_is) is.1),
+            (subst (HasHomes before.size) (sym image_is) is.1),
       ),
     ),
   )

@@ -100,14 +100,13 @@ returns-clause-keeps g c = λ tree first holds kept.
     (unspoiled_then before now c.in-Ok-find.ensures.reads holds.rest.unspoiled) in
     let over = is_new before tree first holds found (next found) (super_bytes (next found)) is.is_super refl refl
     is_raised (full (next found)) home later log c.lawful-2.ensures empty raises blocks c.new-core.result
-    c.new-core.ensures c.lawful-3.ensures.tidy c.install.ensures.fresh none.0 clean in
-    (
+    c.new-core.ensures c.lawful-3.ensures.tidy c.install.ensures.fresh none.0 clean in (
       next_boot before tree first holds found (next found) (super_bytes (next found)) is.is_super refl refl is_raised
-      (full (next found)),
+          (full (next found)),
       log.start,
       is_opened before tree first holds found (next found) (super_bytes (next found)) is.is_super refl refl
-      is_raised (full (next found)) home later log c.lawful-2.ensures empty raises blocks
-      (c.in_default-raise.ensures.failure ∙ c.in_default-install.ensures.failure ∙ c.in-Ok-find.ensures.failure),
+          is_raised (full (next found)) home later log c.lawful-2.ensures empty raises blocks
+          (c.in_default-raise.ensures.failure ∙ c.in_default-install.ensures.failure ∙ c.in-Ok-find.ensures.failure),
       over.0,
       over.1,
     )

@@ -3,7 +3,11 @@ use Rattle.std.proofs.Common.{arith, inl, inr, rules}
 use Rattle.store.proofs.opening.super_in.Goals as goal
 
 pub returns-then-found-blocks-clause-refused : goal.returns-then-found-blocks-clause-refused
-returns-then-found-blocks-clause-refused c = inr (c.in-Ok.found, search rules, elim c.then-found-blocks.either [
-  | inl other ↦ inl other
-  | inr last ↦ inr (omega (arith, last.1))
-])
+returns-then-found-blocks-clause-refused c = inr (
+  c.in-Ok.found,
+  search rules,
+  elim c.then-found-blocks.either [
+    | inl other ↦ inl other
+    | inr last ↦ inr (omega (arith, last.1))
+  ],
+)
