@@ -1,12 +1,11 @@
 -- What the log has comes home, and the blocks under it stay what they are.
 use Rattle.std.proofs.Common.{arith, ◌≡◌, ◌≢◌, ◌∙◌, refl, sym, ap, subst, ℕ, ◌+◌, ◌-◌, ◌<◌, ◌≤◌, ◌⊎◌, inl, inr}
 use Rattle.std.proofs.Common.{List, [], Bool, true, false, cond, ◌&&◌, if◌then◌else◌, Option, Some, None, All}
-use Rattle.std.proofs.Common.{Ok, Err, Result, is_ok, length, take, drop, replicate, nat_eq, nat_le, nat_lt}
+use Rattle.std.proofs.Common.{Result, is_ok, length, take, drop, replicate, nat_eq, nat_le, nat_lt}
 use Rattle.std.specs.List.{Contains}
 use Rattle.std.proofs.lemmas.Bool.{le-leb, lt-leb, ltb-false, ltb-true}
 use Rattle.std.proofs.lemmas.Bool.Decides.{nat_tests}
 use Rattle.std.proofs.lemmas.List.{length-drop, take-append-drop}
-use Rattle.std.proofs.lemmas.List.Elements.{All-contains}
 use Rattle.limits.specs.declared.TheConstants.{BLOCK_BYTES, FIRST_HOME_BLOCK, SUPER_BLOCK}
 use Rattle.disk.specs.Blocks.{AreBlocks, IsBlock}
 use Rattle.disk.specs.Crash.{Image, IsAtRest, IsCrashImage}
@@ -21,7 +20,7 @@ use Rattle.layout.specs.SuperForm.{IsSuper}
 use Rattle.wal_law.specs.declared.change.LogChange.{LogChange}
 use Rattle.wal_law.specs.Calls.{AgreesBeside, InstCallComesBack, InstCallGoesOut, InstCallIsMade, home_after, idle}
 use Rattle.wal_law.specs.Grows.{IsWholeChange}
-use Rattle.wal_law.specs.Installer.{is_inst_out, next_home, with_installed, with_inst_back, with_inst_made, with_inst_out}
+use Rattle.wal_law.specs.Installer.{next_home, with_installed, with_inst_back, with_inst_out}
 use Rattle.wal_law.specs.Io.{Io}
 use Rattle.wal_law.specs.Law.{IsAfter, IsBoundary, IsOutside, with_changes}
 use Rattle.wal_law.specs.Log.{Log, IsLawful, newest_of, or_else, opened}
@@ -35,7 +34,7 @@ use Rattle.wal_law.proofs.Opening.{stands_found}
 use Rattle.txn_law.specs.CoreWindow.{AreBlocks as AreWhole}
 use Rattle.txn_law.proofs.Homes.{whole_after}
 use Rattle.store_promise.specs.GoodImage.{IsGoodImage}
-use Rattle.store_promise.specs.Openings.{AtEachStop, IsLater}
+use Rattle.store_promise.specs.Openings.{AtEachStop}
 use Rattle.store_promise.proofs.Stopped.{as_at_home, no_change, outside_of, take_len}
 use Rattle.store.specs.BringingHome.{HasBlocksOf, HasBlocksWith, IsComingHome, KeepsBlocks}
 use Rattle.store.proofs.Later.{one_stop_more, past_more, past_one}

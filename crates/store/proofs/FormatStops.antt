@@ -1,10 +1,10 @@
 -- What each stop leaves while an image is made.
 use Rattle.std.proofs.Common.{arith, ◌≡◌, ◌∙◌, refl, sym, ap, subst, ℕ, ◌+◌, ◌<◌, ◌≤◌, ◌⊎◌, inl, inr, List, [], ◌∷◌}
 use Rattle.std.proofs.Common.{◌++◌, Ok, Err, Result, Bool, true, false, ◌||◌, ◌&&◌, nat_eq, length, replicate}
-use Rattle.std.specs.List.{All, Contains}
+use Rattle.std.specs.List.{Contains}
 use Rattle.std.proofs.lemmas.Bool.{cases_order}
 use Rattle.std.proofs.lemmas.Bool.Decides.{nat_tests}
-use Rattle.std.specs.Prelude.{OnOk, if◌then◌else◌, slice_index_or}
+use Rattle.std.specs.Prelude.{OnOk, if◌then◌else◌}
 use Rattle.std.proofs.lemmas.List.Elements.{All-contains, Contains-push_cases}
 use Rattle.limits.specs.declared.TheConstants.{BLOCK_BYTES, FIRST_HOME_BLOCK, LOG_HEADER_BLOCK, START_BLOCK}
 use Rattle.limits.specs.declared.TheConstants.{SUPER_BLOCK}
@@ -21,8 +21,8 @@ use Rattle.layout.specs.Geometry.{data_at, inode_bitmap_at, table_at}
 use Rattle.layout.specs.SuperForm.{HasMagic}
 use Rattle.layout.proofs.FreshBytes.{is_fresh}
 use Rattle.wal_law.proofs.Contents.{one_member}
-use Rattle.store_promise.specs.Openings.{HasFailedToFormat, IsFormatted, IsLater, IsLeftByFormat}
-use Rattle.store_promise.specs.Openings.{IsMaking, LeavesImages}
+use Rattle.store_promise.specs.Openings.{HasFailedToFormat, IsFormatted, IsLeftByFormat}
+use Rattle.store_promise.specs.Openings.{IsMaking}
 use Rattle.store.specs.Formatting.{HasWrittenUpTo, IsBlank, IsMade, IsMadeBehind, LeavesSuper, Stops, is_slot}
 use Rattle.store.proofs.Later.{blocks_before, earlier, one_stop_more, past_more, past_none, past_one, some_image}
 use Rattle.store.proofs.Formatted.{made_behind, made_on, made_still, settles}

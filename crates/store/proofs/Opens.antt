@@ -1,14 +1,14 @@
 -- What comes of an opening: the image's tree stays at each stop.
-use Rattle.std.proofs.Common.{arith, ◌≡◌, ◌≢◌, ◌∙◌, refl, sym, ap, subst, ℕ, ◌+◌, ◌-◌, ◌^◌, ◌<◌, ◌≤◌, ◌⊎◌, inl, inr}
-use Rattle.std.proofs.Common.{List, [], ◌∷◌, ◌++◌, Bool, true, false, ◌&&◌, ◌||◌, not, if◌then◌else◌, Ok, Err, All}
-use Rattle.std.proofs.Common.{length, nat_eq, nat_lt, nat_le}
+use Rattle.std.proofs.Common.{arith, ◌≡◌, ◌∙◌, refl, sym, ap, subst, ℕ, ◌+◌, ◌-◌, inl, inr}
+use Rattle.std.proofs.Common.{List, [], ◌∷◌, ◌++◌, Bool, true, false, ◌&&◌, ◌||◌, if◌then◌else◌, Ok}
+use Rattle.std.proofs.Common.{length, nat_eq}
 use Rattle.std.specs.List.{Contains}
 use Rattle.std.proofs.lemmas.Bool.Decides.{nat_tests}
 use Rattle.std.proofs.lemmas.List.Elements.{Contains-append_left}
-use Rattle.limits.specs.declared.TheConstants.{BLOCK_BYTES, FIRST_HOME_BLOCK, LOG_HEADER_BLOCK, START_BLOCK}
+use Rattle.limits.specs.declared.TheConstants.{BLOCK_BYTES, LOG_HEADER_BLOCK, START_BLOCK}
 use Rattle.limits.specs.declared.TheConstants.{SUPER_BLOCK}
 use Rattle.disk.specs.Blocks.{AreBlocks}
-use Rattle.disk.specs.Crash.{Image, IsAtRest, IsCrashImage}
+use Rattle.disk.specs.Crash.{Image, IsCrashImage}
 use Rattle.disk.specs.Device.{Content, Device, current, newest}
 use Rattle.model.specs.Tree.{Tree}
 use Rattle.layout.specs.declared.geometry.Geometry.{Geometry}
@@ -19,7 +19,6 @@ use Rattle.layout.proofs.Versions.{one_version}
 use Rattle.wal_law.specs.declared.change.LogChange.{LogChange}
 use Rattle.wal_law.specs.Calls.{AgreesBeside, idle}
 use Rattle.wal_law.specs.Installer.{may_install}
-use Rattle.wal_law.specs.Law.{with_home}
 use Rattle.wal_law.specs.Log.{IsLawful, Log}
 use Rattle.wal_law.specs.Overlay.{end_in, start_in}
 use Rattle.wal_law.specs.Recovery.{HasOnlyRead, IsUnspoiled, image_of}
@@ -39,9 +38,8 @@ use Rattle.store_promise.proofs.Shown.{has_blocks, not_magic, not_range, not_ver
 use Rattle.store.specs.BringingHome.{BringsHome, CountsCause, HasBlocksOf, HasBlocksWith, HasRaised, IsComingHome}
 use Rattle.store.specs.BringingHome.{IsFound, KeepsBlocks}
 use Rattle.store.specs.Opening.{HoldsTree}
-use Rattle.store.specs.Settling.{IsQuiet}
 use Rattle.store.proofs.ComingHome.{good_under, stop_blocks, found_home, found_stops}
-use Rattle.store.proofs.Later.{blocks_before, past_one, some_image}
+use Rattle.store.proofs.Later.{blocks_before, some_image}
 use Rattle.store.proofs.Raising.{outside, raised_stops, settled_stops, under, under_raised, unlogged}
 
 one_there : (contents : List Content) → length contents ≡ 1 → Contains contents (newest contents)

@@ -1,18 +1,18 @@
 -- The super block is written beside an empty log, and settled.
-use Rattle.std.proofs.Common.{arith, ◌≡◌, ◌≢◌, ◌∙◌, refl, sym, ap, subst, ℕ, ◌<◌, ◌≤◌, ◌⊎◌, inl, inr, [], true, false}
+use Rattle.std.proofs.Common.{arith, ◌≡◌, ◌≢◌, ◌∙◌, refl, sym, ap, subst, ℕ, ◌⊎◌, inl, inr, [], true, false}
 use Rattle.std.proofs.Common.{Bool, if◌then◌else◌, None, Ok, Err, Result, nat_eq}
-use Rattle.std.proofs.Common.{List, ◌∷◌, ◌++◌, ◌+◌, length}
+use Rattle.std.proofs.Common.{List, ◌∷◌, ◌++◌, length}
 use Rattle.std.specs.Prelude.{IsErr, MatchResult}
 use Rattle.std.proofs.lemmas.Bool.Decides.{nat_tests}
 use Rattle.std.proofs.lemmas.List.{append-nil, length-append}
 use Rattle.limits.specs.declared.TheConstants.{BLOCK_BYTES, SUPER_BLOCK}
 use Rattle.disk.specs.Crash.{Image, IsCrashImage}
-use Rattle.disk.specs.Device.{Content, Device, HasSettled, HasWritten, OneLater}
+use Rattle.disk.specs.Device.{Content, Device, HasSettled, HasWritten}
 use Rattle.disk.specs.declared.block.Side.TheVariants.{Home}
 use Rattle.disk.specs.declared.device.Failed.{Failed}
 use Rattle.wal_law.specs.Law.{IsBoundary, IsOutside, with_changes, with_home}
 use Rattle.wal_law.specs.Log.{IsLawful, Log, newest, newest_of}
-use Rattle.wal_law.specs.Overlay.{content_or, over}
+use Rattle.wal_law.specs.Overlay.{content_or}
 use Rattle.wal_law.specs.Recovery.{image_of}
 use Rattle.wal_law.proofs.Contents.{keeps_settled}
 use Rattle.wal_law.proofs.HomeWrites.{home_written}

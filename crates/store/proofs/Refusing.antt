@@ -1,10 +1,9 @@
 -- An opening that has only read, and what it refuses.
-use Rattle.std.proofs.Common.{arith, ◌≡◌, ◌∙◌, refl, sym, ap, subst, ℕ, ◌+◌, ◌<◌, ◌≤◌, ◌^◌, ◌⊎◌, inl, inr, Ok, Err, Result, List}
+use Rattle.std.proofs.Common.{arith, ◌≡◌, ◌∙◌, refl, sym, ap, subst, ℕ, ◌+◌, ◌<◌, ◌^◌, inl, inr, Ok, Err, Result, List}
 use Rattle.std.specs.Prelude.{IfErr}
 use Rattle.std.proofs.lemmas.Bool.{cases_lt}
 use Rattle.limits.specs.declared.TheConstants.{SUPER_BLOCK}
-use Rattle.disk.specs.Device.{Content, CountsFailure, Device, HasRead, current, newest}
-use Rattle.disk.specs.declared.device.Failed.{Failed}
+use Rattle.disk.specs.Device.{Content, Device, HasRead}
 use Rattle.layout.specs.declared.super_block.Super.{Super}
 use Rattle.layout.specs.SuperForm.{IsSuper}
 use Rattle.disk.specs.declared.block.BlockNo.{BlockNo}
@@ -14,7 +13,7 @@ use Rattle.wal_law.specs.Recovery.{HasOnlyRead, IsUnspoiled, image_of}
 use Rattle.wal_law.proofs.OnlyRead.{image_then, reads_then, unspoiled_then}
 use Rattle.store_promise.specs.declared.fault.OpenFault.{OpenFault}
 use Rattle.store_promise.specs.declared.fault.OpenFault.TheVariants as fault
-use Rattle.store_promise.specs.Openings.{IsLater, IsRefusedFor, ShowsNoCause, WasOnlyRead}
+use Rattle.store_promise.specs.Openings.{IsLater, IsRefusedFor, ShowsNoCause}
 use Rattle.store_promise.proofs.Shown.{has_blocks, not_another, not_magic, not_range, not_version}
 use Rattle.store.specs.BringingHome.{HasNoSuper, IsFound}
 

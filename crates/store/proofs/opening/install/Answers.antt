@@ -1,5 +1,5 @@
 -- What each call keeps, all of them keep.
-use Rattle.std.proofs.Common.{arith, ◌∙◌, refl, subst, sym}
+use Rattle.std.proofs.Common.{arith, ◌∙◌, subst, sym}
 use Rattle.wal_law.specs.Recovery.{IsUnspoiled}
 use Rattle.store.proofs.Later.{past_more}
 use Rattle.store.proofs.opening.install.Goals as goal

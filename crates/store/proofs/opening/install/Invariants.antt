@@ -1,5 +1,5 @@
 -- the log is still that of the disk, no call is out, and no call has failed yet
-use Rattle.std.proofs.Common.{◌≡◌, ◌≤◌, ◌<◌, ◌+◌, true, false, if◌then◌else◌}
+use Rattle.std.proofs.Common.{◌≡◌, ◌<◌, ◌+◌, true, false, if◌then◌else◌}
 use Rattle.disk.specs.Device.{Content, Device}
 use Rattle.txn.specs.CoreLaw.{IsFresh}
 use Rattle.wal_law.specs.Recovery.{IsUnspoiled}

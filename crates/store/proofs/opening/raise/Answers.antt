@@ -1,6 +1,5 @@
 -- What the block has is what the super block is written as.
 use Rattle.std.proofs.Common.{◌∙◌, subst, sym}
-use Rattle.layout.specs.SuperForm.{super_bytes}
 use Rattle.store.specs.BringingHome.{BringsHome, KeepsBlocks}
 use Rattle.store.proofs.opening.raise.Goals as goal
 

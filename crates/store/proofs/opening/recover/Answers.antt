@@ -1,5 +1,5 @@
 -- At each stop of an opening the image has its tree.
-use Rattle.std.proofs.Common.{arith, ◌≡◌, ◌+◌, ◌∙◌, refl, sym, inl, inr, length, ap, subst, Err}
+use Rattle.std.proofs.Common.{arith, ◌≡◌, ◌+◌, ◌∙◌, refl, sym, inl, inr, length, subst}
 use Rattle.limits.specs.declared.TheConstants.{BLOCK_BYTES}
 use Rattle.layout.specs.declared.super_block.Super.{Super}
 use Rattle.layout.specs.Fields.{eight_bytes, four_bytes}
