@@ -109,7 +109,7 @@ Begins old made new = IsSomeAnd old.worker.work.job (λ job. BeginsBy (has_rules
 pub record HasWanted (tx : ℕ) (addr : Addr) (old : Side) (made : Step) (new : Side) : Type 0 where
   pub answer : Want
   pub made_is : made ≡ step.Wanted addr modes.Exclusive (wish_of answer)
-  pub core : IsWanted old.core tx addr answer new.core
+  pub core : IsWanted old.core tx addr modes.Exclusive answer new.core
   pub worker : new.worker ≡ record (with_snap new.worker old.worker) {
     phase = phase_wanted answer;
     begun = begun_wanted answer;
