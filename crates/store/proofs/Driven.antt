@@ -379,7 +379,7 @@ module _ (old new : Side) (tx : ℕ) (job : Job) (done : Outcome) (job_is : old.
       kept (record {
         phase = ap (λ (s : State). s.phase) worker;
         less = subst (λ r. r + 2 < left_then) (sym (same_rounds old new (ap (λ (s : State). s.work.job) worker ∙ same)
-        core.0.core)) (grind (arith));
+            core.0.core)) (grind (arith));
       }) (ap (λ m. is_kept_off (Some m)) made_is)
   committed_so made base (commit.Foreign back change) added same made_is core worker =
       gone (nearer left_then new.worker new.core Again (ap (λ (s : State). s.phase) worker) tt

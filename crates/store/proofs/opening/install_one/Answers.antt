@@ -1,7 +1,8 @@
 -- What comes home comes nearer, and a stop leaves what it left.
 use Rattle.std.proofs.Common.{◌∙◌, refl}
 use Rattle.wal_law.specs.Installer.{is_inst_out, with_inst_back}
-use Rattle.store.proofs.CallsLeft.{given_back, inst_is_out}
+use Rattle.store.proofs.CallsLeft.{given_back}
+use Rattle.store.proofs.OutCalls.{inst_is_out}
 use Rattle.store.proofs.ComingHome.{called_home, home_stops}
 use Rattle.store.proofs.Made.{made_later}
 use Rattle.wal_law.specs.Recovery.{image_of}
