@@ -1,8 +1,9 @@
 -- A fetch that is given back leaves fewer blocks that aren't at hand.
-use Rattle.std.proofs.Common.{arith, ◌≡◌, ◌∙◌, refl, sym, ap, subst, true≢false, ℕ, ◌+◌, ◌-◌, ◌<◌, ◌≤◌, zero, suc}
-use Rattle.std.proofs.Common.{Bool, true, false, not, ◌&&◌, ◌||◌, if◌then◌else◌, nat_eq, Option, Some, None, is_some}
+use Rattle.std.proofs.Common.{arith, ◌≡◌, ◌∙◌, refl, sym, ap, subst, true≢false, ℕ, ◌+◌, ◌-◌, ◌<◌, ◌≤◌}
+use Rattle.std.proofs.Common.{zero, suc}
+use Rattle.std.proofs.Common.{Bool, true, false, ◌&&◌, ◌||◌, if◌then◌else◌, nat_eq, Option, Some, None}
+use Rattle.std.proofs.Common.{is_some}
 use Rattle.std.proofs.Common.{List, [], ◌∷◌, cond}
-use Rattle.std.specs.List.{find}
 use Rattle.std.proofs.lemmas.Bool.{eqb-true}
 use Rattle.std.proofs.lemmas.Bool.Decides.{nat_tests}
 use Rattle.disk.specs.Device.{Content}
@@ -12,7 +13,7 @@ use Rattle.objects.specs.declared.mode.Mode.TheVariants as modes
 use Rattle.txn.specs.Core.{CoreState}
 use Rattle.txn.specs.Fetch.{Fetch}
 use Rattle.txn_law.specs.Holds.{for_fetching, hold_of, is_hold_of, is_taken, joined}
-use Rattle.txn_law.specs.Leaves.{Leaves, in_memory, is_fetching, taken_by, with_content, with_fetch, with_taken}
+use Rattle.txn_law.specs.Leaves.{Leaves, in_memory, is_fetching, taken_by, with_content}
 use Rattle.txn_law.specs.Leaves.{without_fetch}
 use Rattle.txn_law.specs.Records.{is_kept}
 use Rattle.txn_law.specs.Wishes.{IsFetched}

@@ -1,7 +1,10 @@
 -- Each round of a call that one thread drives leaves less of it.
-use Rattle.std.proofs.Common.{arith, ◌≡◌, ◌∙◌, refl, sym, ap, subst, true≢false, ℕ, ◌+◌, ◌-◌, ◌*◌, ◌^◌, ◌<◌, ◌≤◌, ◌⊎◌, inl, inr}
-use Rattle.std.proofs.Common.{Bool, true, false, not, ◌&&◌, ◌||◌, if◌then◌else◌, nat_le, Option, Some, None, is_some}
-use Rattle.std.proofs.Common.{List, [], ◌∷◌, ◌++◌, length, Result, Ok, Err, is_ok, zero, suc, IsTrue, IfSome, ◌↔◌, OnOk, OnErr}
+use Rattle.std.proofs.Common.{arith, ◌≡◌, ◌∙◌, refl, sym, ap, subst, true≢false, ℕ, ◌+◌, ◌-◌, ◌*◌, ◌^◌, ◌<◌}
+use Rattle.std.proofs.Common.{◌≤◌, ◌⊎◌, inl, inr}
+use Rattle.std.proofs.Common.{Bool, true, false, not, ◌||◌, if◌then◌else◌, nat_le, Option, Some, None}
+use Rattle.std.proofs.Common.{is_some}
+use Rattle.std.proofs.Common.{List, [], ◌∷◌, ◌++◌, length, Result, Ok, Err, is_ok, suc, IsTrue, IfSome, ◌↔◌}
+use Rattle.std.proofs.Common.{OnOk, OnErr}
 use Rattle.std.specs.Prelude.{IsSomeAnd, MatchOption}
 use Rattle.std.proofs.lemmas.Bool.Decides.{nat_tests}
 use Rattle.std.proofs.lemmas.List.{length-append}
@@ -41,19 +44,23 @@ use Rattle.store_promise.specs.declared.events.Cause.{Cause}
 use Rattle.store_promise.specs.declared.events.Step.{Step}
 use Rattle.store_promise.specs.declared.events.Step.TheVariants as step
 use Rattle.store.proofs.AtHand.{at_most_all, fewer_away}
-use Rattle.store.specs.Driving.{HasGoneOn, IsAnswered, IsCounted, IsNearer, IsUnder, IsUnderWay, WereRead, away, count_of, is_at_hand}
-use Rattle.store.specs.Driving.{is_kept_off, left_in, most_of, reads_left, rounds_left, steps_left, unread, waits_for_log}
+use Rattle.store.specs.Driving.{HasGoneOn, IsAnswered, IsCounted, IsNearer, IsUnder, IsUnderWay, WereRead}
+use Rattle.store.specs.Driving.{away, count_of, is_at_hand}
+use Rattle.store.specs.Driving.{is_kept_off, left_in, most_of, rounds_left, steps_left, unread}
+use Rattle.store.specs.Driving.{waits_for_log}
 use Rattle.store.specs.Driving.{whole_round}
 use Rattle.store.specs.Counts.{SameFrame}
 use Rattle.store.specs.Opening.{IsSettled}
 use Rattle.store.specs.Settling.{SameNumbers}
 use Rattle.store.specs.Seen.{Seen, seen_in, with_object}
-use Rattle.store.specs.WorkerAnswers.{after_commit, begun_wanted, committing_of, phase_wanted, seen_wanted, told_of, wish_of, with_answer}
+use Rattle.store.specs.WorkerAnswers.{after_commit, begun_wanted, committing_of, phase_wanted, seen_wanted}
+use Rattle.store.specs.WorkerAnswers.{told_of, wish_of, with_answer}
 use Rattle.store.specs.WorkerAnswers.{with_entry}
 use Rattle.store.specs.Worker.{with_call}
 use Rattle.store.specs.WorkerReads.{HasReadBlock}
-use Rattle.store.specs.WorkerSteps.{Begins, BeginsBy, GoesByNext, GoesByPlan, GoesOn, EndsBy, HasBegun, HasCommitted, HasLacked}
-use Rattle.store.specs.WorkerSteps.{HasWanted, IsNext, SawNothing, Side, Waits, IsTold, BeginsAgain, GivesBack, HasGivenBack, HasLeft, HasRefused}
+use Rattle.store.specs.WorkerSteps.{BeginsBy, GoesByNext, GoesOn, EndsBy, HasBegun, HasCommitted, HasLacked}
+use Rattle.store.specs.WorkerSteps.{IsNext, SawNothing, Side, Waits, IsTold, BeginsAgain, HasGivenBack}
+use Rattle.store.specs.WorkerSteps.{HasLeft, HasRefused}
 use Rattle.store.specs.WorkerSteps.{Refuses, numbered, none_begun, planned_of, side, with_snap}
 use Rattle.store.specs.declared.workers.parts.Begun.{Begun}
 use Rattle.store.specs.declared.workers.parts.Job.{Job}
@@ -462,8 +469,10 @@ waited old new place made within has =
     by : (settled : Bool) → (IsTrue settled ↔ (place.0 ≤ settled_place old.core.log)) → made ≡ step.Stable place settled
         → (broken : Bool) → old.core.log.broken ≡ broken → IsTold settled broken place old.worker new.worker
         → Came (Waiting place) old (Some made) new
-    by true is made_is broken at has = told (reply old.worker.work.reply (record old.worker { work = record old.worker.work { reply = None } }) has) (kept_is true made_is)
-    by false is made_is true at has = told (reply old.worker.work.broken_reply (record old.worker { work = record old.worker.work { broken_reply = None } }) has) (kept_is false made_is)
+    by true is made_is broken at has = told (reply old.worker.work.reply
+        (record old.worker { work = record old.worker.work { reply = None } }) has) (kept_is true made_is)
+    by false is made_is true at has = told (reply old.worker.work.broken_reply
+        (record old.worker { work = record old.worker.work { broken_reply = None } }) has) (kept_is false made_is)
     by false is made_is false at same =
         waits place refl (record {
           same = same;

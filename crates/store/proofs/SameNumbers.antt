@@ -1,10 +1,9 @@
 -- No call of the log or of the installer takes a place.
 use Rattle.std.proofs.Common.{◌≡◌, ◌∙◌, refl, ap, ℕ, ◌+◌, Bool, true, false, if◌then◌else◌, nat_eq, nat_lt}
-use Rattle.txn.specs.Core.{CoreState}
-use Rattle.wal_law.specs.Installer.{next_home, with_inst_back, with_inst_made, with_inst_out, with_installed, is_inst_out}
+use Rattle.wal_law.specs.Installer.{next_home, with_inst_back, with_inst_out, with_installed, is_inst_out}
 use Rattle.wal_law.specs.Io.{Io}
 use Rattle.wal_law.specs.Log.{Log}
-use Rattle.wal_law.specs.Logger.{is_log_out, with_log_back, with_log_made, with_log_out}
+use Rattle.wal_law.specs.Logger.{is_log_out, with_log_back, with_log_out}
 
 log_made : (log : Log) (last : Bool) → (if last
     then record log { logged = log.logged + log.taken; taken = 0; log_step = 0; log_out = false }

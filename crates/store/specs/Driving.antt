@@ -1,19 +1,19 @@
 -- What is left to do for a call that one thread drives: a number that each round makes smaller.
-use Rattle.std.specs.Prelude.{◌≡◌, ℕ, ◌+◌, ◌-◌, ◌*◌, ◌^◌, ◌<◌, ◌≤◌, ◌⊎◌, Bool, true, false, ◌&&◌, ◌||◌, nat_le}
-use Rattle.std.specs.Prelude.{if◌then◌else◌, Option, Some, None, Ok, Err, is_some, IfSome, IsSomeAnd, length, zero, suc}
+use Rattle.std.specs.Prelude.{◌≡◌, ℕ, ◌+◌, ◌-◌, ◌*◌, ◌^◌, ◌<◌, ◌≤◌, ◌⊎◌, Bool, true, false, ◌&&◌, ◌||◌}
+use Rattle.std.specs.Prelude.{nat_le}
+use Rattle.std.specs.Prelude.{if◌then◌else◌, Option, Some, None, Ok, is_some, IfSome, length, zero, suc}
 use Rattle.disk.specs.declared.block.BlockNo.{BlockNo}
 use Rattle.wal_law.specs.Log.{settled_place}
 use Rattle.procs.specs.Asks.{WereAskedOnce}
 use Rattle.procs.specs.MostAsked.{most_asked}
 use Rattle.txn.specs.Core.{CoreState}
-use Rattle.txn.specs.Leaves.{in_memory, is_fetching}
+use Rattle.txn.specs.Leaves.{in_memory}
 use Rattle.txn_law.specs.Holds.{is_taken}
 use Rattle.store_promise.specs.declared.events.Committing.TheVariants as committing
 use Rattle.store_promise.specs.declared.events.Step.{Step}
 use Rattle.store_promise.specs.declared.events.Step.TheVariants as step
 use Rattle.store_promise.specs.declared.events.Wish.TheVariants as wish
 use Rattle.store.specs.Seen.{Seen, seen_in}
-use Rattle.store.specs.WorkerSteps.{Side}
 use Rattle.store.specs.declared.workers.parts.Job.{Job}
 use Rattle.store.specs.declared.workers.parts.Phase.{Phase}
 use Rattle.store.specs.declared.workers.parts.Phase.TheVariants.{Idle, Called, Planning, Reading, Read}

@@ -1,4 +1,4 @@
-use Rattle.std.proofs.Common.{rules, ◌≡◌, ◌∙◌, true≢false, Bool, true, false, refl, sym, ap, subst, is_some}
+use Rattle.std.proofs.Common.{rules, ◌≡◌, ◌∙◌, true≢false, true, false, refl, sym, subst, is_some}
 use Rattle.store.proofs.Driven.{AfterLog, after_none, after_settling, begins_again, ends_round, none_made}
 use Rattle.store.proofs.Driven.{reads_on, stepped, was_made}
 use Rattle.store.specs.Driving.{HasGoneOn, steps_left, waits_for_log}
