@@ -1,6 +1,8 @@
 pub mod AfterCommit
+pub mod AtHand
 pub mod CallsLeft
 pub mod ComingHome
+pub mod Driven
 pub mod FormatStops
 pub mod Formatted
 pub mod Later
@@ -11,3 +13,4 @@ pub mod Opens
 pub mod OutCalls
 pub mod Raising
 pub mod Refusing
+pub mod SameNumbers

@@ -1,5 +1,6 @@
 pub mod BringingHome
 pub mod Counts
+pub mod Driving
 pub mod Formatting
 pub mod LogSide
 pub mod Opening

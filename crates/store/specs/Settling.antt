@@ -14,6 +14,11 @@ pub record IsIdle (core : CoreState) : Type 0 where
   pub out : core.out ≡ []
   pub quiet : IsQuiet core.log
 
+-- no transaction was begun, and no place was taken
+pub record SameNumbers (old new : CoreState) : Type 0 where
+  pub begun : new.begun ≡ old.begun
+  pub places : new.log.places ≡ old.log.places
+
 -- how many calls of a group are left that has so many blocks, of which so many were made: each block, a
 -- barrier, the block that tells of it, and a barrier
 abbrev pub group_left : ℕ → ℕ → ℕ

@@ -1,4 +1,6 @@
 //! One call to its answer, by one thread.
+ghost use Rattle.std.specs.Prelude.{◌≡◌};
+ghost use Rattle.store.specs.Driving.{HasGoneOn, IsCounted, IsUnderWay, is_kept_off, steps_left, waits_for_log};
 ghost use Rattle.store.specs.Settling.{IsIdle, IsQuiet};
 ghost use Rattle.store.specs.Worker.{Fits};
 
@@ -7,11 +9,12 @@ use crate::workers::Worker;
 use disk::CrashDisk;
 use nfs_types::{Call, Credential, Moment};
 use std::alloc::Global;
-use store_promise::{Committing, Step, Verdict};
+use store_promise::{Committing, Step, Verdict, Wish};
 
 /// Runs a call to its answer. Where the answer waits for its place everything is settled before; where the
 /// log is full, too, and so it is where more than MOST_KEPT_COMMITS commits are kept then, since that brings
 /// home what is logged. A call that isn't served is NOTSUPP and begins no transaction.
+#[tactic(auto, using(crate::proofs::Driven::starts))]
 pub fn procedure<D: CrashDisk>(
     alloc: Global,
     store: &mut Store<D>,
@@ -34,35 +37,72 @@ pub fn procedure<D: CrashDisk>(
 }
 
 // Drives a worker to the answer of its call.
+#[tactic(auto, using(crate::proofs::Driven::still_under_way, crate::proofs::Driven::less_is_left))]
 fn answer<D: CrashDisk>(alloc: Global, store: &mut Store<D>, worker: &mut Worker) -> Verdict
     requires fits { Fits worker.old store.old.core }
     requires quiet { IsQuiet store.old.core.log }
+    requires under_way { IsUnderWay worker.old.state store.old.core }
     ensures fits { Fits worker.new store.new.core }
     ensures quiet { IsQuiet store.new.core.log }
     ensures model { D.keeps_model store.new.disk → D.keeps_model store.old.disk }
 {
-    'steps: for _ in 0..u64::MAX {
+    'steps: loop {
         go_on(alloc, store, worker);
         if let Some(answered) = worker.take_answer() {
             return answered.verdict;
         }
     }
-    Verdict::NoMemory
 }
 
-// The read that is due, or the next step. Where it waits for the log, everything is settled.
+// Makes the next step, and what it waits for: the read that is due then, or, where it waits for the log, that
+// everything is settled. Nobody else lets go of what keeps a wish off: so its call begins again.
 fn go_on<D: CrashDisk>(alloc: Global, store: &mut Store<D>, worker: &mut Worker)
     requires fits { Fits worker.old store.old.core }
     requires quiet { IsQuiet store.old.core.log }
+    requires under_way { IsUnderWay worker.old.state store.old.core }
     ensures fits { Fits worker.new store.new.core }
     ensures quiet { IsQuiet store.new.core.log }
+    ensures nearer { HasGoneOn (steps_left worker.old.state store.old.core) worker.new.state store.new.core }
     ensures model { D.keeps_model store.new.disk → D.keeps_model store.old.disk }
 {
-    let _ = worker.read(&mut store.disk);
-    match worker.step(alloc, &mut store.core) {
-        Some(Step::Commit(_, Committing::Full)) | Some(Step::Stable(_, false)) => {
-            let _ = settle(store);
-        }
-        _ => {}
+    let made = worker.step(alloc, &mut store.core);
+    counted(&made);
+    if waits_for_log(&made) {
+        let _ = settle(store);
     }
+    if is_kept_off(&made) {
+        worker.begin_again();
+    } else if worker.read(&mut store.disk).is_some() {
+        worker.step(alloc, &mut store.core);
+    }
+}
+
+// A transaction has a number that can be counted.
+fn counted(made: &Option<Step>)
+    ensures { IsCounted made.now }
+{
+    if let Some(Step::Begun(Ok(number))) = made {
+        let _number = *number;
+    }
+}
+
+// Whether a step waits for the log: for room, or for its place to be settled.
+fn waits_for_log(made: &Option<Step>) -> bool
+    ensures { result ≡ waits_for_log made.now }
+{
+    matches!(
+        made,
+        Some(Step::Commit(_, Committing::Full)) | Some(Step::Stable(_, false))
+    )
+}
+
+// Whether a wish was kept off, or a commit refused for want of room.
+fn is_kept_off(made: &Option<Step>) -> bool
+    ensures { result ≡ is_kept_off made.now }
+{
+    matches!(
+        made,
+        Some(Step::Wanted(_, _, Wish::Busy | Wish::Loading))
+            | Some(Step::Commit(_, Committing::Full))
+    )
 }

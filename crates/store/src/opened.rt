@@ -4,7 +4,7 @@ ghost use Rattle.limits.specs.declared.TheConstants.{MOST_KEPT_COMMITS};
 ghost use Rattle.layout.specs.Geometry.{IsLawful};
 ghost use Rattle.store.specs.Counts.{SameFrame};
 ghost use Rattle.store.specs.Opening.{IsSettled};
-ghost use Rattle.store.specs.Settling.{HasCalled, HasFailed, IsQuiet};
+ghost use Rattle.store.specs.Settling.{HasCalled, HasFailed, IsQuiet, SameNumbers};
 ghost use Rattle.wal_law.specs.Installer.{may_install};
 ghost use Rattle.wal_law.specs.Logger.{may_log};
 
@@ -58,6 +58,7 @@ pub fn settle<D: CrashDisk>(store: &mut Store<D>) -> Result<(), Failed>
     requires { IsQuiet store.old.core.log }
     ensures out { store.new.core.out ≡ store.old.core.out }
     ensures counts { SameFrame store.old.core store.new.core }
+    ensures numbers { SameNumbers store.old.core store.new.core }
     ensures settled { OnOk result (IsSettled store.new.core) }
     ensures failed { OnErr result (HasFailed store.old.core.log (D.device store.old.disk) (D.device store.new.disk)) }
     ensures broken { OnErr result (store.new.core.log.broken ≡ true) }
@@ -90,6 +91,7 @@ fn log_one<D: CrashDisk>(store: &mut Store<D>) -> bool
     requires { IsQuiet store.old.core.log }
     ensures out { store.new.core.out ≡ store.old.core.out }
     ensures counts { SameFrame store.old.core store.new.core }
+    ensures numbers { SameNumbers store.old.core store.new.core }
     ensures may { result ≡ may_log store.old.core.log }
     ensures called { IsTrue result
         → HasCalled store.old.core.log (D.device store.old.disk) store.new.core.log (D.device store.new.disk) }
@@ -113,6 +115,7 @@ fn install_one<D: CrashDisk>(store: &mut Store<D>) -> bool
     requires { IsQuiet store.old.core.log }
     ensures out { store.new.core.out ≡ store.old.core.out }
     ensures counts { SameFrame store.old.core store.new.core }
+    ensures numbers { SameNumbers store.old.core store.new.core }
     ensures may { result ≡ may_install store.old.core.log }
     ensures called { IsTrue result
         → HasCalled store.old.core.log (D.device store.old.disk) store.new.core.log (D.device store.new.disk) }

@@ -28,7 +28,7 @@ pub struct Worker {
 impl Worker {
     ghost use Rattle.std.specs.Prelude.{◌≡◌, ◌↔◌, ◌<◌, IfSome, IsTrue, IsFalse, IsSome, None, MatchOption, []};
     ghost use Rattle.txn.specs.Core.{CoreState};
-    ghost use Rattle.store.specs.declared.workers.parts.Phase.TheVariants.{Idle, Reading};
+    ghost use Rattle.store.specs.declared.workers.parts.Phase.TheVariants.{Again, Idle, Planning, Reading};
     ghost use Rattle.store.specs.Counts.{SameFrame};
     ghost use Rattle.layout.specs.Geometry.{IsLawful};
     ghost use Rattle.store.specs.Phases.{block_due};
@@ -132,6 +132,18 @@ impl Worker {
         ensures stays { KeepsReadsOf (side self.old.state core.old) (side self.new.state core.new) }
     {
         self.state.step(alloc, core)
+    }
+
+    /// Has a call that plans begin again with the next step.
+    pub(crate) fn begin_again(&mut self)
+        ensures fits { (core : CoreState) → Fits self.old core → Fits self.new core }
+        ensures planning { self.old.state.phase ≡ Planning
+            → self.new.state ≡ record self.old.state { phase = Again } }
+        ensures rest { (self.old.state.phase ≡ Planning → ⊥) → self.new ≡ self.old }
+    {
+        if self.state.phase == Phase::Planning {
+            self.state.phase = Phase::Again;
+        }
     }
 
     /// Takes the procedure that the last step committed, if it committed one.

@@ -1,8 +1,14 @@
--- the worker fits the core, no device call is out, and the device has kept its model so far where it does
+-- the worker fits the core, its call is under way, no device call is out, and the device has kept its model so far
+-- where it does; each round leaves less of the call
+use Rattle.store.specs.Driving.{IsUnderWay, steps_left}
 use Rattle.store.specs.Settling.{IsQuiet}
 use Rattle.store.specs.Worker.{Fits}
 use Rattle.store.proofs.one_call.answer.Given as goal
 
 abbrev pub invariant-steps : goal.invariant-steps
 invariant-steps g l = Fits l.worker l.store.core × IsQuiet l.store.core.log
+    × IsUnderWay l.worker.state l.store.core
     × (g.D.CrashDisk.keeps_model l.store.disk → g.D.CrashDisk.keeps_model l.fn.store.disk)
+
+abbrev pub decreases-steps : goal.decreases-steps
+decreases-steps g l = steps_left l.worker.state l.store.core

@@ -1,0 +1,826 @@
+-- Each round of a call that one thread drives leaves less of it.
+use Rattle.std.proofs.Common.{arith, ◌≡◌, ◌∙◌, refl, sym, ap, subst, true≢false, ℕ, ◌+◌, ◌-◌, ◌*◌, ◌^◌, ◌<◌}
+use Rattle.std.proofs.Common.{◌≤◌, ◌⊎◌, inl, inr}
+use Rattle.std.proofs.Common.{Bool, true, false, not, ◌||◌, if◌then◌else◌, nat_le, Option, Some, None}
+use Rattle.std.proofs.Common.{is_some}
+use Rattle.std.proofs.Common.{List, [], ◌∷◌, ◌++◌, length, Result, Ok, Err, is_ok, suc, IsTrue, IfSome, ◌↔◌}
+use Rattle.std.proofs.Common.{OnOk, OnErr}
+use Rattle.std.specs.Prelude.{IsSomeAnd, MatchOption}
+use Rattle.std.proofs.lemmas.Bool.Decides.{nat_tests}
+use Rattle.std.proofs.lemmas.List.{length-append}
+use Rattle.std.proofs.lemmas.Nat.{mul-le}
+use Rattle.disk.specs.Device.{Device}
+use Rattle.disk.specs.declared.device.Failed.{Failed}
+use Rattle.objects.specs.declared.addr.Addr.{Addr}
+use Rattle.objects.specs.declared.mode.Mode.TheVariants as modes
+use Rattle.model.specs.Calls.{has_rules, is_answered_stable}
+use Rattle.nfs_types.specs.declared.call.Call.{Call}
+use Rattle.nfs_types.specs.declared.ctx.Ctx.{Ctx}
+use Rattle.nfs_types.specs.declared.reply.Reply.{Reply}
+use Rattle.wal_law.specs.Log.{settled_place}
+use Rattle.wal_law.specs.declared.outcomes.Seq.{Seq}
+use Rattle.procs.specs.Asks.{WereAskedOnce}
+use Rattle.procs.specs.MostAsked.{most_asked}
+use Rattle.procs.specs.Outcome.{Outcome}
+use Rattle.procs.specs.Planned.{IsPlanFor}
+use Rattle.procs.specs.declared.next.Plan.{Plan}
+use Rattle.procs.specs.declared.next.Plan.TheVariants as plan
+use Rattle.procs.specs.declared.snap.Snap.{Snap}
+use Rattle.procs.proofs.FewAsked.{few, none_read, one_asked_once}
+use Rattle.txn.specs.Core.{CoreState}
+use Rattle.txn.specs.Fetch.{Fetch}
+use Rattle.txn.specs.Object.{ObjectBytes}
+use Rattle.txn.specs.Outcomes.{IsCommit, IsWanted}
+use Rattle.txn.specs.declared.outcomes.Commit.{Commit}
+use Rattle.txn.specs.declared.outcomes.Commit.TheVariants as commit
+use Rattle.txn.specs.declared.outcomes.Want.{Want}
+use Rattle.txn.specs.declared.outcomes.Want.TheVariants as want
+use Rattle.txn_law.specs.Wishes.{IsFetched}
+use Rattle.store_promise.specs.Verdicts.{refusal}
+use Rattle.store_promise.specs.declared.answers.CallAnswer.{CallAnswer}
+use Rattle.store_promise.specs.declared.answers.Verdict.{Verdict}
+use Rattle.store_promise.specs.declared.answers.Verdict.TheVariants as verdict
+use Rattle.store_promise.specs.declared.events.Cause.{Cause}
+use Rattle.store_promise.specs.declared.events.Step.{Step}
+use Rattle.store_promise.specs.declared.events.Step.TheVariants as step
+use Rattle.store.proofs.AtHand.{at_most_all, fewer_away}
+use Rattle.store.specs.Driving.{HasGoneOn, IsAnswered, IsCounted, IsNearer, IsUnder, IsUnderWay, WereRead}
+use Rattle.store.specs.Driving.{away, count_of, is_at_hand}
+use Rattle.store.specs.Driving.{is_kept_off, left_in, most_of, rounds_left, steps_left, unread}
+use Rattle.store.specs.Driving.{waits_for_log}
+use Rattle.store.specs.Driving.{whole_round}
+use Rattle.store.specs.Counts.{SameFrame}
+use Rattle.store.specs.Opening.{IsSettled}
+use Rattle.store.specs.Settling.{SameNumbers}
+use Rattle.store.specs.Seen.{Seen, seen_in, with_object}
+use Rattle.store.specs.WorkerAnswers.{after_commit, begun_wanted, committing_of, phase_wanted, seen_wanted}
+use Rattle.store.specs.WorkerAnswers.{told_of, wish_of, with_answer}
+use Rattle.store.specs.WorkerAnswers.{with_entry}
+use Rattle.store.specs.Worker.{with_call}
+use Rattle.store.specs.WorkerReads.{HasReadBlock}
+use Rattle.store.specs.WorkerSteps.{BeginsBy, GoesByNext, GoesOn, EndsBy, HasBegun, HasCommitted, HasLacked}
+use Rattle.store.specs.WorkerSteps.{IsNext, SawNothing, Side, Waits, IsTold, BeginsAgain, HasGivenBack}
+use Rattle.store.specs.WorkerSteps.{HasLeft, HasRefused}
+use Rattle.store.specs.WorkerSteps.{Refuses, numbered, none_begun, planned_of, side, with_snap}
+use Rattle.store.specs.declared.workers.parts.Begun.{Begun}
+use Rattle.store.specs.declared.workers.parts.Job.{Job}
+use Rattle.store.specs.declared.workers.parts.Phase.{Phase}
+use Rattle.store.specs.declared.workers.parts.Phase.TheVariants.{Idle, Called, Planning, Reading, Read}
+use Rattle.store.specs.declared.workers.parts.Phase.TheVariants.{Refused, Again, Waiting}
+use Rattle.store.specs.declared.workers.parts.State.{State}
+use Rattle.store.specs.declared.workers.parts.Work.{Work}
+
+-- ---- numbers
+
+-- a transaction that was begun leaves fewer to begin, by more than is left of it
+round_less : (begun number most blocks unread away : ℕ) → number ≡ begun + 1 → number < 2 ^ 64 → unread ≤ most
+    → away ≤ blocks → (2 ^ 64 - number) * (most * (blocks + 1) + blocks + 4) + (3 + (unread * (blocks + 1) + away))
+    < (2 ^ 64 - begun) * (most * (blocks + 1) + blocks + 4) + 1
+round_less begun number most blocks unread away next within asked there =
+    let one : 2 ^ 64 - begun ≡ suc (2 ^ 64 - number) = grind (arith) in
+    let reads = mul-le unread (blocks + 1) most (blocks + 1) asked (grind (arith)) in
+    let whole : ℕ = most * (blocks + 1) + blocks + 4 in
+    subst (λ n. (2 ^ 64 - number) * whole + (3 + (unread * (blocks + 1) + away)) < n * whole + 1) (sym one)
+    (more (2 ^ 64 - number) whole (unread * (blocks + 1)) away (most * (blocks + 1)) blocks refl reads there)
+  where
+    more : (left whole reads away most blocks : ℕ) → whole ≡ most + blocks + 4 → reads ≤ most → away ≤ blocks
+        → left * whole + (3 + (reads + away)) < suc left * whole + 1
+    more left whole reads away most blocks is a b =
+        let product : suc left * whole ≡ whole + left * whole = grind (arith) in grind (arith)
+
+-- an object that was read leaves fewer
+read_less : (most count blocks away was rounds : ℕ) → count + 1 ≤ most → away ≤ blocks
+    → rounds + (3 + ((most - (count + 1)) * (blocks + 1) + away)) < rounds + (3 + ((most - count) * (blocks + 1) + was))
+read_less most count blocks away was rounds few within =
+    let one : most - count ≡ suc (most - (count + 1)) = grind (arith) in
+    subst (λ n. rounds + (3 + ((most - (count + 1)) * (blocks + 1) + away)) < rounds + (3 + (n * (blocks + 1) + was)))
+    (sym one) (more (most - (count + 1)) blocks within)
+  where
+    more : (left all : ℕ) → away ≤ all → rounds + (3 + (left * (all + 1) + away)) < rounds + (3 + (suc left * (all + 1) + was))
+    more left all there =
+        let product : suc left * (all + 1) ≡ all + 1 + left * (all + 1) = grind (arith) in grind (arith)
+
+-- ---- what a round comes to
+
+nearer : (most : ℕ) (state : State) (core : CoreState) (phase : Phase) → state.phase ≡ phase
+    → IsUnder phase state.work core → left_in phase state.work core < most → HasGoneOn most state core
+nearer most state core phase is under less = inr (record {
+  under_way = subst (λ p. IsUnder p state.work core) (sym is) under;
+  less = subst (λ p. left_in p state.work core < most) (sym is) less;
+})
+
+answered : (most : ℕ) (state old : State) (core : CoreState) (told : Verdict) (place : Option Seq)
+    → state ≡ with_answer told place old → HasGoneOn most state core
+answered most state old core told place is = inl (record {
+  idle = ap (λ (s : State). s.phase) is;
+  there = ap (λ (s : State). is_some s.work.answer) is;
+})
+
+-- a read is due, of a block that isn't at hand
+pub record IsToRead (old new : Side) : Type 0 where
+  pub phase : new.worker.phase ≡ Reading
+  pub tx : ℕ
+  pub addr : Addr
+  pub io : Fetch
+  pub io_is : new.worker.begun.io ≡ Some io
+  pub fetched : IsFetched old.core tx addr modes.Exclusive io new.core
+  pub within : addr.block.0 < old.core.log.blocks
+  pub job : new.worker.work.job ≡ old.worker.work.job
+  pub seen : seen_in new.worker.work.snap ≡ seen_in old.worker.work.snap
+  pub were : WereRead old.worker.work
+
+-- a wish was kept off, or a commit refused for want of room: the call begins again
+pub record IsKeptOff (most : ℕ) (new : Side) : Type 0 where
+  pub phase : new.worker.phase ≡ Planning
+  pub less : rounds_left new.worker.work new.core + 2 < most
+
+-- it waits for its place, which was taken
+pub record IsToSettle (old new : Side) (place : Seq) : Type 0 where
+  pub same : new.worker ≡ old.worker
+  pub unsettled : nat_le place.0 (settled_place old.core.log) ≡ false
+  pub sound : old.core.log.broken ≡ false
+  pub within : place.0 ≤ new.core.log.places
+
+-- what a step comes to, before what it waits for
+pub data Came (phase : Phase) (old : Side) (made : Option Step) (new : Side) : Type 0 where
+  gone : HasGoneOn (left_in phase old.worker.work old.core) new.worker new.core
+      → is_kept_off made ≡ false → waits_for_log made ≡ false → Came phase old made new
+  told : IsAnswered new.worker → is_kept_off made ≡ false → Came phase old made new
+  reads : IsToRead old new → phase ≡ Planning → is_kept_off made ≡ false → waits_for_log made ≡ false
+      → Came phase old made new
+  kept : IsKeptOff (left_in phase old.worker.work old.core) new → is_kept_off made ≡ true → Came phase old made new
+  waits : (place : Seq) → phase ≡ Waiting place → IsToSettle old new place → is_kept_off made ≡ false
+      → waits_for_log made ≡ true → Came phase old made new
+
+-- ---- what was read
+
+were_of : (work : Work) (job : Job) (seen : Seen) → work.job ≡ Some job → seen_in work.snap ≡ Some seen
+    → WereRead work → WereAskedOnce seen.geometry job.call seen.objects
+were_of work job seen job_is seen_is were =
+    subst (λ (o : Option Seen). IfSome o (λ (s : Seen). WereAskedOnce s.geometry job.call s.objects)) seen_is
+    (subst (λ (o : Option Job). IfSome o (λ (j : Job). IfSome (seen_in work.snap)
+    (λ (s : Seen). WereAskedOnce s.geometry j.call s.objects))) job_is were)
+
+were_so : (work : Work) (job : Job) (seen : Seen) → work.job ≡ Some job → seen_in work.snap ≡ Some seen
+    → WereAskedOnce seen.geometry job.call seen.objects → WereRead work
+were_so work job seen job_is seen_is were =
+    subst (λ (o : Option Job). IfSome o (λ (j : Job). IfSome (seen_in work.snap)
+    (λ (s : Seen). WereAskedOnce s.geometry j.call s.objects))) (sym job_is)
+    (subst (λ (o : Option Seen). IfSome o (λ (s : Seen). WereAskedOnce s.geometry job.call s.objects))
+    (sym seen_is) were)
+
+unread_is : (work : Work) (job : Job) (seen : Seen) → work.job ≡ Some job → seen_in work.snap ≡ Some seen
+    → unread work ≡ most_asked job.call - length seen.objects
+unread_is work job seen job_is seen_is =
+    ap (λ (o : Option Job). most_of o - count_of (seen_in work.snap)) job_is
+    ∙ ap (λ (o : Option Seen). most_asked job.call - count_of o) seen_is
+
+unread_within : (work : Work) → unread work ≤ most_of work.job
+unread_within work = grind (arith)
+
+same_rounds : (old new : Side) → new.worker.work.job ≡ old.worker.work.job → new.core ≡ old.core
+    → rounds_left new.worker.work new.core ≡ rounds_left old.worker.work old.core
+same_rounds old new job core =
+    ap (λ (o : Option Job). (2 ^ 64 - new.core.begun) * whole_round o new.core.log.blocks) job
+    ∙ ap (λ (c : CoreState). (2 ^ 64 - c.begun) * whole_round old.worker.work.job c.log.blocks) core
+
+-- ---- a transaction is begun
+
+begun : (old new : Side) (job : Job) (number : ℕ) → old.worker.work.job ≡ Some job → number < 2 ^ 64
+    → HasBegun job old number new → (seen : Seen) → seen_in new.worker.work.snap ≡ Some seen
+    → SawNothing old.core seen → HasGoneOn (left_in Called old.worker.work old.core) new.worker new.core
+begun old new job number job_is counted has seen seen_is saw =
+    nearer (left_in Called old.worker.work old.core) new.worker new.core Planning
+    (ap (λ (s : State). s.phase) has.worker)
+    (were_so new.worker.work (numbered number job) seen new_job seen_is
+    (subst (λ objects. WereAskedOnce seen.geometry job.call objects) (sym saw.objects)
+    (none_read seen.geometry job.call)))
+    less
+  where
+    new_job : new.worker.work.job ≡ Some (numbered number job)
+    new_job = ap (λ (s : State). s.work.job) has.worker
+
+    blocks : new.core.log.blocks ≡ old.core.log.blocks
+    blocks = ap (λ (c : CoreState). c.log.blocks) has.core
+
+    most : most_of new.worker.work.job ≡ most_of old.worker.work.job
+    most = ap most_of new_job ∙ sym (ap most_of job_is)
+
+    less : left_in Planning new.worker.work new.core < left_in Called old.worker.work old.core
+    less =
+        let fewer = round_less old.core.begun new.core.begun (most_of old.worker.work.job) old.core.log.blocks
+        (unread new.worker.work) (away new.core) (ap (λ (c : CoreState). c.begun) has.core ∙ has.next)
+        (subst (λ n. n < 2 ^ 64) (sym (ap (λ (c : CoreState). c.begun) has.core)) counted)
+        (subst (λ n. unread new.worker.work ≤ n) most (unread_within new.worker.work))
+        (subst (λ n. away new.core ≤ n) blocks (at_most_all (is_at_hand new.core) new.core.log.blocks)) in
+        subst (λ n. (2 ^ 64 - new.core.begun) * (n * (new.core.log.blocks + 1) + new.core.log.blocks + 4)
+        + (3 + (unread new.worker.work * (new.core.log.blocks + 1) + away new.core))
+        < left_in Called old.worker.work old.core) (sym most)
+        (subst (λ n. (2 ^ 64 - new.core.begun) * (most_of old.worker.work.job * (n + 1) + n + 4)
+        + (3 + (unread new.worker.work * (n + 1) + away new.core)) < left_in Called old.worker.work old.core)
+        (sym blocks) fewer)
+
+begins : (old new : Side) (made : Step) (job : Job) (served : Bool) → old.worker.work.job ≡ Some job
+    → IsCounted (Some made) → BeginsBy served job old made new → Came Called old (Some made) new
+begins old new (step.Begun (Ok number)) job true is counted has = by (seen_in new.worker.work.snap) refl has.seen
+  where
+    by : (found : Option Seen) → seen_in new.worker.work.snap ≡ found → IsSomeAnd found (SawNothing old.core)
+        → Came Called old (Some (step.Begun (Ok number))) new
+    by None at saw = absurd saw
+    by (Some seen) at saw = gone (begun old new job number is counted has seen at saw) refl refl
+begins old new (step.Begun (Err why)) job true is counted has =
+    gone (answered _ new.worker old.worker new.core _ _ has.2) refl refl
+begins old new step.Called job true is counted has = absurd has
+begins old new step.Replied job true is counted has = absurd has
+begins old new (step.Wanted a b c) job true is counted has = absurd has
+begins old new (step.Claimed a b) job true is counted has = absurd has
+begins old new (step.Fetched a) job true is counted has = absurd has
+begins old new (step.FetchFailed a) job true is counted has = absurd has
+begins old new (step.Commit a b) job true is counted has = absurd has
+begins old new (step.Ended a) job true is counted has = absurd has
+begins old new (step.Stable a b) job true is counted has = absurd has
+begins old new (step.Read a b) job true is counted has = absurd has
+begins old new (step.LogNext a) job true is counted has = absurd has
+begins old new (step.LogIo a) job true is counted has = absurd has
+begins old new (step.LogDone a) job true is counted has = absurd has
+begins old new (step.InstNext a) job true is counted has = absurd has
+begins old new (step.InstIo a) job true is counted has = absurd has
+begins old new (step.InstDone a) job true is counted has = absurd has
+begins old new made job false is counted has =
+    let told : HasGoneOn (left_in Called old.worker.work old.core) new.worker new.core =
+    answered (left_in Called old.worker.work old.core) new.worker old.worker new.core _ _ has.2 in
+    gone told (ap (λ m. is_kept_off (Some m)) has.0) (ap (λ m. waits_for_log (Some m)) has.0)
+
+called : (old new : Side) (made : Step) → IsCounted (Some made) → (found : Option Job) → old.worker.work.job ≡ found
+    → IsSomeAnd found (λ job. BeginsBy (has_rules job.call) job old made new) → Came Called old (Some made) new
+called old new made counted None is begins_so = absurd begins_so
+called old new made counted (Some job) is begins_so =
+    begins old new made job (has_rules job.call) is counted begins_so
+
+-- ---- a wish
+
+module _ (old new : Side) (addr : Addr) (job : Job) (snap : Snap) (job_is : old.worker.work.job ≡ Some job)
+    (snap_is : seen_in old.worker.work.snap ≡ seen_in (Some snap)) (were : WereRead old.worker.work)
+    (is_plan : IsPlanFor job.call snap (plan.Need addr)) (same_job : new.worker.work.job ≡ old.worker.work.job) where
+  abbrev was_seen : Seen
+  was_seen = record { geometry = snap.geometry; objects = snap.objects.items; claims = snap.claims.items }
+
+  abbrev left : ℕ
+  left = left_in Planning old.worker.work old.core
+
+  held : (bytes : List ℕ) → new.worker.phase ≡ Planning → new.core.log.blocks ≡ old.core.log.blocks
+      → new.core.begun ≡ old.core.begun
+      → seen_in new.worker.work.snap ≡ with_object addr bytes (seen_in old.worker.work.snap)
+      → HasGoneOn left new.worker new.core
+  held bytes phase blocks begun_same seen =
+      nearer left new.worker new.core Planning phase (were_so new.worker.work job now_seen new_job seen_is once) less
+    where
+      object : ObjectBytes
+      object = record { addr = addr; bytes = bytes }
+
+      now_seen : Seen
+      now_seen = record was_seen { objects = snap.objects.items ++ object ∷ [] }
+
+      new_job : new.worker.work.job ≡ Some job
+      new_job = same_job ∙ job_is
+
+      seen_is : seen_in new.worker.work.snap ≡ Some now_seen
+      seen_is = seen ∙ ap (with_object addr bytes) snap_is
+
+      once : WereAskedOnce snap.geometry job.call now_seen.objects
+      once = one_asked_once snap.geometry job.call snap.objects.items object
+          (were_of old.worker.work job was_seen job_is snap_is were) is_plan.1 is_plan.0
+
+      less : left_in Planning new.worker.work new.core < left
+      less =
+          let count = length-append snap.objects.items (object ∷ []) in
+          let most = few snap.geometry job.call now_seen.objects once in
+          let now = unread_is new.worker.work job now_seen new_job seen_is in
+          let was = unread_is old.worker.work job was_seen job_is snap_is in
+          let fewer = read_less (most_asked job.call) (length snap.objects.items) old.core.log.blocks (away new.core)
+          (away old.core) (rounds_left old.worker.work old.core) (grind (arith))
+          (subst (λ n. away new.core ≤ n) blocks (at_most_all (is_at_hand new.core) new.core.log.blocks)) in
+          let rounds : rounds_left new.worker.work new.core ≡ rounds_left old.worker.work old.core =
+          ap (λ (o : Option Job). (2 ^ 64 - new.core.begun) * whole_round o new.core.log.blocks) same_job
+          ∙ ap (λ n. (2 ^ 64 - n) * whole_round old.worker.work.job new.core.log.blocks) begun_same
+          ∙ ap (λ n. (2 ^ 64 - old.core.begun) * whole_round old.worker.work.job n) blocks in
+          let counted : unread new.worker.work ≡ most_asked job.call - (length snap.objects.items + 1) =
+          now ∙ ap (λ n. most_asked job.call - n) count in
+          subst (λ r. r + (3 + (unread new.worker.work * (new.core.log.blocks + 1) + away new.core)) < left) (sym rounds)
+          (subst (λ u. rounds_left old.worker.work old.core + (3 + (u * (new.core.log.blocks + 1) + away new.core)) < left)
+          (sym counted)
+          (subst (λ b. rounds_left old.worker.work old.core
+          + (3 + ((most_asked job.call - (length snap.objects.items + 1)) * (b + 1) + away new.core)) < left) (sym blocks)
+          (subst (λ u. rounds_left old.worker.work old.core + (3 + ((most_asked job.call - (length snap.objects.items + 1))
+          * (old.core.log.blocks + 1) + away new.core))
+          < rounds_left old.worker.work old.core + (3 + (u * (old.core.log.blocks + 1) + away old.core))) (sym was) fewer)))
+
+  kept_off : new.worker.phase ≡ Planning → new.core ≡ old.core → IsKeptOff left new
+  kept_off phase core = record {
+    phase = phase;
+    less = subst (λ r. r + 2 < left) (sym (same_rounds old new same_job core)) (grind (arith));
+  }
+
+  wanted : (made : Step) (tx : ℕ) (answer : Want) → made ≡ step.Wanted addr modes.Exclusive (wish_of answer)
+      → IsWanted old.core tx addr modes.Exclusive answer new.core → new.worker.phase ≡ phase_wanted answer
+      → new.worker.begun ≡ begun_wanted answer
+      → seen_in new.worker.work.snap ≡ seen_wanted addr answer (seen_in old.worker.work.snap)
+      → Came Planning old (Some made) new
+  wanted made tx (want.Held back bytes) made_is core phase begun seen =
+      gone (held bytes.items phase (ap (λ (c : CoreState). c.log.blocks) core.2.only)
+      (ap (λ (c : CoreState). c.begun) core.2.only) seen)
+      (ap (λ m. is_kept_off (Some m)) made_is) (ap (λ m. waits_for_log (Some m)) made_is)
+  wanted made tx (want.Fetch back io) made_is core phase begun seen =
+      reads (record {
+        phase = phase;
+        tx = tx;
+        addr = addr;
+        io = io;
+        io_is = ap (λ (b : Begun). b.io) begun;
+        fetched = core.2;
+        within = core.1.home.1;
+        job = same_job;
+        seen = seen;
+        were = were;
+      }) refl (ap (λ m. is_kept_off (Some m)) made_is) (ap (λ m. waits_for_log (Some m)) made_is)
+  wanted made tx (want.Busy back) made_is core phase begun seen =
+      kept (kept_off phase core.2) (ap (λ m. is_kept_off (Some m)) made_is)
+  wanted made tx (want.Loading back) made_is core phase begun seen =
+      kept (kept_off phase core.2) (ap (λ m. is_kept_off (Some m)) made_is)
+  wanted made tx (want.Outside back) made_is core phase begun seen =
+      gone (nearer left new.worker new.core _ phase tt (grind (arith)))
+      (ap (λ m. is_kept_off (Some m)) made_is) (ap (λ m. waits_for_log (Some m)) made_is)
+  wanted made tx (want.NoMemory back) made_is core phase begun seen =
+      gone (nearer left new.worker new.core _ phase tt (grind (arith)))
+      (ap (λ m. is_kept_off (Some m)) made_is) (ap (λ m. waits_for_log (Some m)) made_is)
+
+-- ---- a commit
+
+module _ (old new : Side) (tx : ℕ) (job : Job) (done : Outcome) (job_is : old.worker.work.job ≡ Some job) where
+  abbrev left_then : ℕ
+  left_then = left_in Planning old.worker.work old.core
+
+  placed : (base : State) (place : Seq) (stable : Bool) → place.0 ≤ new.core.log.places
+      → new.worker ≡ with_entry job done.reply (told_of stable job done.reply place base)
+      → HasGoneOn left_then new.worker new.core
+  placed base place true within is =
+      nearer left_then new.worker new.core (Waiting place) (ap (λ (s : State). s.phase) is) within
+      (by (new.core.log.broken || nat_le place.0 (settled_place new.core.log)))
+    where
+      by : (soon : Bool) → (if soon then 1 else 2) < left_then
+      by true = grind (arith)
+      by false = grind (arith)
+  placed base place false within is = inl (record {
+    idle = ap (λ (s : State). s.phase) is;
+    there = ap (λ (s : State). is_some s.work.answer) is;
+  })
+
+  committed_so : (made : Step) (base : State) (answer : Commit Outcome) (added : ℕ)
+      → base.work.job ≡ old.worker.work.job → made ≡ step.Commit added (committing_of answer)
+      → IsCommit old.core tx (planned_of done) done answer new.core
+      → new.worker ≡ after_commit job done.reply answer base → Came Planning old (Some made) new
+  committed_so made base (commit.Committed place) added same made_is core worker =
+      gone (placed base place (is_answered_stable job.call) (grind (arith, core.next, core.places)) worker)
+      (ap (λ m. is_kept_off (Some m)) made_is) (ap (λ m. waits_for_log (Some m)) made_is)
+  committed_so made base (commit.Full back change) added same made_is core worker =
+      kept (record {
+        phase = ap (λ (s : State). s.phase) worker;
+        less = subst (λ r. r + 2 < left_then) (sym (same_rounds old new (ap (λ (s : State). s.work.job) worker ∙ same)
+            core.0.core)) (grind (arith));
+      }) (ap (λ m. is_kept_off (Some m)) made_is)
+  committed_so made base (commit.Foreign back change) added same made_is core worker =
+      gone (nearer left_then new.worker new.core Again (ap (λ (s : State). s.phase) worker) tt
+      (subst (λ r. r + 2 < left_then) (sym (same_rounds old new (ap (λ (s : State). s.work.job) worker ∙ same)
+      core.0.core)) (grind (arith))))
+      (ap (λ m. is_kept_off (Some m)) made_is) (ap (λ m. waits_for_log (Some m)) made_is)
+  committed_so made base (commit.NoMemory back change) added same made_is core worker =
+      gone (nearer left_then new.worker new.core _ (ap (λ (s : State). s.phase) worker) tt (grind (arith)))
+      (ap (λ m. is_kept_off (Some m)) made_is) (ap (λ m. waits_for_log (Some m)) made_is)
+  committed_so made base (commit.Broken back change) added same made_is core worker =
+      gone (nearer left_then new.worker new.core _ (ap (λ (s : State). s.phase) worker) tt (grind (arith)))
+      (ap (λ m. is_kept_off (Some m)) made_is) (ap (λ m. waits_for_log (Some m)) made_is)
+  committed_so made base (commit.Spent back change) added same made_is core worker =
+      gone (nearer left_then new.worker new.core _ (ap (λ (s : State). s.phase) worker) tt (grind (arith)))
+      (ap (λ m. is_kept_off (Some m)) made_is) (ap (λ m. waits_for_log (Some m)) made_is)
+
+lacked : (old new : Side) (tx : ℕ) (made : Step) → HasLacked tx old made new → Came Planning old (Some made) new
+lacked old new tx made has =
+    gone (answered (left_in Planning old.worker.work old.core) new.worker
+    (record (with_snap new.worker old.worker) { begun = none_begun }) new.core verdict.NoMemory None has.worker)
+    (ap (λ m. is_kept_off (Some m)) has.made_is) (ap (λ m. waits_for_log (Some m)) has.made_is)
+
+commits : (old new : Side) (tx : ℕ) (done : Outcome) (made : Step) (found : Option Job) → old.worker.work.job ≡ found
+    → IsSomeAnd found (λ job. HasCommitted job tx done old made new) → Came Planning old (Some made) new
+commits old new tx done made None is has = absurd has
+commits old new tx done made (Some job) is has =
+    committed_so old new tx job done is made _ has.answer _ refl has.made_is has.core has.worker
+
+ends : (old new : Side) (tx : ℕ) (done : Outcome) (made : Step) → EndsBy tx done old made new
+    → Came Planning old (Some made) new
+ends old new tx done (step.Ended why) has = lacked old new tx (step.Ended why) has
+ends old new tx done step.Called has = commits old new tx done step.Called old.worker.work.job refl has
+ends old new tx done step.Replied has = commits old new tx done step.Replied old.worker.work.job refl has
+ends old new tx done (step.Begun a) has = commits old new tx done (step.Begun a) old.worker.work.job refl has
+ends old new tx done (step.Wanted a b c) has = commits old new tx done (step.Wanted a b c) old.worker.work.job refl has
+ends old new tx done (step.Claimed a b) has = commits old new tx done (step.Claimed a b) old.worker.work.job refl has
+ends old new tx done (step.Fetched a) has = commits old new tx done (step.Fetched a) old.worker.work.job refl has
+ends old new tx done (step.FetchFailed a) has = commits old new tx done (step.FetchFailed a) old.worker.work.job refl has
+ends old new tx done (step.Commit a b) has = commits old new tx done (step.Commit a b) old.worker.work.job refl has
+ends old new tx done (step.Stable a b) has = commits old new tx done (step.Stable a b) old.worker.work.job refl has
+ends old new tx done (step.Read a b) has = commits old new tx done (step.Read a b) old.worker.work.job refl has
+ends old new tx done (step.LogNext a) has = commits old new tx done (step.LogNext a) old.worker.work.job refl has
+ends old new tx done (step.LogIo a) has = commits old new tx done (step.LogIo a) old.worker.work.job refl has
+ends old new tx done (step.LogDone a) has = commits old new tx done (step.LogDone a) old.worker.work.job refl has
+ends old new tx done (step.InstNext a) has = commits old new tx done (step.InstNext a) old.worker.work.job refl has
+ends old new tx done (step.InstIo a) has = commits old new tx done (step.InstIo a) old.worker.work.job refl has
+ends old new tx done (step.InstDone a) has = commits old new tx done (step.InstDone a) old.worker.work.job refl has
+
+goes : (old new : Side) (tx : ℕ) (made : Step) (next : Plan) → IsNext old.worker next → WereRead old.worker.work
+    → GoesByNext next tx old made new → Came Planning old (Some made) new
+goes old new tx made (plan.Need addr) is were has =
+    wanted old new addr is.job is.snap is.job_is is.snap_is were is.plan
+    (ap (λ (s : State). s.work.job) has.worker) made tx has.answer has.made_is has.core
+    (ap (λ (s : State). s.phase) has.worker) (ap (λ (s : State). s.begun) has.worker) has.seen
+goes old new tx made (plan.Claim block) is were has = absurd is.plan.1
+goes old new tx made (plan.Done done) is were has = ends old new tx done made has
+goes old new tx made plan.NoMemory is were has = lacked old new tx made has
+
+-- ---- any step
+
+waited : (old new : Side) (place : Seq) (made : Step) → place.0 ≤ old.core.log.places → Waits place old made new
+    → Came (Waiting place) old (Some made) new
+waited old new place made within has =
+    by has.settled has.settled_is has.made_is old.core.log.broken refl has.told
+  where
+    kept_is : (settled : Bool) → made ≡ step.Stable place settled → is_kept_off (Some made) ≡ false
+    kept_is settled is = ap (λ m. is_kept_off (Some m)) is
+
+    told_so : (heard : Verdict) (base : State) → new.worker ≡ with_answer heard (Some place) base → IsAnswered new.worker
+    told_so heard base is = record {
+      idle = ap (λ (s : State). s.phase) is;
+      there = ap (λ (s : State). is_some s.work.answer) is;
+    }
+
+    reply : (o : Option Reply) (base : State)
+        → IsSomeAnd o (λ reply. new.worker ≡ with_answer (verdict.Reply reply) (Some place) base) → IsAnswered new.worker
+    reply None base has = absurd has
+    reply (Some r) base has = told_so (verdict.Reply r) base has
+
+    by : (settled : Bool) → (IsTrue settled ↔ (place.0 ≤ settled_place old.core.log)) → made ≡ step.Stable place settled
+        → (broken : Bool) → old.core.log.broken ≡ broken → IsTold settled broken place old.worker new.worker
+        → Came (Waiting place) old (Some made) new
+    by true is made_is broken at has = told (reply old.worker.work.reply
+        (record old.worker { work = record old.worker.work { reply = None } }) has) (kept_is true made_is)
+    by false is made_is true at has = told (reply old.worker.work.broken_reply
+        (record old.worker { work = record old.worker.work { broken_reply = None } }) has) (kept_is false made_is)
+    by false is made_is false at same =
+        waits place refl (record {
+          same = same;
+          unsettled = unsettled (nat_le place.0 (settled_place old.core.log)) refl;
+          sound = at;
+          within = subst (λ (c : CoreState). place.0 ≤ c.log.places) (sym has.core) within;
+        }) (kept_is false made_is) (ap (λ m. waits_for_log (Some m)) made_is)
+      where
+        unsettled : (there : Bool) → nat_le place.0 (settled_place old.core.log) ≡ there → there ≡ false
+        unsettled false test = refl
+        unsettled true test =
+            let here : place.0 ≤ settled_place old.core.log = grind (arith, nat_tests) in
+            absurd (true≢false (sym (is.1 here)))
+
+refuses : (old new : Side) (why : Cause) (made : Step) → Refuses why old made new → Came (Refused why) old (Some made) new
+refuses old new why made has = by_job old.worker.work.job old.worker.begun.tx has
+  where
+    by_job : (found : Option Job) (tx : Option ℕ)
+        → IsSomeAnd found (λ job. IsSomeAnd tx (λ tx. HasRefused why job tx old made new))
+        → Came (Refused why) old (Some made) new
+    by_job None tx has = absurd has
+    by_job (Some job) None has = absurd has
+    by_job (Some job) (Some tx) has =
+        gone (answered (left_in (Refused why) old.worker.work old.core) new.worker
+        (record old.worker { begun = none_begun }) new.core (refusal job.call why) None has.worker)
+        (ap (λ m. is_kept_off (Some m)) has.made_is) (ap (λ m. waits_for_log (Some m)) has.made_is)
+
+again : (old new : Side) (made : Step) → BeginsAgain old made new → Came Again old (Some made) new
+again old new made has = by old.worker.begun.tx has
+  where
+    by : (tx : Option ℕ) → IsSomeAnd tx (λ tx. HasLeft tx old made new) → Came Again old (Some made) new
+    by None has = absurd has
+    by (Some tx) has =
+        gone (nearer (left_in Again old.worker.work old.core) new.worker new.core Called
+        (ap (λ (s : State). s.phase) has.worker) tt less)
+        (ap (λ m. is_kept_off (Some m)) has.made_is) (ap (λ m. waits_for_log (Some m)) has.made_is)
+      where
+        rounds : rounds_left new.worker.work new.core ≡ rounds_left old.worker.work old.core
+        rounds = ap (λ (o : Option Job). (2 ^ 64 - new.core.begun) * whole_round o new.core.log.blocks)
+            (ap (λ (s : State). s.work.job) has.worker)
+            ∙ ap (λ (c : CoreState). (2 ^ 64 - c.begun) * whole_round old.worker.work.job c.log.blocks) has.core.only
+
+        less : left_in Called new.worker.work new.core < left_in Again old.worker.work old.core
+        less = subst (λ r. r + 1 < left_in Again old.worker.work old.core) (sym rounds) (grind (arith))
+
+pub stepped : (phase : Phase) (old new : Side) (made : Option Step) → IsUnder phase old.worker.work old.core
+    → IsCounted made → GoesOn phase old made new → Came phase old made new
+stepped Idle old new made under counted has = absurd under
+stepped Reading old new made under counted has = absurd under
+stepped (Read ok) old new made under counted has = absurd under
+stepped Called old new (Some made) under counted has = called old new made counted old.worker.work.job refl has
+stepped Planning old new (Some made) under counted has = goes old new has.tx made has.next has.next_is under has.goes
+stepped (Refused why) old new (Some made) under counted has = refuses old new why made has
+stepped Again old new (Some made) under counted has = again old new made has
+stepped (Waiting place) old new (Some made) under counted has = waited old new place made under has
+stepped Called old new None under counted has = absurd has
+stepped Planning old new None under counted has = absurd has
+stepped (Refused why) old new None under counted has = absurd has
+stepped Again old new None under counted has = absurd has
+stepped (Waiting place) old new None under counted has = absurd has
+
+-- ---- a read, given back
+
+given : (old mid new : Side) (is : IsToRead old mid) (read : State) (back : Fetch) (made : Step)
+    → back.block ≡ is.io.block → read.work ≡ mid.worker.work → (ok : Bool)
+    → HasGivenBack ok back (side read mid.core) made new
+    → HasGoneOn (left_in Planning old.worker.work old.core) new.worker new.core
+given old mid new is read back made same work false has =
+    nearer (left_in Planning old.worker.work old.core) new.worker new.core _ (ap (λ (s : State). s.phase) has.worker) tt
+    (grind (arith))
+given old mid new is read back made same work true has =
+    nearer left new.worker new.core Planning (ap (λ (s : State). s.phase) has.worker) were less
+  where
+    left : ℕ
+    left = left_in Planning old.worker.work old.core
+
+    job : new.worker.work.job ≡ old.worker.work.job
+    job = ap (λ (s : State). s.work.job) has.worker ∙ ap (λ (w : Work). w.job) work ∙ is.job
+
+    seen : seen_in new.worker.work.snap ≡ seen_in old.worker.work.snap
+    seen = ap (λ (s : State). seen_in s.work.snap) has.worker ∙ ap (λ (w : Work). seen_in w.snap) work ∙ is.seen
+
+    were : WereRead new.worker.work
+    were = subst (λ (j : Option Job). IfSome j (λ (j : Job). IfSome (seen_in new.worker.work.snap)
+        (λ (s : Seen). WereAskedOnce s.geometry j.call s.objects))) (sym job)
+        (subst (λ (o : Option Seen). IfSome old.worker.work.job (λ (j : Job). IfSome o
+        (λ (s : Seen). WereAskedOnce s.geometry j.call s.objects))) (sym seen) is.were)
+
+    blocks : new.core.log.blocks ≡ old.core.log.blocks
+    blocks = ap (λ (c : CoreState). c.log.blocks) has.only ∙ ap (λ (c : CoreState). c.log.blocks) is.fetched.only
+
+    begun_same : new.core.begun ≡ old.core.begun
+    begun_same = ap (λ (c : CoreState). c.begun) has.only ∙ ap (λ (c : CoreState). c.begun) is.fetched.only
+
+    count : Option Job → Option Seen → ℕ → ℕ → ℕ
+    count j s begun blocks = (2 ^ 64 - begun) * whole_round j blocks
+        + (3 + ((most_of j - count_of s) * (blocks + 1) + away new.core))
+
+    now : left_in Planning new.worker.work new.core
+        ≡ count old.worker.work.job (seen_in old.worker.work.snap) old.core.begun old.core.log.blocks
+    now = ap (λ j. count j (seen_in new.worker.work.snap) new.core.begun new.core.log.blocks) job
+        ∙ ap (λ s. count old.worker.work.job s new.core.begun new.core.log.blocks) seen
+        ∙ ap (λ n. count old.worker.work.job (seen_in old.worker.work.snap) n new.core.log.blocks) begun_same
+        ∙ ap (λ n. count old.worker.work.job (seen_in old.worker.work.snap) old.core.begun n) blocks
+
+    less : left_in Planning new.worker.work new.core < left
+    less =
+        let fewer = fewer_away old.core mid.core new.core is.tx is.addr is.io back is.fetched same has.leaves blocks
+        is.within in
+        subst (λ n. n < left) (sym now) (grind (arith))
+
+pub given_on : (old mid new : Side) (is : IsToRead old mid) (read : State) (back : Fetch) (ok : Bool)
+    (made : Option Step) → back.block ≡ is.io.block → read.work ≡ mid.worker.work → read.phase ≡ Read ok
+    → read.begun.io ≡ Some back → GoesOn read.phase (side read mid.core) made new
+    → HasGoneOn (left_in Planning old.worker.work old.core) new.worker new.core
+given_on old mid new is read back ok made same work phase io later =
+    by made (subst (λ p. GoesOn p (side read mid.core) made new) phase later)
+  where
+    by : (made : Option Step) → GoesOn (Read ok) (side read mid.core) made new
+        → HasGoneOn (left_in Planning old.worker.work old.core) new.worker new.core
+    by None has = absurd has
+    by (Some made) has = given old mid new is read back made same work ok
+        (subst (λ (o : Option Fetch). IsSomeAnd o (λ io. HasGivenBack ok io (side read mid.core) made new)) io has)
+
+pub read_on : (old mid : Side) (is : IsToRead old mid) (keeps : Type 0) (before after : Device) (told : Step)
+    (read : State) (made : Option Step) (new : Side) → HasReadBlock keeps before mid.worker told after read
+    → GoesOn read.phase (side read mid.core) made new
+    → HasGoneOn (left_in Planning old.worker.work old.core) new.worker new.core
+read_on old mid is keeps before after heard read made new has later =
+    given_on old mid new is read (record { block = has.io.block; content = has.content }) (is_ok has.answer) made
+    (ap (λ (f : Fetch). f.block) same) (ap (λ (s : State). s.work) has.worker) (ap (λ (s : State). s.phase) has.worker)
+    (ap (λ (s : State). s.begun.io) has.worker) later
+  where
+    one : (a b : Fetch) → Some a ≡ Some b → a ≡ b
+    one a b e = cc
+
+    same : has.io ≡ is.io
+    same = one has.io is.io (sym has.io_is ∙ is.io_is)
+
+-- ---- what it waits for
+
+-- a worker that has answered its call has no read due
+no_read : (most : ℕ) (state : State) (core : CoreState) → state.phase ≡ Reading → HasGoneOn most state core → ⊥
+no_read most state core at (inl heard) = absurd (idle_reading (sym heard.idle ∙ at))
+  where
+    idle_reading : Idle ≡ Reading → ⊥
+    idle_reading e = cc
+no_read most state core at (inr on) = subst (λ p. IsUnder p state.work core) at on.under_way
+
+not_both : (b : Bool) → b ≡ true → b ≡ false → ⊥
+not_both b so_it_is unkept = true≢false (sym so_it_is ∙ unkept)
+
+-- the log was settled, or is broken
+pub settled_or : (core : CoreState) (result : Result Unit Failed) → OnOk result (IsSettled core)
+    → OnErr result (core.log.broken ≡ true) → (settled_place core.log ≡ core.log.places) ⊎ (core.log.broken ≡ true)
+settled_or core (Ok u) settled broken = inl settled.settled
+settled_or core (Err e) settled broken = inr broken
+
+-- what the log has after that, where the step waited for it and where not
+pub record AfterLog (waited : Bool) (mid core : CoreState) : Type 0 where
+  pub begun : core.begun ≡ mid.begun
+  pub blocks : core.log.blocks ≡ mid.log.blocks
+  pub places : core.log.places ≡ mid.log.places
+  pub same : waited ≡ false → core ≡ mid
+  pub done : waited ≡ true → (settled_place core.log ≡ core.log.places) ⊎ (core.log.broken ≡ true)
+
+pub after_settling : (waited : Bool) (mid core new : CoreState) (result : Result Unit Failed) → waited ≡ true
+    → core ≡ new → SameFrame mid new → SameNumbers mid new → OnOk result (IsSettled new)
+    → OnErr result (new.log.broken ≡ true) → AfterLog waited mid core
+after_settling waited mid core new result was is frame numbers settled broken =
+    subst (λ c. AfterLog waited mid c) (sym is) (record {
+      begun = numbers.begun;
+      blocks = frame.blocks;
+      places = numbers.places;
+      same = λ other. absurd (not_both waited was other);
+      done = λ _. settled_or new result settled broken;
+    })
+
+pub after_none : (waited : Bool) (mid core : CoreState) → waited ≡ false → core ≡ mid → AfterLog waited mid core
+after_none waited mid core was is = subst (λ c. AfterLog waited mid c) (sym is) (record {
+  begun = refl;
+  blocks = refl;
+  places = refl;
+  same = λ _. refl;
+  done = λ other. absurd (not_both waited other was);
+})
+
+module _ (phase : Phase) (old : Side) (made : Option Step) (mid : Side) (at : old.worker.phase ≡ phase)
+    (came : Came phase old made mid) where
+  abbrev most : ℕ
+  most = left_in phase old.worker.work old.core
+
+  pub rests : is_kept_off made ≡ false → waits_for_log made ≡ false → (mid.worker.phase ≡ Reading → ⊥)
+      → HasGoneOn most mid.worker mid.core
+  rests off log idle = by came
+    where
+      by : Came phase old made mid → HasGoneOn most mid.worker mid.core
+      by (gone on unkept none) = on
+      by (told is unkept) = inl is
+      by (reads is planning unkept none) = absurd (idle is.phase)
+      by (kept is so_it_is) = absurd (not_both (is_kept_off made) so_it_is off)
+      by (waits place is so unkept so_it_is) = absurd (not_both (waits_for_log made) so_it_is log)
+
+  pub reads_on : is_kept_off made ≡ false → mid.worker.phase ≡ Reading → (core : CoreState)
+      → (waits_for_log made ≡ false → core ≡ mid.core) → (keeps : Type 0) (before after : Device) (step : Step)
+      (read : State) (last : Option Step) (new : Side) → HasReadBlock keeps before mid.worker step after read
+      → GoesOn read.phase (side read core) last new → HasGoneOn most new.worker new.core
+  reads_on off reading core same keeps before after step read last new has later = by came
+    where
+      by : Came phase old made mid → HasGoneOn most new.worker new.core
+      by (gone on unkept none) = absurd (no_read most mid.worker mid.core reading on)
+      by (told is unkept) = absurd (no_read most mid.worker mid.core reading (inl is))
+      by (reads is planning unkept none) =
+          subst (λ p. HasGoneOn (left_in p old.worker.work old.core) new.worker new.core) (sym planning)
+          (read_on old mid is keeps before after step read last new has
+          (subst (λ c. GoesOn read.phase (side read c) last new) (same none) later))
+      by (kept is so_it_is) = absurd (not_both (is_kept_off made) so_it_is off)
+      by (waits place is so unkept so_it_is) =
+          absurd (waiting (sym is ∙ sym at ∙ sym (ap (λ (s : State). s.phase) so.same) ∙ reading))
+        where
+          waiting : Waiting place ≡ Reading → ⊥
+          waiting e = cc
+
+  pub begins_again : is_kept_off made ≡ true → (state : State) (core : CoreState)
+      → (mid.worker.phase ≡ Planning → state ≡ record mid.worker { phase = Again })
+      → core.begun ≡ mid.core.begun → core.log.blocks ≡ mid.core.log.blocks → HasGoneOn most state core
+  begins_again off state core set begun_same blocks = by came
+    where
+      by : Came phase old made mid → HasGoneOn most state core
+      by (gone on unkept none) = absurd (not_both (is_kept_off made) off unkept)
+      by (told is unkept) = absurd (not_both (is_kept_off made) off unkept)
+      by (reads is planning unkept none) = absurd (not_both (is_kept_off made) off unkept)
+      by (waits place is so unkept so_it_is) = absurd (not_both (is_kept_off made) off unkept)
+      by (kept is so_it_is) =
+          nearer most state core Again (ap (λ (s : State). s.phase) (set is.phase)) tt
+          (subst (λ r. r + 2 < most) (sym rounds) is.less)
+        where
+          rounds : rounds_left state.work core ≡ rounds_left mid.worker.work mid.core
+          rounds = ap (λ (s : State). (2 ^ 64 - core.begun) * whole_round s.work.job core.log.blocks) (set is.phase)
+              ∙ ap (λ n. (2 ^ 64 - n) * whole_round mid.worker.work.job core.log.blocks) begun_same
+              ∙ ap (λ n. (2 ^ 64 - mid.core.begun) * whole_round mid.worker.work.job n) blocks
+
+  pub settles : is_kept_off made ≡ false → waits_for_log made ≡ true → (core : CoreState)
+      → core.log.places ≡ mid.core.log.places
+      → (settled_place core.log ≡ core.log.places) ⊎ (core.log.broken ≡ true) → HasGoneOn most mid.worker core
+  settles off log core places done = by came
+    where
+      by : Came phase old made mid → HasGoneOn most mid.worker core
+      by (gone on unkept none) = absurd (not_both (waits_for_log made) log none)
+      by (told is unkept) = inl is
+      by (reads is planning unkept none) = absurd (not_both (waits_for_log made) log none)
+      by (kept is so_it_is) = absurd (not_both (is_kept_off made) so_it_is off)
+      by (waits place is so unkept so_it_is) =
+          nearer most mid.worker core (Waiting place) (ap (λ (s : State). s.phase) so.same ∙ at ∙ is)
+          (subst (λ n. place.0 ≤ n) (sym places) so.within) less
+        where
+          one : (core.log.broken || nat_le place.0 (settled_place core.log)) ≡ true
+          one = from done
+            where
+              from : (settled_place core.log ≡ core.log.places) ⊎ (core.log.broken ≡ true)
+                  → (core.log.broken || nat_le place.0 (settled_place core.log)) ≡ true
+              from (inr broken) = ap (λ b. b || nat_le place.0 (settled_place core.log)) broken
+              from (inl settled) = or_true core.log.broken (nat_le place.0 (settled_place core.log))
+                  (there place.0 (settled_place core.log) (subst (λ n. place.0 ≤ n)
+                  (sym (settled ∙ places)) so.within))
+                where
+                  there : (a b : ℕ) → a ≤ b → nat_le a b ≡ true
+                  there a b le = grind (arith, nat_tests)
+
+                  or_true : (a b : Bool) → b ≡ true → (a || b) ≡ true
+                  or_true true b is = refl
+                  or_true false b is = is
+
+          two : left_in (Waiting place) old.worker.work old.core ≡ 2
+          two = ap (λ b. if b || nat_le place.0 (settled_place old.core.log) then 1 else 2) so.sound
+              ∙ ap (λ b. if b then 1 else 2) so.unsettled
+
+          less : left_in (Waiting place) mid.worker.work core < most
+          less = subst (λ n. left_in (Waiting place) mid.worker.work core < n)
+              (sym (ap (λ p. left_in p old.worker.work old.core) is ∙ two))
+              (subst (λ n. n < 2) (sym (ap (λ b. if b then 1 else 2) one)) (grind (arith)))
+
+  pub ends_round : is_kept_off made ≡ false → (mid.worker.phase ≡ Reading → ⊥) → (core : CoreState)
+      → AfterLog (waits_for_log made) mid.core core → HasGoneOn most mid.worker core
+  ends_round off idle core log = by (waits_for_log made) refl
+    where
+      by : (waited : Bool) → waits_for_log made ≡ waited → HasGoneOn most mid.worker core
+      by true is = settles off is core log.places (log.done is)
+      by false is = subst (λ c. HasGoneOn most mid.worker c) (sym (log.same is)) (rests off is idle)
+
+-- a read was made, or none was due
+pub was_made : (o : Option Step) (none : Type 0) (some : Step → Type 0) → is_some o ≡ true → MatchOption o none some
+    → (made : Step) × some made
+was_made None none some is has = absurd (true≢false (sym is))
+was_made (Some made) none some is has = (made, has)
+
+pub none_made : (o : Option Step) (none : Type 0) (some : Step → Type 0) → is_some o ≡ false → MatchOption o none some
+    → none
+none_made None none some is has = has
+none_made (Some made) none some is has = absurd (true≢false is)
+
+-- a call that isn't answered yet is under way still, once its answer was looked for
+under_same : (phase : Phase) (work : Work) (core : CoreState) → IsUnder phase work core
+    → IsUnder phase (record work { answer = None }) core
+under_same Idle work core under = absurd under
+under_same Called work core under = tt
+under_same Planning work core under = under
+under_same Reading work core under = absurd under
+under_same (Read ok) work core under = absurd under
+under_same (Refused why) work core under = tt
+under_same Again work core under = tt
+under_same (Waiting place) work core under = under
+
+left_same : (phase : Phase) (work : Work) (core : CoreState)
+    → left_in phase (record work { answer = None }) core ≡ left_in phase work core
+left_same Idle work core = refl
+left_same Called work core = refl
+left_same Planning work core = refl
+left_same Reading work core = refl
+left_same (Read ok) work core = refl
+left_same (Refused why) work core = refl
+left_same Again work core = refl
+left_same (Waiting place) work core = refl
+
+goes_round : (bound : ℕ) (mid new : State) (core : CoreState) (result : Option CallAnswer) → HasGoneOn bound mid core
+    → result ≡ mid.work.answer → result ≡ None
+    → new ≡ record mid { work = record mid.work { answer = None } } → IsNearer bound new core
+goes_round bound mid new core result (inl heard) is none same =
+    absurd (true≢false (sym heard.there ∙ ap (λ (o : Option CallAnswer). is_some o) (sym is ∙ none)))
+goes_round bound mid new core result (inr on) is none same =
+    subst (λ (s : State). IsNearer bound s core) (sym same) (record {
+      under_way = under_same mid.phase mid.work core on.under_way;
+      less = subst (λ n. n < bound) (sym (left_same mid.phase mid.work core)) on.less;
+    })
+
+pub still_under_way : (bound : ℕ) (mid new : State) (core : CoreState) (result : Option CallAnswer)
+    → HasGoneOn bound mid core → result ≡ mid.work.answer → result ≡ None
+    → new ≡ record mid { work = record mid.work { answer = None } } → IsUnderWay new core
+still_under_way bound mid new core result on is none same =
+    (goes_round bound mid new core result on is none same).under_way
+
+pub less_is_left : (bound : ℕ) (mid new : State) (core : CoreState) (result : Option CallAnswer)
+    → HasGoneOn bound mid core → result ≡ mid.work.answer → result ≡ None
+    → new ≡ record mid { work = record mid.work { answer = None } } → steps_left new core < bound
+less_is_left bound mid new core result on is none same =
+    (goes_round bound mid new core result on is none same).less
+
+-- a call that was taken is under way
+pub starts : (state old : State) (core : CoreState) (ctx : Ctx) (call : Call) → state ≡ with_call ctx call old
+    → IsUnderWay state core
+starts state old core ctx call is = subst (λ (s : State). IsUnderWay s core) (sym is) tt

@@ -1,0 +1,135 @@
+-- What is left to do for a call that one thread drives: a number that each round makes smaller.
+use Rattle.std.specs.Prelude.{◌≡◌, ℕ, ◌+◌, ◌-◌, ◌*◌, ◌^◌, ◌<◌, ◌≤◌, ◌⊎◌, Bool, true, false, ◌&&◌, ◌||◌}
+use Rattle.std.specs.Prelude.{nat_le}
+use Rattle.std.specs.Prelude.{if◌then◌else◌, Option, Some, None, Ok, is_some, IfSome, length, zero, suc}
+use Rattle.disk.specs.declared.block.BlockNo.{BlockNo}
+use Rattle.wal_law.specs.Log.{settled_place}
+use Rattle.procs.specs.Asks.{WereAskedOnce}
+use Rattle.procs.specs.MostAsked.{most_asked}
+use Rattle.txn.specs.Core.{CoreState}
+use Rattle.txn.specs.Leaves.{in_memory}
+use Rattle.txn_law.specs.Holds.{is_taken}
+use Rattle.store_promise.specs.declared.events.Committing.TheVariants as committing
+use Rattle.store_promise.specs.declared.events.Step.{Step}
+use Rattle.store_promise.specs.declared.events.Step.TheVariants as step
+use Rattle.store_promise.specs.declared.events.Wish.TheVariants as wish
+use Rattle.store.specs.Seen.{Seen, seen_in}
+use Rattle.store.specs.declared.workers.parts.Job.{Job}
+use Rattle.store.specs.declared.workers.parts.Phase.{Phase}
+use Rattle.store.specs.declared.workers.parts.Phase.TheVariants.{Idle, Called, Planning, Reading, Read}
+use Rattle.store.specs.declared.workers.parts.Phase.TheVariants.{Refused, Again, Waiting}
+use Rattle.store.specs.declared.workers.parts.State.{State}
+use Rattle.store.specs.declared.workers.parts.Work.{Work}
+
+-- ---- which blocks are at hand
+
+-- somebody has taken a part of the block, and it is in memory
+abbrev pub is_at_hand : CoreState → BlockNo → Bool
+is_at_hand core block = is_taken core.holds block && is_some (in_memory core block)
+
+-- how many of so many blocks aren't at hand
+abbrev pub count_away : (BlockNo → Bool) → ℕ → ℕ
+count_away at_hand zero = 0
+count_away at_hand (suc number) = (if at_hand (record { 0 = number }) then 0 else 1) + count_away at_hand number
+
+-- how many blocks of the image aren't
+abbrev pub away : CoreState → ℕ
+away core = count_away (is_at_hand core) core.log.blocks
+
+-- ---- what a transaction has still to read
+
+abbrev pub most_of : Option Job → ℕ
+most_of None = 0
+most_of (Some job) = most_asked job.call
+
+abbrev pub count_of : Option Seen → ℕ
+count_of None = 0
+count_of (Some seen) = length seen.objects
+
+-- how many objects the call may ask for still
+abbrev pub unread : Work → ℕ
+unread work = most_of work.job - count_of (seen_in work.snap)
+
+-- Each object that is read leaves fewer to ask for, and each block that is fetched fewer that aren't at hand.
+abbrev pub reads_left : Work → CoreState → ℕ
+reads_left work core = unread work * (core.log.blocks + 1) + away core
+
+-- what was read for the call was asked for, each object once
+abbrev pub WereRead : Work → Type 0
+WereRead work = IfSome work.job (λ job. IfSome (seen_in work.snap) (λ seen.
+    WereAskedOnce seen.geometry job.call seen.objects))
+
+-- ---- what is left of a call
+
+-- more than a transaction takes, in an image of so many blocks
+abbrev pub whole_round : Option Job → ℕ → ℕ
+whole_round job blocks = most_of job * (blocks + 1) + blocks + 4
+
+-- The transactions that may be begun before their numbers are spent. A call takes more than one only where its
+-- wish is kept off or its commit is refused as foreign or full.
+abbrev pub rounds_left : Work → CoreState → ℕ
+rounds_left work core = (2 ^ 64 - core.begun) * whole_round work.job core.log.blocks
+
+abbrev pub left_in : Phase → Work → CoreState → ℕ
+left_in Idle work core = 0
+left_in Called work core = rounds_left work core + 1
+left_in Again work core = rounds_left work core + 2
+left_in Planning work core = rounds_left work core + (3 + reads_left work core)
+left_in Reading work core = 0
+left_in (Read ok) work core = 0
+left_in (Refused why) work core = 1
+left_in (Waiting place) work core =
+    if core.log.broken || nat_le place.0 (settled_place core.log) then 1 else 2
+
+abbrev pub steps_left : State → CoreState → ℕ
+steps_left state core = left_in state.phase state.work core
+
+-- ---- where a round begins and ends
+
+-- the worker has a call, and neither is its answer there nor is a read due
+abbrev pub IsUnder : Phase → Work → CoreState → Type 0
+IsUnder Idle work core = ⊥
+IsUnder Called work core = Unit {0}
+IsUnder Again work core = Unit {0}
+IsUnder Planning work core = WereRead work
+IsUnder Reading work core = ⊥
+IsUnder (Read ok) work core = ⊥
+IsUnder (Refused why) work core = Unit {0}
+IsUnder (Waiting place) work core = place.0 ≤ core.log.places
+
+abbrev pub IsUnderWay : State → CoreState → Type 0
+IsUnderWay state core = IsUnder state.phase state.work core
+
+-- the call is answered
+pub record IsAnswered (state : State) : Type 0 where
+  pub idle : state.phase ≡ Idle
+  pub there : is_some state.work.answer ≡ true
+
+-- it is still under way, and less is left
+pub record IsNearer (most : ℕ) (state : State) (core : CoreState) : Type 0 where
+  pub under_way : IsUnderWay state core
+  pub less : steps_left state core < most
+
+-- the call is answered, or less than so much is left of it
+abbrev pub HasGoneOn : ℕ → State → CoreState → Type 0
+HasGoneOn most state core = IsAnswered state ⊎ IsNearer most state core
+
+-- ---- one step of it
+
+-- a wish was kept off, or a commit was refused for want of room: the call begins again
+abbrev pub is_kept_off : Option Step → Bool
+is_kept_off (Some (step.Wanted addr mode wish.Busy)) = true
+is_kept_off (Some (step.Wanted addr mode wish.Loading)) = true
+is_kept_off (Some (step.Commit added committing.Full)) = true
+is_kept_off _ = false
+
+-- it waits for the log: for room, or for its place to be settled
+abbrev pub waits_for_log : Option Step → Bool
+waits_for_log (Some (step.Commit added committing.Full)) = true
+waits_for_log (Some (step.Stable place false)) = true
+waits_for_log _ = false
+
+-- a transaction that was begun has a number of 64 bits
+abbrev pub IsCounted : Option Step → Type 0
+IsCounted (Some (step.Begun (Ok number))) = number < 2 ^ 64
+IsCounted _ = Unit {0}
