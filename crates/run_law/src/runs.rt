@@ -25,6 +25,8 @@ pub fn a_run_begins()
         b.tree }
 {
     store_promise::an_opening_begins_a_run();
+    store_promise::an_opening_leaves_an_open_store();
+    store_promise::a_device_counts_the_calls_of_its_steps();
     store_promise::what_is_held_is_what_the_files_are();
 }
 
@@ -37,6 +39,7 @@ pub fn a_run_goes_on()
 {
     store_promise::a_stop_leaves_a_beginning();
     store_promise::what_is_settled_is_told();
+    store_promise::a_device_counts_the_calls_of_its_steps();
     crate::what_is_told_grows();
 }
 
