@@ -1,3 +1,4 @@
 pub mod Before
 pub mod Settled
 pub mod Stops
+pub mod Waited

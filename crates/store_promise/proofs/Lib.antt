@@ -16,3 +16,4 @@ pub mod OpenCommits
 pub mod OpenInstalls
 pub mod Shown
 pub mod FileBlocks
+pub mod StableAnswers
