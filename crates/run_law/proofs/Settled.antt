@@ -1,8 +1,7 @@
 -- What is told as settled only grows, along any steps.
-use Rattle.std.proofs.Common.{◌≡◌, ℕ, zero, suc, ◌+◌, ◌-◌, ◌<◌, ◌≤◌, refl, sym, subst, ap, ◌∙◌, arith}
+use Rattle.std.proofs.Common.{◌≡◌, ℕ, zero, suc, ◌+◌, ◌-◌, ◌<◌, ◌≤◌, refl, ap, arith}
 use Rattle.std.proofs.Common.{Bool, true, false, if◌then◌else◌, nat_eq, nat_lt, List, [], ◌∷◌, Option, Some, None}
 use Rattle.std.proofs.Common.{take}
-use Rattle.std.proofs.lemmas.Bool.{ltb-true, ltb-false}
 use Rattle.std.proofs.lemmas.Bool.Decides.{nat_tests}
 use Rattle.std.specs.List.{zip}
 use Rattle.wal_law.specs.declared.calls.IoCall.{IoCall}
@@ -11,7 +10,7 @@ use Rattle.store_promise.specs.declared.events.Committing.TheVariants as committ
 use Rattle.store_promise.specs.declared.events.Event.{Event}
 use Rattle.store_promise.specs.declared.events.Step.{Step}
 use Rattle.store_promise.specs.declared.events.Step.TheVariants as step
-use Rattle.store_promise.specs.LogTold.{CallTold, LogTold, first_with, idle, log_moved, out, settled_told, was_made}
+use Rattle.store_promise.specs.LogTold.{CallTold, LogTold, idle, log_moved, out, settled_told, was_made}
 use Rattle.store_promise.specs.LogTold.{with_commit, with_inst_behind, with_inst_done, with_inst_given, with_inst_taken}
 use Rattle.store_promise.specs.LogTold.{with_log_done, with_log_given, with_log_taken}
 use Rattle.store_promise.specs.Schedule.{Schedule, Told, at_first, told_after, told_along, told_before}

@@ -1,9 +1,9 @@
 -- What each stop so far leaves of a run stays so with the next event; and what a stop leaves now.
 use Rattle.std.proofs.Common.{◌≡◌, ◌⊎◌, inl, inr, ℕ, zero, suc, ◌+◌, ◌-◌, ◌<◌, ◌≤◌, refl, sym, subst, ap, ◌∙◌, arith}
-use Rattle.std.proofs.Common.{Bool, true, false, if◌then◌else◌, nat_le, nat_lt, List, [], ◌∷◌, ◌++◌, Option, Some, None}
+use Rattle.std.proofs.Common.{Bool, true, false, nat_le, nat_lt, List, [], ◌∷◌, ◌++◌, Option, Some}
 use Rattle.std.proofs.Common.{count_by, length, length-append, map, take, slice_get}
 use Rattle.std.proofs.lemmas.Bool.{le-leb, leb-true, leb-false, ltb-true, ltb-false}
-use Rattle.std.proofs.lemmas.List.{append-nil, map-append, take-append-le, take_all}
+use Rattle.std.proofs.lemmas.List.{map-append, take-append-le, take_all}
 use Rattle.std.proofs.lemmas.List.Sums.{count_by-le-length, sum_by-append, sum_by_push}
 use Rattle.std.specs.Prelude.{Contains}
 use Rattle.disk.specs.Crash.{Image, IsCrashImage}
@@ -14,16 +14,13 @@ use Rattle.model.specs.Tree.{Tree}
 use Rattle.txn_law.specs.Fetch.{Fetch}
 use Rattle.wal_law.specs.Log.{installed_place, settled_place}
 use Rattle.wal_law.specs.Overlay.{over}
-use Rattle.store_promise.specs.declared.events.Event.{Event}
 use Rattle.store_promise.specs.declared.events.Step.{Step}
 use Rattle.store_promise.specs.declared.transcript.Committed.{Committed}
 use Rattle.store_promise.specs.GoodImage.{IsGoodImage}
-use Rattle.store_promise.specs.Headline.{IsBootBy}
 use Rattle.store_promise.specs.LogTold.{settled_told}
 use Rattle.store_promise.specs.Openings.{IsLater}
 use Rattle.store_promise.specs.OpenSince.{LeavesBlocks, blocks_after}
-use Rattle.store_promise.specs.Prefix.{HasPrefix}
-use Rattle.store_promise.specs.Running.{IsMovedBy, StoreSide, one_if}
+use Rattle.store_promise.specs.Running.{StoreSide, one_if}
 use Rattle.store_promise.specs.Schedule.{Schedule, Setting, told_before}
 use Rattle.store_promise.specs.Transcript.{Transcript, calls_device, commits_by, device_calls, entries_of, entry_of}
 use Rattle.run_law.specs.Noting.{Noted, clock_now, listed, told_now, with_noted}

@@ -1,5 +1,5 @@
 -- A worker that waits for a place waits for the procedure of its own call.
-use Rattle.std.proofs.Common.{◌≡◌, ◌⊎◌, inl, inr, ℕ, zero, suc, ◌+◌, ◌<◌, ◌≤◌, ap, sym, ◌∙◌, refl, subst, arith}
+use Rattle.std.proofs.Common.{◌≡◌, inl, inr, ℕ, zero, suc, ◌+◌, ◌<◌, ◌≤◌, ap, sym, ◌∙◌, refl, subst, arith}
 use Rattle.std.proofs.Common.{Bool, true, false, if◌then◌else◌, ◌||◌, nat_eq, List, [], ◌∷◌, Option, Some, None, Ok, Err}
 use Rattle.std.proofs.Common.{length, slice_get}
 use Rattle.std.proofs.lemmas.Bool.{cases_lt}
