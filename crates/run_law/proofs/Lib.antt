@@ -1,0 +1,3 @@
+pub mod ToldGrows
+pub mod ToldPlaces
+pub mod ToldTaken
