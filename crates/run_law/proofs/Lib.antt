@@ -1,3 +1,4 @@
 pub mod ToldGrows
 pub mod ToldPlaces
 pub mod ToldTaken
+pub mod EntriesGrow

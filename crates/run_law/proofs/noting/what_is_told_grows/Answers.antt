@@ -1,5 +1,6 @@
 use Rattle.std.proofs.Common.{◌≡◌}
 use Rattle.store_promise.specs.Schedule.{AreTaken}
+use Rattle.run_law.proofs.EntriesGrow.{history_on}
 use Rattle.run_law.proofs.ToldGrows.{told_at_last}
 use Rattle.run_law.proofs.ToldTaken.{taken_on}
 use Rattle.run_law.proofs.noting.what_is_told_grows.Goals as goal
@@ -11,7 +12,7 @@ pub returns-clause-well : goal.returns-clause-well
 returns-clause-well c = λ b o later t event noted is_event well same blocks taken tells. record {
   taken = taken_on o later b.workers b.events t event noted c.what_was_made_stays.ensures is_event
       well.ledger.places same blocks well.taken taken;
-  history = ?;
+  history = history_on b.events t event noted is_event well.history well.ledger.numbers tells.entry;
   answers = ?;
   ledger = ?;
 }
