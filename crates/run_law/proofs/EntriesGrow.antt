@@ -39,6 +39,24 @@ pub number_of : (events : Schedule) (t : Transcript) (now : Event) (made : Optio
 number_of events t now made c is =
     ap number_out is.planned ∙ ap (λ (n : ℕ). Some n) (sym (ap (λ (ctx : Ctx). ctx.transaction) is.ctx))
 
+-- a procedure is one that there was, or the one that the event commits
+abbrev pub EntryComes : Schedule → Transcript → Event → Option Step → ℕ → Committed → Type 0
+EntryComes events t now made index c = (slice_get t.history index ≡ Some c)
+    ⊎ ((index ≡ length t.history) × IsCommitOf events t now made c)
+
+pub entry_comes : (events : Schedule) (t : Transcript) (now : Event) (noted : Noted)
+    → IsEntryOf events t now noted.made noted.entry → (index : ℕ) (c : Committed)
+    → slice_get (with_noted t noted).history index ≡ Some c → EntryComes events t now noted.made index c
+entry_comes events t now noted tells index c is = by_either (either t.history noted.entry index c is)
+  where
+    by_either : (slice_get t.history index ≡ Some c) ⊎ ((index ≡ length t.history) × (noted.entry ≡ Some c))
+        → EntryComes events t now noted.made index c
+    by_either (inl old) = inl old
+    by_either (inr new) = inr (
+      new.0,
+      subst (λ (entry : Option Committed). IsEntryOf events t now noted.made entry) new.1 tells,
+    )
+
 module _ (events : Schedule) (t : Transcript) (now : Event) (noted : Noted)
     (is_event : slice_get events (length t.steps) ≡ Some now) (history : IsHistory events t)
     (numbered : AreNumbered (told_now events t) t.history)
@@ -46,21 +64,11 @@ module _ (events : Schedule) (t : Transcript) (now : Event) (noted : Noted)
   abbrev grown : Transcript
   grown = with_noted t noted
 
-  -- a procedure is one that there was, or the one that the event commits
   abbrev Comes : ℕ → Committed → Type 0
-  Comes index c = (slice_get t.history index ≡ Some c)
-      ⊎ ((index ≡ length t.history) × IsCommitOf events t now noted.made c)
+  Comes index c = EntryComes events t now noted.made index c
 
   comes : (index : ℕ) (c : Committed) → slice_get grown.history index ≡ Some c → Comes index c
-  comes index c is = by_either (either t.history noted.entry index c is)
-    where
-      by_either : (slice_get t.history index ≡ Some c) ⊎ ((index ≡ length t.history) × (noted.entry ≡ Some c))
-          → Comes index c
-      by_either (inl old) = inl old
-      by_either (inr new) = inr (
-        new.0,
-        subst (λ (entry : Option Committed). IsEntryOf events t now noted.made entry) new.1 tells,
-      )
+  comes index c is = entry_comes events t now noted tells index c is
 
   still : (place : ℕ) (c : Committed) → WasCommitted events t place c → WasCommitted events grown place c
   still place c was =
