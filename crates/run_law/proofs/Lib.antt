@@ -5,3 +5,4 @@ pub mod EntriesGrow
 pub mod ToldMoves
 pub mod ToldStages
 pub mod ToldNumbers
+pub mod AnswersPlaces

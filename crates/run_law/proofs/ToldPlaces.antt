@@ -1,6 +1,6 @@
 -- The places that are told only rise, by one with each commit.
-use Rattle.std.proofs.Common.{◌≡◌, ℕ, zero, suc, ◌+◌, ◌≤◌, refl, subst, arith, Bool, true, false, if◌then◌else◌}
-use Rattle.std.proofs.Common.{[], ◌∷◌, List, length, take, zip, nat_eq, nat_lt, Option, Some, None}
+use Rattle.std.proofs.Common.{◌≡◌, ℕ, zero, suc, ◌+◌, ◌≤◌, ap, sym, ◌∙◌, refl, subst, arith, Bool, true, false, if◌then◌else◌}
+use Rattle.std.proofs.Common.{[], ◌∷◌, ◌++◌, append-nil, List, length, take, zip, nat_eq, nat_lt, Option, Some, None}
 use Rattle.std.proofs.lemmas.List.{take-take}
 use Rattle.wal_law.specs.declared.calls.IoCall.TheVariants.{Write, Barrier}
 use Rattle.store_promise.specs.declared.events.Committing.TheVariants as committing
@@ -11,8 +11,12 @@ use Rattle.store_promise.specs.LogTold.{CallTold, LogTold, idle, out, was_made, 
 use Rattle.store_promise.specs.LogTold.{with_inst_done, with_inst_given, with_inst_taken, with_log_done}
 use Rattle.store_promise.specs.LogTold.{with_log_given, with_log_taken}
 use Rattle.store_promise.specs.Schedule.{Schedule, Told, at_first, told_after, told_along, told_before}
+use Rattle.store_promise.specs.Transcript.{Transcript}
+use Rattle.store_promise.specs.declared.transcript.Committed.{Committed}
 use Rattle.store_promise.proofs.Told.{Pairs}
-use Rattle.run_law.specs.Noting.{commits}
+use Rattle.run_law.specs.Noting.{IsEntryOf, commits, listed, told_now}
+use Rattle.run_law.proofs.EntriesGrow.{commit_of}
+use Rattle.run_law.proofs.ToldGrows.{one_longer}
 
 module _ (log : LogTold) where
   if_same : (b : Bool) (one other : LogTold) → one.places ≡ log.places → other.places ≡ log.places
@@ -76,3 +80,25 @@ places_rise events steps index few =
     subst (λ (pairs : Pairs). (told_along at_first pairs).log.places
     ≤ (told_before events steps (length steps)).log.places) (take-take index (length steps) (zip events steps) few)
     (taken_rises (take (length steps) (zip events steps)) index at_first)
+
+-- ---- the places are those of the history
+
+-- a step that isn't a commit leaves them, and so does an event without a step
+no_commit : (told : Told) (e : Event) (made : Option Step) → commits made ≡ false
+    → (told_after told e made).log.places ≡ told.log.places
+no_commit told e None never = refl
+no_commit told e (Some made) never = places_stay told.log made never
+
+pub one_place : (told : Told) (e : Event) (made : Option Step) (blocks place : ℕ)
+    → made ≡ Some (commit_of blocks place) → (told_after told e made).log.places ≡ told.log.places + 1
+one_place told e made blocks place is = ap (λ (m : Option Step). (told_after told e m).log.places) is
+
+pub places_on : (events : Schedule) (t : Transcript) (now : Event) (made : Option Step) (entry : Option Committed)
+    → (told_now events t).log.places ≡ length t.history → IsEntryOf events t now made entry
+    → (told_after (told_now events t) now made).log.places ≡ length (t.history ++ listed entry)
+places_on events t now made None places never =
+    no_commit (told_now events t) now made never ∙ places ∙ ap length (sym (append-nil t.history))
+places_on events t now made (Some c) places is =
+    let one = one_place (told_now events t) now made is.blocks (length t.history + 1) is.made_is in
+    let long = one_longer t.history c in
+    omega (arith, places, one, long)
