@@ -6,3 +6,4 @@ pub mod ToldMoves
 pub mod ToldStages
 pub mod ToldNumbers
 pub mod AnswersPlaces
+pub mod AnswersGrow

@@ -2,6 +2,7 @@ use Rattle.std.proofs.Common.{◌≡◌, sym, subst, length}
 use Rattle.store_promise.specs.Schedule.{Told, told_after}
 use Rattle.run_law.specs.Ledger.{AreNumbered, ArePlaced}
 use Rattle.run_law.specs.Noting.{told_now, with_noted}
+use Rattle.run_law.proofs.AnswersGrow.{answers_on}
 use Rattle.run_law.proofs.AnswersPlaces.{waits_on}
 use Rattle.run_law.proofs.EntriesGrow.{history_on}
 use Rattle.run_law.proofs.ToldGrows.{told_at_last}
@@ -25,7 +26,8 @@ returns-clause-well c = λ b o later t event noted is_event well same blocks tak
       taken = taken_on o later b.workers b.events t event noted c.what_was_made_stays.ensures is_event
           well.ledger.places same blocks well.taken taken;
       history = history_on b.events t event noted is_event well.history well.ledger.numbers tells.entry;
-      answers = ?;
+      answers = answers_on o b.workers b.events t event noted is_event taken well.ledger.places well.ledger.waits
+          well.answers tells.answer;
       ledger = record {
         places = subst (λ (told : Told). told.log.places ≡ length grown.history) last places;
         numbers = subst (λ (told : Told). AreNumbered told grown.history) last
