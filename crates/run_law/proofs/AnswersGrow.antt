@@ -19,7 +19,7 @@ use Rattle.store_promise.specs.Verdicts.{AreAnswers, HasVerdict, IsAnswer, IsRep
 use Rattle.run_law.specs.Ledger.{ArePlaced}
 use Rattle.run_law.specs.Noting.{IsAnswerOf, IsAnswerWith, Noted, ends_of, listed, told_now, with_noted}
 use Rattle.run_law.proofs.AnswersPlaces.{AnswerComes, answer_comes, is_placed, not_again}
-use Rattle.run_law.proofs.EntriesGrow.{seq}
+use Rattle.run_law.proofs.EntriesCommits.{seq}
 use Rattle.run_law.proofs.ToldGrows.{calls_earlier, committed_kept, one_longer, progress_earlier, step_kept, step_now}
 use Rattle.run_law.proofs.ToldGrows.{step_within, told_then}
 

@@ -20,7 +20,7 @@ use Rattle.store_promise.specs.Transcript.{Transcript}
 use Rattle.store_promise.specs.Verdicts.{HasVerdict, IsOfNone}
 use Rattle.run_law.specs.Ledger.{ArePlaced, place_waited}
 use Rattle.run_law.specs.Noting.{IsAnswerOf, IsAnswerWith, IsEntryOf, Noted, listed, told_now, with_noted}
-use Rattle.run_law.proofs.EntriesGrow.{commit_of, seq}
+use Rattle.run_law.proofs.EntriesCommits.{commit_of, seq}
 use Rattle.run_law.proofs.ToldGrows.{either}
 use Rattle.run_law.proofs.ToldMoves.{IsOwn, Moves, called, goes, may_be, moves, stays}
 use Rattle.run_law.proofs.ToldPlaces.{one_place}

@@ -17,21 +17,9 @@ use Rattle.store_promise.specs.Transcript.{Transcript, committed_at, device_call
 use Rattle.store_promise.proofs.Told.{step_is}
 use Rattle.run_law.specs.Ledger.{AreNumbered, number_out}
 use Rattle.run_law.specs.Noting.{IsCommitOf, IsEntryOf, Noted, commits, told_now, with_noted}
+use Rattle.run_law.proofs.EntriesCommits.{commit_of, same_place}
 use Rattle.run_law.proofs.ToldGrows.{calls_earlier, committed_kept, committed_now, either, progress_earlier}
 use Rattle.run_law.proofs.ToldGrows.{step_kept, step_now, step_within}
-
-abbrev pub seq : ℕ → Seq
-seq place = record { 0 = place }
-
-abbrev pub commit_of : ℕ → ℕ → Step
-commit_of blocks place = step.Commit blocks (committing.Committed (seq place))
-
--- a commit has one place
-pub same_place : (blocks others place other : ℕ) → Some (commit_of blocks place) ≡ Some (commit_of others other)
-    → place ≡ other
-same_place blocks others place other same =
-    let seqs : seq place ≡ seq other = cc in
-    ap (λ (s : Seq). s.0) seqs
 
 -- the number of the transaction of a procedure that is committed is out until then
 pub number_of : (events : Schedule) (t : Transcript) (now : Event) (made : Option Step) (c : Committed)

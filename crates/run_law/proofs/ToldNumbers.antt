@@ -13,7 +13,8 @@ use Rattle.store_promise.specs.Schedule.{Setting, Told, told_after}
 use Rattle.store_promise.specs.Transcript.{Transcript}
 use Rattle.run_law.specs.Ledger.{AreNumbered, number_out}
 use Rattle.run_law.specs.Noting.{IsCommitOf, IsEntryOf, Noted, listed, told_now, with_noted}
-use Rattle.run_law.proofs.EntriesGrow.{EntryComes, commit_of, entry_comes, number_of}
+use Rattle.run_law.proofs.EntriesCommits.{commit_of}
+use Rattle.run_law.proofs.EntriesGrow.{EntryComes, entry_comes, number_of}
 use Rattle.run_law.proofs.ToldMoves.{IsOwn, Moves, called, goes, may_be, moves, own_move, stays}
 use Rattle.run_law.proofs.ToldStages.{NumberComes, begins, number_comes, was_out}
 

@@ -15,7 +15,7 @@ use Rattle.store_promise.specs.Transcript.{Transcript}
 use Rattle.store_promise.specs.declared.transcript.Committed.{Committed}
 use Rattle.store_promise.proofs.Told.{Pairs}
 use Rattle.run_law.specs.Noting.{IsEntryOf, commits, listed, told_now}
-use Rattle.run_law.proofs.EntriesGrow.{commit_of}
+use Rattle.run_law.proofs.EntriesCommits.{commit_of}
 use Rattle.run_law.proofs.ToldGrows.{one_longer}
 
 module _ (log : LogTold) where

@@ -12,7 +12,7 @@ use Rattle.store_promise.specs.Progress.{Again, At, Begun, Called, Idle, Job, Pl
 use Rattle.store_promise.specs.Progress.{Refused, Stage, Taken, Waiting, after_claimed, after_commit, after_planning}
 use Rattle.store_promise.specs.Progress.{after_waiting, after_wanted, going_on, progressed, stage_after}
 use Rattle.run_law.specs.Ledger.{number_out, place_waited, stage_number, stage_place}
-use Rattle.run_law.proofs.EntriesGrow.{commit_of}
+use Rattle.run_law.proofs.EntriesCommits.{commit_of}
 
 abbrev next_number : Option Stage → Option ℕ
 next_number None = None

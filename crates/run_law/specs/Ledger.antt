@@ -1,9 +1,9 @@
 -- What a run keeps of its numbers and places, so that no two procedures have one transaction number and none is
 -- answered twice.
-use Rattle.std.specs.Prelude.{◌≡◌, ℕ, ◌<◌, ◌≤◌, length, slice_get, List, Option, Some, None}
+use Rattle.std.specs.Prelude.{◌≡◌, ℕ, ◌≤◌, length, slice_get, List, Option, Some, None}
 use Rattle.store_promise.specs.declared.transcript.Answer.{Answer}
 use Rattle.store_promise.specs.declared.transcript.Committed.{Committed}
-use Rattle.store_promise.specs.Progress.{Again, At, Begun, Called, Idle, Planning, Progress, Read, Reading, Refused}
+use Rattle.store_promise.specs.Progress.{Again, At, Called, Idle, Planning, Progress, Read, Reading, Refused}
 use Rattle.store_promise.specs.Progress.{Stage, Waiting}
 use Rattle.store_promise.specs.Schedule.{Schedule, Told}
 use Rattle.store_promise.specs.Transcript.{Transcript}

@@ -5,11 +5,10 @@ use Rattle.disk.specs.Device.{Device}
 use Rattle.model.specs.After.{after}
 use Rattle.model.specs.Tree.{Tree}
 use Rattle.txn_law.specs.Fetch.{Fetch}
-use Rattle.txn_law.specs.HomeRead.{HasContents}
 use Rattle.store_promise.specs.declared.events.Event.{Event}
 use Rattle.store_promise.specs.Headline.{IsGeometryOf, StandsAfter}
 use Rattle.store_promise.specs.History.{IsHistory}
-use Rattle.store_promise.specs.Openings.{IsOpened, LeavesImages}
+use Rattle.store_promise.specs.Openings.{IsOpened}
 use Rattle.store_promise.specs.Running.{IsMovedAlong, IsMovedBy, IsRunningOver, IsTold, StoreSide}
 use Rattle.store_promise.specs.Schedule.{AreTaken, IsTaken, Schedule, Setting, told_after}
 use Rattle.store_promise.specs.Transcript.{Transcript, entries_of}
@@ -48,7 +47,6 @@ pub record IsRun (b : Beginning) (o : Setting) (t : Transcript) (base : Image) (
   pub leads : after b.tree (entries_of t) last
   pub files : (place : ℕ) → StandsAfter o.geometry b.tree (take place (entries_of t)) (o.blocks place)
   pub well : IsToldWell b o t
-  pub left : LeavesImages b.before side.device
   pub past : HasLeft b.before b.opened.size b.first b.tree b.events b.opened.clock t o.blocks side.device
 
 -- An event was taken: its step is one that may be made, moved the device so far, left the run going, with one entry
@@ -61,7 +59,6 @@ pub record GoesOn (b : Beginning) (o : Setting) (t : Transcript) (side : StoreSi
   pub taken : IsTaken o b.workers (told_now b.events t) event noted.made
   pub notes : TellsOfEvent b.events t event noted
   pub device : IsMovedBy side.device noted.made new.device
-  pub contents : HasContents new.device
   pub same : later ≡ record o { blocks = later.blocks }
   pub blocks : (place : ℕ) → place ≤ length t.history → later.blocks place ≡ o.blocks place
   pub running : IsRunningOver later base new fetches (b.first + 1) b.tree (entries_of (with_noted t noted)) last

@@ -5,11 +5,10 @@ ghost use Rattle.model.specs.Tree.{Tree};
 ghost use Rattle.layout.specs.declared.geometry.Geometry.{Geometry};
 ghost use Rattle.txn_law.specs.Core.{CoreState};
 ghost use Rattle.txn_law.specs.Fetch.{Fetch};
-ghost use Rattle.txn_law.specs.HomeRead.{HasContents};
 ghost use Rattle.store_promise.specs.Headline.{KeepsPromise};
 ghost use Rattle.store_promise.specs.OpenSince.{file_blocks};
 ghost use Rattle.store_promise.specs.OpenStore.{IsNewOver};
-ghost use Rattle.store_promise.specs.Openings.{IsOpened};
+ghost use Rattle.store_promise.specs.Openings.{IsOpened, LeavesImages};
 ghost use Rattle.store_promise.specs.Running.{StoreSide, at_rest};
 ghost use Rattle.store_promise.specs.Schedule.{Setting};
 ghost use Rattle.store_promise.specs.Transcript.{Transcript};
@@ -26,6 +25,8 @@ pub fn a_run_begins()
         b.tree }
 {
     store_promise::an_opening_begins_a_run();
+    store_promise::an_opening_leaves_an_open_store();
+    store_promise::a_device_counts_the_calls_of_its_steps();
     store_promise::what_is_held_is_what_the_files_are();
 }
 
@@ -38,13 +39,15 @@ pub fn a_run_goes_on()
 {
     store_promise::a_stop_leaves_a_beginning();
     store_promise::what_is_settled_is_told();
+    store_promise::a_device_counts_the_calls_of_its_steps();
     crate::what_is_told_grows();
 }
 
-/// So it keeps its promise, whatever comes next.
+/// So it keeps its promise, whenever no event comes any more: where each stop leaves some image, as on a device that
+/// keeps its model.
 pub fn a_run_keeps_its_promise()
     ensures { (b : Beginning) (o : Setting) (t : Transcript) (base : Image) (side : StoreSide) (fetches : List Fetch)
-        (last : Tree) → IsRun b o t base side fetches last
+        (last : Tree) → IsRun b o t base side fetches last → LeavesImages b.before side.device
         → KeepsPromise b.before side.device b.tree b.first b.workers b.events t }
 {
     store_promise::a_stop_leaves_a_beginning();
