@@ -1,5 +1,5 @@
 -- The answers are those of the events, with an answer more or without.
-use Rattle.std.proofs.Common.{◌≡◌, ◌⊎◌, inl, inr, ℕ, suc, ◌+◌, ◌<◌, ◌≤◌, ap, sym, ◌∙◌, refl, subst, arith, Bool, true}
+use Rattle.std.proofs.Common.{◌≡◌, inl, inr, ℕ, suc, ◌+◌, ◌<◌, ◌≤◌, ap, sym, ◌∙◌, refl, subst, arith, true}
 use Rattle.std.proofs.Common.{false, not, ◌&&◌, ◌++◌, length, slice_get, Contains, Option, Some, None, Err}
 use Rattle.std.proofs.lemmas.Bool.{cases_lt}
 use Rattle.std.proofs.lemmas.List.Elements.{Contains-append_left, Contains-push}
@@ -12,7 +12,7 @@ use Rattle.store_promise.specs.declared.events.Event.{Event}
 use Rattle.store_promise.specs.declared.events.Step.{Step}
 use Rattle.store_promise.specs.declared.events.Step.TheVariants as step
 use Rattle.store_promise.specs.declared.transcript.Answer.{Answer}
-use Rattle.store_promise.specs.Progress.{Called, Planning, Progress, Refused, Stage, Waiting, is_idle}
+use Rattle.store_promise.specs.Progress.{Called, Planning, Refused, Stage, Waiting, is_idle}
 use Rattle.store_promise.specs.Schedule.{IsTaken, Schedule, Setting, Told, progress_before, told_after, worker_of}
 use Rattle.store_promise.specs.Transcript.{Transcript, device_calls, step_at}
 use Rattle.store_promise.specs.Verdicts.{AreAnswers, HasVerdict, IsAnswer, IsReplyAt}

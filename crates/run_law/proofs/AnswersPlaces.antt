@@ -1,6 +1,6 @@
 -- A place that is waited for was taken, nobody else waits for it, and no answer has it.
-use Rattle.std.proofs.Common.{◌≡◌, ◌⊎◌, inl, inr, ℕ, ◌+◌, ◌≤◌, ap, sym, ◌∙◌, refl, subst, arith, Bool, true, false}
-use Rattle.std.proofs.Common.{if◌then◌else◌, List, ◌++◌, length, length-append, slice_get, Option, Some, None, Ok, Err}
+use Rattle.std.proofs.Common.{◌≡◌, ◌⊎◌, inl, inr, ℕ, ◌+◌, ◌≤◌, ap, sym, ◌∙◌, refl, subst, arith, true, false}
+use Rattle.std.proofs.Common.{length, length-append, slice_get, Option, Some, None, Err}
 use Rattle.nfs_types.specs.declared.call.Call.{Call}
 use Rattle.wal_law.specs.declared.outcomes.Seq.{Seq}
 use Rattle.store_promise.specs.declared.answers.Verdict.{Verdict}
@@ -11,15 +11,14 @@ use Rattle.store_promise.specs.declared.events.Event.TheVariants as event
 use Rattle.store_promise.specs.declared.events.Step.{Step}
 use Rattle.store_promise.specs.declared.events.Step.TheVariants as step
 use Rattle.store_promise.specs.declared.transcript.Answer.{Answer}
-use Rattle.store_promise.specs.declared.transcript.Committed.{Committed}
-use Rattle.store_promise.specs.Progress.{Again, At, Begun, Called, Idle, Job, Planning, Progress, Read, Reading}
+use Rattle.store_promise.specs.Progress.{At, Begun, Called, Idle, Job, Planning, Progress}
 use Rattle.store_promise.specs.Progress.{Refused, Stage, Waiting, is_idle}
 use Rattle.store_promise.specs.Schedule.{IsStepOf, IsStepOfRead, IsStepOfWork, IsTaken, Schedule, Setting, Told}
 use Rattle.store_promise.specs.Schedule.{told_after}
 use Rattle.store_promise.specs.Transcript.{Transcript}
 use Rattle.store_promise.specs.Verdicts.{HasVerdict, IsOfNone}
 use Rattle.run_law.specs.Ledger.{ArePlaced, place_waited}
-use Rattle.run_law.specs.Noting.{IsAnswerOf, IsAnswerWith, IsEntryOf, Noted, listed, told_now, with_noted}
+use Rattle.run_law.specs.Noting.{IsAnswerOf, IsAnswerWith, Noted, listed, told_now, with_noted}
 use Rattle.run_law.proofs.EntriesCommits.{commit_of, seq}
 use Rattle.run_law.proofs.ToldGrows.{either}
 use Rattle.run_law.proofs.ToldMoves.{IsOwn, Moves, called, goes, may_be, moves, stays}

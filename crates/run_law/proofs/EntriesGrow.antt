@@ -1,17 +1,12 @@
 -- The history is that of the events, with a procedure more or without.
-use Rattle.std.proofs.Common.{◌≡◌, ◌⊎◌, inl, inr, ℕ, ◌+◌, ◌<◌, ◌≤◌, ap, sym, ◌∙◌, refl, subst, arith, List, [], ◌∷◌, length}
+use Rattle.std.proofs.Common.{◌≡◌, ◌⊎◌, inl, inr, ℕ, ◌+◌, ◌<◌, ◌≤◌, ap, sym, ◌∙◌, refl, subst, arith, length}
 use Rattle.std.proofs.Common.{slice_get, Option, Some, None, false, true}
 use Rattle.std.proofs.lemmas.Option.{slice_get_within}
 use Rattle.nfs_types.specs.declared.ctx.Ctx.{Ctx}
-use Rattle.wal_law.specs.declared.outcomes.Seq.{Seq}
-use Rattle.store_promise.specs.declared.events.Committing.TheVariants as committing
 use Rattle.store_promise.specs.declared.events.Event.{Event}
-use Rattle.store_promise.specs.declared.events.Event.TheVariants as event
 use Rattle.store_promise.specs.declared.events.Step.{Step}
-use Rattle.store_promise.specs.declared.events.Step.TheVariants as step
 use Rattle.store_promise.specs.declared.transcript.Committed.{Committed}
 use Rattle.store_promise.specs.History.{IsHistory, WasCommitted}
-use Rattle.store_promise.specs.Progress.{Progress}
 use Rattle.store_promise.specs.Schedule.{Schedule, progress_before}
 use Rattle.store_promise.specs.Transcript.{Transcript, committed_at, device_calls, made, step_at}
 use Rattle.store_promise.proofs.Told.{step_is}

@@ -6,7 +6,6 @@ use Rattle.std.proofs.lemmas.Option.{slice_get_within}
 use Rattle.store_promise.specs.declared.events.Event.{Event}
 use Rattle.store_promise.specs.declared.events.Step.{Step}
 use Rattle.store_promise.specs.declared.transcript.Committed.{Committed}
-use Rattle.store_promise.specs.Progress.{Progress}
 use Rattle.store_promise.specs.Schedule.{Schedule, Told, at_first, progress_before, told_after, told_along}
 use Rattle.store_promise.specs.Schedule.{told_before}
 use Rattle.store_promise.specs.Transcript.{Transcript, calls_device, committed_at, device_calls, made, step_at}

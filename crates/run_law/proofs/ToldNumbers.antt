@@ -1,18 +1,18 @@
 -- The numbers of the transactions that are out stay those that were begun, each of one worker, and of no procedure.
 use Rattle.std.proofs.Common.{◌≡◌, ◌⊎◌, inl, inr, ℕ, ◌+◌, ◌≤◌, ap, sym, ◌∙◌, refl, subst, arith, Bool, true, false}
-use Rattle.std.proofs.Common.{if◌then◌else◌, List, ◌++◌, slice_get, Option, Some, None, Ok, Err}
+use Rattle.std.proofs.Common.{if◌then◌else◌, slice_get, Option, Some, None, Ok, Err}
 use Rattle.model.specs.Calls.{has_rules, is_answered_stable}
 use Rattle.store_promise.specs.declared.events.Event.{Event}
 use Rattle.store_promise.specs.declared.events.Event.TheVariants as event
 use Rattle.store_promise.specs.declared.events.Step.{Step}
 use Rattle.store_promise.specs.declared.events.Step.TheVariants as step
 use Rattle.store_promise.specs.declared.transcript.Committed.{Committed}
-use Rattle.store_promise.specs.Progress.{At, Called, Job, Planning, Progress, Waiting, going_on, progressed}
+use Rattle.store_promise.specs.Progress.{At, Called, Job, Progress, Waiting, going_on, progressed}
 use Rattle.store_promise.specs.Schedule.{IsStepOf, IsStepOfCalled, IsStepOfRead, IsStepOfWork, IsTaken, Schedule}
 use Rattle.store_promise.specs.Schedule.{Setting, Told, told_after}
 use Rattle.store_promise.specs.Transcript.{Transcript}
 use Rattle.run_law.specs.Ledger.{AreNumbered, number_out}
-use Rattle.run_law.specs.Noting.{IsCommitOf, IsEntryOf, Noted, listed, told_now, with_noted}
+use Rattle.run_law.specs.Noting.{IsCommitOf, IsEntryOf, Noted, told_now, with_noted}
 use Rattle.run_law.proofs.EntriesCommits.{commit_of}
 use Rattle.run_law.proofs.EntriesGrow.{EntryComes, entry_comes, number_of}
 use Rattle.run_law.proofs.ToldMoves.{IsOwn, Moves, called, goes, may_be, moves, own_move, stays}

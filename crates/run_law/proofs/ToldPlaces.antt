@@ -8,8 +8,8 @@ use Rattle.store_promise.specs.declared.events.Event.{Event}
 use Rattle.store_promise.specs.declared.events.Step.{Step}
 use Rattle.store_promise.specs.declared.events.Step.TheVariants as step
 use Rattle.store_promise.specs.LogTold.{CallTold, LogTold, idle, out, was_made, log_moved, with_inst_behind}
-use Rattle.store_promise.specs.LogTold.{with_inst_done, with_inst_given, with_inst_taken, with_log_done}
-use Rattle.store_promise.specs.LogTold.{with_log_given, with_log_taken}
+use Rattle.store_promise.specs.LogTold.{with_inst_done, with_inst_given, with_log_done}
+use Rattle.store_promise.specs.LogTold.{with_log_given}
 use Rattle.store_promise.specs.Schedule.{Schedule, Told, at_first, told_after, told_along, told_before}
 use Rattle.store_promise.specs.Transcript.{Transcript}
 use Rattle.store_promise.specs.declared.transcript.Committed.{Committed}

@@ -1,5 +1,5 @@
 -- Each event so far was taken, and so is the next.
-use Rattle.std.proofs.Common.{◌≡◌, ◌⊎◌, inl, inr, ℕ, suc, ◌≤◌, ap, sym, ◌∙◌, subst, arith, length, slice_get, Option}
+use Rattle.std.proofs.Common.{◌≡◌, ◌⊎◌, inl, inr, ℕ, ◌≤◌, ap, sym, ◌∙◌, subst, arith, length, slice_get, Option}
 use Rattle.std.proofs.Common.{Some}
 use Rattle.std.proofs.lemmas.Option.{slice_get_within}
 use Rattle.disk.specs.Crash.{Image}
