@@ -182,7 +182,7 @@ module _ (o : Setting) (workers : ℕ) (events : Schedule) (t : Transcript) (now
       let few : index ≤ length t.steps = omega (arith, less) in
       let so : index + 1 ≤ length t.steps = omega (arith, less) in
       let found = answers.whole index worker e is_e less own (ap is_idle (sym (earlier worker index few)) ∙ busy)
-          (ap is_idle (sym (earlier worker (index + 1) so)) ∙ idle) in
+      (ap is_idle (sym (earlier worker (index + 1) so)) ∙ idle) in
       (found.0, Contains-append_left t.answers (listed noted.answer) found.0 found.1, found.2)
 
   whole_now : (index worker : ℕ) (e : Event) → slice_get events index ≡ Some e → index ≡ length t.steps
