@@ -1,3 +1,13 @@
+pub mod ToldGrows
+pub mod ToldPlaces
+pub mod ToldTaken
+pub mod ToldMoves
+pub mod ToldStages
+pub mod ToldNumbers
+pub mod EntriesCommits
+pub mod EntriesGrow
+pub mod AnswersPlaces
+pub mod AnswersGrow
 pub mod Before
 pub mod Settled
 pub mod Stops

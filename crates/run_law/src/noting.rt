@@ -19,4 +19,6 @@ pub fn what_is_told_grows()
     ensures told { (b : Beginning) (t : Transcript) (event : Event) (noted : Noted)
         → slice_get b.events (length t.steps) ≡ Some event
         → told_now b.events (with_noted t noted) ≡ told_after (told_now b.events t) event noted.made }
-{}
+{
+    store_promise::what_was_made_stays();
+}
