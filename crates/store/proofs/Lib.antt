@@ -1,5 +1,6 @@
 pub mod AfterCommit
 pub mod AtHand
+pub mod AtWorkTaken
 pub mod CallsLeft
 pub mod ComingHome
 pub mod Driven

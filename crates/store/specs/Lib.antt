@@ -1,3 +1,4 @@
+pub mod AtWork
 pub mod BringingHome
 pub mod Counts
 pub mod Driving

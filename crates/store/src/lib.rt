@@ -2,6 +2,7 @@
 //! promises is `store_promise`'s.
 #![tactic(auto)]
 
+mod at_work;
 mod formatting;
 mod one_call;
 mod opened;
