@@ -1,7 +1,7 @@
 pub mod AfterCommit
 pub mod AskedAlone
 pub mod AtHand
-pub mod AtWorkTaken
+pub mod AtWorkFetched
 pub mod CallsLeft
 pub mod ComingHome
 pub mod Driven
