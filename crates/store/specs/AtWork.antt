@@ -1,10 +1,17 @@
--- What the transaction of a worker that is alone has of its core besides what it has read: the blocks that were
--- fetched for it.
-use Rattle.std.specs.Prelude.{◌≡◌, ℕ, Bool, true, Some, is_some, List, All}
+-- What the steps of a worker that is alone rest on: the blocks that were fetched for its transaction, and those that
+-- stand for the files after each place.
+use Rattle.std.specs.Prelude.{◌≡◌, ℕ, ◌+◌, ◌≤◌, Bool, true, Some, is_some, List, All, length}
+use Rattle.disk.specs.Crash.{Image}
 use Rattle.disk.specs.Device.{Content}
 use Rattle.objects.specs.declared.addr.Addr.{Addr}
+use Rattle.wal_law.specs.Log.{installed_place}
 use Rattle.txn_law.specs.Core.{CoreState}
 use Rattle.txn_law.specs.Leaves.{in_memory, taken_by}
+use Rattle.store_promise.specs.OpenSince.{blocks_after}
+use Rattle.store_promise.specs.Running.{StoreSide}
+use Rattle.store_promise.specs.Schedule.{Setting}
+
+-- ---- what was fetched
 
 -- the transaction has taken the address
 abbrev pub has_taken : CoreState → ℕ → Addr → Bool
@@ -19,3 +26,21 @@ pub record IsLoadedFor (core : CoreState) (tx : ℕ) (addr : Addr) : Type 0 wher
 -- so it is of each of these
 abbrev pub AreLoadedFor : CoreState → ℕ → List Addr → Type 0
 AreLoadedFor core tx addrs = All (IsLoadedFor core tx) addrs
+
+-- ---- places
+
+-- The blocks of each place that isn't home are those after so many of the commits that are kept.
+abbrev pub HasBlocksOfPlaces : Setting → Image → CoreState → Type 0
+HasBlocksOfPlaces o base core = (count : ℕ) → count ≤ length core.records
+    → o.blocks (installed_place core.log + count) ≡ blocks_after base core count
+
+-- the setting, with the blocks of a place more, that are these
+pub record HasPlaceMore (o : Setting) (places : ℕ) (blocks : Image) (more : Setting) : Type 0 where
+  pub geometry : more.geometry ≡ o.geometry
+  pub position : more.position ≡ o.position
+  pub earlier : (place : ℕ) → place ≤ places → more.blocks place ≡ o.blocks place
+  pub next : more.blocks (places + 1) ≡ blocks
+
+-- the run with this core
+abbrev pub with_core : StoreSide → CoreState → StoreSide
+with_core side core = record side { core = core }
