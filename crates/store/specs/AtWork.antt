@@ -1,15 +1,18 @@
 -- What the steps of a worker that is alone rest on: the blocks that were fetched for its transaction, and those that
 -- stand for the files after each place.
-use Rattle.std.specs.Prelude.{◌≡◌, ℕ, ◌+◌, ◌≤◌, Bool, true, Some, is_some, List, All, length}
+use Rattle.std.specs.Prelude.{◌≡◌, ℕ, ◌+◌, ◌≤◌, Bool, true, Some, is_some, List, All, length, map}
 use Rattle.disk.specs.Crash.{Image}
 use Rattle.disk.specs.Device.{Content}
 use Rattle.objects.specs.declared.addr.Addr.{Addr}
+use Rattle.objects.specs.declared.mode.Mode.TheVariants.{Exclusive}
 use Rattle.wal_law.specs.Log.{installed_place}
 use Rattle.txn_law.specs.Core.{CoreState}
 use Rattle.txn_law.specs.Leaves.{in_memory, taken_by}
 use Rattle.store_promise.specs.OpenSince.{blocks_after}
+use Rattle.store_promise.specs.Progress.{Begun, Taken}
 use Rattle.store_promise.specs.Running.{StoreSide}
 use Rattle.store_promise.specs.Schedule.{Setting}
+use Rattle.store.specs.Seen.{Seen}
 
 -- ---- what was fetched
 
@@ -44,3 +47,15 @@ pub record HasPlaceMore (o : Setting) (places : ℕ) (blocks : Image) (more : Se
 -- the run with this core
 abbrev pub with_core : StoreSide → CoreState → StoreSide
 with_core side core = record side { core = core }
+
+-- ---- what is told
+
+-- an object that a plan asked for: it takes each for its call alone
+abbrev pub alone : Addr → Taken
+alone addr = record { addr = addr; mode = Exclusive }
+
+-- What is told of a transaction is what it has read and claimed, and what was fetched for it.
+pub record TellsOfTaken (begun : Begun) (seen : Seen) (fetched : List Addr) : Type 0 where
+  pub held_is : begun.held ≡ map (λ object. alone object.addr) seen.objects
+  pub fetched_is : begun.fetched ≡ map alone fetched
+  pub claimed_is : begun.claimed ≡ seen.claims
