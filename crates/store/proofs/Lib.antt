@@ -9,6 +9,7 @@ pub mod ComingHome
 pub mod Driven
 pub mod FormatStops
 pub mod Formatted
+pub mod HowFar
 pub mod Later
 pub mod LogMoves
 pub mod LogSteps
@@ -21,3 +22,4 @@ pub mod Refusing
 pub mod SameNumbers
 pub mod StaysAlone
 pub mod StepKinds
+pub mod WorkCases
