@@ -4,6 +4,7 @@ pub mod AtHand
 pub mod AtWorkFetched
 pub mod AtWorkMay
 pub mod AtWorkRuns
+pub mod AtWorkStays
 pub mod CallsLeft
 pub mod ComingHome
 pub mod Driven

@@ -1,6 +1,6 @@
 //! Laws on a worker that is alone in its store: what was fetched for its transaction stays until it ends, and each of
 //! its steps is one that may be made, and leaves the run going.
-ghost use Rattle.std.specs.Prelude.{◌≡◌, ◌≤◌, ◌+◌, ◌++◌, ◌∷◌, ℕ, [], List, Some, length, false, true};
+ghost use Rattle.std.specs.Prelude.{◌≡◌, ◌≤◌, ◌+◌, ◌++◌, ◌∷◌, ℕ, [], List, Option, Some, length, false, true};
 ghost use Rattle.disk.specs.Crash.{Image};
 ghost use Rattle.disk.specs.Device.{Device};
 ghost use Rattle.model.specs.After.{Entry};
@@ -14,23 +14,21 @@ ghost use Rattle.txn_law.specs.Core.{CoreState};
 ghost use Rattle.txn_law.specs.Fetch.{Fetch};
 ghost use Rattle.txn_law.specs.Group.{blocks_of};
 ghost use Rattle.txn_law.specs.Leaves.{Leaves, is_fetching, taken_by, without_fetch};
+ghost use Rattle.txn_law.specs.Tidy.{AreTidy};
 ghost use Rattle.txn_law.specs.Wishes.{IsFetched, IsHeld};
 ghost use Rattle.wal_law.specs.Calls.{Pending};
 ghost use Rattle.wal_law.specs.Log.{IsLawful, added_blocks};
 ghost use Rattle.store_promise.specs.LogTold.{with_commit};
 ghost use Rattle.store_promise.specs.OpenSince.{IsOpenSince, IsSoundCore, StandsBeside, TellsOf, file_blocks};
 ghost use Rattle.store_promise.specs.declared.events.Step.{Step};
-ghost use Rattle.store_promise.specs.Progress.{Begun};
 ghost use Rattle.store_promise.specs.Running.{IsRunningOver, IsTold, StoreSide};
 ghost use Rattle.store_promise.specs.Schedule.{IsStepByPlan, Setting, Told};
 ghost use Rattle.store_promise.specs.ToldOf.{log_told};
-ghost use Rattle.store.specs.Alone.{HasOfCall, is_kept_off};
-ghost use Rattle.store.specs.AtWork.{AreLoadedFor, HasBlocksOfPlaces, HasPlaceMore, TellsOfTaken, has_taken};
+ghost use Rattle.store.specs.AtWork.{AreLoadedFor, HasBlocksOfPlaces, HasPlaceMore, IsCoreAtWork, has_taken};
 ghost use Rattle.store.specs.AtWork.{with_core};
-ghost use Rattle.store.specs.Seen.{Seen, seen_in};
-ghost use Rattle.store.specs.WorkerSteps.{GoesByPlan, Side, side, there_given};
-ghost use Rattle.store.specs.declared.workers.parts.Job.{Job};
-ghost use Rattle.store.specs.declared.workers.parts.State.{State};
+ghost use Rattle.store.specs.Stages.{IsWorkerAt};
+ghost use Rattle.store.specs.Worker.{GoesWith};
+ghost use Rattle.store.specs.WorkerSteps.{GoesOn, KeepsReadsOf, Side, there_given};
 
 // What was fetched for a transaction stays, once it holds an object more, or has the block of one fetched, and so it
 // does once such a block was read, which is there then, too.
@@ -84,17 +82,11 @@ pub(crate) fn a_commit_leaves_the_run_going()
     store_promise::a_commit_is_told();
 }
 
-// A step by a plan is one that may be made, where nothing kept it off.
-pub(crate) fn a_step_by_a_plan_may_be_made()
-    ensures { (o : Setting) (told : Told) (number : ℕ) (base : Image) (store : StoreSide) (fetches : List Fetch)
-        (boot : ℕ) (first last : Tree) (entries : List Entry)
-        → IsRunningOver o base store fetches boot first entries last → IsTold o told store
-        → o.geometry.inodes ≡ store.core.inodes → o.blocks told.log.places ≡ file_blocks base store.core
-        → (worker : State) (new : Side) (made : Step) (job : Job) (tx : ℕ) (seen : Seen) (fetched : List Addr)
-        (begun : Begun) → worker.work.job ≡ Some job → worker.begun.tx ≡ Some tx
-        → seen_in worker.work.snap ≡ Some seen → HasOfCall job tx store.core seen
-        → AreLoadedFor store.core tx fetched → TellsOfTaken begun seen fetched → is_kept_off (Some made) ≡ false
-        → GoesByPlan (side worker store.core) made new → IsStepByPlan o told number job.call begun made }
-{
-    layout::counts_make_one_geometry();
-}
+// A core stays at work for its worker by each step: the step's own core stays alone, and what was fetched stays in
+// memory while the worker goes by its plans.
+pub(crate) fn a_core_at_work_stays_so()
+    ensures { (old new : Side) (made : Option Step) (boot : ℕ) (entries : List Entry)
+        → IsCoreAtWork old.worker old.core → IsWorkerAt boot entries old.worker → AreTidy old.core
+        → KeepsReadsOf old new → GoesWith new.worker new.core → GoesOn old.worker.phase old made new
+        → IsCoreAtWork new.worker new.core }
+{}
