@@ -5,6 +5,7 @@ pub mod ComingHome
 pub mod Driven
 pub mod FormatStops
 pub mod Formatted
+pub mod HowFar
 pub mod Later
 pub mod LogMoves
 pub mod LogSteps
@@ -14,3 +15,4 @@ pub mod OutCalls
 pub mod Raising
 pub mod Refusing
 pub mod SameNumbers
+pub mod WorkCases

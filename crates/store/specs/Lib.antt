@@ -1,3 +1,4 @@
+pub mod Asked
 pub mod BringingHome
 pub mod Counts
 pub mod Driving
@@ -8,7 +9,9 @@ pub mod Phases
 pub mod Running
 pub mod Seen
 pub mod Settling
+pub mod Stages
 pub mod Telling
+pub mod WorkTells
 pub mod Worker
 pub mod WorkerAnswers
 pub mod WorkerReads
