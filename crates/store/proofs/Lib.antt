@@ -15,4 +15,5 @@ pub mod OutCalls
 pub mod Raising
 pub mod Refusing
 pub mod SameNumbers
+pub mod StepTells
 pub mod WorkCases
