@@ -3,6 +3,7 @@ pub mod AtHand
 pub mod CallsLeft
 pub mod ComingHome
 pub mod Driven
+pub mod EventTells
 pub mod FormatStops
 pub mod Formatted
 pub mod HowFar
