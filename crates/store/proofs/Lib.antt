@@ -8,6 +8,7 @@ pub mod AtWorkStays
 pub mod CallsLeft
 pub mod ComingHome
 pub mod Driven
+pub mod EventTells
 pub mod FormatStops
 pub mod Formatted
 pub mod HowFar
@@ -23,4 +24,5 @@ pub mod Refusing
 pub mod SameNumbers
 pub mod StaysAlone
 pub mod StepKinds
+pub mod StepTells
 pub mod WorkCases
