@@ -1,4 +1,5 @@
 pub mod AfterCommit
+pub mod AskedAlone
 pub mod AtHand
 pub mod CallsLeft
 pub mod ComingHome
@@ -8,9 +9,11 @@ pub mod Formatted
 pub mod Later
 pub mod LogMoves
 pub mod LogSteps
+pub mod LoneWorker
 pub mod Made
 pub mod Opens
 pub mod OutCalls
 pub mod Raising
 pub mod Refusing
 pub mod SameNumbers
+pub mod StepKinds

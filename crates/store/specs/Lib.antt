@@ -1,3 +1,4 @@
+pub mod Alone
 pub mod BringingHome
 pub mod Counts
 pub mod Driving

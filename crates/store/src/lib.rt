@@ -2,6 +2,7 @@
 //! promises is `store_promise`'s.
 #![tactic(auto)]
 
+mod alone;
 mod formatting;
 mod one_call;
 mod opened;
