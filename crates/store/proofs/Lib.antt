@@ -16,4 +16,5 @@ pub mod OutCalls
 pub mod Raising
 pub mod Refusing
 pub mod SameNumbers
+pub mod StaysAlone
 pub mod StepKinds

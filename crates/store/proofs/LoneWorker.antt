@@ -140,7 +140,7 @@ module _ (core : CoreState) (job : Job) (tx : ℕ) (snap : Snap) (tidy : AreTidy
 
 -- ---- any step
 
-no_fetch : (io : Option Fetch) (core : CoreState) → is_some io ≡ false → FetchesOnly io core → FetchesOnly None core
+pub no_fetch : (io : Option Fetch) (core : CoreState) → is_some io ≡ false → FetchesOnly io core → FetchesOnly None core
 no_fetch None core none only = only
 no_fetch (Some io) core some only = absurd (true≢false some)
 

@@ -85,3 +85,9 @@ is_kept_off _ = false
 abbrev pub is_full : Option Step → Bool
 is_full (Some (step.Commit added committing.Full)) = true
 is_full _ = false
+
+-- after a step no fetch is pending but its own, and where no room was wanting, what is taken while it plans is of its
+-- call
+pub record StaysAlone (made : Option Step) (worker : State) (core : CoreState) : Type 0 where
+  pub fetches : FetchesOnly worker.begun.io core
+  pub plans : is_full made ≡ false → PlansAlone worker.phase worker core
