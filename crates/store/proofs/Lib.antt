@@ -3,10 +3,10 @@ pub mod AskedAlone
 pub mod AtHand
 pub mod AtWorkFetched
 pub mod AtWorkMay
-pub mod AtWorkRuns
 pub mod AtWorkStays
 pub mod CallsLeft
 pub mod ComingHome
+pub mod CommitTold
 pub mod Driven
 pub mod EventTells
 pub mod FormatStops

@@ -44,24 +44,6 @@ pub record IsLoadedFor (core : CoreState) (tx : ℕ) (addr : Addr) : Type 0 wher
 abbrev pub AreLoadedFor : CoreState → ℕ → List Addr → Type 0
 AreLoadedFor core tx addrs = All (IsLoadedFor core tx) addrs
 
--- ---- places
-
--- The blocks of each place that isn't home are those after so many of the commits that are kept.
-abbrev pub HasBlocksOfPlaces : Setting → Image → CoreState → Type 0
-HasBlocksOfPlaces o base core = (count : ℕ) → count ≤ length core.records
-    → o.blocks (installed_place core.log + count) ≡ blocks_after base core count
-
--- the setting, with the blocks of a place more, that are these
-pub record HasPlaceMore (o : Setting) (places : ℕ) (blocks : Image) (more : Setting) : Type 0 where
-  pub geometry : more.geometry ≡ o.geometry
-  pub position : more.position ≡ o.position
-  pub earlier : (place : ℕ) → place ≤ places → more.blocks place ≡ o.blocks place
-  pub next : more.blocks (places + 1) ≡ blocks
-
--- the run with this core
-abbrev pub with_core : StoreSide → CoreState → StoreSide
-with_core side core = record side { core = core }
-
 -- ---- a worker at work
 
 -- its transaction has taken the object whose block is fetched, and the blocks that were fetched before are in memory

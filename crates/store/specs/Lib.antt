@@ -5,6 +5,7 @@ pub mod BringingHome
 pub mod Counts
 pub mod Driving
 pub mod Formatting
+pub mod Going
 pub mod LogSide
 pub mod Opening
 pub mod Phases
