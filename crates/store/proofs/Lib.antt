@@ -11,6 +11,7 @@ pub mod Driven
 pub mod EventTells
 pub mod FormatStops
 pub mod Formatted
+pub mod GoingOn
 pub mod HowFar
 pub mod Later
 pub mod LogMoves

@@ -18,4 +18,5 @@ pub(super) fn a_log_event_leaves_a_run_going()
         → IsGoing b old worker before → IsGoing b new worker after }
 {
     run_law::a_run_goes_on();
+    run_law::what_is_told_grows();
 }
