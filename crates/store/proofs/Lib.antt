@@ -5,6 +5,7 @@ pub mod AtWorkFetched
 pub mod AtWorkMay
 pub mod AtWorkRuns
 pub mod AtWorkStays
+pub mod AtWorkTold
 pub mod CallsLeft
 pub mod ComingHome
 pub mod Driven

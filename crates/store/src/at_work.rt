@@ -20,15 +20,17 @@ ghost use Rattle.wal_law.specs.Calls.{Pending};
 ghost use Rattle.wal_law.specs.Log.{IsLawful, added_blocks};
 ghost use Rattle.store_promise.specs.LogTold.{with_commit};
 ghost use Rattle.store_promise.specs.OpenSince.{IsOpenSince, IsSoundCore, StandsBeside, TellsOf, file_blocks};
+ghost use Rattle.store_promise.specs.declared.events.Event.TheVariants as event;
 ghost use Rattle.store_promise.specs.declared.events.Step.{Step};
 ghost use Rattle.store_promise.specs.Running.{IsRunningOver, IsTold, StoreSide};
-ghost use Rattle.store_promise.specs.Schedule.{IsStepByPlan, Setting, Told};
+ghost use Rattle.store_promise.specs.Schedule.{IsStepOfWork, Setting, Told, told_after};
 ghost use Rattle.store_promise.specs.ToldOf.{log_told};
 ghost use Rattle.store.specs.AtWork.{AreLoadedFor, HasBlocksOfPlaces, HasPlaceMore, IsCoreAtWork, has_taken};
 ghost use Rattle.store.specs.AtWork.{with_core};
-ghost use Rattle.store.specs.Stages.{IsWorkerAt};
+ghost use Rattle.store.specs.Stages.{IsWorkerAt, progress_of};
 ghost use Rattle.store.specs.Worker.{GoesWith};
-ghost use Rattle.store.specs.WorkerSteps.{GoesOn, KeepsReadsOf, Side, there_given};
+ghost use Rattle.store.specs.WorkerSteps.{GoesOn, KeepsReadsOf, Side, side, there_given};
+ghost use Rattle.store.specs.declared.workers.parts.State.{State};
 
 // What was fetched for a transaction stays, once it holds an object more, or has the block of one fetched, and so it
 // does once such a block was read, which is there then, too.
@@ -89,4 +91,26 @@ pub(crate) fn a_core_at_work_stays_so()
         → IsCoreAtWork old.worker old.core → IsWorkerAt boot entries old.worker → AreTidy old.core
         → KeepsReadsOf old new → GoesWith new.worker new.core → GoesOn old.worker.phase old made new
         → IsCoreAtWork new.worker new.core }
+{}
+
+// Each step is one that a worker that is so far may make.
+pub(crate) fn a_workers_step_may_be_made()
+    ensures { (o : Setting) (told : Told) (number : ℕ) (base : Image) (store : StoreSide) (fetches : List Fetch)
+        (boot : ℕ) (first last : Tree) (entries : List Entry)
+        → IsRunningOver o base store fetches boot first entries last → IsTold o told store
+        → o.geometry.inodes ≡ store.core.inodes → o.blocks told.log.places ≡ file_blocks base store.core
+        → (worker : State) (new : Side) (made : Option Step) → GoesOn worker.phase (side worker store.core) made new
+        → IsCoreAtWork worker store.core → IsWorkerAt boot entries worker
+        → IsStepOfWork o told number (progress_of worker) made }
+{
+    layout::counts_make_one_geometry();
+}
+
+// What is told of the log and of the count of transactions after a step is what the store then has.
+pub(crate) fn a_workers_step_is_told()
+    ensures { (o : Setting) (told : Told) (number : ℕ) (store : StoreSide) → IsTold o told store
+        → (worker : State) (new : Side) → IsLawful store.core.log → IsLawful new.core.log
+        → o.position ≤ store.core.log.start + length store.core.log.changes
+        → (made : Option Step) → GoesOn worker.phase (side worker store.core) made new
+        → IsTold o (told_after told (event.Work number) made) (with_core store new.core) }
 {}
