@@ -2,6 +2,7 @@ pub mod AfterCommit
 pub mod AskedAlone
 pub mod AtHand
 pub mod AtWorkFetched
+pub mod AtWorkGoes
 pub mod AtWorkMay
 pub mod AtWorkRuns
 pub mod AtWorkStays

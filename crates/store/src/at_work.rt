@@ -25,11 +25,11 @@ ghost use Rattle.store_promise.specs.declared.events.Step.{Step};
 ghost use Rattle.store_promise.specs.Running.{IsRunningOver, IsTold, StoreSide};
 ghost use Rattle.store_promise.specs.Schedule.{IsStepOfWork, Setting, Told, told_after};
 ghost use Rattle.store_promise.specs.ToldOf.{log_told};
-ghost use Rattle.store.specs.AtWork.{AreLoadedFor, HasBlocksOfPlaces, HasPlaceMore, IsCoreAtWork, has_taken};
-ghost use Rattle.store.specs.AtWork.{with_core};
+ghost use Rattle.store.specs.AtWork.{AreLoadedFor, GoesOnWith, HasBlocksOfPlaces, HasPlaceMore, IsCoreAtWork};
+ghost use Rattle.store.specs.AtWork.{fetches_of, has_committed, has_taken, with_core};
 ghost use Rattle.store.specs.Stages.{IsWorkerAt, progress_of};
 ghost use Rattle.store.specs.Worker.{GoesWith};
-ghost use Rattle.store.specs.WorkerSteps.{GoesOn, KeepsReadsOf, Side, side, there_given};
+ghost use Rattle.store.specs.WorkerSteps.{GoesOn, KeepsHomeOf, KeepsReadsOf, Side, side, there_given};
 ghost use Rattle.store.specs.declared.workers.parts.State.{State};
 
 // What was fetched for a transaction stays, once it holds an object more, or has the block of one fetched, and so it
@@ -66,13 +66,13 @@ pub(crate) fn a_commit_leaves_the_run_going()
         → position ≤ old.log.start + length old.log.changes
         → log_told position new.log logging installing ≡ with_commit (log_told position old.log logging installing)
         (added_blocks old.log (blocks_of plan.written)) }
-    ensures runs { (o more : Setting) (base : Image) (side : StoreSide) (new : CoreState) (fetches : List Fetch)
+    ensures runs { (o : Setting) (base : Image) (side : StoreSide) (new : CoreState) (fetches : List Fetch)
         (boot : ℕ) (first last : Tree) (entries : List Entry) (tx place : ℕ) (plan : Planned) (entry : Entry)
         → IsRunningOver o base side fetches boot first entries last → TakesPlace side.core tx plan place new
         → IsSoundCore base new → TellsOf boot plan entry
-        → HasPlaceMore o (length entries) (file_blocks base new) more
         → (next : Tree) × step last entry.ctx entry.call entry.reply next
-        × IsRunningOver more base (with_core side new) [] boot first (entries ++ entry ∷ []) next }
+        × ((more : Setting) → HasPlaceMore o (length entries) (file_blocks base new) more
+        → IsRunningOver more base (with_core side new) [] boot first (entries ++ entry ∷ []) next) }
     ensures places { (o more : Setting) (base : Image) (d : Device) (old new : CoreState)
         (logging installing : Pending) (boot : ℕ) (first last : Tree) (entries : List Entry) (tx place : ℕ)
         (plan : Planned) → IsOpenSince base d old logging installing boot first entries last
@@ -114,3 +114,24 @@ pub(crate) fn a_workers_step_is_told()
         → (made : Option Step) → GoesOn worker.phase (side worker store.core) made new
         → IsTold o (told_after told (event.Work number) made) (with_core store new.core) }
 {}
+
+// Each step leaves the run going: one that took no place with the entries that there were, and one that took a place
+// with its entry, a step of the sequential server from the files as they were.
+pub(crate) fn a_worker_leaves_the_run_going()
+    ensures beside { (o : Setting) (base : Image) (store : StoreSide) (worker : State) (new : Side) (boot : ℕ)
+        (first last : Tree) (entries : List Entry) (made : Option Step)
+        → IsRunningOver o base store (fetches_of worker) boot first entries last
+        → GoesOn worker.phase (side worker store.core) made new → KeepsHomeOf (side worker store.core) new
+        → IsLawful new.core.log → AreTidy new.core → has_committed made ≡ false
+        → IsRunningOver o base (with_core store new.core) (fetches_of new.worker) boot first entries last
+        × StandsBeside store.core new.core }
+    ensures committed { (o : Setting) (base : Image) (store : StoreSide) (worker : State) (new : Side)
+        (boot number : ℕ) (first last : Tree) (entries : List Entry) (made : Option Step)
+        → IsRunningOver o base store (fetches_of worker) boot first entries last
+        → GoesOn worker.phase (side worker store.core) made new → KeepsHomeOf (side worker store.core) new
+        → IsLawful new.core.log → AreTidy new.core → IsWorkerAt boot entries worker → has_committed made ≡ true
+        → GoesOnWith o base store new boot number first entries last (side worker store.core) }
+{
+    a_transaction_leaves_the_run_going();
+    a_commit_leaves_the_run_going();
+}
