@@ -187,13 +187,13 @@ module _ (broken : Bool) (io : Fetch) (job : Job) (tx : Option ℕ) (seen : Opti
 
 -- ---- by cases of the step
 
-abbrev without_reply : State → State
+abbrev pub without_reply : State → State
 without_reply state = record state { work = record state.work { reply = None } }
 
-abbrev without_broken_reply : State → State
+abbrev pub without_broken_reply : State → State
 without_broken_reply state = record state { work = record state.work { broken_reply = None } }
 
-some_of : {X : Type 0} {P : X → Type 0} (found : Option X) → IsSomeAnd found P → (x : X) × (found ≡ Some x) × P x
+pub some_of : {X : Type 0} {P : X → Type 0} (found : Option X) → IsSomeAnd found P → (x : X) × (found ≡ Some x) × P x
 some_of None is = absurd is
 some_of (Some x) is = (x, refl, is)
 

@@ -25,4 +25,5 @@ pub mod Refusing
 pub mod SameNumbers
 pub mod StaysAlone
 pub mod StepKinds
+pub mod StepTells
 pub mod WorkCases
