@@ -10,6 +10,7 @@ pub mod AtWorkTold
 pub mod CallsLeft
 pub mod ComingHome
 pub mod Driven
+pub mod EventTells
 pub mod FormatStops
 pub mod Formatted
 pub mod HowFar
