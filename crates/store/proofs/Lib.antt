@@ -19,6 +19,7 @@ pub mod LogMoves
 pub mod LogSteps
 pub mod LoneWorker
 pub mod Made
+pub mod Noted
 pub mod Opens
 pub mod OutCalls
 pub mod Raising
