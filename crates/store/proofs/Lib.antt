@@ -1,6 +1,7 @@
 pub mod AfterCommit
 pub mod AskedAlone
 pub mod AtHand
+pub mod AtWorkEvents
 pub mod AtWorkFetched
 pub mod AtWorkGoes
 pub mod AtWorkMay
