@@ -1,12 +1,15 @@
 pub mod AfterCommit
 pub mod AskedAlone
 pub mod AtHand
+pub mod AtWorkEvents
 pub mod AtWorkFetched
+pub mod AtWorkGoes
 pub mod AtWorkMay
 pub mod AtWorkStays
+pub mod AtWorkTold
 pub mod CallsLeft
 pub mod ComingHome
-pub mod CommitTold
+pub mod AtWorkRuns
 pub mod Driven
 pub mod EventTells
 pub mod FormatStops
@@ -18,6 +21,7 @@ pub mod LogMoves
 pub mod LogSteps
 pub mod LoneWorker
 pub mod Made
+pub mod Noted
 pub mod Opens
 pub mod OutCalls
 pub mod Raising

@@ -7,6 +7,7 @@ pub mod Driving
 pub mod Formatting
 pub mod Going
 pub mod LogSide
+pub mod Noting
 pub mod Opening
 pub mod Phases
 pub mod Running
