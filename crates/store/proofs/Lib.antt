@@ -11,6 +11,7 @@ pub mod Later
 pub mod LogMoves
 pub mod LogSteps
 pub mod Made
+pub mod Noted
 pub mod Opens
 pub mod OutCalls
 pub mod Raising

@@ -4,6 +4,7 @@ pub mod Counts
 pub mod Driving
 pub mod Formatting
 pub mod LogSide
+pub mod Noting
 pub mod Opening
 pub mod Phases
 pub mod Running

@@ -6,15 +6,18 @@ ghost use Rattle.nfs_types.specs.declared.ctx.Ctx.{Ctx};
 ghost use Rattle.model.specs.After.{Entry};
 ghost use Rattle.model.specs.Sound.{SoundTime};
 ghost use Rattle.txn.specs.Fetch.{Fetch};
+ghost use Rattle.store.specs.Noting.{NotesWork};
 ghost use Rattle.store.specs.Stages.{IsWorkerAt};
-ghost use Rattle.store.specs.Telling.{TakesCall};
+ghost use Rattle.store.specs.Telling.{HasWorked, TakesCall};
 ghost use Rattle.store.specs.WorkTells.{TellsCall, TellsRead, TellsStep};
 ghost use Rattle.store.specs.WorkerReads.{with_read};
 ghost use Rattle.store.specs.WorkerSteps.{GoesOn, Side};
 ghost use Rattle.store.specs.declared.workers.parts.Phase.TheVariants.{Reading};
 ghost use Rattle.store.specs.declared.workers.parts.State.{State};
+ghost use Rattle.store_promise.specs.Transcript.{entries_of, transcript_of};
 ghost use Rattle.store_promise.specs.declared.events.Step.{Step};
 ghost use Rattle.store_promise.specs.declared.events.Step.TheVariants as step;
+ghost use Rattle.store_promise.specs.declared.transcript.Run.{Run};
 
 /// How far a worker is after a step of its own, its entry and its answer are what the promise tells of the step, and
 /// once they are told the worker stands between the events again.
@@ -22,6 +25,14 @@ pub(crate) fn a_worker_tells_its_steps()
     ensures { (boot number : ℕ) (entries : List Entry) (old new : Side) (made : Option Step)
         → IsWorkerAt boot entries old.worker → old.core.log.places ≡ length entries
         → GoesOn old.worker.phase old made new → TellsStep boot number entries old made new }
+{}
+
+/// A run notes just what its worker tells, where its history has what was committed so far.
+pub(crate) fn a_run_notes_its_workers_steps()
+    ensures { (boot clock : ℕ) (old new : Side) (made : Option Step) (before after : Run)
+        → IsWorkerAt boot (entries_of (transcript_of before)) old.worker
+        → old.core.log.places ≡ length before.history.items → HasWorked 0 clock old made new before after
+        → NotesWork boot clock old made new before after }
 {}
 
 /// A worker takes a call where it has none, and then has just that call.
