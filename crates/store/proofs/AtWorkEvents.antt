@@ -125,6 +125,8 @@ module _ (o : Setting) (base : Image) (store : StoreSide) (after : Device) (ok :
     since = since;
     position = run.position;
     blocks = run.blocks;
+    inodes = run.inodes;
     stands = run.stands;
     fetched = fetched ok refl;
+    placed = run.placed;
   }

@@ -9,7 +9,7 @@ pub mod AtWorkStays
 pub mod AtWorkTold
 pub mod CallsLeft
 pub mod ComingHome
-pub mod AtWorkRuns
+pub mod CommitTold
 pub mod Driven
 pub mod EventTells
 pub mod FormatStops

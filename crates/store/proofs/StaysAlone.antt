@@ -7,7 +7,6 @@ use Rattle.std.proofs.lemmas.Bool.{eqb-true}
 use Rattle.std.proofs.lemmas.List.Elements.{All-contains, All-nil, All-push, All-weaker}
 use Rattle.disk.specs.declared.block.BlockNo.{BlockNo}
 use Rattle.objects.specs.declared.addr.Addr.{Addr}
-use Rattle.objects.specs.declared.mode.Mode.{Mode}
 use Rattle.objects.specs.declared.mode.Mode.TheVariants as modes
 use Rattle.model.specs.Calls.{is_answered_stable}
 use Rattle.nfs_types.specs.declared.reply.Reply.{Reply}
@@ -20,10 +19,10 @@ use Rattle.procs.specs.declared.next.Plan.{Plan}
 use Rattle.procs.specs.declared.next.Plan.TheVariants as plan
 use Rattle.procs.specs.declared.snap.Snap.{Snap}
 use Rattle.txn.specs.Commit.{IsReadBy}
-use Rattle.txn.specs.Core.{CoreState, IsOut}
+use Rattle.txn.specs.Core.{CoreState}
 use Rattle.txn.specs.CoreWindow.{KeepsReads}
 use Rattle.txn.specs.Fetch.{Fetch}
-use Rattle.txn.specs.Leaves.{is_fetching, taken_by, with_taken}
+use Rattle.txn.specs.Leaves.{taken_by, with_taken}
 use Rattle.txn.specs.Object.{ObjectBytes}
 use Rattle.txn.specs.Out.{listed}
 use Rattle.txn.specs.Outcomes.{IsCommit, IsWanted}
@@ -47,7 +46,7 @@ use Rattle.store_promise.specs.declared.events.Cause.TheVariants as cause
 use Rattle.store_promise.specs.declared.events.Step.{Step}
 use Rattle.store_promise.specs.declared.events.Step.TheVariants as step
 use Rattle.store.proofs.LoneWorker.{has_of, has_so, no_fetch, seen_of}
-use Rattle.store.proofs.StepKinds.{Beginning, Ending, IsTold, beginning, ending}
+use Rattle.store.proofs.StepKinds.{Beginning, IsTold, beginning, ending}
 use Rattle.store.proofs.StepKinds.{begun, refused, replied, lacked, committed}
 use Rattle.store.specs.Alone.{FetchesOnly, HasOfCall, HasTaken, PlansAlone, StaysAlone, is_fetch_of}
 use Rattle.store.specs.Alone.{is_full}

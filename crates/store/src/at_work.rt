@@ -32,7 +32,7 @@ ghost use Rattle.store_promise.specs.declared.events.Step.TheVariants as made;
 ghost use Rattle.store_promise.specs.Running.{IsRunningOver, IsTold, StoreSide};
 ghost use Rattle.store_promise.specs.Schedule.{IsStepOfWork, Setting, Told, told_after};
 ghost use Rattle.store_promise.specs.ToldOf.{log_told};
-ghost use Rattle.store.specs.AtWork.{AreLoadedFor, GoesOnWith, HasBlocksOfPlaces, HasPlaceMore, IsCoreAtWork};
+ghost use Rattle.store.specs.AtWork.{AreLoadedFor, GoesOnWith, IsCoreAtWork};
 ghost use Rattle.store.specs.AtWork.{fetches_of, has_committed, has_taken, with_core};
 ghost use Rattle.store.specs.Stages.{IsWorkerAt, progress_of};
 ghost use Rattle.store.specs.Telling.{TakesCall, told};
@@ -56,41 +56,14 @@ pub(crate) fn what_was_fetched_stays()
         → AreLoadedFor old tx fetched → AreLoadedFor new tx (fetched ++ addr ∷ []) }
 {}
 
-// A step that leaves the log and the commits as they are leaves the run going, with no read that isn't given back.
-pub(crate) fn a_transaction_leaves_the_run_going()
-    ensures runs { (o : Setting) (base : Image) (side : StoreSide) (new : CoreState) (fetches : List Fetch) (boot : ℕ)
-        (first last : Tree) (entries : List Entry) → IsRunningOver o base side fetches boot first entries last
-        → StandsBeside side.core new → IsSoundCore base new
-        → IsRunningOver o base (with_core side new) [] boot first entries last }
-    ensures places { (o : Setting) (base : Image) (old new : CoreState) → StandsBeside old new
-        → HasBlocksOfPlaces o base old → HasBlocksOfPlaces o base new }
-{
-    store_promise::a_transaction_leaves_the_store_open();
-}
-
-// A commit is told by the blocks that it adds, and leaves the run going with its entry: a step of the sequential
-// server from the files as they were, whose place has the blocks that stand for the files then.
-pub(crate) fn a_commit_leaves_the_run_going()
-    ensures told { (position : ℕ) (old new : CoreState) (logging installing : Pending) (tx place : ℕ) (plan : Planned)
+// A commit is told by the blocks that it adds.
+pub(crate) fn a_commit_is_told_by_its_blocks()
+    ensures { (position : ℕ) (old new : CoreState) (logging installing : Pending) (tx place : ℕ) (plan : Planned)
         → TakesPlace old tx plan place new → IsLawful old.log → IsLawful new.log
         → position ≤ old.log.start + length old.log.changes
         → log_told position new.log logging installing ≡ with_commit (log_told position old.log logging installing)
         (added_blocks old.log (blocks_of plan.written)) }
-    ensures runs { (o : Setting) (base : Image) (side : StoreSide) (new : CoreState) (fetches : List Fetch)
-        (boot : ℕ) (first last : Tree) (entries : List Entry) (tx place : ℕ) (plan : Planned) (entry : Entry)
-        → IsRunningOver o base side fetches boot first entries last → TakesPlace side.core tx plan place new
-        → IsSoundCore base new → TellsOf boot plan entry
-        → (next : Tree) × step last entry.ctx entry.call entry.reply next
-        × ((more : Setting) → HasPlaceMore o (length entries) (file_blocks base new) more
-        → IsRunningOver more base (with_core side new) [] boot first (entries ++ entry ∷ []) next) }
-    ensures places { (o more : Setting) (base : Image) (d : Device) (old new : CoreState)
-        (logging installing : Pending) (boot : ℕ) (first last : Tree) (entries : List Entry) (tx place : ℕ)
-        (plan : Planned) → IsOpenSince base d old logging installing boot first entries last
-        → TakesPlace old tx plan place new → IsSoundCore base new
-        → HasPlaceMore o (length entries) (file_blocks base new) more
-        → HasBlocksOfPlaces o base old → HasBlocksOfPlaces more base new }
 {
-    store_promise::a_commit_leaves_the_store_open();
     store_promise::a_commit_is_told();
 }
 
@@ -142,8 +115,7 @@ pub(crate) fn a_worker_leaves_the_run_going()
         → IsLawful new.core.log → AreTidy new.core → IsWorkerAt boot entries worker → has_committed made ≡ true
         → GoesOnWith o base store new boot number first entries last (side worker store.core) }
 {
-    a_transaction_leaves_the_run_going();
-    a_commit_leaves_the_run_going();
+    store_promise::a_worker_keeps_the_run_going();
 }
 
 // A call that is handed over, and one that isn't taken, leave the core, what is told of it and the run as they are.
