@@ -15,6 +15,10 @@ use Rattle.run_law.specs.Run.{Beginning, IsRun}
 use Rattle.store.specs.AtWork.{IsCoreAtWork, fetches_of}
 use Rattle.store.specs.LogSide.{MayInstIo, MayInstall, MayLog, MayLogIo}
 use Rattle.store.specs.Stages.{IsWorkerAt, progress_of}
+use Rattle.store.specs.Worker.{GoesWith}
+use Rattle.store.specs.WorkerSteps.{KeepsHomeOf, KeepsReadsOf, Side}
+use Rattle.wal_law.specs.Log.{IsLawful}
+use Rattle.txn_law.specs.Tidy.{AreTidy}
 use Rattle.store.specs.declared.workers.parts.State.{State}
 
 -- A run goes on, of one worker: it is one so far, and the worker stands where its steps have told, at work on the
@@ -50,3 +54,11 @@ may_make event.InstIo o log made = MayInstIo o log made
 may_make (event.Call worker credential moment call) o log made = ⊥
 may_make (event.Work worker) o log made = ⊥
 may_make (event.Read worker) o log made = ⊥
+
+-- what a worker's step keeps of its core, beside what it says
+pub record KeepsCore (old new : Side) : Type 0 where
+  pub home : KeepsHomeOf old new
+  pub reads : KeepsReadsOf old new
+  pub lawful : IsLawful new.core.log
+  pub tidy : AreTidy new.core
+  pub with : GoesWith new.worker new.core
