@@ -1,3 +1,6 @@
+pub mod Alone
+pub mod Asked
+pub mod AtWork
 pub mod BringingHome
 pub mod Counts
 pub mod Driving
@@ -8,7 +11,9 @@ pub mod Phases
 pub mod Running
 pub mod Seen
 pub mod Settling
+pub mod Stages
 pub mod Telling
+pub mod WorkTells
 pub mod Worker
 pub mod WorkerAnswers
 pub mod WorkerReads

@@ -1,15 +1,18 @@
 //! One procedure at a time, as steps of the core.
 
+mod asked;
 mod committing;
 mod parts;
 mod planning;
 mod steps;
+mod telling;
 
 ghost use Rattle.std.specs.Prelude.{◌≡◌, true, is_some};
 ghost use Rattle.store.specs.Phases.{has_fetch, has_transaction, is_ready};
 
 use disk::{BlockNo, CrashDisk};
 use nfs_types::{Call, Credential, Ctx, Moment};
+use asked::Asked;
 use parts::{Begun, Job, Phase, State, Work};
 use procs::Done;
 use std::alloc::Global;
@@ -56,6 +59,7 @@ impl Worker {
                     answer: None,
                 },
                 begun: Begun { tx: None, io: None },
+                asked: Asked::new(),
             },
         }
     }
@@ -178,6 +182,7 @@ impl Worker {
             phase: _,
             work,
             begun,
+            asked: _,
         } = state;
         drop(work);
         begun.end(core);

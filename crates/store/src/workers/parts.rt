@@ -3,6 +3,7 @@ ghost use Rattle.std.specs.Prelude.{◌≡◌, []};
 ghost use Rattle.txn.specs.Out.{listed};
 ghost use Rattle.store.specs.Counts.{SameFrame};
 
+use super::asked::Asked;
 use nfs_types::{Call, Ctx, Reply};
 use procs::{Done, Snap};
 use store_promise::{CallAnswer, Cause, Entry};
@@ -42,6 +43,7 @@ pub(crate) struct State {
     pub(crate) phase: Phase,
     pub(crate) work: Work,
     pub(crate) begun: Begun,
+    pub(crate) asked: Asked,
 }
 
 // What a worker has of its call and of what came of it.
