@@ -68,13 +68,12 @@ module _ (told : Told) (worker : ℕ) (made : Option Step) where
       → IsReadOf taken.addr.block made → IsQuiet told (event.Read worker) made
   was_read job begun taken is may =
       let read = read_is taken.addr.block made may in
-      let one = step.Read read.0 read.1 in
-      (
+      let one = step.Read read.0 read.1 in (
         ap commits read.2,
         has_one told worker (event.Read worker) refl made
-        (ap (λ (m : Option Step). is_idle ((told_after told (event.Read worker) m).workers worker)) read.2
-        ∙ ap is_idle (own_read told worker one)
-        ∙ ap (λ (p : Progress). is_idle (progressed told.log.broken one p)) is),
+            (ap (λ (m : Option Step). is_idle ((told_after told (event.Read worker) m).workers worker)) read.2
+            ∙ ap is_idle (own_read told worker one)
+            ∙ ap (λ (p : Progress). is_idle (progressed told.log.broken one p)) is),
       )
 
   of_read : (so_far : Progress) → told.workers worker ≡ so_far → IsStepOfRead so_far made
