@@ -2,7 +2,7 @@
 use Rattle.std.proofs.Common.{◌≡◌, ◌∙◌, ◌↔◌, refl, sym, ap, subst, true≢false, ℕ, ◌+◌, ◌^◌, ◌<◌, ◌≤◌, arith, Bool}
 use Rattle.std.proofs.Common.{true, false, ◌||◌, nat_eq, nat_le, IsTrue, Option, Some, None, List, [], ◌∷◌, length, map, All}
 use Rattle.std.proofs.Common.{Ok, Err}
-use Rattle.std.specs.Prelude.{Contains}
+use Rattle.std.specs.Prelude.{IsSomeAnd}
 use Rattle.std.specs.List.{list_any}
 use Rattle.std.proofs.lemmas.Bool.{eqb-true}
 use Rattle.std.proofs.lemmas.Bool.Decides.{nat_tests}
@@ -13,15 +13,21 @@ use Rattle.disk.specs.declared.block.BlockNo.{BlockNo}
 use Rattle.layout.specs.declared.geometry.Geometry.{Geometry}
 use Rattle.limits.specs.declared.TheConstants.{LOG_SLOTS}
 use Rattle.model.specs.After.{Entry}
+use Rattle.model.specs.Calls.{has_rules}
 use Rattle.model.specs.Tree.{Tree}
 use Rattle.nfs_types.specs.declared.call.Call.{Call}
 use Rattle.objects.specs.declared.addr.Addr.{Addr}
 use Rattle.objects.specs.declared.mode.Mode.TheVariants as modes
 use Rattle.procs.specs.Asks.{Asks}
 use Rattle.procs.specs.MostChanged.{most_changed}
+use Rattle.procs.specs.Outcome.{Outcome}
+use Rattle.procs.specs.declared.next.Plan.TheVariants as plan
+use Rattle.procs.specs.declared.snap.Snap.{Snap}
 use Rattle.procs.specs.Snap.{is_seen, same_addr}
 use Rattle.procs.proofs.AskedFor.{is_home}
 use Rattle.txn.specs.Outcomes.{IsCommit, IsWanted, TakesPlace}
+use Rattle.txn.specs.declared.outcomes.BeginFault.{BeginFault}
+use Rattle.txn.specs.declared.outcomes.BeginFault.TheVariants as fault
 use Rattle.txn.specs.declared.outcomes.Commit.{Commit}
 use Rattle.txn.specs.declared.outcomes.Commit.TheVariants as commit
 use Rattle.txn.specs.declared.outcomes.Want.{Want}
@@ -40,32 +46,35 @@ use Rattle.wal_law.specs.Room.{HasPlaces}
 use Rattle.wal_law.specs.declared.outcomes.Seq.{Seq}
 use Rattle.store_promise.specs.LogTold.{LogTold, settled_told}
 use Rattle.store_promise.specs.OpenSince.{file_blocks}
-use Rattle.store_promise.specs.Progress.{Begun, Taken, addrs_of, is_loaded}
+use Rattle.store_promise.specs.Progress.{Begun, Progress, Taken, addrs_of, is_loaded}
+use Rattle.store_promise.specs.Progress as how
 use Rattle.store_promise.specs.Running.{IsRunningOver, IsTold, StoreSide}
 use Rattle.store_promise.specs.Schedule.{HasNumbers, IsAskedFor, IsBeginning, IsCommitting, IsStepByPlan}
+use Rattle.store_promise.specs.Schedule.{IsStepOfCalled, IsStepOfWork}
 use Rattle.store_promise.specs.Schedule.{IsStepOfWaiting, IsWish, Setting, Told, is_held, objects_at, read_of}
 use Rattle.store_promise.specs.Schedule as schedule
 use Rattle.store_promise.specs.ToldOf.{log_told}
 use Rattle.store_promise.specs.declared.events.Committing.TheVariants as committing
+use Rattle.store_promise.specs.declared.events.Ending.TheVariants as ending
 use Rattle.store_promise.specs.declared.events.Step.{Step}
 use Rattle.store_promise.specs.declared.events.Step.TheVariants as step
 use Rattle.store_promise.proofs.FileBlocks.{held_now}
 use Rattle.store_promise.proofs.ToldLog.{numbers_are, settled_is}
-use Rattle.store.specs.Alone.{HasOfCall, is_kept_off}
-use Rattle.store.specs.AtWork.{AreLoadedFor, IsLoadedFor, TellsOfTaken, alone}
+use Rattle.store.proofs.AtWorkStays.{some_of}
+use Rattle.store.proofs.LoneWorker.{has_of, never_kept_off, seen_of}
+use Rattle.store.proofs.WorkCases.{Cases, by_cases}
+use Rattle.store.specs.Alone.{HasOfCall, PlansAlone, is_kept_off}
+use Rattle.store.specs.AtWork.{AreLoadedFor, IsCoreAtWork, IsLoadedFor, LoadsFor}
 use Rattle.store.specs.Seen.{Seen, seen_in}
-use Rattle.store.specs.WorkerSteps.{GoesByNext, GoesByPlan, HasLacked, HasWanted, Side, planned_of, side}
-use Rattle.store.proofs.LoneWorker.{seen_of}
-use Rattle.store.proofs.StepKinds.{Ending, ending as ending_of, lacked, committed}
-use Rattle.procs.specs.Outcome.{Outcome}
-use Rattle.procs.specs.Planned.{IsPlanFor}
-use Rattle.procs.specs.declared.next.Plan.{Plan}
-use Rattle.procs.specs.declared.next.Plan.TheVariants as plan
-use Rattle.procs.specs.declared.snap.Snap.{Snap}
-use Rattle.store_promise.specs.declared.events.Ending.TheVariants as ending
-use Rattle.store.specs.declared.workers.parts.State.{State}
+use Rattle.store.specs.Stages.{IsFetchOf, IsJobIn, IsWorkerAt, RunsIn, StandsAt, alone, at_fetch, at_stage, begun_of}
+use Rattle.store.specs.Stages.{progress_in, progress_of}
 use Rattle.store.specs.WorkerAnswers.{committing_of, wish_of}
+use Rattle.store.specs.WorkerSteps.{GoesOn, HasCommitted, HasLacked, HasWanted, IsNext, IsNoBeginning, Side}
+use Rattle.store.specs.WorkerSteps.{given_step, planned_of, side}
 use Rattle.store.specs.declared.workers.parts.Job.{Job}
+use Rattle.store.specs.declared.workers.parts.Phase.{Phase}
+use Rattle.store.specs.declared.workers.parts.Phase.TheVariants.{Planning, Read, Reading}
+use Rattle.store.specs.declared.workers.parts.State.{State}
 
 -- ---- what was read
 
@@ -121,9 +130,11 @@ module _ (o : Setting) (told : Told) (worker : ℕ) (base : Image) (store : Stor
     (first last : Tree) (entries : List Entry) (run : IsRunningOver o base store fetches boot first entries last)
     (is_told : IsTold o told store) (inodes : o.geometry.inodes ≡ store.core.inodes)
     (files : o.blocks told.log.places ≡ file_blocks base store.core) (job : Job) (tx : ℕ) (seen : Seen)
-    (fetched : List Addr) (begun : Begun) (has : HasOfCall job tx store.core seen)
-    (loaded : AreLoadedFor store.core tx fetched) (tells : TellsOfTaken begun seen fetched)
+    (fetched : List Addr) (has : HasOfCall job tx store.core seen) (loaded : AreLoadedFor store.core tx fetched)
     (one_geometry : (g h : Geometry) → g.blocks ≡ h.blocks → g.inodes ≡ h.inodes → g ≡ h) where
+  abbrev begun : Begun
+  begun = begun_of (Some tx) (Some seen) fetched
+
   geometry_is : seen.geometry ≡ o.geometry
   geometry_is = one_geometry seen.geometry o.geometry (has.blocks ∙ sym run.blocks) (has.inodes ∙ sym inodes)
 
@@ -134,14 +145,13 @@ module _ (o : Setting) (told : Told) (worker : ℕ) (base : Image) (store : Stor
       read) seen.objects has.read
 
   read_is : read_of o told.log.places begun ≡ seen.objects
-  read_is = ap (λ (held : List Taken). objects_at (o.blocks told.log.places) (addrs_of held)) tells.held_is
-      ∙ read_there (o.blocks told.log.places) seen.objects as_read
+  read_is = read_there (o.blocks told.log.places) seen.objects as_read
 
   module _ (addr : Addr) (asks : Asks seen.geometry job.call seen.objects addr)
       (new_to_it : is_seen addr seen.objects ≡ false) where
     asked_for : IsAskedFor o told.log.places job.call begun addr modes.Exclusive
     asked_for = record {
-      unheld = ap (λ (held : List Taken). is_held addr held) tells.held_is ∙ held_as_seen addr seen.objects ∙ new_to_it;
+      unheld = held_as_seen addr seen.objects ∙ new_to_it;
       asks = subst (λ (g : Geometry). Asks g job.call (read_of o told.log.places begun) addr) geometry_is
           (subst (λ (objects : List ObjectBytes). Asks seen.geometry job.call objects addr) (sym read_is) asks);
       alone = refl;
@@ -150,15 +160,13 @@ module _ (o : Setting) (told : Told) (worker : ℕ) (base : Image) (store : Stor
     -- nothing of a block that has to be fetched was had
     not_loaded : in_memory store.core addr.block ≡ None → is_loaded addr.block begun ≡ false
     not_loaded absent =
-        (λ i. list_any (λ (taken : Taken). nat_eq taken.addr.block.0 addr.block.0) (tells.held_is i)
-        || list_any (λ (taken : Taken). nat_eq taken.addr.block.0 addr.block.0) (tells.fetched_is i))
-        ∙ (λ i. none_read addr.block seen.objects (All-weaker (IsReadBy store.core tx)
+        λ i. none_read addr.block seen.objects (All-weaker (IsReadBy store.core tx)
         (λ (object : ObjectBytes). nat_eq object.addr.block.0 addr.block.0 ≡ false)
         (λ object read. differs store.core object.addr.block addr.block read.current.content read.current.there absent)
         seen.objects has.read) i
         || none_in addr.block fetched (All-weaker (IsLoadedFor store.core tx)
         (λ (a : Addr). nat_eq a.block.0 addr.block.0 ≡ false)
-        (λ a is. differs store.core a.block addr.block is.content is.there absent) fetched loaded) i)
+        (λ a is. differs store.core a.block addr.block is.content is.there absent) fetched loaded) i
 
     wish_may : (new : CoreState) (answer : Want) → IsWanted store.core tx addr modes.Exclusive answer new
         → is_kept_off (Some (step.Wanted addr modes.Exclusive (wish_of answer))) ≡ false
@@ -205,12 +213,12 @@ module _ (o : Setting) (base : Image) (store : StoreSide) (fetches : List Fetch)
   by_answer change (commit.Broken back same) new is off = is.1
   by_answer change (commit.Spent back same) new is off = (is.1.sound, λ has. is.1.room (numbers.0 has))
 
-  pub commit_may : {C : Type 0} (told : Told) (worker : ℕ) (call : Call) (begun : Begun) (change : C)
+  pub commit_may : {C : Type 0} (told : Told) (worker : ℕ) (call : Call) (far : Begun) (change : C)
       (answer : Commit C) (new : CoreState) → IsTold o told store → length (blocks_of plan.written) ≤ most_changed call
       → IsCommit store.core tx plan change answer new
       → is_kept_off (Some (step.Commit added (committing_of answer))) ≡ false
-      → IsStepByPlan o told worker call begun (step.Commit added (committing_of answer))
-  commit_may told worker call begun change answer new is_told few is off = (
+      → IsStepByPlan o told worker call far (step.Commit added (committing_of answer))
+  commit_may told worker call far change answer new is_told few is off = (
     few,
     subst (λ (l : LogTold). IsCommitting o l added (committing_of answer)) (sym is_told.log)
         (by_answer change answer new is off),
@@ -240,66 +248,154 @@ waits_may o told base store fetches boot first last entries run is_told place se
       ∙ settled_is o.position store.core.log store.logging store.installing run.since.over.lawful) is,
 )
 
--- ---- the step of a plan, of a worker
+-- ---- any step
 
 module _ (o : Setting) (told : Told) (number : ℕ) (base : Image) (store : StoreSide) (fetches : List Fetch) (boot : ℕ)
     (first last : Tree) (entries : List Entry) (run : IsRunningOver o base store fetches boot first entries last)
     (is_told : IsTold o told store) (inodes : o.geometry.inodes ≡ store.core.inodes)
-    (files : o.blocks told.log.places ≡ file_blocks base store.core) (worker : State) (new : Side) (made : Step)
-    (job : Job) (tx : ℕ) (seen : Seen) (fetched : List Addr) (begun : Begun) (job_is : worker.work.job ≡ Some job)
-    (tx_is : worker.begun.tx ≡ Some tx) (seen_is : seen_in worker.work.snap ≡ Some seen)
-    (has : HasOfCall job tx store.core seen) (loaded : AreLoadedFor store.core tx fetched)
-    (tells : TellsOfTaken begun seen fetched) (off : is_kept_off (Some made) ≡ false)
+    (files : o.blocks told.log.places ≡ file_blocks base store.core) (worker : State) (new : Side)
     (one_geometry : (g h : Geometry) → g.blocks ≡ h.blocks → g.inodes ≡ h.inodes → g ≡ h) where
   abbrev old : Side
   old = side worker store.core
 
-  is_made : (one : Step) → made ≡ one → IsStepByPlan o told number job.call begun one
-      → IsStepByPlan o told number job.call begun made
-  is_made one is may = subst (λ (m : Step). IsStepByPlan o told number job.call begun m) (sym is) may
+  abbrev all_begun : Begun
+  all_begun = begun_of worker.begun.tx (seen_in worker.work.snap) worker.asked.fetched
 
-  off_so : (one : Step) → made ≡ one → is_kept_off (Some one) ≡ false
-  off_so one is = sym (ap (λ (m : Step). is_kept_off (Some m)) is) ∙ off
+  -- the step may be made by a worker that is so far
+  abbrev MayFrom : Progress → Option Step → Type 0
+  MayFrom progress made = IsStepOfWork o told number progress made
 
-  lacked_may : (t : ℕ) → HasLacked t old made new → IsStepByPlan o told number job.call begun made
-  lacked_may t lacks = is_made (step.Ended ending.NoMemory) lacks.made_is tt
+  abbrev May : Phase → Option Step → Type 0
+  May phase made = PlansAlone phase worker store.core
+      → LoadsFor phase worker.begun.tx worker.asked store.core → StandsAt boot entries phase worker
+      → is_kept_off made ≡ false → MayFrom (progress_in phase worker.work.job all_begun worker.asked) made
 
-  module _ (plans_job : Job) (snap : Snap) (same_job : plans_job ≡ job) (same : seen_of snap ≡ seen) where
-    need_may : (addr : Addr) → IsPlanFor plans_job.call snap (plan.Need addr) → HasWanted tx addr old made new
-        → IsStepByPlan o told number job.call begun made
-    need_may addr (fresh, asks) wants =
-        let one = step.Wanted addr modes.Exclusive (wish_of wants.answer) in
-        is_made one wants.made_is (wanted_may o told number base store fetches boot first last entries run is_told
-        inodes files job tx seen fetched begun has loaded tells one_geometry addr
-        (subst (λ (s : Seen). Asks s.geometry job.call s.objects addr) same
-        (subst (λ (j : Job). Asks snap.geometry j.call snap.objects.items addr) same_job asks))
-        (ap (λ (s : Seen). is_seen addr s.objects) (sym same) ∙ fresh) new.core wants.answer wants.core
-        (off_so one wants.made_is))
+  broken_is : told.log.broken ≡ store.core.log.broken
+  broken_is = ap (λ (log : LogTold). log.broken) is_told.log
 
-    done_may : (done : Outcome) → IsPlanFor plans_job.call snap (plan.Done done) → Ending tx done old made new
-        → IsStepByPlan o told number job.call begun made
-    done_may done planned (lacked lacks) = lacked_may tx lacks
-    done_may done planned (committed other other_is commits) =
-        let one = step.Commit (added_blocks store.core.log (blocks_of done.written)) (committing_of commits.answer) in
-        is_made one commits.made_is (commit_may o base store fetches boot first last entries run tx (planned_of done)
-        told number job.call begun done commits.answer new.core is_told
-        (subst (λ (j : Job). length (blocks_of done.written) ≤ most_changed j.call) same_job planned.1) commits.core
-        (off_so one commits.made_is))
+  -- a call begins
+  from_called : (job : Job) (served : Bool) (made : Step) → worker.work.job ≡ Some job → has_rules job.call ≡ served
+      → IsStepOfCalled told served made → MayFrom (at_stage worker.work.job how.Called) (Some made)
+  from_called job served made job_is is may =
+      subst (λ (found : Option Job). MayFrom (at_stage found how.Called) (Some made)) (sym job_is)
+      (subst (λ (b : Bool). IsStepOfCalled told b made) (sym is) may)
 
-    next_may : (next : Plan) → IsPlanFor plans_job.call snap next → GoesByNext next tx old made new
-        → IsStepByPlan o told number job.call begun made
-    next_may (plan.Need addr) planned goes = need_may addr planned goes
-    next_may (plan.Claim block) planned goes = absurd planned.1
-    next_may (plan.Done done) planned goes = done_may done planned (ending_of old new tx done made goes)
-    next_may plan.NoMemory planned goes = lacked_may tx goes
+  begun_may : (one : ℕ) → one ≡ store.core.begun + 1 → store.core.log.broken ≡ false
+      → IsBeginning told (step.Begun (Ok one))
+  begun_may one is sound = (broken_is ∙ sound, is ∙ ap (λ (n : ℕ). n + 1) (sym is_told.begun))
 
-  some_same : {X : Type 0} (a b : X) → Some a ≡ Some b → a ≡ b
-  some_same a b is = cc
+  not_begun_may : (why : BeginFault) → IsNoBeginning why store.core → IsBeginning told (step.Begun (Err why))
+  not_begun_may fault.Broken none = broken_is ∙ none
+  not_begun_may fault.Spent none = (
+    broken_is ∙ none.0,
+    subst (λ (n : ℕ). 2 ^ 64 ≤ n + 1) (sym is_told.begun) (let spent = none.1 in omega (arith, spent)),
+  )
+  not_begun_may fault.NoMemory none = absurd none
 
-  pub by_plan_may : GoesByPlan old made new → IsStepByPlan o told number job.call begun made
-  by_plan_may goes =
-      let is = goes.next_is in
-      let same_tx = some_same goes.tx tx (sym goes.tx_is ∙ tx_is) in
-      next_may is.job is.snap (some_same is.job job (sym is.job_is ∙ job_is))
-      (some_same (seen_of is.snap) seen (sym is.snap_is ∙ seen_is)) goes.next is.plan
-      (subst (λ (t : ℕ). GoesByNext goes.next t old made new) same_tx goes.goes)
+  -- it goes by a plan
+  from_plan : (job : Job) (tx : ℕ) (snap : Snap) (made : Step) → worker.work.job ≡ Some job
+      → worker.begun.tx ≡ Some tx → seen_in worker.work.snap ≡ Some (seen_of snap)
+      → IsStepByPlan o told number job.call (begun_of (Some tx) (Some (seen_of snap)) worker.asked.fetched) made
+      → MayFrom (at_stage worker.work.job (how.Planning all_begun)) (Some made)
+  from_plan job tx snap made job_is tx_is snap_is may =
+      subst (λ (found : Option Job). MayFrom (at_stage found (how.Planning all_begun)) (Some made)) (sym job_is)
+      (subst (λ (begun : Begun). IsStepByPlan o told number job.call begun made)
+      (λ i. begun_of (sym tx_is i) (sym snap_is i) worker.asked.fetched) may)
+
+  wanted_so : (tx : ℕ) (addr : Addr) (made : Step) → worker.begun.tx ≡ Some tx → IsNext worker (plan.Need addr)
+      → (has : HasWanted tx addr old made new)
+      → May Planning (Some (step.Wanted addr modes.Exclusive (wish_of has.answer)))
+  wanted_so tx addr made tx_is is has plans loads stands off =
+      from_plan is.job tx is.snap _ is.job_is tx_is is.snap_is
+      (wanted_may o told number base store fetches boot first last entries run is_told inodes files is.job tx
+      (seen_of is.snap) worker.asked.fetched
+      (has_of worker store.core is.job tx (seen_of is.snap) is.job_is tx_is is.snap_is plans)
+      (some_of (λ n. AreLoadedFor store.core n worker.asked.fetched) worker.begun.tx tx tx_is loads)
+      one_geometry addr is.plan.1 is.plan.0 new.core has.answer has.core off)
+
+  committed_so : (job : Job) (tx : ℕ) (done : Outcome) (made : Step) → worker.begun.tx ≡ Some tx
+      → IsNext worker (plan.Done done) → worker.work.job ≡ Some job → (has : HasCommitted job tx done old made new)
+      → May Planning (Some (step.Commit (added_blocks store.core.log (blocks_of done.written))
+      (committing_of has.answer)))
+  committed_so job tx done made tx_is is job_is has plans loads stands off =
+      from_plan is.job tx is.snap _ is.job_is tx_is is.snap_is
+      (commit_may o base store fetches boot first last entries run tx (planned_of done) told number is.job.call
+      (begun_of (Some tx) (Some (seen_of is.snap)) worker.asked.fetched) done has.answer new.core is_told is.plan.1
+      has.core off)
+
+  lacked_so : (tx : ℕ) (made : Step) → worker.begun.tx ≡ Some tx → HasLacked tx old made new
+      → May Planning (Some (step.Ended ending.NoMemory))
+  lacked_so tx made tx_is has plans loads stands off = by worker.work.job plans
+    where
+      by : (job : Option Job) → IsSomeAnd job (λ job. IsSomeAnd worker.begun.tx (λ t.
+          IsSomeAnd (seen_in worker.work.snap) (λ seen. HasOfCall job t store.core seen)))
+          → MayFrom (at_stage job (how.Planning all_begun)) (Some (step.Ended ending.NoMemory))
+      by None plans = absurd plans
+      by (Some job) plans = tt
+
+  -- its read is due, or made
+  reading_so : RunsIn boot worker × IsFetchOf worker
+      → MayFrom (progress_in Reading worker.work.job all_begun worker.asked) None
+  reading_so stands = by worker.work.job worker.asked.wish stands.0 stands.1
+    where
+      by : (job : Option Job) (wish : Option Addr) → IsSomeAnd job (λ j. IsJobIn boot worker.begun.tx j)
+          → IsSomeAnd wish (λ addr. IsSomeAnd worker.begun.io (λ (io : Fetch). io.block ≡ addr.block))
+          → MayFrom (at_stage job (at_fetch (λ taken. how.Reading all_begun taken) all_begun wish)) None
+      by None wish job_in at = absurd job_in
+      by (Some job) None job_in at = absurd at
+      by (Some job) (Some addr) job_in at = refl
+
+  given_so : (ok : Bool) (io : Fetch) → worker.begun.io ≡ Some io → RunsIn boot worker × IsFetchOf worker
+      → MayFrom (progress_in (Read ok) worker.work.job all_begun worker.asked) (Some (given_step ok io))
+  given_so ok io io_is stands = by worker.work.job worker.asked.wish ok stands.0
+      (subst (λ (found : Option Fetch). IsSomeAnd worker.asked.wish (λ addr.
+      IsSomeAnd found (λ (one : Fetch). one.block ≡ addr.block))) io_is stands.1)
+    where
+      by : (job : Option Job) (wish : Option Addr) (ok : Bool) → IsSomeAnd job (λ j. IsJobIn boot worker.begun.tx j)
+          → IsSomeAnd wish (λ addr. io.block ≡ addr.block)
+          → MayFrom (at_stage job (at_fetch (λ taken. how.Read all_begun taken ok) all_begun wish))
+          (Some (given_step ok io))
+      by None wish ok job_in at = absurd job_in
+      by (Some job) None ok job_in at = absurd at
+      by (Some job) (Some addr) true job_in at = ap (λ (block : BlockNo). step.Fetched block) at
+      by (Some job) (Some addr) false job_in at = ap (λ (block : BlockNo). step.FetchFailed block) at
+
+  left_so : RunsIn boot worker → MayFrom (at_stage worker.work.job (how.Again all_begun)) (Some (step.Ended ending.Again))
+  left_so stands = by worker.work.job stands
+    where
+      by : (job : Option Job) → IsSomeAnd job (λ j. IsJobIn boot worker.begun.tx j)
+          → MayFrom (at_stage job (how.Again all_begun)) (Some (step.Ended ending.Again))
+      by None job_in = absurd job_in
+      by (Some job) job_in = refl
+
+  may_cases : Cases old new May
+  may_cases = record {
+    idle = λ is plans loads stands off. refl;
+    reading = λ is plans loads stands off. reading_so stands;
+    begun = λ job one job_is served has plans loads stands off.
+        from_called job true (step.Begun (Ok one)) job_is served (begun_may one has.next has.sound);
+    not_begun = λ job why job_is served none core is plans loads stands off.
+        from_called job true (step.Begun (Err why)) job_is served (not_begun_may why none);
+    replied = λ job job_is served core is plans loads stands off.
+        from_called job false step.Replied job_is served refl;
+    wanted = wanted_so;
+    claimed = λ tx block made tx_is next has plans loads stands off. absurd next.plan.1;
+    committed = committed_so;
+    lacked = lacked_so;
+    given = λ ok io made io_is has plans loads stands off. given_so ok io io_is stands;
+    refused = λ why job tx made job_is tx_is has plans loads stands off.
+        subst (λ (found : Option Job). MayFrom (at_stage found (how.Refused all_begun why))
+        (Some (step.Ended ending.Refused))) (sym job_is) refl;
+    left = λ tx made tx_is has plans loads stands off. left_so stands;
+    waited = λ place made has plans loads stands off.
+        subst (λ (found : Option Job). MayFrom (at_stage found (how.Waiting place.0))
+        (Some (step.Stable place has.settled))) (sym stands.job_is)
+        (waits_may o told base store fetches boot first last entries run is_told place has.settled has.settled_is);
+  }
+
+  pub step_may : (made : Option Step) → GoesOn worker.phase old made new → IsCoreAtWork worker store.core
+      → IsWorkerAt boot entries worker → MayFrom (progress_of worker) made
+  step_may made goes at worker_at = by_cases old new May may_cases worker.phase made goes at.alone.plans at.loads
+      worker_at.stands
+      (never_kept_off old new run.since.over.tidy at.with.core_of at.alone.fetches worker.phase made
+      at.with.sound.fetch at.alone.plans goes)

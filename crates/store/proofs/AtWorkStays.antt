@@ -34,6 +34,7 @@ use Rattle.store.specs.AtWork.{AreLoadedFor, FetchesFor, IsCoreAtWork, IsLoadedF
 use Rattle.store.specs.Asked.{Asking}
 use Rattle.store.specs.Seen.{Seen, seen_in}
 use Rattle.store.specs.Stages.{IsFetchOf, IsWorkerAt, StandsAt}
+use Rattle.store.specs.Telling.{told}
 use Rattle.store.specs.Worker.{GoesWith}
 use Rattle.store.specs.WorkerAnswers.{after_commit, asked_wanted, begun_wanted, committing_of, phase_wanted}
 use Rattle.store.specs.WorkerAnswers.{told_of, with_answer, with_entry}
@@ -254,17 +255,31 @@ module _ (old new : Side) where
 
 -- ---- any step
 
+-- what is told of a worker isn't needed for its plans
+pub plans_told : (phase : Phase) (worker : State) (core : CoreState) → PlansAlone phase worker core
+    → PlansAlone phase (told worker) core
+plans_told Idle worker core plans = tt
+plans_told Called worker core plans = tt
+plans_told Again worker core plans = tt
+plans_told Planning worker core plans = plans
+plans_told Reading worker core plans = plans
+plans_told (Read ok) worker core plans = plans
+plans_told (Refused why) worker core plans = tt
+plans_told (Waiting place) worker core plans = tt
+
 pub at_work_still : (old new : Side) (made : Option Step) (boot : ℕ) (entries : List Entry)
     → IsCoreAtWork old.worker old.core → IsWorkerAt boot entries old.worker → AreTidy old.core → KeepsReadsOf old new
-    → GoesWith new.worker new.core → GoesOn old.worker.phase old made new → IsCoreAtWork new.worker new.core
-at_work_still old new made boot entries at worker_at tidy reads with goes =
+    → GoesOn old.worker.phase old made new → GoesWith (told new.worker) new.core
+    → IsCoreAtWork (told new.worker) new.core
+at_work_still old new made boot entries at worker_at tidy reads goes with =
     let stays = stays_alone old new tidy at.with.core_of at.alone.fetches reads old.worker.phase made refl
     at.with.sound.transaction at.with.sound.fetch at.alone.plans goes in record {
       with = with;
       alone = record {
         fetches = stays.fetches;
-        plans = plans_by old new made (is_full made) refl stays (λ room.
-            by_cases old new (Full old new) (full_cases old new) old.worker.phase made goes room at.alone.plans);
+        plans = plans_told new.worker.phase new.worker new.core
+            (plans_by old new made (is_full made) refl stays (λ room.
+            by_cases old new (Full old new) (full_cases old new) old.worker.phase made goes room at.alone.plans));
       };
       loads = loads_still old new at.alone.fetches boot entries made goes at.loads worker_at;
     }

@@ -1,8 +1,8 @@
 -- Each step of the log's side keeps a run going.
 use Rattle.std.proofs.Common.{◌≡◌, ◌∙◌, ap, sym, refl, subst, ℕ, Bool, true, false, not, Option, Some, None, List, All}
-use Rattle.std.proofs.Common.{Result, Ok, Err, is_ok, is_err}
+use Rattle.std.proofs.Common.{Result, Ok, Err, is_ok, is_err, is_some, ◌||◌}
 use Rattle.disk.specs.Crash.{Image}
-use Rattle.disk.specs.Device.{Device}
+use Rattle.disk.specs.Device.{Content, Device}
 use Rattle.disk.specs.declared.block.BlockNo.{BlockNo}
 use Rattle.model.specs.After.{Entry}
 use Rattle.model.specs.Tree.{Tree}
@@ -12,7 +12,10 @@ use Rattle.wal_law.specs.Io.{Io}
 use Rattle.txn_law.specs.Core.{CoreState}
 use Rattle.txn_law.specs.CoreWindow.{IsPending, KeepsReads}
 use Rattle.txn_law.specs.Fetch.{Fetch}
-use Rattle.txn_law.specs.Leaves.{is_fetching, taken_by}
+use Rattle.txn_law.specs.Leaves.{Leaves, in_memory, is_fetching, taken_by}
+use Rattle.txn_law.specs.Records.{is_kept}
+use Rattle.store.proofs.AtHand.{held_taken}
+use Rattle.objects.specs.declared.addr.Addr.{Addr}
 use Rattle.store_promise.specs.declared.events.Step.{Step}
 use Rattle.store_promise.specs.LogTold.{LogTold}
 use Rattle.store_promise.specs.OpenSince.{IsOpenSince}
@@ -86,6 +89,7 @@ same_transactions core = record {
   taken = λ tx addr. refl;
   fetches = λ block. refl;
   reads = λ tx object is. is;
+  loaded = λ tx addr content some there. there;
 }
 
 pub log_alone : (old new : CoreState) → new ≡ record old { log = new.log }
@@ -97,7 +101,16 @@ log_alone old new is stays = record {
   taken = λ tx addr. ap (λ (c : CoreState). taken_by c tx addr) is;
   fetches = λ block. ap (λ (c : CoreState). is_fetching c block) is;
   reads = stays;
+  loaded = λ tx addr content some there. ap (λ (c : CoreState). in_memory c addr.block) is ∙ there;
 }
+
+-- what is taken stays in memory, where only what nobody needs goes
+pub still_loaded : (old new : CoreState) → Leaves new (taken_by old) (is_fetching old) (in_memory old) → (tx : ℕ)
+    (addr : Addr) (content : Content) → is_some (taken_by old tx addr) ≡ true
+    → in_memory old addr.block ≡ Some content → in_memory new addr.block ≡ Some content
+still_loaded old new leaves tx addr content some there = leaves.stays addr.block content there
+    (ap (λ (t : Bool). t || is_kept new.records addr.block)
+    (held_taken new.holds tx addr addr.block refl (ap is_some (leaves.holds tx addr) ∙ some)))
 
 pub fewer : (old new : CoreState) → KeepsTransactions old new → (block : BlockNo) → IsPending new block
     → IsPending old block

@@ -1,19 +1,21 @@
 -- What the steps of a worker that is alone rest on: the blocks that were fetched for its transaction, and those that
 -- stand for the files after each place.
-use Rattle.std.specs.Prelude.{◌≡◌, ℕ, ◌+◌, ◌≤◌, Bool, true, false, Option, Some, is_some, IsSomeAnd, List, [], All}
-use Rattle.std.specs.Prelude.{length, option_to_list}
+use Rattle.std.specs.Prelude.{◌≡◌, ℕ, ◌+◌, ◌≤◌, ◌++◌, ◌∷◌, Bool, true, false, Option, Some, is_some, IsSomeAnd}
+use Rattle.std.specs.Prelude.{List, [], All, length, option_to_list}
 use Rattle.disk.specs.Crash.{Image}
 use Rattle.disk.specs.Device.{Content}
 use Rattle.objects.specs.declared.addr.Addr.{Addr}
 use Rattle.model.specs.After.{Entry as Committed}
+use Rattle.model.specs.Step as model
+use Rattle.model.specs.Tree.{Tree}
 use Rattle.wal_law.specs.Log.{installed_place}
 use Rattle.txn.specs.Outcomes.{TakesPlace}
 use Rattle.txn_law.specs.Commit.{Planned}
 use Rattle.txn_law.specs.Core.{CoreState}
 use Rattle.txn_law.specs.Fetch.{Fetch}
 use Rattle.txn_law.specs.Leaves.{in_memory, taken_by}
-use Rattle.store_promise.specs.OpenSince.{TellsOf, blocks_after}
-use Rattle.store_promise.specs.Running.{StoreSide}
+use Rattle.store_promise.specs.OpenSince.{TellsOf, blocks_after, file_blocks}
+use Rattle.store_promise.specs.Running.{IsRunningOver, StoreSide}
 use Rattle.store_promise.specs.Schedule.{Setting}
 use Rattle.store_promise.specs.declared.answers.Entry.{Entry}
 use Rattle.store_promise.specs.declared.events.Committing.TheVariants as committing
@@ -119,3 +121,17 @@ pub record HasTakenPlace (boot number : ℕ) (old new : Side) : Type 0 where
   pub took : TakesPlace old.core tx plan place new.core
   pub ready : new.worker.work.entry ≡ Some entry
   pub tells : TellsOf boot plan (entry_by number entry)
+
+-- A place was taken, the next one. In whatever setting has the blocks that stand for the files then, the run goes on
+-- with the place's entry, a step of the sequential server from the files as they were.
+pub record GoesOnWith (o : Setting) (base : Image) (store : StoreSide) (new : Side) (boot number : ℕ) (first : Tree)
+    (entries : List Committed) (last : Tree) (old : Side) : Type 0 where
+  pub taken : HasTakenPlace boot number old new
+  pub next : taken.place ≡ length entries + 1
+  pub left : Tree
+  pub goes : model.step last taken.entry.ctx taken.entry.call taken.entry.reply left
+  pub runs : (more : Setting) → HasPlaceMore o (length entries) (file_blocks base new.core) more
+      → IsRunningOver more base (with_core store new.core) (fetches_of new.worker) boot first
+      (entries ++ entry_by number taken.entry ∷ []) left
+  pub places : (more : Setting) → HasPlaceMore o (length entries) (file_blocks base new.core) more
+      → HasBlocksOfPlaces o base old.core → HasBlocksOfPlaces more base new.core

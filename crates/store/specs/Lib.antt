@@ -5,7 +5,9 @@ pub mod BringingHome
 pub mod Counts
 pub mod Driving
 pub mod Formatting
+pub mod Going
 pub mod LogSide
+pub mod Noting
 pub mod Opening
 pub mod Phases
 pub mod Running

@@ -1,8 +1,8 @@
 -- What holds of a run that goes on, and what a step of it does to the device and to what transactions have.
 use Rattle.std.specs.Prelude.{◌≡◌, ℕ, ◌+◌, ◌-◌, ◌≤◌, Bool, if◌then◌else◌, List, Option, Some, None, length, All}
-use Rattle.std.specs.Prelude.{count_by, nat_le}
+use Rattle.std.specs.Prelude.{count_by, is_some, nat_le, true}
 use Rattle.disk.specs.Crash.{Image}
-use Rattle.disk.specs.Device.{Device}
+use Rattle.disk.specs.Device.{Content, Device}
 use Rattle.disk.specs.declared.block.BlockNo.{BlockNo}
 use Rattle.objects.specs.declared.addr.Addr.{Addr}
 use Rattle.model.specs.After.{Entry}
@@ -12,7 +12,7 @@ use Rattle.wal_law.specs.Log.{Log, installed_place}
 use Rattle.txn_law.specs.Core.{CoreState}
 use Rattle.txn_law.specs.CoreWindow.{IsPending, KeepsReads}
 use Rattle.txn_law.specs.Fetch.{Fetch}
-use Rattle.txn_law.specs.Leaves.{is_fetching, taken_by}
+use Rattle.txn_law.specs.Leaves.{in_memory, is_fetching, taken_by}
 use Rattle.store_promise.specs.declared.events.Step.{Step}
 use Rattle.store_promise.specs.declared.events.Step.TheVariants as step
 use Rattle.store_promise.specs.LogTold.{LogTold, log_moved}
@@ -83,7 +83,7 @@ pub record IsMovedAlong (old : Device) (steps : List (Option Step)) (new : Devic
   pub calls : new.clock ≡ old.clock + count_by calls_device steps
   pub failures : new.failures ≡ old.failures + count_by fails steps
 
--- what transactions have taken, read and are fetching is what it was
+-- what transactions have taken, read and are fetching is what it was, and what they have taken stays in memory
 pub record KeepsTransactions (old new : CoreState) : Type 0 where
   pub inodes : new.inodes ≡ old.inodes
   pub begun : new.begun ≡ old.begun
@@ -91,6 +91,8 @@ pub record KeepsTransactions (old new : CoreState) : Type 0 where
   pub taken : (tx : ℕ) (addr : Addr) → taken_by new tx addr ≡ taken_by old tx addr
   pub fetches : (block : BlockNo) → is_fetching new block ≡ is_fetching old block
   pub reads : (tx : ℕ) → KeepsReads old new tx
+  pub loaded : (tx : ℕ) (addr : Addr) (content : Content) → is_some (taken_by old tx addr) ≡ true
+      → in_memory old addr.block ≡ Some content → in_memory new addr.block ≡ Some content
 
 -- what is told of a log, where an opening left it at a position
 abbrev pub told_of : ℕ → StoreSide → LogTold

@@ -7,13 +7,13 @@ returns-clause-told c = λ position old new logging installing tx place plan too
     took.group.grown took.still (longer old new tx place plan took) (few_blocks old new tx place plan took) from
 
 pub returns-clause-runs : goal.returns-clause-runs
-returns-clause-runs c = λ o more base side new fetches boot first last entries tx place plan entry run took sound tells
-    with_place.
+returns-clause-runs c = λ o base side new fetches boot first last entries tx place plan entry run took sound tells.
     let left = c.a_commit_leaves_the_store_open.ensures base side.device side.core new side.logging side.installing boot
     first last entries tx place plan entry run.since took sound tells in (
       left.0,
       left.1,
-      runs_after o more base side new fetches boot first last left.0 entries tx place plan entry run took sound
+      λ more with_place.
+          runs_after o more base side new fetches boot first last left.0 entries tx place plan entry run took sound
           with_place left.2,
     )
 

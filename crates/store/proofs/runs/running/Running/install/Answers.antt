@@ -10,6 +10,7 @@ use Rattle.store_promise.proofs.OpenSteps.{HasSameChanges, inst_out_same}
 use Rattle.store_promise.proofs.Places.{places_home}
 use Rattle.store.proofs.LogMoves.{inst_back_is, inst_given, inst_taken}
 use Rattle.store.proofs.LogSteps.{answered, fewer, goes_on, log_alone, log_places, none_out, of_installer, some_made}
+use Rattle.store.proofs.LogSteps.{still_loaded}
 use Rattle.store.proofs.LogSteps.{some_out}
 use Rattle.store.specs.LogSide.{MayInstall, pending_of}
 use Rattle.store.proofs.runs.running.Running.install.Goals as goal
@@ -66,6 +67,7 @@ returns-in-Some-take-clause-step g c =
       taken = c.inst_done.ensures.leaves.holds;
       fetches = c.inst_done.ensures.leaves.fetches;
       reads = c.inst_done.ensures.stays;
+      loaded = still_loaded core new c.inst_done.ensures.leaves;
     } in
     let was = answered io ok in
     of_installer MayInstall (Some (step.InstDone ok)) d d core new beside made idle _ _
