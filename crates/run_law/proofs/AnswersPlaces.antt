@@ -93,9 +93,6 @@ module _ (o : Setting) (workers : ℕ) (told : Told) (now : Event) (made : Optio
       → IsOwn worker now → told.workers worker ≡ At job (Planning begun) → Takes told now made worker place
   takes_now worker place blocks job begun is own at = by_event own
     where
-      one : Step
-      one = commit_of blocks place
-
       may : IsStepOf o told now (Some (commit_of blocks place))
       may = may_be o workers told now (commit_of blocks place)
           (subst (λ (m : Option Step). IsTaken o workers told now m) is is_taken)

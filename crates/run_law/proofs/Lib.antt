@@ -4,6 +4,7 @@ pub mod ToldTaken
 pub mod ToldMoves
 pub mod ToldStages
 pub mod ToldNumbers
+pub mod ToldNothing
 pub mod EntriesCommits
 pub mod EntriesGrow
 pub mod AnswersPlaces

@@ -108,7 +108,7 @@ module _ (o : Setting) (workers : ℕ) (events : Schedule) (t : Transcript) (tre
     (taken : AreTaken o workers events t.steps) (history : IsHistory events t) (answers : AreAnswers events t)
     (leads : after tree (entries_of t) last)
     (never : (tree next : Tree) (ctx : Ctx) (asked : Call) → is_answered_stable asked ≡ true
-        → model.step tree ctx asked (refused status.Io asked) next → ⊥) where
+    → model.step tree ctx asked (refused status.Io asked) next → ⊥) where
   module _ (a : Answer) (place : ℕ) (answer : IsAnswer events t a) (stable : IsStableAnswer t a place) where
     step_there : slice_get t.steps a.event ≡ Some (Some answer.step)
     step_there = step_is t a.event answer.step answer.made
@@ -132,7 +132,7 @@ module _ (o : Setting) (workers : ℕ) (events : Schedule) (t : Transcript) (tre
         let so_far = answer.so_far ∙ ap (At answer.job) stage_is in
         let may = subst (λ p. IsStepOfWork o (told_before events t.steps a.event) a.worker p (Some answer.step)) so_far own in
         let stepped = subst (λ one. IsStepOfWork o (told_before events t.steps a.event) a.worker
-            (At answer.job (Waiting waited)) (Some one)) step_is_stable may in
+        (At answer.job (Waiting waited)) (Some one)) step_is_stable may in
         let less = leb-true waited (settled_told (told_before events t.steps a.event).log) (sym stepped.1) in
         omega (arith, less, same)
 
@@ -143,14 +143,14 @@ module _ (o : Setting) (workers : ℕ) (events : Schedule) (t : Transcript) (tre
         let so_far = answer.so_far ∙ ap (At answer.job) stage_is in
         let own = waits_for_its_own o workers events t taken history a.worker answer.job waited a.event within so_far in
         let entry_is : own.0 ≡ stable.entry = same_entry t place own.0 stable.entry
-            (ap (λ (n : ℕ). committed_at t n) (sym same) ∙ own.1) stable.is_entry in
+        (ap (λ (n : ℕ). committed_at t n) (sym same) ∙ own.1) stable.is_entry in
         let call_is : stable.entry.call ≡ answer.job.call = ap (λ (c : Committed). c.call) (sym entry_is) ∙ own.2 in
         let replies : verdict.Reply stable.entry.reply ≡ verdict.Reply (refused status.Io answer.job.call) =
-            sym stable.told ∙ told in
+        sym stable.told ∙ told in
         let reply_is : stable.entry.reply ≡ refused status.Io answer.job.call = cc in
         let index = entry_index t place stable.entry stable.is_entry in
         let led = step_of tree last (entries_of t) index.0 (entry_of stable.entry) leads
-            (entry_there t.history index.0 stable.entry index.1) in
+        (entry_there t.history index.0 stable.entry index.1) in
         never led.0 led.1 stable.entry.ctx stable.entry.call stable.waits
         (subst (λ (r : Reply). model.step led.0 stable.entry.ctx stable.entry.call r led.1)
         (reply_is ∙ ap (refused status.Io) (sym call_is)) led.2)

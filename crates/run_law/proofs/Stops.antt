@@ -75,7 +75,7 @@ module _ (size first : ℕ) (tree : Tree) (events : Schedule) (start : ℕ) (t :
     (blocks later : ℕ → Image) (clock : ℕ) (image : Image)
     (same : (place : ℕ) → place ≤ length t.history → later place ≡ blocks place)
     (told_stays : (index : ℕ) → index ≤ length t.steps
-        → told_before events (with_noted t noted).steps index ≡ told_before events t.steps index)
+    → told_before events (with_noted t noted).steps index ≡ told_before events t.steps index)
     (before_it : clock < start + clock_now (with_noted t noted))
     (left : LeavesSoFar size first tree events start t blocks clock image) where
   few : left.prefix.count ≤ length t.history
@@ -205,9 +205,9 @@ module _ (b : Beginning) (o : Setting) (t : Transcript) (base : Image) (side : S
           by_length false is =
               let far = leb-false event (length t.steps) is in
               let all : device_calls t event ≡ clock_now t =
-                  ap (λ (steps : List (Option Step)). count_by calls_device steps)
-                  (take_all event t.steps (omega (arith, far)))
-                  ∙ sym (clock_is t) in
+              ap (λ (steps : List (Option Step)). count_by calls_device steps)
+              (take_all event t.steps (omega (arith, far)))
+              ∙ sym (clock_is t) in
               omega (arith, all)
 
   pub left_now : LeavesSoFar b.opened.size b.first b.tree b.events start t o.blocks side.device.clock image
@@ -245,9 +245,9 @@ module _ (b : Beginning) (o later : Setting) (t : Transcript) (base home : Image
     (fetches left : List Fetch) (last next : Tree) (noted : Noted)
     (run : IsRun b o t base side fetches last) (goes : GoesOn b o t side noted later home new left next)
     (told_stays : (index : ℕ) → index ≤ length t.steps
-        → told_before b.events (with_noted t noted).steps index ≡ told_before b.events t.steps index)
+    → told_before b.events (with_noted t noted).steps index ≡ told_before b.events t.steps index)
     (now : (image : Image) → IsCrashImage side.device side.device.clock image
-        → LeavesSoFar b.opened.size b.first b.tree b.events b.opened.clock t o.blocks side.device.clock image) where
+    → LeavesSoFar b.opened.size b.first b.tree b.events b.opened.clock t o.blocks side.device.clock image) where
   clock_new : new.device.clock ≡ b.opened.clock + clock_now (with_noted t noted)
   clock_new =
       let moved = run.moved.calls in

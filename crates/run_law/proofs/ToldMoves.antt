@@ -60,6 +60,12 @@ own_move told worker one =
     let itself : nat_eq worker worker ≡ true = grind (arith, nat_tests) in
     ap (λ (b : Bool). if b then progressed told.log.broken one (told.workers worker) else told.workers worker) itself
 
+-- and one whose read is made goes on by that
+pub own_read : (told : Told) (worker : ℕ) (one : Step)
+    → (told_after told (event.Read worker) (Some one)).workers worker
+    ≡ progressed told.log.broken one (told.workers worker)
+own_read told worker one = own_move told worker one
+
 -- ---- a step is one that its event may make
 
 module _ (o : Setting) (workers : ℕ) (told : Told) (e : Event) (one : Step)

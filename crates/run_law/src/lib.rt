@@ -5,5 +5,5 @@
 mod noting;
 mod runs;
 
-pub use noting::what_is_told_grows;
+pub use noting::{only_work_tells, what_is_told_grows};
 pub use runs::{a_run_begins, a_run_goes_on, a_run_keeps_its_promise};

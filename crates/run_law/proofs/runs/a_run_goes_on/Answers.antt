@@ -1,4 +1,4 @@
-use Rattle.std.proofs.Common.{◌≡◌, ℕ, ◌+◌, ap, sym, ◌∙◌, subst, ◌∷◌, []}
+use Rattle.std.proofs.Common.{ℕ, ◌+◌, ap, sym, ◌∙◌, subst, ◌∷◌, []}
 use Rattle.store_promise.specs.LogTold.{settled_told}
 use Rattle.store_promise.specs.Transcript.{entries_of}
 use Rattle.store_promise.specs.Headline.{IsGeometryOf}
@@ -13,8 +13,8 @@ pub returns : goal.returns
 returns c = λ b o later t base home side new fetches left last next noted run goes.
     let notes = c.what_is_told_grows.ensures in
     let settled_is = ap (λ log. settled_told log) run.told.log
-        ∙ c.what_is_settled_is_told.ensures o.position side.core.log side.logging side.installing
-        run.running.since.over.lawful in
+    ∙ c.what_is_settled_is_told.ensures o.position side.core.log side.logging side.installing
+    run.running.since.over.lawful in
     record {
       opens = subst (λ (at : ℕ). IsOpened b.before b.opened b.tree b.first at)
           (sym (ap (λ (s : Setting). s.position) goes.same)) run.opens;

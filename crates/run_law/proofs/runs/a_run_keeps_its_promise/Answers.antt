@@ -21,9 +21,9 @@ module _ (b : Beginning) (o : Setting) (t : Transcript) (base : Image) (side : S
     (last : Tree) (run : IsRun b o t base side fetches last)
     (settled_is : settled_told (told_now b.events t).log ≡ settled_place side.core.log)
     (now : (image : Image) → IsCrashImage side.device side.device.clock image
-        → LeavesBlocks base side.core (b.first + 1) b.tree (entries_of t) image)
+    → LeavesBlocks base side.core (b.first + 1) b.tree (entries_of t) image)
     (told : (clock place : ℕ) → WasPromised b.events b.opened.clock t clock place
-        → WasToldBy b.events b.opened.clock t clock place) where
+    → WasToldBy b.events b.opened.clock t clock place) where
   abbrev Left : ℕ → Image → Type 0
   Left clock image = LeavesSoFar b.opened.size b.first b.tree b.events b.opened.clock t o.blocks clock image
 
@@ -62,12 +62,12 @@ module _ (b : Beginning) (o : Setting) (t : Transcript) (base : Image) (side : S
 pub returns : goal.returns
 returns c = λ b o t base side fetches last run left.
     let settled_is = ap (λ log. settled_told log) run.told.log
-        ∙ c.what_is_settled_is_told.ensures o.position side.core.log side.logging side.installing
-        run.running.since.over.lawful in
+    ∙ c.what_is_settled_is_told.ensures o.position side.core.log side.logging side.installing
+    run.running.since.over.lawful in
     let now : (image : Image) → IsCrashImage side.device side.device.clock image
-        → LeavesBlocks base side.core (b.first + 1) b.tree (entries_of t) image =
-        λ image crash. c.a_stop_leaves_a_beginning.ensures.blocks base side.device side.core side.logging
-        side.installing (b.first + 1) b.tree last (entries_of t) image run.running.since crash in
+    → LeavesBlocks base side.core (b.first + 1) b.tree (entries_of t) image =
+    λ image crash. c.a_stop_leaves_a_beginning.ensures.blocks base side.device side.core side.logging
+    side.installing (b.first + 1) b.tree last (entries_of t) image run.running.since crash in
     record {
       opened = b.opened;
       setting = o;
