@@ -15,6 +15,7 @@ pub mod EventTells
 pub mod FormatStops
 pub mod Formatted
 pub mod GoingOn
+pub mod GoingWork
 pub mod HowFar
 pub mod Later
 pub mod LogMoves
