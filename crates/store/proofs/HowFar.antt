@@ -1,9 +1,8 @@
 -- How far a worker is after its steps is what these tell.
-use Rattle.std.proofs.Common.{◌≡◌, ◌∙◌, refl, sym, ap, subst, ℕ, Bool, true, false, Option, Some, None, Ok, Err}
-use Rattle.std.proofs.Common.{List, [], ◌∷◌, ◌++◌, is_ok}
-use Rattle.std.specs.Prelude.{IsSomeAnd, map, option_to_list, unwrap_or}
+use Rattle.std.proofs.Common.{◌≡◌, ◌∙◌, refl, sym, ap, ℕ, Bool, true, false, Option, Some, None, Ok, Err}
+use Rattle.std.proofs.Common.{List, [], ◌∷◌, ◌++◌}
+use Rattle.std.specs.Prelude.{IsSomeAnd, map, option_to_list}
 use Rattle.std.proofs.lemmas.List.{map-append}
-use Rattle.disk.specs.Device.{Device}
 use Rattle.disk.specs.declared.block.BlockNo.{BlockNo}
 use Rattle.objects.specs.declared.addr.Addr.{Addr}
 use Rattle.objects.specs.declared.mode.Mode.TheVariants as modes
@@ -27,7 +26,6 @@ use Rattle.txn.specs.declared.outcomes.Want.{Want}
 use Rattle.txn.specs.declared.outcomes.Want.TheVariants as want
 use Rattle.store_promise.specs.Progress.{Progress}
 use Rattle.store_promise.specs.Progress as told
-use Rattle.store_promise.specs.declared.answers.Verdict.{Verdict}
 use Rattle.store_promise.specs.declared.answers.Verdict.TheVariants as verdict
 use Rattle.store_promise.specs.declared.events.Committing.TheVariants as committing
 use Rattle.store_promise.specs.declared.events.Ending.TheVariants as ending
@@ -37,17 +35,15 @@ use Rattle.store_promise.specs.declared.events.Step.TheVariants as step
 use Rattle.store.proofs.WorkCases.{Cases, by_cases}
 use Rattle.store.specs.Asked.{Asking, with_fetched}
 use Rattle.store.specs.Seen.{Seen, seen_in}
-use Rattle.store.specs.Stages.{IsFetchOf, IsJobIn, IsJobOf, IsWorkerAt, RunsIn, StandsAt, WaitsFor, alone}
+use Rattle.store.specs.Stages.{IsWorkerAt, StandsAt, alone}
 use Rattle.store.specs.Stages.{at_fetch, at_stage, begun_of, claimed_in, handed, held_in, progress_in, progress_of}
 use Rattle.store.specs.WorkTells.{progress_after}
 use Rattle.store.specs.WorkerAnswers.{after_commit, asked_wanted, begun_claimed, begun_wanted, claim_wish}
 use Rattle.store.specs.WorkerAnswers.{committing_of, phase_claimed, phase_wanted, seen_claimed, seen_wanted, told_of}
 use Rattle.store.specs.WorkerAnswers.{wish_of, with_answer, with_entry}
-use Rattle.store.specs.WorkerReads.{HasReadBlock}
 use Rattle.store.specs.WorkerSteps.{GoesOn, HasBegun, HasClaimed, HasCommitted, HasGivenBack, HasLacked, HasLeft}
 use Rattle.store.specs.WorkerSteps.{HasWanted, IsNext, IsTold, SawNothing, Side, Waits, given_step, none_begun}
 use Rattle.store.specs.WorkerSteps.{phase_given, with_snap}
-use Rattle.store.specs.declared.workers.parts.Begun.{Begun}
 use Rattle.store.specs.declared.workers.parts.Job.{Job}
 use Rattle.store.specs.declared.workers.parts.Phase.{Phase}
 use Rattle.store.specs.declared.workers.parts.Phase.TheVariants.{Idle, Called, Planning, Reading, Read}
