@@ -10,18 +10,17 @@ mod telling;
 ghost use Rattle.std.specs.Prelude.{◌≡◌, true, is_some};
 ghost use Rattle.store.specs.Phases.{has_fetch, has_transaction, is_ready};
 
+use asked::Asked;
 use disk::{BlockNo, CrashDisk};
 use nfs_types::{Call, Credential, Ctx, Moment};
-use asked::Asked;
 use parts::{Begun, Job, Phase, State, Work};
 use procs::Done;
 use std::alloc::Global;
 use store_promise::{CallAnswer, Entry, Step};
-use txn::Core;
-
 pub(crate) use telling::{
     a_run_notes_its_workers_steps, a_worker_tells_its_call, a_worker_tells_its_read,
 };
+use txn::Core;
 
 /// A worker: the state of one procedure. What its steps commit and answer lies ready to be taken. Its type keeps
 /// that it has what it needs to go on.
