@@ -4,10 +4,12 @@ pub mod AtHand
 pub mod CallsLeft
 pub mod ComingHome
 pub mod Driven
+pub mod DrivenAlone
 pub mod FormatStops
 pub mod Formatted
 pub mod Later
 pub mod LogMoves
+pub mod LogRoom
 pub mod LogSteps
 pub mod LoneWorker
 pub mod Made

@@ -2,6 +2,7 @@ pub mod Alone
 pub mod BringingHome
 pub mod Counts
 pub mod Driving
+pub mod Fetches
 pub mod Formatting
 pub mod LogSide
 pub mod Opening
