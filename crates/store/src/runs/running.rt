@@ -7,6 +7,7 @@ ghost use Rattle.store_promise.specs.Room.{HasRoom};
 ghost use Rattle.store_promise.specs.Running.{IsLogStep};
 ghost use Rattle.store_promise.specs.Transcript.{entries_of, transcript_of};
 ghost use Rattle.store.specs.LogSide.{MayInstIo, MayInstall, MayLog, MayLogIo, side_of};
+ghost use Rattle.store.specs.Going.{KeepsCore, LeavesGoing, run_side};
 ghost use Rattle.store.specs.Noting.{NotesWork};
 ghost use Rattle.store.specs.Running.{RunsWell, counted, one_more};
 ghost use Rattle.store.specs.Settling.{IsIdle};
@@ -18,6 +19,7 @@ ghost use Rattle.store.specs.WorkerReads.{HasReadBlock};
 ghost use Rattle.store.specs.WorkerSteps.{side};
 ghost use Rattle.store.specs.declared.workers.parts.Phase.TheVariants.{Reading};
 
+use super::going::{a_log_event_leaves_a_run_going, a_work_event_leaves_a_run_going};
 use crate::opened::Store;
 use crate::options::put;
 use crate::workers::{
@@ -80,7 +82,14 @@ impl<D: CrashDisk> Running<D> {
         requires room { HasRoom run.old }
         ensures well { RunsWell self.new.worker self.new.store.core self.new.calls }
         ensures model { D.keeps_model self.new.store.disk → D.keeps_model self.old.store.disk }
+        ensures goes { LeavesGoing (D.keeps_model self.new.store.disk) event
+            (run_side (D.device self.old.store.disk) self.old.store.core self.old.calls self.old.worker.state
+            self.old.clock) run.old
+            (run_side (D.device self.new.store.disk) self.new.store.core self.new.calls self.new.worker.state
+            self.new.clock) run.new }
     {
+        a_log_event_leaves_a_run_going();
+        a_work_event_leaves_a_run_going();
         let step = match event {
             Event::Call {
                 worker,
@@ -141,6 +150,8 @@ impl<D: CrashDisk> Running<D> {
             → self.old.store.core.log.places ≡ length run.old.history.items
             → NotesWork boot self.old.clock (side self.old.worker.state self.old.store.core) result
             (side self.new.worker.state self.new.store.core) run.old run.new }
+        ensures core { worker ≡ 0 → KeepsCore (side self.old.worker.state self.old.store.core)
+            (side self.new.worker.state self.new.store.core) }
     {
         a_run_notes_its_workers_steps();
         if worker != 0 {
@@ -148,6 +159,7 @@ impl<D: CrashDisk> Running<D> {
         }
         let step = self.worker.step(alloc, &mut self.store.core);
         self.tell(worker, run);
+        self.store.core.lawful();
         step
     }
 
