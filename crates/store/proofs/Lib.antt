@@ -11,6 +11,7 @@ pub mod CallsLeft
 pub mod ComingHome
 pub mod CommitTold
 pub mod Driven
+pub mod DrivenAlone
 pub mod EventTells
 pub mod FormatStops
 pub mod Formatted
@@ -22,6 +23,7 @@ pub mod GoingWork
 pub mod HowFar
 pub mod Later
 pub mod LogMoves
+pub mod LogRoom
 pub mod LogSteps
 pub mod LoneWorker
 pub mod Made
