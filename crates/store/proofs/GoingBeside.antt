@@ -1,5 +1,5 @@
 -- A run goes on with an event that commits nothing and ends no call: its step is all that is told with it.
-use Rattle.std.proofs.Common.{◌≡◌, refl, sym, subst, ℕ, ◌+◌, List, Option, None, take}
+use Rattle.std.proofs.Common.{◌≡◌, refl, sym, subst, ◌+◌, List, Option, None, take}
 use Rattle.disk.specs.Crash.{Image}
 use Rattle.model.specs.After.{Entry, after as leads_to}
 use Rattle.model.specs.Tree.{Tree}
@@ -8,7 +8,7 @@ use Rattle.store_promise.specs.declared.events.Step.{Step}
 use Rattle.store_promise.specs.declared.transcript.Run.{Run}
 use Rattle.store_promise.specs.Headline.{StandsAfter}
 use Rattle.store_promise.specs.Running.{IsMovedBy, IsRunningOver, IsTold, StoreSide}
-use Rattle.store_promise.specs.Schedule.{IsOfOne, IsTaken, Setting, Told, told_after, worker_of}
+use Rattle.store_promise.specs.Schedule.{IsOfOne, IsTaken, Setting, told_after, worker_of}
 use Rattle.store_promise.specs.Transcript.{Transcript, entries_of, transcript_of}
 use Rattle.run_law.specs.Noting.{TellsOfEvent, told_now, with_noted}
 use Rattle.run_law.specs.Run.{Beginning, GoesOn, IsRun}

@@ -1,13 +1,11 @@
 -- A run goes on with a call that is handed to its worker.
-use Rattle.std.proofs.Common.{◌≡◌, ◌∙◌, refl, sym, subst, ℕ, zero, suc, ◌+◌, ◌<◌, Bool, false, Option, Some, None, arith}
+use Rattle.std.proofs.Common.{◌≡◌, ◌∙◌, refl, sym, subst, ℕ, zero, suc, ◌+◌, false, Option, Some, None, arith}
 use Rattle.nfs_types.specs.declared.call.Call.{Call}
 use Rattle.nfs_types.specs.declared.ctx.Credential.{Credential}
 use Rattle.nfs_types.specs.declared.ctx.Ctx.{Ctx}
 use Rattle.nfs_types.specs.declared.ctx.Moment.{Moment}
-use Rattle.store_promise.specs.declared.events.Event.{Event}
 use Rattle.store_promise.specs.declared.events.Event.TheVariants as event
 use Rattle.store_promise.specs.declared.events.Step.{Step}
-use Rattle.store_promise.specs.declared.events.Step.TheVariants as step
 use Rattle.store_promise.specs.declared.transcript.Run.{Run}
 use Rattle.store_promise.specs.Progress.{Job, Progress}
 use Rattle.store_promise.specs.Running.{IsMovedBy, IsRunningOver, IsTold, StoreSide}
@@ -15,7 +13,6 @@ use Rattle.store_promise.specs.Schedule.{IsOfOne, IsStepOfCall, Setting, Told, t
 use Rattle.store_promise.specs.Transcript.{Transcript, calls_device, entries_of, transcript_of}
 use Rattle.run_law.specs.Noting.{told_now}
 use Rattle.run_law.specs.Run.{Beginning}
-use Rattle.txn_law.specs.Fetch.{Fetch}
 use Rattle.store.specs.AtWork.{IsCoreAtWork, fetches_of}
 use Rattle.store.specs.Going.{IsGoing}
 use Rattle.store.specs.Stages.{progress_of}

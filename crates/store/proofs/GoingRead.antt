@@ -1,7 +1,6 @@
 -- A run goes on with a read of its worker.
-use Rattle.std.proofs.Common.{◌≡◌, ◌∙◌, refl, sym, ap, subst, ℕ, zero, suc, ◌+◌, Bool, false, is_ok, Option, Some, None}
-use Rattle.disk.specs.Device.{Content, Device}
-use Rattle.store_promise.specs.declared.events.Event.{Event}
+use Rattle.std.proofs.Common.{◌≡◌, ◌∙◌, refl, sym, ap, subst, ℕ, zero, suc, ◌+◌, is_ok, Option, Some, None}
+use Rattle.disk.specs.Device.{Device}
 use Rattle.store_promise.specs.declared.events.Event.TheVariants as event
 use Rattle.store_promise.specs.declared.events.Step.{Step}
 use Rattle.store_promise.specs.declared.events.Step.TheVariants as step
@@ -30,17 +29,21 @@ pub with_model : (keeps_model : Type 0) (number : ℕ) (before after : Device) (
     → keeps_model → MakesRead number keeps_model before old made after new
     → MakesRead number (Unit {0}) before old made after new
 with_model keeps_model number before after old new None keeps reads = reads
-with_model keeps_model number before after old new (Some made) keeps reads = (reads.0, reads.1, record {
-  io = reads.2.io;
-  io_is = reads.2.io_is;
-  answer = reads.2.answer;
-  made_is = reads.2.made_is;
-  content = reads.2.content;
-  worker = reads.2.worker;
-  call = reads.2.call;
-  failure = reads.2.failure;
-  brings = λ unit. reads.2.brings keeps;
-})
+with_model keeps_model number before after old new (Some made) keeps reads = (
+  reads.0,
+  reads.1,
+  record {
+    io = reads.2.io;
+    io_is = reads.2.io_is;
+    answer = reads.2.answer;
+    made_is = reads.2.made_is;
+    content = reads.2.content;
+    worker = reads.2.worker;
+    call = reads.2.call;
+    failure = reads.2.failure;
+    brings = λ unit. reads.2.brings keeps;
+  },
+)
 
 -- another than the one worker reads nothing
 reads_none : (other : ℕ) (keeps_model : Type 0) (before after : Device) (old new : State) (made : Option Step)

@@ -1,5 +1,5 @@
 //! The events of a run.
-ghost use Rattle.std.specs.Prelude.{◌≡◌, ℕ, ◌<◌, ◌++◌, List, [], None, MatchOption, length, vec_len, vec_capacity};
+ghost use Rattle.std.specs.Prelude.{◌≡◌, ℕ, ◌<◌, ◌++◌, List, [], None, length, vec_len, vec_capacity};
 ghost use Rattle.model.specs.After.{Entry as ToldEntry};
 ghost use Rattle.model.specs.Sound.{SoundTime};
 ghost use Rattle.txn.specs.Core.{CoreState};
@@ -16,7 +16,6 @@ ghost use Rattle.store.specs.WorkTells.{TellsCall, TellsRead};
 ghost use Rattle.store.specs.Worker.{Fits, at_rest, ctx_of};
 ghost use Rattle.store.specs.WorkerReads.{MakesRead};
 ghost use Rattle.store.specs.WorkerSteps.{side};
-ghost use Rattle.store.specs.declared.workers.parts.Phase.TheVariants.{Reading};
 
 use crate::opened::Store;
 use crate::options::put;
