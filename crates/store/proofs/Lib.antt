@@ -15,7 +15,10 @@ pub mod DrivenAlone
 pub mod EventTells
 pub mod FormatStops
 pub mod Formatted
+pub mod GoingBeside
+pub mod GoingCall
 pub mod GoingOn
+pub mod GoingRead
 pub mod GoingWork
 pub mod HowFar
 pub mod Later

@@ -2,6 +2,7 @@
 ghost use Rattle.std.specs.Prelude.{◌≡◌};
 
 mod going;
+mod going_workers;
 mod running;
 
 use crate::opened::close;

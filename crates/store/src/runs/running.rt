@@ -1,5 +1,5 @@
 //! The events of a run.
-ghost use Rattle.std.specs.Prelude.{◌≡◌, ℕ, ◌<◌, ◌++◌, List, [], None, MatchOption, length, vec_len, vec_capacity};
+ghost use Rattle.std.specs.Prelude.{◌≡◌, ℕ, ◌<◌, ◌++◌, List, [], None, length, vec_len, vec_capacity};
 ghost use Rattle.model.specs.After.{Entry as ToldEntry};
 ghost use Rattle.model.specs.Sound.{SoundTime};
 ghost use Rattle.txn.specs.Core.{CoreState};
@@ -15,9 +15,8 @@ ghost use Rattle.store.specs.Telling.{HasWorked, TakesCall, TellsWork, answers_t
 ghost use Rattle.store.specs.Stages.{IsWorkerAt};
 ghost use Rattle.store.specs.WorkTells.{TellsCall, TellsRead};
 ghost use Rattle.store.specs.Worker.{Fits, at_rest, ctx_of};
-ghost use Rattle.store.specs.WorkerReads.{HasReadBlock};
+ghost use Rattle.store.specs.WorkerReads.{MakesRead};
 ghost use Rattle.store.specs.WorkerSteps.{side};
-ghost use Rattle.store.specs.declared.workers.parts.Phase.TheVariants.{Reading};
 
 use super::going::{a_log_event_leaves_a_run_going, a_work_event_leaves_a_run_going};
 use crate::opened::Store;
@@ -184,12 +183,8 @@ impl<D: CrashDisk> Running<D> {
         ensures model { D.keeps_model self.new.store.disk → D.keeps_model self.old.store.disk }
         ensures rest { (self.new.calls ≡ self.old.calls) × (self.new.store.core ≡ self.old.store.core) }
         ensures clock { self.new.clock ≡ counted self.old.clock result }
-        ensures step { MatchOption result
-            ((self.new.worker ≡ self.old.worker) × (D.device self.new.store.disk ≡ D.device self.old.store.disk)
-            × ((worker ≡ 0) × (self.old.worker.state.phase ≡ Reading) → ⊥))
-            (λ made. (worker ≡ 0) × HasReadBlock (D.keeps_model self.new.store.disk)
-            (D.device self.old.store.disk) self.old.worker.state made (D.device self.new.store.disk)
-            self.new.worker.state) }
+        ensures step { MakesRead worker (D.keeps_model self.new.store.disk) (D.device self.old.store.disk)
+            self.old.worker.state result (D.device self.new.store.disk) self.new.worker.state }
         ensures told { worker ≡ 0 → (boot : ℕ) (entries : List ToldEntry)
             → IsWorkerAt boot entries self.old.worker.state
             → TellsRead boot entries self.old.worker.state result self.new.worker.state }
