@@ -1,6 +1,7 @@
 pub mod AfterCommit
 pub mod AskedAlone
 pub mod AtHand
+pub mod AtWorkBeside
 pub mod AtWorkEvents
 pub mod AtWorkFetched
 pub mod AtWorkGoes

@@ -4,6 +4,7 @@ use Rattle.std.specs.Prelude.{◌≡◌, ℕ, ◌+◌, ◌≤◌, ◌++◌, ◌�
 use Rattle.std.specs.Prelude.{List, [], All, length, option_to_list}
 use Rattle.disk.specs.Crash.{Image}
 use Rattle.disk.specs.Device.{Content}
+use Rattle.disk.specs.declared.block.BlockNo.{BlockNo}
 use Rattle.objects.specs.declared.addr.Addr.{Addr}
 use Rattle.model.specs.After.{Entry as Committed}
 use Rattle.model.specs.Step as model
@@ -13,7 +14,7 @@ use Rattle.txn.specs.Outcomes.{TakesPlace}
 use Rattle.txn_law.specs.Commit.{Planned}
 use Rattle.txn_law.specs.Core.{CoreState}
 use Rattle.txn_law.specs.Fetch.{Fetch}
-use Rattle.txn_law.specs.Leaves.{in_memory, taken_by}
+use Rattle.txn_law.specs.Leaves.{IsNeeded, in_memory, taken_by}
 use Rattle.store_promise.specs.OpenSince.{TellsOf, blocks_after, file_blocks}
 use Rattle.store_promise.specs.Running.{IsRunningOver, StoreSide}
 use Rattle.store_promise.specs.Schedule.{Setting}
@@ -135,3 +136,12 @@ pub record GoesOnWith (o : Setting) (base : Image) (store : StoreSide) (new : Si
       (entries ++ entry_by number taken.entry ∷ []) left
   pub places : (more : Setting) → HasPlaceMore o (length entries) (file_blocks base new.core) more
       → HasBlocksOfPlaces o base old.core → HasBlocksOfPlaces more base new.core
+
+-- ---- beside the worker
+
+-- The counts stay, and what is needed of memory: so it is of each step of the log and of the installer.
+pub record StaysLoaded (old new : CoreState) : Type 0 where
+  pub blocks : new.log.blocks ≡ old.log.blocks
+  pub inodes : new.inodes ≡ old.inodes
+  pub memory : (block : BlockNo) (content : Content) → in_memory old block ≡ Some content → IsNeeded new block
+      → in_memory new block ≡ Some content

@@ -19,7 +19,7 @@ ghost use Rattle.txn_law.specs.Core.{CoreState};
 ghost use Rattle.txn_law.specs.Fetch.{Fetch};
 ghost use Rattle.txn_law.specs.Group.{blocks_of};
 ghost use Rattle.txn_law.specs.HomeRead.{HasContents};
-ghost use Rattle.txn_law.specs.Leaves.{Leaves, is_fetching, taken_by, without_fetch};
+ghost use Rattle.txn_law.specs.Leaves.{Leaves, in_memory, is_fetching, taken_by, without_fetch};
 ghost use Rattle.txn_law.specs.Tidy.{AreTidy};
 ghost use Rattle.txn_law.specs.Wishes.{IsFetched, IsHeld};
 ghost use Rattle.wal_law.specs.Calls.{Pending};
@@ -29,14 +29,15 @@ ghost use Rattle.store_promise.specs.OpenSince.{IsOpenSince, IsSoundCore, Stands
 ghost use Rattle.store_promise.specs.declared.events.Event.TheVariants as event;
 ghost use Rattle.store_promise.specs.declared.events.Step.{Step};
 ghost use Rattle.store_promise.specs.declared.events.Step.TheVariants as made;
-ghost use Rattle.store_promise.specs.Running.{IsRunningOver, IsTold, StoreSide};
+ghost use Rattle.store_promise.specs.Running.{IsRunningOver, IsTold, KeepsTransactions, StoreSide};
 ghost use Rattle.store_promise.specs.Schedule.{IsStepOfWork, Setting, Told, told_after};
 ghost use Rattle.store_promise.specs.ToldOf.{log_told};
 ghost use Rattle.store.specs.AtWork.{AreLoadedFor, GoesOnWith, HasBlocksOfPlaces, HasPlaceMore, IsCoreAtWork};
+ghost use Rattle.store.specs.AtWork.{StaysLoaded};
 ghost use Rattle.store.specs.AtWork.{fetches_of, has_committed, has_taken, with_core};
 ghost use Rattle.store.specs.Stages.{IsWorkerAt, progress_of};
 ghost use Rattle.store.specs.Telling.{TakesCall, told};
-ghost use Rattle.store.specs.Worker.{GoesWith};
+ghost use Rattle.store.specs.Worker.{GoesWith, at_rest};
 ghost use Rattle.store.specs.WorkerReads.{with_read};
 ghost use Rattle.store.specs.WorkerSteps.{GoesOn, KeepsHomeOf, KeepsReadsOf, Side, side, there_given};
 ghost use Rattle.store.specs.declared.workers.parts.Phase.TheVariants.{Reading};
@@ -177,3 +178,16 @@ pub(crate) fn a_read_leaves_the_run_going()
 {
     store_promise::a_read_leaves_the_store_open();
 }
+
+// A new worker has a core at work for it where nothing is in memory, and steps of the log and of the installer leave it
+// so.
+pub(crate) fn a_log_step_leaves_a_core_at_work()
+    ensures first { (boot : ℕ) (core : CoreState) → core.present ≡ [] → GoesWith (at_rest boot) core
+        → IsCoreAtWork (at_rest boot) core }
+    ensures stays { (worker : State) (old new : CoreState) → KeepsTransactions old new → StaysLoaded old new
+        → IsCoreAtWork worker old → IsCoreAtWork worker new }
+    ensures logger { (old new : CoreState) → new ≡ record old { log = new.log } → new.log.blocks ≡ old.log.blocks
+        → StaysLoaded old new }
+    ensures installer { (old new : CoreState) → new.log.blocks ≡ old.log.blocks → new.inodes ≡ old.inodes
+        → Leaves new (taken_by old) (is_fetching old) (in_memory old) → StaysLoaded old new }
+{}
