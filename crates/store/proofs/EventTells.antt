@@ -3,7 +3,8 @@ use Rattle.std.proofs.Common.{◌≡◌, ◌∙◌, refl, sym, ap, subst, ℕ, B
 use Rattle.std.specs.Prelude.{IsSomeAnd}
 use Rattle.disk.specs.Device.{Content}
 use Rattle.nfs_types.specs.declared.call.Call.{Call}
-use Rattle.nfs_types.specs.declared.ctx.Ctx.{Ctx}
+use Rattle.nfs_types.specs.declared.ctx.Credential.{Credential}
+use Rattle.nfs_types.specs.declared.ctx.Moment.{Moment}
 use Rattle.objects.specs.declared.addr.Addr.{Addr}
 use Rattle.model.specs.After.{Entry}
 use Rattle.model.specs.Sound.{SoundTime}
@@ -21,7 +22,7 @@ use Rattle.store.specs.Stages.{IsFetchOf, IsJobIn, IsJobOf, IsWorkerAt, RunsIn, 
 use Rattle.store.specs.Stages.{progress_of}
 use Rattle.store.specs.Telling.{TakesCall}
 use Rattle.store.specs.WorkTells.{TellsCall, TellsRead, progress_after}
-use Rattle.store.specs.Worker.{with_call}
+use Rattle.store.specs.Worker.{ctx_of}
 use Rattle.store.specs.WorkerReads.{with_read}
 use Rattle.store.specs.declared.workers.parts.Job.{Job}
 use Rattle.store.specs.declared.workers.parts.Phase.{Phase}
@@ -61,10 +62,11 @@ takes_none boot entries state phase stands busy = by phase stands busy
     by Again stands busy = runs _ stands
     by (Waiting place) stands busy = at state.asked.waiting stands.job _ stands.job_is
 
-pub call_told : (boot : ℕ) (entries : List Entry) (ctx : Ctx) (call : Call) (old new : State) (made : Option Step)
-    → SoundTime ctx.moment → ctx.boot ≡ boot → IsWorkerAt boot entries old → TakesCall 0 ctx call old made new
-    → TellsCall boot entries ctx call old made new
-call_told boot entries ctx call old new (Some made) timely boot_is at takes = record {
+pub call_told : (boot : ℕ) (entries : List Entry) (credential : Credential) (moment : Moment) (call : Call)
+    (old new : State) (made : Option Step) → SoundTime moment → IsWorkerAt boot entries old
+    → TakesCall 0 (ctx_of credential moment old.boot) call old made new
+    → TellsCall boot entries (record { credential = credential; moment = moment; call = call }) old made new
+call_told boot entries credential moment call old new (Some made) timely at takes = record {
   may = subst (λ p. IsStepOfCall (progress_in p old.work.job (begun_of old.begun.tx (seen_in old.work.snap)
       old.asked.fetched) old.asked) (Some made)) (sym takes.2) (ap (λ m. Some m) takes.0);
   progress = ap progress_of takes.3;
@@ -72,10 +74,10 @@ call_told boot entries ctx call old new (Some made) timely boot_is at takes = re
     boot_is = at.boot_is;
     entry = at.entry;
     answer = at.answer;
-    stands = record { boot_is = boot_is; timely = timely };
+    stands = record { boot_is = at.boot_is; timely = timely };
   });
 }
-call_told boot entries ctx call old new None timely boot_is at takes = record {
+call_told boot entries credential moment call old new None timely at takes = record {
   may = takes_none boot entries old old.phase at.stands (λ idle. takes.1 (refl, idle));
   progress = ap progress_of takes.0;
   stands = subst (λ s. IsWorkerAt boot entries s) (sym takes.0) at;

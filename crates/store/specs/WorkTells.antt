@@ -1,8 +1,6 @@
 -- What a worker's step tells, and what lies ready after it, by how far the worker was.
 use Rattle.std.specs.Prelude.{◌≡◌, ℕ, ◌+◌, Bool, not, ◌&&◌, Option, Some, None, IfSome, IsSomeAnd, is_some}
 use Rattle.std.specs.Prelude.{List, [], ◌∷◌, ◌++◌, length}
-use Rattle.nfs_types.specs.declared.call.Call.{Call}
-use Rattle.nfs_types.specs.declared.ctx.Ctx.{Ctx}
 use Rattle.model.specs.After.{Entry}
 use Rattle.store_promise.specs.History.{ctx_of}
 use Rattle.store_promise.specs.Progress.{Begun, Job, Progress, Stage, At, Called, Planning, is_idle, progressed}
@@ -94,16 +92,15 @@ pub record TellsStep (boot number : ℕ) (entries : List Entry) (old : Side) (ma
 -- ---- a call that is handed over, and a read
 
 -- how far the worker is once it took a call, or where it took none
-abbrev pub once_handed : Ctx → Call → Option Step → Progress → Progress
-once_handed ctx call None progress = progress
-once_handed ctx call (Some made) progress =
-    At (record { credential = ctx.credential; moment = ctx.moment; call = call }) Called
+abbrev pub once_handed : Job → Option Step → Progress → Progress
+once_handed job None progress = progress
+once_handed job (Some made) progress = At job Called
 
 -- what the event tells of a worker that may take a call
-pub record TellsCall (boot : ℕ) (entries : List Entry) (ctx : Ctx) (call : Call) (old : State) (made : Option Step)
-    (new : State) : Type 0 where
+pub record TellsCall (boot : ℕ) (entries : List Entry) (job : Job) (old : State) (made : Option Step) (new : State)
+    : Type 0 where
   pub may : IsStepOfCall (progress_of old) made
-  pub progress : progress_of new ≡ once_handed ctx call made (progress_of old)
+  pub progress : progress_of new ≡ once_handed job made (progress_of old)
   pub stands : IsWorkerAt boot entries new
 
 -- and what it tells of one that may read

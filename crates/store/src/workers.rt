@@ -19,6 +19,10 @@ use std::alloc::Global;
 use store_promise::{CallAnswer, Entry, Step};
 use txn::Core;
 
+pub(crate) use telling::{
+    a_run_notes_its_workers_steps, a_worker_tells_its_call, a_worker_tells_its_read,
+};
+
 /// A worker: the state of one procedure. What its steps commit and answer lies ready to be taken. Its type keeps
 /// that it has what it needs to go on.
 pub struct Worker {

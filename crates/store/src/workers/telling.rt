@@ -2,7 +2,8 @@
 ghost use Rattle.std.specs.Prelude.{◌≡◌, ℕ, Bool, List, Option, Some, None, length};
 ghost use Rattle.disk.specs.Device.{Content};
 ghost use Rattle.nfs_types.specs.declared.call.Call.{Call};
-ghost use Rattle.nfs_types.specs.declared.ctx.Ctx.{Ctx};
+ghost use Rattle.nfs_types.specs.declared.ctx.Credential.{Credential};
+ghost use Rattle.nfs_types.specs.declared.ctx.Moment.{Moment};
 ghost use Rattle.model.specs.After.{Entry};
 ghost use Rattle.model.specs.Sound.{SoundTime};
 ghost use Rattle.txn.specs.Fetch.{Fetch};
@@ -10,6 +11,7 @@ ghost use Rattle.store.specs.Noting.{NotesWork};
 ghost use Rattle.store.specs.Stages.{IsWorkerAt};
 ghost use Rattle.store.specs.Telling.{HasWorked, TakesCall};
 ghost use Rattle.store.specs.WorkTells.{TellsCall, TellsRead, TellsStep};
+ghost use Rattle.store.specs.Worker.{ctx_of};
 ghost use Rattle.store.specs.WorkerReads.{with_read};
 ghost use Rattle.store.specs.WorkerSteps.{GoesOn, Side};
 ghost use Rattle.store.specs.declared.workers.parts.Phase.TheVariants.{Reading};
@@ -37,9 +39,10 @@ pub(crate) fn a_run_notes_its_workers_steps()
 
 /// A worker takes a call where it has none, and then has just that call.
 pub(crate) fn a_worker_tells_its_call()
-    ensures { (boot : ℕ) (entries : List Entry) (ctx : Ctx) (call : Call) (old new : State) (made : Option Step)
-        → SoundTime ctx.moment → ctx.boot ≡ boot → IsWorkerAt boot entries old → TakesCall 0 ctx call old made new
-        → TellsCall boot entries ctx call old made new }
+    ensures { (boot : ℕ) (entries : List Entry) (credential : Credential) (moment : Moment) (call : Call)
+        (old new : State) (made : Option Step) → SoundTime moment → IsWorkerAt boot entries old
+        → TakesCall 0 (ctx_of credential moment old.boot) call old made new
+        → TellsCall boot entries (record { credential = credential; moment = moment; call = call }) old made new }
 {}
 
 /// It reads where a read is due, the block of the object that it asked for.
