@@ -12,12 +12,14 @@ pub mod AtWorkTold
 pub mod CallsLeft
 pub mod ComingHome
 pub mod Driven
+pub mod DrivenAlone
 pub mod EventTells
 pub mod FormatStops
 pub mod Formatted
 pub mod HowFar
 pub mod Later
 pub mod LogMoves
+pub mod LogRoom
 pub mod LogSteps
 pub mod LoneWorker
 pub mod Made

@@ -36,7 +36,8 @@ use Rattle.store_promise.specs.declared.events.Step.TheVariants as step
 use Rattle.store.proofs.AskedAlone.{asked_same}
 use Rattle.store.proofs.StepKinds.{Beginning, beginning, ending}
 use Rattle.store.proofs.StepKinds.{begun, refused, replied, lacked, committed}
-use Rattle.store.specs.Alone.{FetchesOnly, HasOfCall, HasTaken, PlansAlone, is_kept_off}
+use Rattle.store.specs.Alone.{HasOfCall, HasTaken, PlansAlone, is_kept_off}
+use Rattle.store.specs.Fetches.{FetchesOnly}
 use Rattle.store.specs.Phases.{has_fetch}
 use Rattle.store.specs.Seen.{Seen, seen_in}
 use Rattle.store.specs.Worker.{IsCoreOf}

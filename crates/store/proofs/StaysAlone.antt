@@ -7,7 +7,6 @@ use Rattle.std.proofs.lemmas.Bool.{eqb-true}
 use Rattle.std.proofs.lemmas.List.Elements.{All-contains, All-nil, All-push, All-weaker}
 use Rattle.disk.specs.declared.block.BlockNo.{BlockNo}
 use Rattle.objects.specs.declared.addr.Addr.{Addr}
-use Rattle.objects.specs.declared.mode.Mode.{Mode}
 use Rattle.objects.specs.declared.mode.Mode.TheVariants as modes
 use Rattle.model.specs.Calls.{is_answered_stable}
 use Rattle.nfs_types.specs.declared.reply.Reply.{Reply}
@@ -20,10 +19,10 @@ use Rattle.procs.specs.declared.next.Plan.{Plan}
 use Rattle.procs.specs.declared.next.Plan.TheVariants as plan
 use Rattle.procs.specs.declared.snap.Snap.{Snap}
 use Rattle.txn.specs.Commit.{IsReadBy}
-use Rattle.txn.specs.Core.{CoreState, IsOut}
+use Rattle.txn.specs.Core.{CoreState}
 use Rattle.txn.specs.CoreWindow.{KeepsReads}
 use Rattle.txn.specs.Fetch.{Fetch}
-use Rattle.txn.specs.Leaves.{is_fetching, taken_by, with_taken}
+use Rattle.txn.specs.Leaves.{taken_by, with_taken}
 use Rattle.txn.specs.Object.{ObjectBytes}
 use Rattle.txn.specs.Out.{listed}
 use Rattle.txn.specs.Outcomes.{IsCommit, IsWanted}
@@ -47,10 +46,10 @@ use Rattle.store_promise.specs.declared.events.Cause.TheVariants as cause
 use Rattle.store_promise.specs.declared.events.Step.{Step}
 use Rattle.store_promise.specs.declared.events.Step.TheVariants as step
 use Rattle.store.proofs.LoneWorker.{has_of, has_so, no_fetch, seen_of}
-use Rattle.store.proofs.StepKinds.{Beginning, Ending, IsTold, beginning, ending}
+use Rattle.store.proofs.StepKinds.{Beginning, IsTold, beginning, ending}
 use Rattle.store.proofs.StepKinds.{begun, refused, replied, lacked, committed}
-use Rattle.store.specs.Alone.{FetchesOnly, HasOfCall, HasTaken, PlansAlone, StaysAlone, is_fetch_of}
-use Rattle.store.specs.Alone.{is_full}
+use Rattle.store.specs.Alone.{HasOfCall, HasTaken, PlansAlone, StaysAlone, is_full}
+use Rattle.store.specs.Fetches.{FetchesOnly, is_fetch_of}
 use Rattle.store.specs.Phases.{has_fetch, has_transaction}
 use Rattle.store.specs.Seen.{Seen, seen_in, with_object}
 use Rattle.store.specs.Worker.{IsCoreOf}
@@ -249,63 +248,63 @@ module _ (old new : Side) (tidy : AreTidy old.core) (fits : IsCoreOf old.worker 
 
     module _ (job : Job) (snap : Snap) (job_is : old.worker.work.job ≡ Some job)
         (snap_is : seen_in old.worker.work.snap ≡ seen_in (Some snap)) (has : HasOfCall job tx old.core (seen_of snap))
-        where
-      wanted_so : (addr : Addr) (made : Step) → IsPlanFor job.call snap (plan.Need addr) → HasWanted tx addr old made new
-          → StaysAlone (Some made) new.worker new.core
-      wanted_so addr made is_plan wanted =
-          by wanted.answer wanted.core (ap (λ (s : State). s.phase) wanted.worker)
-          (ap (λ (s : State). s.begun) wanted.worker) wanted.seen
-        where
-          new_job : new.worker.work.job ≡ Some job
-          new_job = ap (λ (s : State). s.work.job) wanted.worker ∙ job_is
+      where
+        wanted_so : (addr : Addr) (made : Step) → IsPlanFor job.call snap (plan.Need addr) → HasWanted tx addr old made new
+            → StaysAlone (Some made) new.worker new.core
+        wanted_so addr made is_plan wanted =
+            by wanted.answer wanted.core (ap (λ (s : State). s.phase) wanted.worker)
+            (ap (λ (s : State). s.begun) wanted.worker) wanted.seen
+          where
+            new_job : new.worker.work.job ≡ Some job
+            new_job = ap (λ (s : State). s.work.job) wanted.worker ∙ job_is
 
-          reads : new.worker.begun.tx ≡ Some tx → KeepsReads old.core new.core tx
-          reads new_tx = keeps tx (λ _. new_tx)
+            reads : new.worker.begun.tx ≡ Some tx → KeepsReads old.core new.core tx
+            reads new_tx = keeps tx (λ _. new_tx)
 
-          or_none : (b : Bool) → (b || false) ≡ b
-          or_none true = refl
-          or_none false = refl
+            or_none : (b : Bool) → (b || false) ≡ b
+            or_none true = refl
+            or_none false = refl
 
-          same_core : new.core ≡ old.core → new.worker.begun.tx ≡ Some tx
-              → seen_in new.worker.work.snap ≡ seen_in old.worker.work.snap → HasTaken new.worker new.core
-          same_core core new_tx seen =
-              has_so new.worker new.core job tx (seen_of snap) new_job new_tx (seen ∙ snap_is)
-              (subst (λ (c : CoreState). HasOfCall job tx c (seen_of snap)) (sym core) has)
+            same_core : new.core ≡ old.core → new.worker.begun.tx ≡ Some tx
+                → seen_in new.worker.work.snap ≡ seen_in old.worker.work.snap → HasTaken new.worker new.core
+            same_core core new_tx seen =
+                has_so new.worker new.core job tx (seen_of snap) new_job new_tx (seen ∙ snap_is)
+                (subst (λ (c : CoreState). HasOfCall job tx c (seen_of snap)) (sym core) has)
 
-          still : new.core ≡ old.core → FetchesOnly None new.core
-          still core = subst (λ (c : CoreState). FetchesOnly None c) (sym core) none
+            still : new.core ≡ old.core → FetchesOnly None new.core
+            still core = subst (λ (c : CoreState). FetchesOnly None c) (sym core) none
 
-          by : (answer : Want) → IsWanted old.core tx addr modes.Exclusive answer new.core
-              → new.worker.phase ≡ phase_wanted answer → new.worker.begun ≡ begun_wanted answer
-              → seen_in new.worker.work.snap ≡ seen_wanted addr answer (seen_in old.worker.work.snap)
-              → StaysAlone (Some made) new.worker new.core
-          by (want.Held back bytes) is phase got seen =
-              let new_tx : new.worker.begun.tx ≡ Some tx = ap (λ (b : Begun). b.tx) got ∙ ap (λ t. Some t) is.0 in
-              alone_by (Some made) new.worker new.core Planning None phase (ap (λ (b : Begun). b.io) got)
-              (λ block. is.2.leaves.fetches block ∙ none block)
-              (λ room. has_so new.worker new.core job tx _ new_job new_tx
-              (seen ∙ ap (with_object addr bytes.items) snap_is)
-              (read_one old.core new.core job tx snap addr has is_plan (reads new_tx) bytes.items is.2))
-          by (want.Fetch back io) is phase got seen =
-              let new_tx : new.worker.begun.tx ≡ Some tx = ap (λ (b : Begun). b.tx) got ∙ ap (λ t. Some t) is.0 in
-              alone_by (Some made) new.worker new.core Reading (Some io) phase (ap (λ (b : Begun). b.io) got)
-              (λ block. is.2.leaves.fetches block ∙ ap (λ b. nat_eq block.0 addr.block.0 || b) (none block)
-              ∙ or_none (nat_eq block.0 addr.block.0)
-              ∙ ap (λ (k : BlockNo). nat_eq block.0 k.0) (sym is.2.block))
-              (λ room. has_so new.worker new.core job tx (seen_of snap) new_job new_tx (seen ∙ snap_is)
-              (fetch_one old.core new.core job tx snap addr has is_plan (reads new_tx) io is.2))
-          by (want.Busy back) is phase got seen =
-              alone_by (Some made) new.worker new.core Planning None phase (ap (λ (b : Begun). b.io) got) (still is.2)
-              (λ room. same_core is.2 (ap (λ (b : Begun). b.tx) got ∙ ap (λ t. Some t) is.0) seen)
-          by (want.Loading back) is phase got seen =
-              alone_by (Some made) new.worker new.core Planning None phase (ap (λ (b : Begun). b.io) got) (still is.2)
-              (λ room. same_core is.2 (ap (λ (b : Begun). b.tx) got ∙ ap (λ t. Some t) is.0) seen)
-          by (want.Outside back) is phase got seen =
-              alone_by (Some made) new.worker new.core (phase_wanted (want.Outside back)) None phase
-              (ap (λ (b : Begun). b.io) got) (still is.2) (λ room. tt)
-          by (want.NoMemory back) is phase got seen =
-              alone_by (Some made) new.worker new.core (phase_wanted (want.NoMemory back)) None phase
-              (ap (λ (b : Begun). b.io) got) (still is.2) (λ room. tt)
+            by : (answer : Want) → IsWanted old.core tx addr modes.Exclusive answer new.core
+                → new.worker.phase ≡ phase_wanted answer → new.worker.begun ≡ begun_wanted answer
+                → seen_in new.worker.work.snap ≡ seen_wanted addr answer (seen_in old.worker.work.snap)
+                → StaysAlone (Some made) new.worker new.core
+            by (want.Held back bytes) is phase got seen =
+                let new_tx : new.worker.begun.tx ≡ Some tx = ap (λ (b : Begun). b.tx) got ∙ ap (λ t. Some t) is.0 in
+                alone_by (Some made) new.worker new.core Planning None phase (ap (λ (b : Begun). b.io) got)
+                (λ block. is.2.leaves.fetches block ∙ none block)
+                (λ room. has_so new.worker new.core job tx _ new_job new_tx
+                (seen ∙ ap (with_object addr bytes.items) snap_is)
+                (read_one old.core new.core job tx snap addr has is_plan (reads new_tx) bytes.items is.2))
+            by (want.Fetch back io) is phase got seen =
+                let new_tx : new.worker.begun.tx ≡ Some tx = ap (λ (b : Begun). b.tx) got ∙ ap (λ t. Some t) is.0 in
+                alone_by (Some made) new.worker new.core Reading (Some io) phase (ap (λ (b : Begun). b.io) got)
+                (λ block. is.2.leaves.fetches block ∙ ap (λ b. nat_eq block.0 addr.block.0 || b) (none block)
+                ∙ or_none (nat_eq block.0 addr.block.0)
+                ∙ ap (λ (k : BlockNo). nat_eq block.0 k.0) (sym is.2.block))
+                (λ room. has_so new.worker new.core job tx (seen_of snap) new_job new_tx (seen ∙ snap_is)
+                (fetch_one old.core new.core job tx snap addr has is_plan (reads new_tx) io is.2))
+            by (want.Busy back) is phase got seen =
+                alone_by (Some made) new.worker new.core Planning None phase (ap (λ (b : Begun). b.io) got) (still is.2)
+                (λ room. same_core is.2 (ap (λ (b : Begun). b.tx) got ∙ ap (λ t. Some t) is.0) seen)
+            by (want.Loading back) is phase got seen =
+                alone_by (Some made) new.worker new.core Planning None phase (ap (λ (b : Begun). b.io) got) (still is.2)
+                (λ room. same_core is.2 (ap (λ (b : Begun). b.tx) got ∙ ap (λ t. Some t) is.0) seen)
+            by (want.Outside back) is phase got seen =
+                alone_by (Some made) new.worker new.core (phase_wanted (want.Outside back)) None phase
+                (ap (λ (b : Begun). b.io) got) (still is.2) (λ room. tt)
+            by (want.NoMemory back) is phase got seen =
+                alone_by (Some made) new.worker new.core (phase_wanted (want.NoMemory back)) None phase
+                (ap (λ (b : Begun). b.io) got) (still is.2) (λ room. tt)
 
     -- what came of a commit
     module _ (job : Job) (done : Outcome) where

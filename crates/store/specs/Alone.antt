@@ -1,39 +1,23 @@
 -- A worker that is alone in its store: whatever is taken of the core and whatever is being read is its own.
-use Rattle.std.specs.Prelude.{◌≡◌, ℕ, Bool, true, false, nat_eq, Option, Some, None, [], All, IsSomeAnd}
-use Rattle.disk.specs.declared.block.BlockNo.{BlockNo}
+use Rattle.std.specs.Prelude.{◌≡◌, ℕ, Bool, true, false, Option, Some, [], All, IsSomeAnd}
 use Rattle.objects.specs.declared.addr.Addr.{Addr}
 use Rattle.objects.specs.declared.mode.Mode.TheVariants as modes
 use Rattle.procs.specs.Asks.{Asks, WereAskedOnce}
 use Rattle.txn.specs.Commit.{IsReadBy}
 use Rattle.txn.specs.Core.{CoreState}
-use Rattle.txn.specs.Fetch.{Fetch}
-use Rattle.txn.specs.Leaves.{is_fetching, taken_by}
+use Rattle.txn.specs.Leaves.{taken_by}
 use Rattle.txn_law.specs.declared.hold.Hold.{Hold}
 use Rattle.store_promise.specs.declared.events.Committing.TheVariants as committing
 use Rattle.store_promise.specs.declared.events.Step.{Step}
 use Rattle.store_promise.specs.declared.events.Step.TheVariants as step
 use Rattle.store_promise.specs.declared.events.Wish.TheVariants as wish
+use Rattle.store.specs.Fetches.{FetchesOnly}
 use Rattle.store.specs.Seen.{Seen, seen_in}
 use Rattle.store.specs.declared.workers.parts.Job.{Job}
 use Rattle.store.specs.declared.workers.parts.Phase.{Phase}
 use Rattle.store.specs.declared.workers.parts.Phase.TheVariants.{Idle, Called, Planning, Reading, Read}
 use Rattle.store.specs.declared.workers.parts.Phase.TheVariants.{Refused, Again, Waiting}
 use Rattle.store.specs.declared.workers.parts.State.{State}
-
--- ---- what is being read
-
--- whether this fetch is one of the block
-abbrev pub is_fetch_of : Option Fetch → BlockNo → Bool
-is_fetch_of None block = false
-is_fetch_of (Some io) block = nat_eq block.0 io.block.0
-
--- no fetch but this one is pending
-abbrev pub FetchesOnly : Option Fetch → CoreState → Type 0
-FetchesOnly io core = (block : BlockNo) → is_fetching core block ≡ is_fetch_of io block
-
--- the fetches that are pending stay
-abbrev pub KeepsFetches : CoreState → CoreState → Type 0
-KeepsFetches old new = (block : BlockNo) → is_fetching new block ≡ is_fetching old block
 
 -- ---- what was read and taken
 

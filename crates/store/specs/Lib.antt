@@ -4,6 +4,7 @@ pub mod AtWork
 pub mod BringingHome
 pub mod Counts
 pub mod Driving
+pub mod Fetches
 pub mod Formatting
 pub mod LogSide
 pub mod Noting

@@ -1,6 +1,7 @@
 //! A worker that is alone in its store: the laws by which nobody keeps it off.
 ghost use Rattle.std.specs.Prelude.{◌≡◌, Option, false, is_some};
-ghost use Rattle.store.specs.Alone.{FetchesOnly, PlansAlone, StaysAlone, is_kept_off};
+ghost use Rattle.store.specs.Alone.{PlansAlone, StaysAlone, is_kept_off};
+ghost use Rattle.store.specs.Fetches.{FetchesOnly};
 ghost use Rattle.store.specs.Phases.{has_fetch, has_transaction};
 ghost use Rattle.store.specs.Worker.{IsCoreOf};
 ghost use Rattle.store.specs.WorkerSteps.{GoesOn, KeepsReadsOf, Side};

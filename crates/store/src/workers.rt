@@ -37,6 +37,7 @@ impl Worker {
     ghost use Rattle.txn.specs.Core.{CoreState};
     ghost use Rattle.store.specs.declared.workers.parts.Phase.TheVariants.{Again, Idle, Planning, Reading};
     ghost use Rattle.store.specs.Counts.{SameFrame};
+    ghost use Rattle.store.specs.Fetches.{FetchesOnly};
     ghost use Rattle.layout.specs.Geometry.{IsLawful};
     ghost use Rattle.store.specs.Phases.{block_due};
     ghost use Rattle.store.specs.Worker.{Fits, at_rest, ctx_of, with_call};
@@ -179,6 +180,7 @@ impl Worker {
         requires { Fits self core.old }
         ensures frame { SameFrame core.old core.new }
         ensures ended { core.new.out ≡ [] }
+        ensures fetches { FetchesOnly self.state.begun.io core.old → FetchesOnly None core.new }
     {
         let Worker { state } = self;
         let State {
