@@ -31,7 +31,8 @@ use Rattle.store_promise.specs.Schedule.{Setting, Told, told_after}
 use Rattle.store_promise.specs.declared.events.Event.TheVariants as event
 use Rattle.store_promise.specs.declared.events.Step.{Step}
 use Rattle.store_promise.specs.declared.events.Step.TheVariants as step
-use Rattle.store.specs.Alone.{FetchesOnly, PlansAlone, is_fetch_of}
+use Rattle.store.specs.Alone.{PlansAlone}
+use Rattle.store.specs.Fetches.{FetchesOnly}
 use Rattle.store.specs.AtWork.{IsCoreAtWork, Loads, LoadsFor, fetches_in, fetches_of}
 use Rattle.store.specs.Telling.{TakesCall}
 use Rattle.store.specs.Worker.{GoesWith}
