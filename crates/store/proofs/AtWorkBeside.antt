@@ -1,9 +1,8 @@
 -- Steps of the log and of the installer leave a core at work for its worker.
-use Rattle.std.proofs.Common.{◌≡◌, ◌∙◌, refl, sym, ap, subst, true≢false, ℕ, ◌<◌, Bool, true, false, ◌||◌, Option, Some}
-use Rattle.std.proofs.Common.{None, IfSome, is_some, List, [], All}
+use Rattle.std.proofs.Common.{◌≡◌, ◌∙◌, refl, sym, ap, subst, ℕ, ◌<◌, true, Option, Some}
+use Rattle.std.proofs.Common.{None, IfSome, is_some, List, []}
 use Rattle.std.specs.Prelude.{IsSomeAnd}
 use Rattle.std.proofs.lemmas.List.Elements.{All-weaker}
-use Rattle.disk.specs.declared.block.BlockNo.{BlockNo}
 use Rattle.layout.specs.Geometry.{IsLawful}
 use Rattle.objects.specs.declared.addr.Addr.{Addr}
 use Rattle.txn_law.specs.Core.{CoreState}

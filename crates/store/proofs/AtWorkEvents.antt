@@ -1,7 +1,6 @@
 -- A call that is handed over, and a read that is made, leave a run going.
 use Rattle.std.proofs.Common.{◌≡◌, ◌∙◌, refl, sym, ap, subst, true≢false, ℕ, inr, arith, Bool, true, false, Option}
-use Rattle.std.proofs.Common.{Some, None, List, [], ◌∷◌, All, nat_eq, is_ok}
-use Rattle.std.specs.Prelude.{IsSomeAnd}
+use Rattle.std.proofs.Common.{Some, None, List, [], All}
 use Rattle.std.proofs.lemmas.Bool.{eqb-true}
 use Rattle.std.proofs.lemmas.List.Elements.{All-cons, All-contains, All-nil}
 use Rattle.disk.specs.Crash.{Image}
@@ -30,7 +29,6 @@ use Rattle.store_promise.specs.Running.{IsFetchOver, IsRunningOver, IsTold, Stor
 use Rattle.store_promise.specs.Schedule.{Setting, Told, told_after}
 use Rattle.store_promise.specs.declared.events.Event.TheVariants as event
 use Rattle.store_promise.specs.declared.events.Step.{Step}
-use Rattle.store_promise.specs.declared.events.Step.TheVariants as step
 use Rattle.store.specs.Alone.{PlansAlone}
 use Rattle.store.specs.Fetches.{FetchesOnly}
 use Rattle.store.specs.AtWork.{IsCoreAtWork, Loads, LoadsFor, fetches_in, fetches_of}

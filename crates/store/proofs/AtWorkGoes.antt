@@ -1,21 +1,18 @@
 -- A worker's step leaves the run going: with the entries that there were, or, where it took a place, with its own.
-use Rattle.std.proofs.Common.{◌≡◌, ◌∙◌, refl, sym, ap, subst, true≢false, ℕ, ◌+◌, ◌≤◌, Bool, true, false, Option, Some}
-use Rattle.std.proofs.Common.{None, Ok, Err, List, [], ◌∷◌, ◌++◌, All, length}
-use Rattle.std.specs.Prelude.{IsSomeAnd, option_to_list}
+use Rattle.std.proofs.Common.{◌≡◌, ◌∙◌, refl, sym, ap, subst, true≢false, ℕ, Bool, true, false, Option, Some}
+use Rattle.std.proofs.Common.{None, List, [], All}
+use Rattle.std.specs.Prelude.{IsSomeAnd}
 use Rattle.std.proofs.lemmas.List.Elements.{All-head}
 use Rattle.disk.specs.Crash.{Image}
 use Rattle.model.specs.After.{Entry as Committed}
 use Rattle.model.specs.Calls.{is_answered_stable}
-use Rattle.model.specs.Tree.{Tree}
 use Rattle.nfs_types.specs.declared.reply.Reply.{Reply}
-use Rattle.objects.specs.declared.addr.Addr.{Addr}
-use Rattle.objects.specs.declared.mode.Mode.TheVariants as modes
 use Rattle.procs.specs.Outcome.{Outcome}
 use Rattle.procs.specs.Steps.{IsStepOf}
 use Rattle.procs.specs.declared.next.Plan.TheVariants as plan
 use Rattle.wal_law.specs.Log.{IsLawful, added_blocks}
 use Rattle.wal_law.specs.declared.outcomes.Seq.{Seq}
-use Rattle.txn.specs.Outcomes.{IsCommit, TakesPlace}
+use Rattle.txn.specs.Outcomes.{IsCommit}
 use Rattle.txn.specs.declared.outcomes.Commit.{Commit}
 use Rattle.txn.specs.declared.outcomes.Commit.TheVariants as commit
 use Rattle.txn.specs.declared.outcomes.Want.{Want}
@@ -25,12 +22,9 @@ use Rattle.txn_law.specs.CoreWindow.{IsHomeOf}
 use Rattle.txn_law.specs.Fetch.{Fetch}
 use Rattle.txn_law.specs.Group.{blocks_of}
 use Rattle.txn_law.specs.Tidy.{AreTidy}
-use Rattle.store_promise.specs.OpenSince.{IsSoundCore, TellsOf, outcome_of}
-use Rattle.store_promise.specs.Running.{IsFetchOver, IsRunningOver, StoreSide}
-use Rattle.store_promise.specs.Schedule.{Setting}
-use Rattle.store_promise.specs.declared.answers.Entry.{Entry}
+use Rattle.store_promise.specs.OpenSince.{IsSoundCore, TellsOf}
+use Rattle.store_promise.specs.Running.{IsFetchOver}
 use Rattle.store_promise.specs.declared.answers.Verdict.TheVariants as verdict
-use Rattle.store_promise.specs.declared.events.Committing.TheVariants as committing
 use Rattle.store_promise.specs.declared.events.Step.{Step}
 use Rattle.store_promise.specs.declared.events.Step.TheVariants as step
 use Rattle.store.proofs.AtWorkStays.{some_of}
@@ -39,7 +33,7 @@ use Rattle.store.specs.AtWork.{HasTakenPlace, entry_by, fetches_in, fetches_of, 
 use Rattle.store.specs.Stages.{IsJobIn, IsWorkerAt, StandsAt}
 use Rattle.store.specs.WorkerAnswers.{after_commit, begun_wanted, committing_of, phase_wanted, told_of, with_answer}
 use Rattle.store.specs.WorkerAnswers.{with_entry}
-use Rattle.store.specs.WorkerSteps.{GoesOn, HasCommitted, HasGivenBack, IsFromHome, IsNext, IsTold, KeepsHomeOf, Side}
+use Rattle.store.specs.WorkerSteps.{GoesOn, HasGivenBack, IsFromHome, IsNext, IsTold, KeepsHomeOf, Side}
 use Rattle.store.specs.WorkerSteps.{given_step, planned_of}
 use Rattle.store.specs.declared.workers.parts.Job.{Job}
 use Rattle.store.specs.declared.workers.parts.Phase.{Phase}

@@ -1,6 +1,6 @@
 -- A core stays at work for its worker by each step: what was fetched is in memory while the worker goes by its plans.
 use Rattle.std.proofs.Common.{◌≡◌, ◌∙◌, refl, sym, ap, subst, true≢false, ℕ, Bool, true, false, Option, Some, None}
-use Rattle.std.proofs.Common.{List, [], ◌∷◌, ◌++◌, All}
+use Rattle.std.proofs.Common.{List, ◌++◌}
 use Rattle.std.specs.Prelude.{IsSomeAnd, option_to_list}
 use Rattle.std.proofs.lemmas.Bool.{eq-eqb}
 use Rattle.std.proofs.lemmas.List.Elements.{All-nil}
@@ -10,7 +10,6 @@ use Rattle.nfs_types.specs.declared.reply.Reply.{Reply}
 use Rattle.objects.specs.declared.addr.Addr.{Addr}
 use Rattle.objects.specs.declared.mode.Mode.TheVariants as modes
 use Rattle.procs.specs.Outcome.{Outcome}
-use Rattle.procs.specs.declared.next.Plan.TheVariants as plan
 use Rattle.wal_law.specs.Log.{added_blocks}
 use Rattle.wal_law.specs.declared.outcomes.Seq.{Seq}
 use Rattle.txn.specs.Outcomes.{IsCommit, IsWanted}
@@ -39,9 +38,8 @@ use Rattle.store.specs.Telling.{told}
 use Rattle.store.specs.Worker.{GoesWith}
 use Rattle.store.specs.WorkerAnswers.{after_commit, asked_wanted, begun_wanted, committing_of, phase_wanted}
 use Rattle.store.specs.WorkerAnswers.{told_of, with_answer, with_entry}
-use Rattle.store.specs.WorkerSteps.{GoesOn, HasGivenBack, HasToldBroken, HasToldReply, IsTold, KeepsReadsOf, Side}
+use Rattle.store.specs.WorkerSteps.{GoesOn, HasGivenBack, IsTold, KeepsReadsOf, Side}
 use Rattle.store.specs.WorkerSteps.{given_step, planned_of, there_given}
-use Rattle.store.specs.declared.workers.parts.Begun.{Begun}
 use Rattle.store.specs.declared.workers.parts.Job.{Job}
 use Rattle.store.specs.declared.workers.parts.Phase.{Phase}
 use Rattle.store.specs.declared.workers.parts.Phase.TheVariants.{Idle, Called, Planning, Reading, Read}

@@ -4,7 +4,6 @@ use Rattle.std.proofs.Common.{Ok, Err, length}
 use Rattle.objects.specs.declared.addr.Addr.{Addr}
 use Rattle.objects.specs.declared.mode.Mode.TheVariants as modes
 use Rattle.procs.specs.Outcome.{Outcome}
-use Rattle.procs.specs.declared.next.Plan.TheVariants as plan
 use Rattle.txn.specs.Outcomes.{IsCommit, IsWanted, TakesPlace}
 use Rattle.txn.specs.declared.outcomes.Commit.{Commit}
 use Rattle.txn.specs.declared.outcomes.Commit.TheVariants as commit
