@@ -2,6 +2,7 @@
 
 mod asked;
 mod committing;
+mod fitting;
 mod parts;
 mod planning;
 mod steps;
@@ -11,6 +12,7 @@ ghost use Rattle.std.specs.Prelude.{◌≡◌, true, is_some};
 ghost use Rattle.store.specs.Phases.{has_fetch, has_transaction, is_ready};
 
 use disk::{BlockNo, CrashDisk};
+use fitting::{are_lawful, is_out, reads_within};
 use nfs_types::{Call, Credential, Ctx, Moment};
 use asked::Asked;
 use parts::{Begun, Job, Phase, State, Work};
@@ -192,5 +194,16 @@ impl Worker {
         } = state;
         drop(work);
         begun.end(core);
+    }
+
+    /// Whether the core fits the worker, as a step needs it: the transaction that is out of the core is the worker's,
+    /// by its number, or none is out where the worker has none; the block that it has to read is one of the image's;
+    /// and an image may have the core's counts. What the worker does with this core keeps it so.
+    pub fn fits(&self, core: &Core<Done>) -> bool
+        ensures { IsTrue result ↔ Fits self.now core.now }
+    {
+        let (blocks, inodes) = core.counts();
+        let begun = &self.state.begun;
+        is_out(core, &begun.tx) && reads_within(blocks, &begun.io) && are_lawful(blocks, inodes)
     }
 }
