@@ -1,5 +1,5 @@
 -- What is told of a call that is handed to a worker, and of its read.
-use Rattle.std.proofs.Common.{◌≡◌, ◌∙◌, refl, sym, ap, subst, ℕ, Bool, true, false, Option, Some, None, List, is_ok}
+use Rattle.std.proofs.Common.{◌≡◌, ◌∙◌, refl, sym, ap, subst, ℕ, Bool, Option, Some, None, List}
 use Rattle.std.specs.Prelude.{IsSomeAnd}
 use Rattle.disk.specs.Device.{Content}
 use Rattle.nfs_types.specs.declared.call.Call.{Call}

@@ -1,9 +1,8 @@
 -- How far a worker is after its steps is what these tell.
-use Rattle.std.proofs.Common.{◌≡◌, ◌∙◌, refl, sym, ap, subst, ℕ, Bool, true, false, Option, Some, None, Ok, Err}
-use Rattle.std.proofs.Common.{List, [], ◌∷◌, ◌++◌, is_ok}
-use Rattle.std.specs.Prelude.{IsSomeAnd, map, option_to_list, unwrap_or}
+use Rattle.std.proofs.Common.{◌≡◌, ◌∙◌, refl, sym, ap, ℕ, Bool, true, false, Option, Some, None, Ok, Err}
+use Rattle.std.proofs.Common.{List, [], ◌∷◌, ◌++◌}
+use Rattle.std.specs.Prelude.{IsSomeAnd, map, option_to_list}
 use Rattle.std.proofs.lemmas.List.{map-append}
-use Rattle.disk.specs.Device.{Device}
 use Rattle.disk.specs.declared.block.BlockNo.{BlockNo}
 use Rattle.objects.specs.declared.addr.Addr.{Addr}
 use Rattle.objects.specs.declared.mode.Mode.TheVariants as modes
@@ -27,7 +26,6 @@ use Rattle.txn.specs.declared.outcomes.Want.{Want}
 use Rattle.txn.specs.declared.outcomes.Want.TheVariants as want
 use Rattle.store_promise.specs.Progress.{Progress}
 use Rattle.store_promise.specs.Progress as told
-use Rattle.store_promise.specs.declared.answers.Verdict.{Verdict}
 use Rattle.store_promise.specs.declared.answers.Verdict.TheVariants as verdict
 use Rattle.store_promise.specs.declared.events.Committing.TheVariants as committing
 use Rattle.store_promise.specs.declared.events.Ending.TheVariants as ending
@@ -37,17 +35,15 @@ use Rattle.store_promise.specs.declared.events.Step.TheVariants as step
 use Rattle.store.proofs.WorkCases.{Cases, by_cases}
 use Rattle.store.specs.Asked.{Asking, with_fetched}
 use Rattle.store.specs.Seen.{Seen, seen_in}
-use Rattle.store.specs.Stages.{IsFetchOf, IsJobIn, IsJobOf, IsWorkerAt, RunsIn, StandsAt, WaitsFor, alone}
+use Rattle.store.specs.Stages.{IsWorkerAt, StandsAt, alone}
 use Rattle.store.specs.Stages.{at_fetch, at_stage, begun_of, claimed_in, handed, held_in, progress_in, progress_of}
 use Rattle.store.specs.WorkTells.{progress_after}
 use Rattle.store.specs.WorkerAnswers.{after_commit, asked_wanted, begun_claimed, begun_wanted, claim_wish}
 use Rattle.store.specs.WorkerAnswers.{committing_of, phase_claimed, phase_wanted, seen_claimed, seen_wanted, told_of}
 use Rattle.store.specs.WorkerAnswers.{wish_of, with_answer, with_entry}
-use Rattle.store.specs.WorkerReads.{HasReadBlock}
 use Rattle.store.specs.WorkerSteps.{GoesOn, HasBegun, HasClaimed, HasCommitted, HasGivenBack, HasLacked, HasLeft}
 use Rattle.store.specs.WorkerSteps.{HasWanted, IsNext, IsTold, SawNothing, Side, Waits, given_step, none_begun}
 use Rattle.store.specs.WorkerSteps.{phase_given, with_snap}
-use Rattle.store.specs.declared.workers.parts.Begun.{Begun}
 use Rattle.store.specs.declared.workers.parts.Job.{Job}
 use Rattle.store.specs.declared.workers.parts.Phase.{Phase}
 use Rattle.store.specs.declared.workers.parts.Phase.TheVariants.{Idle, Called, Planning, Reading, Read}
@@ -198,9 +194,13 @@ some_of None is = absurd is
 some_of (Some x) is = (x, refl, is)
 
 module _ (boot : ℕ) (entries : List Entry) (old new : Side) where
-  -- how far the worker was, in this phase
+  -- how far the worker was, in this phase and with this call
+  abbrev was_with : Phase → Option Job → Progress
+  was_with phase job =
+      progress_as phase job old.worker.begun.tx (seen_in old.worker.work.snap) old.worker.asked
+
   abbrev was : Phase → Progress
-  was phase = progress_in phase old.worker.work.job (begun_of old.worker.begun.tx (seen_in old.worker.work.snap) old.worker.asked.fetched) old.worker.asked
+  was phase = was_with phase old.worker.work.job
 
   abbrev IsToldBy : Phase → Option Step → Type 0
   IsToldBy phase made = old.worker.phase ≡ phase → StandsAt boot entries phase old.worker
@@ -213,10 +213,8 @@ module _ (boot : ℕ) (entries : List Entry) (old new : Side) where
   -- what a worker that had this call was
   with_call : (phase : Phase) (job : Job) (made : Step) → old.worker.work.job ≡ Some job
       → progress_after old.core.log.broken (Some made) (was phase)
-      ≡ progress_after old.core.log.broken (Some made)
-      (progress_in phase (Some job) (begun_of old.worker.begun.tx (seen_in old.worker.work.snap) old.worker.asked.fetched) old.worker.asked)
-  with_call phase job made is = ap (λ j. progress_after old.core.log.broken (Some made)
-      (progress_in phase j (begun_of old.worker.begun.tx (seen_in old.worker.work.snap) old.worker.asked.fetched) old.worker.asked)) is
+      ≡ progress_after old.core.log.broken (Some made) (was_with phase (Some job))
+  with_call phase job made is = ap (λ j. progress_after old.core.log.broken (Some made) (was_with phase j)) is
 
   begins : (job : Job) (number : ℕ) → old.worker.work.job ≡ Some job → HasBegun job old number new
       → IsToldBy Called (Some (step.Begun (Ok number)))
@@ -227,8 +225,7 @@ module _ (boot : ℕ) (entries : List Entry) (old new : Side) where
 
   answers : (phase : Phase) (job : Job) (made : Step) → old.worker.work.job ≡ Some job
       → progress_of new.worker ≡ told.Idle
-      → told.Idle ≡ progress_after old.core.log.broken (Some made)
-      (progress_in phase (Some job) (begun_of old.worker.begun.tx (seen_in old.worker.work.snap) old.worker.asked.fetched) old.worker.asked)
+      → told.Idle ≡ progress_after old.core.log.broken (Some made) (was_with phase (Some job))
       → progress_of new.worker ≡ progress_after old.core.log.broken (Some made) (was phase)
   answers phase job made job_is idle ends =
       idle ∙ ends ∙ sym (with_call phase job made job_is)
@@ -329,7 +326,8 @@ module _ (boot : ℕ) (entries : List Entry) (old new : Side) where
           → progress_of new.worker ≡ waited settled broken
       by true broken is = idle (without_reply old.worker) old.worker.work.reply is
       by false true is = idle (without_broken_reply old.worker) old.worker.work.broken_reply is
-      by false false same = ap progress_of same ∙ ap was phase_is ∙ ap (λ j. at_stage j (told.Waiting place.0)) stands.job_is
+      by false false same =
+          ap progress_of same ∙ ap was phase_is ∙ ap (λ j. at_stage j (told.Waiting place.0)) stands.job_is
 
   cases : Cases old new IsToldBy
   cases = record {
@@ -338,7 +336,8 @@ module _ (boot : ℕ) (entries : List Entry) (old new : Side) where
     begun = λ job number job_is served has. begins job number job_is has;
     not_begun = λ job why job_is served cause core is phase_is stands.
         answers Called job (step.Begun (Err why)) job_is (ap progress_of is) refl;
-    replied = λ job job_is served core is phase_is stands. answers Called job step.Replied job_is (ap progress_of is) refl;
+    replied = λ job job_is served core is phase_is stands.
+        answers Called job step.Replied job_is (ap progress_of is) refl;
     wanted = wants;
     claimed = claims;
     committed = commits;

@@ -1,30 +1,27 @@
 -- What a run notes with a step of its worker is what the worker tells.
 use Rattle.std.proofs.Common.{◌≡◌, ◌∙◌, refl, sym, ap, subst, ℕ, ◌+◌, Bool, true, false, not, ◌&&◌, true≢false}
-use Rattle.std.proofs.Common.{Option, Some, None, Ok, Err, IfSome, is_some, List, [], ◌∷◌, ◌++◌, length, append-nil}
+use Rattle.std.proofs.Common.{Option, Some, None, IfSome, is_some, ◌++◌, length, append-nil}
 use Rattle.std.specs.Prelude.{IsSomeAnd, map}
 use Rattle.std.proofs.lemmas.List.{length-map, map-append}
-use Rattle.model.specs.After.{Entry}
-use Rattle.store_promise.specs.Progress.{Progress, is_idle}
+use Rattle.store_promise.specs.Progress.{is_idle}
 use Rattle.store_promise.specs.Transcript.{entries_of, entry_of, transcript_of}
 use Rattle.store_promise.specs.declared.answers.CallAnswer.{CallAnswer}
 use Rattle.store_promise.specs.declared.answers.Entry as ready
 use Rattle.store_promise.specs.declared.events.Committing.TheVariants as committing
 use Rattle.store_promise.specs.declared.events.Step.{Step}
 use Rattle.store_promise.specs.declared.events.Step.TheVariants as step
-use Rattle.store_promise.specs.declared.transcript.Committed.{Committed}
 use Rattle.store_promise.specs.declared.transcript.Run.{Run}
 use Rattle.store.proofs.StepTells.{step_tells}
 use Rattle.store.specs.Noting.{NotesAnswers, NotesHistory, NotesProcedure, NotesWork}
 use Rattle.store.specs.Stages.{IsWorkerAt, progress_of}
-use Rattle.store.specs.Telling.{HasWorked, TellsWork, answers_told, entries_told, told}
-use Rattle.store.specs.WorkTells.{IsAnswerOf, IsEntryOf, TellsAnswer, TellsEntry, TellsStep, with_entry}
-use Rattle.store.specs.WorkTells as works
+use Rattle.store.specs.Telling.{HasWorked, answers_told, entries_told, told}
+use Rattle.store.specs.WorkTells.{IsAnswerOf, IsEntryOf, TellsEntry, TellsStep}
+use Rattle.store.specs.WorkTells.{entries_ready, with_ready}
 use Rattle.store.specs.WorkerSteps.{Side, side}
-use Rattle.store.specs.declared.workers.parts.State.{State}
 
 -- the entry that is noted is the entry of the step
 as_noted : (worker event clock : ℕ) (entry : Option ready.Entry)
-    → map entry_of (entries_told worker event clock entry) ≡ works.entries_of worker entry
+    → map entry_of (entries_told worker event clock entry) ≡ entries_ready worker entry
 as_noted worker event clock None = refl
 as_noted worker event clock (Some entry) = refl
 
@@ -37,7 +34,7 @@ module _ (boot clock : ℕ) (old : Side) (made : Option Step) (new : Side) (befo
       (places ∙ sym (length-map before.history.items entry_of)) made has.goes
 
   noted_entries : entries_of (transcript_of after)
-      ≡ with_entry 0 (entries_of (transcript_of before)) has.state
+      ≡ with_ready 0 (entries_of (transcript_of before)) has.state
   noted_entries = ap (map entry_of) has.tells.history
       ∙ map-append entry_of before.history.items (entries_told 0 (length before.steps.items) clock has.state.work.entry)
       ∙ ap (λ more. map entry_of before.history.items ++ more)

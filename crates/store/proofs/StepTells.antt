@@ -16,7 +16,6 @@ use Rattle.wal_law.specs.Log.{added_blocks}
 use Rattle.wal_law.specs.declared.outcomes.Seq.{Seq}
 use Rattle.procs.specs.Outcome.{Outcome}
 use Rattle.procs.specs.declared.next.Plan.TheVariants as plan
-use Rattle.txn.specs.Commit.{Planned}
 use Rattle.txn.specs.Fetch.{Fetch}
 use Rattle.txn.specs.Group.{blocks_of}
 use Rattle.txn.specs.Outcomes.{IsClaimed, IsCommit, IsWanted}
@@ -26,11 +25,10 @@ use Rattle.txn.specs.declared.outcomes.Commit.{Commit}
 use Rattle.txn.specs.declared.outcomes.Commit.TheVariants as commit
 use Rattle.txn.specs.declared.outcomes.Want.{Want}
 use Rattle.txn.specs.declared.outcomes.Want.TheVariants as want
-use Rattle.store_promise.specs.History.{ctx_of}
 use Rattle.store_promise.specs.Progress.{Progress, Stage, is_idle}
 use Rattle.store_promise.specs.Progress as told
 use Rattle.store_promise.specs.Transcript.{Transcript}
-use Rattle.store_promise.specs.Verdicts.{HasVerdict, IsReplyAt, cause_of, refusal}
+use Rattle.store_promise.specs.Verdicts.{HasVerdict, cause_of, refusal}
 use Rattle.store_promise.specs.declared.answers.CallAnswer.{CallAnswer}
 use Rattle.store_promise.specs.declared.answers.Entry as ready
 use Rattle.store_promise.specs.declared.answers.Verdict.{Verdict}
@@ -46,18 +44,17 @@ use Rattle.store.proofs.HowFar.{goes_so_far, some_of, without_broken_reply, with
 use Rattle.store.proofs.WorkCases.{Cases, by_cases}
 use Rattle.store.specs.Asked.{Asking, with_fetched}
 use Rattle.store.specs.Seen.{seen_in}
-use Rattle.store.specs.Stages.{IsFetchOf, IsJobIn, IsJobOf, IsWorkerAt, RunsIn, StandsAt, WaitsFor, at_fetch, at_stage}
+use Rattle.store.specs.Stages.{IsJobIn, IsJobOf, IsWorkerAt, RunsIn, StandsAt, at_stage}
 use Rattle.store.specs.Stages.{begun_of, entry_at, handed, progress_in, progress_of}
 use Rattle.store.specs.Telling as telling
-use Rattle.store.specs.WorkTells.{HasReplies, IsAnswerOf, IsEntryOf, TellsAnswer, TellsEntry, TellsStep, entries_of}
-use Rattle.store.specs.WorkTells as works
+use Rattle.store.specs.WorkTells.{HasReplies, IsAnswerOf, IsEntryOf, TellsAnswer, TellsEntry, TellsStep}
+use Rattle.store.specs.WorkTells.{entries_ready, with_ready}
 use Rattle.store.specs.WorkerAnswers.{after_commit, asked_wanted, begun_claimed, begun_wanted, claim_wish}
 use Rattle.store.specs.WorkerAnswers.{committing_of, phase_claimed, phase_wanted, told_of, wish_of, with_answer}
 use Rattle.store.specs.WorkerAnswers.{with_entry, with_tx}
 use Rattle.store.specs.WorkerSteps.{GoesOn, HasBegun, HasClaimed, HasCommitted, HasGivenBack, HasLacked, HasLeft}
 use Rattle.store.specs.WorkerSteps.{HasRefused, HasWanted, IsNext, IsTold, Side, Waits, given_step, none_begun}
 use Rattle.store.specs.WorkerSteps.{numbered, phase_given, planned_of, with_snap}
-use Rattle.store.specs.declared.workers.parts.Begun.{Begun}
 use Rattle.store.specs.declared.workers.parts.Job.{Job}
 use Rattle.store.specs.declared.workers.parts.Phase.{Phase}
 use Rattle.store.specs.declared.workers.parts.Phase.TheVariants.{Idle, Called, Planning, Reading, Read}
@@ -134,9 +131,9 @@ module _ (boot number : ℕ) (entries : List Entry) (old new : Side) (at : IsWor
   -- what a step leaves that makes this of the worker
   record Leaves (phase : Phase) (made : Option Step) (state : State) : Type 0 where
     pub entry : TellsEntry boot (length entries) (was phase) made state.work.entry
-    pub answer : TellsAnswer (works.with_entry number entries state) (was phase) (progress_of state) made
+    pub answer : TellsAnswer (with_ready number entries state) (was phase) (progress_of state) made
         state.work.answer
-    pub stands : IsWorkerAt boot (works.with_entry number entries state) (telling.told state)
+    pub stands : IsWorkerAt boot (with_ready number entries state) (telling.told state)
 
   abbrev LeavesIt : Phase → Option Step → Type 0
   LeavesIt phase made =
@@ -153,19 +150,19 @@ module _ (boot number : ℕ) (entries : List Entry) (old new : Side) (at : IsWor
   -- no answer lies ready
   none_told : (phase : Phase) (made : Option Step) (state : State) → state.work.answer ≡ None
       → (not (is_idle (was phase)) && is_idle (progress_of state)) ≡ false
-      → TellsAnswer (works.with_entry number entries state) (was phase) (progress_of state) made state.work.answer
+      → TellsAnswer (with_ready number entries state) (was phase) (progress_of state) made state.work.answer
   none_told phase made state none goes = record {
     ends = ap (λ (a : Option CallAnswer). is_some a) none ∙ sym goes;
-    is_of = subst (λ a. IfSome a (IsAnswerOf (works.with_entry number entries state) (was phase) made)) (sym none) tt;
+    is_of = subst (λ a. IfSome a (IsAnswerOf (with_ready number entries state) (was phase) made)) (sym none) tt;
   }
 
   -- an answer does, and the worker is idle
   module _ (phase : Phase) (made : Step) (base : State) (heard : Verdict) (place : Option Seq) (job : Job)
       (stage : Stage) (stage_is : was phase ≡ told.At (handed job) stage) (same_boot : base.boot ≡ boot)
       (gives : (t : Transcript) (answer : Answer)
-      → HasReplies t (works.with_entry number entries base) → answer.verdict ≡ heard
+      → HasReplies t (with_ready number entries base) → answer.verdict ≡ heard
       → answer.place ≡ place → HasVerdict t job.call stage made answer) where
-    is_answer : IsAnswerOf (works.with_entry number entries base) (was phase) (Some made)
+    is_answer : IsAnswerOf (with_ready number entries base) (was phase) (Some made)
         (record { verdict = heard; place = place })
     is_answer = record {
       job = handed job;
@@ -205,7 +202,7 @@ module _ (boot number : ℕ) (entries : List Entry) (old new : Side) (at : IsWor
   goes_on : (phase : Phase) (made : Step) (state : State) (job : Job) → state.work.job ≡ Some job
       → has_job state.phase ≡ true → state.boot ≡ boot → state.work.answer ≡ None
       → TellsEntry boot (length entries) (was phase) (Some made) state.work.entry
-      → StandsAt boot (works.with_entry number entries state) state.phase (telling.told state)
+      → StandsAt boot (with_ready number entries state) state.phase (telling.told state)
       → Leaves phase (Some made) state
   goes_on phase made state job job_is busy same_boot answer entry stands = record {
     entry = entry;
@@ -246,7 +243,7 @@ module _ (boot number : ℕ) (entries : List Entry) (old new : Side) (at : IsWor
   wants tx addr made tx_is next has phase_is stands = so Planning _ _ has.worker (by has.answer has.core)
     where
       left : (answer : Want) → has_job (phase_wanted answer) ≡ true
-          → StandsAt boot (works.with_entry number entries (once_wanted addr answer)) (phase_wanted answer)
+          → StandsAt boot (with_ready number entries (once_wanted addr answer)) (phase_wanted answer)
           (telling.told (once_wanted addr answer))
           → Leaves Planning (Some (step.Wanted addr modes.Exclusive (wish_of answer))) (once_wanted addr answer)
       left answer busy stands_then =
@@ -268,7 +265,7 @@ module _ (boot number : ℕ) (entries : List Entry) (old new : Side) (at : IsWor
   claims tx block made tx_is next has phase_is stands = so Planning _ _ has.worker (by has.answer has.core.2)
     where
       left : (answer : Claim) → has_job (phase_claimed answer) ≡ true
-          → StandsAt boot (works.with_entry number entries (once_claimed answer)) (phase_claimed answer)
+          → StandsAt boot (with_ready number entries (once_claimed answer)) (phase_claimed answer)
           (telling.told (once_claimed answer))
           → Leaves Planning (Some (step.Claimed block (claim_wish answer))) (once_claimed answer)
       left answer busy stands_then =
@@ -316,7 +313,7 @@ module _ (boot number : ℕ) (entries : List Entry) (old new : Side) (at : IsWor
       abbrev made_then : Step
       made_then = step.Commit added (committing.Committed place)
 
-      there : entry_at (entries ++ entries_of number (Some entry)) place.0
+      there : entry_at (entries ++ entries_ready number (Some entry)) place.0
           ≡ Some (record { worker = number; ctx = job.ctx; call = job.call; reply = done.reply })
       there = at_next entries _ place.0 next
 
@@ -369,7 +366,7 @@ module _ (boot number : ℕ) (entries : List Entry) (old new : Side) (at : IsWor
     back_in : (back : ℕ) (made : Step) (phase : Phase) → back ≡ tx → has_job phase ≡ true
         → TellsEntry boot (length entries) (was Planning) (Some made) old.worker.work.entry
         → (RunsIn boot (with_tx back phase planned)
-        → StandsAt boot (works.with_entry number entries (with_tx back phase planned)) phase
+        → StandsAt boot (with_ready number entries (with_tx back phase planned)) phase
         (telling.told (with_tx back phase planned)))
         → Leaves Planning (Some made) (with_tx back phase planned)
     back_in back made phase back_is busy entry stands_then =
@@ -480,17 +477,17 @@ module _ (boot number : ℕ) (entries : List Entry) (old new : Side) (at : IsWor
           boot_is = at.boot_is;
           entry = refl;
           answer = refl;
-          stands = subst (λ p. StandsAt boot (works.with_entry number entries old.worker) p (telling.told old.worker))
+          stands = subst (λ p. StandsAt boot (with_ready number entries old.worker) p (telling.told old.worker))
               (sym phase_is) (record {
-            job = kept.job;
-            job_is = kept.job_is;
-            entry = kept.entry;
-            entry_is = stays_at entries _ place.0 kept.entry kept.entry_is;
-            call = kept.call;
-            stable = kept.stable;
-            reply = kept.reply;
-            broken_reply = kept.broken_reply;
-          });
+                job = kept.job;
+                job_is = kept.job_is;
+                entry = kept.entry;
+                entry_is = stays_at entries _ place.0 kept.entry kept.entry_is;
+                call = kept.call;
+                stable = kept.stable;
+                reply = kept.reply;
+                broken_reply = kept.broken_reply;
+              });
         };
       })
 
@@ -519,7 +516,7 @@ module _ (boot number : ℕ) (entries : List Entry) (old new : Side) (at : IsWor
       both false = refl
 
       longer : (p : Phase) → StandsAt boot entries p old.worker
-          → StandsAt boot (works.with_entry number entries old.worker) p (telling.told old.worker)
+          → StandsAt boot (with_ready number entries old.worker) p (telling.told old.worker)
       longer Idle is = tt
       longer Called is = is
       longer Planning is = is

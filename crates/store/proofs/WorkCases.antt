@@ -20,7 +20,7 @@ use Rattle.store_promise.specs.declared.events.Ending.TheVariants as ending
 use Rattle.store_promise.specs.declared.events.Step.{Step}
 use Rattle.store_promise.specs.declared.events.Step.TheVariants as step
 use Rattle.store.specs.WorkerAnswers.{claim_wish, committing_of, wish_of, with_answer}
-use Rattle.store.specs.WorkerSteps.{BeginsBy, EndsBy, GoesByNext, GoesByPlan, GoesOn, HasBegun, HasClaimed}
+use Rattle.store.specs.WorkerSteps.{BeginsBy, EndsBy, GoesByNext, GoesOn, HasBegun, HasClaimed}
 use Rattle.store.specs.WorkerSteps.{HasCommitted, HasGivenBack, HasLacked, HasLeft, HasRefused, HasWanted}
 use Rattle.store.specs.WorkerSteps.{IsNext, IsNoBeginning, Side, Waits, given_step}
 use Rattle.store.specs.declared.workers.parts.Job.{Job}

@@ -1,5 +1,5 @@
 -- What a run notes with a step of its worker, in the promise's words.
-use Rattle.std.specs.Prelude.{◌≡◌, ℕ, ◌+◌, Bool, true, false, not, ◌&&◌, Option, Some, None, List, [], ◌∷◌, ◌++◌, length}
+use Rattle.std.specs.Prelude.{◌≡◌, ℕ, ◌+◌, Bool, true, false, not, ◌&&◌, Option, Some, [], ◌∷◌, ◌++◌, length}
 use Rattle.store_promise.specs.History.{ctx_of}
 use Rattle.store_promise.specs.Progress.{Begun, Job, Progress, Stage, At, Planning, is_idle}
 use Rattle.store_promise.specs.Transcript.{Transcript, entries_of, transcript_of}

@@ -43,14 +43,14 @@ TellsEntry boot places progress (Some (step.Commit added (Committed place))) ent
 TellsEntry boot places progress _ entry = entry ≡ None
 
 -- the entry as one of this worker's
-abbrev pub entries_of : ℕ → Option ready.Entry → List Entry
-entries_of worker None = []
-entries_of worker (Some entry) =
+abbrev pub entries_ready : ℕ → Option ready.Entry → List Entry
+entries_ready worker None = []
+entries_ready worker (Some entry) =
     record { worker = worker; ctx = entry.ctx; call = entry.call; reply = entry.reply } ∷ []
 
 -- the procedures that were committed, with that of the step
-abbrev pub with_entry : ℕ → List Entry → State → List Entry
-with_entry worker entries state = entries ++ entries_of worker state.work.entry
+abbrev pub with_ready : ℕ → List Entry → State → List Entry
+with_ready worker entries state = entries ++ entries_ready worker state.work.entry
 
 -- ---- the answer
 
@@ -85,9 +85,9 @@ pub record TellsStep (boot number : ℕ) (entries : List Entry) (old : Side) (ma
     : Type 0 where
   pub progress : progress_of new.worker ≡ progress_after old.core.log.broken made (progress_of old.worker)
   pub entry : TellsEntry boot (length entries) (progress_of old.worker) made new.worker.work.entry
-  pub answer : TellsAnswer (with_entry number entries new.worker) (progress_of old.worker) (progress_of new.worker)
+  pub answer : TellsAnswer (with_ready number entries new.worker) (progress_of old.worker) (progress_of new.worker)
       made new.worker.work.answer
-  pub stands : IsWorkerAt boot (with_entry number entries new.worker) (told new.worker)
+  pub stands : IsWorkerAt boot (with_ready number entries new.worker) (told new.worker)
 
 -- ---- a call that is handed over, and a read
 

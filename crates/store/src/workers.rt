@@ -11,6 +11,7 @@ mod telling;
 ghost use Rattle.std.specs.Prelude.{◌≡◌, true, is_some};
 ghost use Rattle.store.specs.Phases.{has_fetch, has_transaction, is_ready};
 
+use asked::Asked;
 use disk::{BlockNo, CrashDisk};
 use fitting::{are_lawful, is_out, reads_within};
 use nfs_types::{Call, Credential, Ctx, Moment};
@@ -19,6 +20,9 @@ use parts::{Begun, Job, Phase, State, Work};
 use procs::Done;
 use std::alloc::Global;
 use store_promise::{CallAnswer, Entry, Step};
+pub(crate) use telling::{
+    a_run_notes_its_workers_steps, a_worker_tells_its_call, a_worker_tells_its_read,
+};
 use txn::Core;
 
 pub(crate) use telling::{

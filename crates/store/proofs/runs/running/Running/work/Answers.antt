@@ -1,5 +1,5 @@
-use Rattle.std.proofs.Common.{rules, subst, ◌≡◌}
-use Rattle.store.specs.Telling.{HasWorked, TellsWork}
+use Rattle.std.proofs.Common.{rules, subst}
+use Rattle.store.specs.Telling.{TellsWork}
 use Rattle.store.specs.WorkerSteps.{side}
 use Rattle.store.proofs.runs.running.Running.work.Goals as goal
 
