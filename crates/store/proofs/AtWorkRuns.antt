@@ -17,6 +17,7 @@ use Rattle.wal_law.specs.Log.{Log, added_blocks, blocks_of as group_blocks, inst
 use Rattle.txn.specs.Outcomes.{TakesPlace}
 use Rattle.txn_law.specs.Commit.{Planned}
 use Rattle.txn_law.specs.Core.{CoreState}
+use Rattle.txn_law.specs.CoreWindow.{IsHomeOf}
 use Rattle.txn_law.specs.Fetch.{Fetch}
 use Rattle.txn_law.specs.Group.{blocks_of}
 use Rattle.txn_law.specs.Window.{Footprint, after_commits, opening}
@@ -51,6 +52,15 @@ places_beside o base old new beside places count within =
     ∙ sym (ap (λ (log : Log). after_commits (homes_of log.blocks (opening base log)) (take count new.records)) beside.log
     ∙ ap (λ (rs : List Footprint). after_commits (homes_of old.log.blocks (opening base old.log)) (take count rs))
     beside.records)
+
+-- all commits that aren't home lead to the last place
+pub last_place : (o : Setting) (base : Image) (core : CoreState) → IsHomeOf base core → HasBlocksOfPlaces o base core
+    → o.blocks core.log.places ≡ file_blocks base core
+last_place o base core home places =
+    ap (λ (place : ℕ). o.blocks place) (sym home.window.all)
+    ∙ places (length core.records) (omega arith)
+    ∙ ap (λ (rs : List Footprint). after_commits (homes_of core.log.blocks (opening base core.log)) rs)
+    (take_all (length core.records) core.records (omega arith))
 
 -- ---- a commit
 

@@ -16,6 +16,7 @@ ghost use Rattle.objects.specs.declared.mode.Mode.TheVariants as modes;
 ghost use Rattle.txn.specs.Outcomes.{TakesPlace};
 ghost use Rattle.txn_law.specs.Commit.{Planned};
 ghost use Rattle.txn_law.specs.Core.{CoreState};
+ghost use Rattle.txn_law.specs.CoreWindow.{IsHomeOf};
 ghost use Rattle.txn_law.specs.Fetch.{Fetch};
 ghost use Rattle.txn_law.specs.Group.{blocks_of};
 ghost use Rattle.txn_law.specs.HomeRead.{HasContents};
@@ -57,7 +58,8 @@ pub(crate) fn what_was_fetched_stays()
         → AreLoadedFor old tx fetched → AreLoadedFor new tx (fetched ++ addr ∷ []) }
 {}
 
-// A step that leaves the log and the commits as they are leaves the run going, with no read that isn't given back.
+// A step that leaves the log and the commits as they are leaves the run going, with no read that isn't given back. The
+// blocks of its places stay, and the last place has those that stand for the files.
 pub(crate) fn a_transaction_leaves_the_run_going()
     ensures runs { (o : Setting) (base : Image) (side : StoreSide) (new : CoreState) (fetches : List Fetch) (boot : ℕ)
         (first last : Tree) (entries : List Entry) → IsRunningOver o base side fetches boot first entries last
@@ -65,6 +67,8 @@ pub(crate) fn a_transaction_leaves_the_run_going()
         → IsRunningOver o base (with_core side new) [] boot first entries last }
     ensures places { (o : Setting) (base : Image) (old new : CoreState) → StandsBeside old new
         → HasBlocksOfPlaces o base old → HasBlocksOfPlaces o base new }
+    ensures last { (o : Setting) (base : Image) (core : CoreState) → IsHomeOf base core
+        → HasBlocksOfPlaces o base core → o.blocks core.log.places ≡ file_blocks base core }
 {
     store_promise::a_transaction_leaves_the_store_open();
 }

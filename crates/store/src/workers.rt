@@ -15,7 +15,6 @@ use asked::Asked;
 use disk::{BlockNo, CrashDisk};
 use fitting::{are_lawful, is_out, reads_within};
 use nfs_types::{Call, Credential, Ctx, Moment};
-use asked::Asked;
 use parts::{Begun, Job, Phase, State, Work};
 use procs::Done;
 use std::alloc::Global;
@@ -24,10 +23,6 @@ pub(crate) use telling::{
     a_run_notes_its_workers_steps, a_worker_tells_its_call, a_worker_tells_its_read,
 };
 use txn::Core;
-
-pub(crate) use telling::{
-    a_run_notes_its_workers_steps, a_worker_tells_its_call, a_worker_tells_its_read,
-};
 
 /// A worker: the state of one procedure. What its steps commit and answer lies ready to be taken. Its type keeps
 /// that it has what it needs to go on.
