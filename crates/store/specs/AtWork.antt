@@ -9,23 +9,27 @@ use Rattle.objects.specs.declared.addr.Addr.{Addr}
 use Rattle.model.specs.After.{Entry as Committed}
 use Rattle.model.specs.Step as model
 use Rattle.model.specs.Tree.{Tree}
-use Rattle.wal_law.specs.Log.{installed_place}
+use Rattle.wal_law.specs.Log.{IsLawful, installed_place}
 use Rattle.txn.specs.Outcomes.{TakesPlace}
 use Rattle.txn_law.specs.Commit.{Planned}
 use Rattle.txn_law.specs.Core.{CoreState}
 use Rattle.txn_law.specs.Fetch.{Fetch}
 use Rattle.txn_law.specs.Leaves.{IsNeeded, in_memory, taken_by}
+use Rattle.txn_law.specs.Tidy.{AreTidy}
 use Rattle.store_promise.specs.OpenSince.{TellsOf, blocks_after, file_blocks}
-use Rattle.store_promise.specs.Running.{IsRunningOver, StoreSide}
-use Rattle.store_promise.specs.Schedule.{Setting}
+use Rattle.store_promise.specs.Running.{IsRunningOver, IsTold, StoreSide}
+use Rattle.store_promise.specs.Schedule.{IsStepOfWork, Setting, Told, told_after}
 use Rattle.store_promise.specs.declared.answers.Entry.{Entry}
 use Rattle.store_promise.specs.declared.events.Committing.TheVariants as committing
+use Rattle.store_promise.specs.declared.events.Event.TheVariants as event
 use Rattle.store_promise.specs.declared.events.Step.{Step}
 use Rattle.store_promise.specs.declared.events.Step.TheVariants as step
 use Rattle.store.specs.Alone.{IsAlone}
 use Rattle.store.specs.Asked.{Asking}
+use Rattle.store.specs.Stages.{progress_of}
+use Rattle.store.specs.Telling as telling
 use Rattle.store.specs.Worker.{GoesWith}
-use Rattle.store.specs.WorkerSteps.{Side}
+use Rattle.store.specs.WorkerSteps.{GoesOn, KeepsHomeOf, KeepsReadsOf, Side}
 use Rattle.store.specs.declared.workers.parts.Phase.{Phase}
 use Rattle.store.specs.declared.workers.parts.Phase.TheVariants.{Idle, Called, Planning, Reading, Read}
 use Rattle.store.specs.declared.workers.parts.Phase.TheVariants.{Refused, Again, Waiting}
@@ -145,3 +149,26 @@ pub record StaysLoaded (old new : CoreState) : Type 0 where
   pub inodes : new.inodes ≡ old.inodes
   pub memory : (block : BlockNo) (content : Content) → in_memory old block ≡ Some content → IsNeeded new block
       → in_memory new block ≡ Some content
+
+-- ---- an event of the worker
+
+-- what is known of a worker's step beside the step itself: by its contract, and by the types of the worker and the core
+pub record IsStepWell (old : Side) (made : Option Step) (new : Side) : Type 0 where
+  pub goes : GoesOn old.worker.phase old made new
+  pub home : KeepsHomeOf old new
+  pub stays : KeepsReadsOf old new
+  pub with : GoesWith (telling.told new.worker) new.core
+  pub lawful : IsLawful new.core.log
+  pub tidy : AreTidy new.core
+
+-- What the step leaves of a run, all together: it may be made; what is told then is what the store has; the core is at
+-- work for the worker, once all that it gave is told; and the run goes on, with its entry where it took a place.
+pub record WorksOn (o : Setting) (told : Told) (number : ℕ) (base : Image) (store : StoreSide) (boot : ℕ) (first : Tree)
+    (entries : List Committed) (last : Tree) (old : Side) (made : Option Step) (new : Side) : Type 0 where
+  pub may : IsStepOfWork o told number (progress_of old.worker) made
+  pub tells : IsTold o (told_after told (event.Work number) made) (with_core store new.core)
+  pub at_work : IsCoreAtWork (telling.told new.worker) new.core
+  pub beside : has_committed made ≡ false
+      → IsRunningOver o base (with_core store new.core) (fetches_of new.worker) boot first entries last
+      × HasBlocksOfPlaces o base new.core
+  pub committed : has_committed made ≡ true → GoesOnWith o base store new boot number first entries last old

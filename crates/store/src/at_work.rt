@@ -34,7 +34,7 @@ ghost use Rattle.store_promise.specs.Running.{IsRunningOver, IsTold, KeepsTransa
 ghost use Rattle.store_promise.specs.Schedule.{IsStepOfWork, Setting, Told, told_after};
 ghost use Rattle.store_promise.specs.ToldOf.{log_told};
 ghost use Rattle.store.specs.AtWork.{AreLoadedFor, GoesOnWith, HasBlocksOfPlaces, HasPlaceMore, IsCoreAtWork};
-ghost use Rattle.store.specs.AtWork.{StaysLoaded};
+ghost use Rattle.store.specs.AtWork.{IsStepWell, StaysLoaded, WorksOn};
 ghost use Rattle.store.specs.AtWork.{fetches_of, has_committed, has_taken, with_core};
 ghost use Rattle.store.specs.Stages.{IsWorkerAt, progress_of};
 ghost use Rattle.store.specs.Telling.{TakesCall, told};
@@ -195,3 +195,20 @@ pub(crate) fn a_log_step_leaves_a_core_at_work()
     ensures installer { (old new : CoreState) → new.log.blocks ≡ old.log.blocks → new.inodes ≡ old.inodes
         → Leaves new (taken_by old) (is_fetching old) (in_memory old) → StaysLoaded old new }
 {}
+
+// All that an event of the worker leaves of a run.
+pub(crate) fn a_run_goes_on_with_its_worker()
+    ensures { (o : Setting) (told : Told) (number : ℕ) (base : Image) (store : StoreSide) (boot : ℕ)
+        (first last : Tree) (entries : List Entry) (worker : State) (made : Option Step) (new : Side)
+        → IsRunningOver o base store (fetches_of worker) boot first entries last → IsTold o told store
+        → o.geometry.inodes ≡ store.core.inodes → HasBlocksOfPlaces o base store.core
+        → IsCoreAtWork worker store.core → IsWorkerAt boot entries worker
+        → IsStepWell (side worker store.core) made new
+        → WorksOn o told number base store boot first entries last (side worker store.core) made new }
+{
+    a_transaction_leaves_the_run_going();
+    a_core_at_work_stays_so();
+    a_workers_step_may_be_made();
+    a_workers_step_is_told();
+    a_worker_leaves_the_run_going();
+}
