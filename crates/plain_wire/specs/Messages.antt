@@ -9,6 +9,7 @@ use Rattle.session_wire.specs.declared.message.CallMessage.{CallMessage}
 use Rattle.session_wire.specs.declared.xdr.fault.XdrFault.{XdrFault}
 use Rattle.session_wire.specs.declared.xdr.fault.XdrFault.TheVariants.{Value}
 use Rattle.session_wire.specs.Reading.{◌>>=◌}
+use Rattle.session_wire.specs.declared.rpc.header.Opening.{Opening}
 use Rattle.session_wire.specs.Headers.{opening_at, header_at}
 use Rattle.session_wire.specs.Credentials.{caller_at}
 use Rattle.session_wire.specs.Procedures.{program_of, procedure_of, is_decoded}
@@ -36,17 +37,28 @@ credential_of flavor body =
     if flavor == AUTH_NONE then (if length body == 0 then Ok Nobody else Err Value) else
     if flavor == AUTH_SYS then named_in body else Err Value
 
--- the call that all of these bytes spell
-unfoldable pub message_of : List ℕ → Result CallMessage XdrFault
-message_of bytes = do
+-- the opening of a call, and what lies behind it
+unfoldable pub call_opening_at : List ℕ → Result (Opening × List ℕ) XdrFault
+call_opening_at bytes = do
   opening ← opening_at bytes
   kind ← wanted opening.0.kind CALL
   rpc ← wanted opening.0.rpc_version RPC_VERSION
+  Ok opening
+
+-- the procedure that a header names, of a program in the version that is served
+unfoldable pub named_by : ℕ → ℕ → ℕ → Result ProgramProcedure XdrFault
+named_by program version procedure = do
+  p ← numbered (program_of program)
+  checked ← wanted version NFS_VERSION
+  q ← numbered (procedure_of p procedure)
+  known q
+
+-- the call that all of these bytes spell
+unfoldable pub message_of : List ℕ → Result CallMessage XdrFault
+message_of bytes = do
+  opening ← call_opening_at bytes
   header ← header_at opening.1
-  program ← numbered (program_of header.0.program)
-  version ← wanted header.0.version NFS_VERSION
-  procedure ← numbered (procedure_of program header.0.procedure)
-  decoded ← known procedure
+  decoded ← named_by header.0.program header.0.version header.0.procedure
   credential ← credential_of header.0.flavor header.0.body
   call ← call_of decoded header.1
   Ok (record {
