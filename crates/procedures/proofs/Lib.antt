@@ -1,6 +1,9 @@
 pub mod Answer
 pub mod Failures
+pub mod Lacking
+pub mod Keeping
 pub mod Numbers
+pub mod Parts
 pub mod Stamps
 pub mod Sums
 pub mod Unchanged
