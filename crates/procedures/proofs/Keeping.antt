@@ -188,3 +188,187 @@ module _ (tree next : Tree) (lacks after : ℕ → ℕ) (number : ℕ) (old new 
         λ is. shape.directory ∙ ap (λ n. is_directory n.body) (root_old is) ∙ good.root_directory,
         λ is. shape.stamp ∙ ap (λ n. n.stamp) (root_old is) ∙ good.root_stamp,
       )
+
+-- A directory whose entries change: it names more files or fewer, and they lack as many names less or more.
+pub record Reentered (tree : Tree) (lacks after : ℕ → ℕ) (number : ℕ) (old new : Node) : Type 0 where
+  pub itself : SoundNode new
+  pub was_directory : is_directory old.body ≡ true
+  pub directory : is_directory new.body ≡ true
+  pub parent : parent_of new.body ≡ parent_of old.body
+  pub stamp : new.stamp ≡ old.stamp
+  pub stand : All (λ entry. IsSome (node_at tree entry.1.number)) (entries_of new.body)
+  pub names : (q : ℕ) → names_in q new.body + after q ≡ names_in q old.body + lacks q
+  pub links : new.nlink + child_directories tree old.body ≡ old.nlink + child_directories tree new.body
+  pub children : (q : ℕ) (node : Node) → node_at tree q ≡ Some node → is_directory node.body ≡ true → q ≢ ROOT
+      → parent_of node.body ≢ number → after q ≡ lacks q
+
+module _ (tree next : Tree) (lacks after : ℕ → ℕ) (number : ℕ) (old new : Node)
+    (change : Change tree next number (Some old) (Some new)) (good : Lacking tree lacks)
+    (entry : Reentered tree lacks after number old new) where
+  same_kind : is_directory new.body ≡ is_directory old.body
+  same_kind = entry.directory ∙ sym entry.was_directory
+
+  named_as : (q : ℕ) → names_of next q + after q ≡ names_of tree q + lacks q
+  named_as q =
+      let sum = names tree next lacks after number old new change good same_kind q in
+      let here = entry.names q in
+      omega (arith, sum, here)
+
+  parent_as : (q : ℕ) (node : Node) → node_at tree q ≡ Some node → is_directory node.body ≡ true → q ≢ ROOT
+      → (parent : Node) → node_at tree (parent_of node.body) ≡ Some parent
+      → ParentNow next after q (parent_of node.body) (names_in q parent.body + lacks q)
+  parent_as q node is dir other parent parent_is =
+      parent_by tree next lacks after number old new change good same_kind q (parent_of node.body) parent
+      parent_is (λ _. entry.names q) (λ apart. entry.children q node is dir other apart)
+
+  entered_at : Kept tree next lacks after number old new
+  entered_at = record {
+    itself = entry.itself;
+    directory = same_kind;
+    names = stand tree next lacks after number old new change good same_kind new.body entry.stand;
+    links = λ no file. let never : true ≡ false = sym entry.was_directory ∙ no in cc;
+    counted = λ dir.
+        let links = entry.links in
+        let same = children tree next lacks after number old new change good same_kind new.body in
+        omega (arith, links, same);
+    named = λ dir. named_as number;
+    root = λ dir is_root. entry.parent;
+    child = λ dir other parent is.
+        subst (λ p. ParentNow next after number p (names_in number parent.body + lacks number))
+        (sym entry.parent) (parent_as number old change.was dir other parent is);
+    reached = λ dir. still tree next lacks after number old new change good same_kind entry.parent number;
+  }
+
+  entered_beside : (q : ℕ) (node : Node) → q ≢ number → node_at tree q ≡ Some node
+      → Kept tree next lacks after q node node
+  entered_beside q node apart is =
+      beside tree next lacks after number old new change good same_kind q node apart is (named_as q)
+      (λ dir other parent parent_is. parent_as q node is dir other parent parent_is)
+      (still tree next lacks after number old new change good same_kind entry.parent q)
+
+  root_was : number ≡ ROOT → old ≡ good.root
+  root_was is =
+      let one : Some old ≡ Some good.root = sym change.was ∙ ap (node_at tree) is ∙ good.root_is in cc
+
+  -- A directory that names other files leaves the tree as it should be.
+  pub reentered : Lacking next after
+  reentered =
+      changed_tree tree next lacks after number (Some old) (Some new) change good
+      (λ node is.
+      let one : new ≡ node = cc in
+      subst (LackingAt next after number) one
+      (kept_at tree next lacks after change.geometry number old new (good.files number old change.was) entered_at))
+      entered_beside
+      (λ is. entry.directory, λ is. entry.stamp ∙ ap (λ n. n.stamp) (root_was is) ∙ good.root_stamp)
+
+-- A directory that lacks its name gets another parent, below which it doesn't lie.
+pub record Moved (tree : Tree) (lacks : ℕ → ℕ) (number parent : ℕ) (old new : Node) : Type 0 where
+  pub itself : SoundNode new
+  pub not_root : number ≢ ROOT
+  pub entries_are : entries_of new.body ≡ entries_of old.body
+  pub was_directory : is_directory old.body ≡ true
+  pub directory : is_directory new.body ≡ true
+  pub links : new.nlink ≡ old.nlink
+  pub parent_is : parent_of new.body ≡ parent
+  pub node : Node
+  pub node_is : node_at tree parent ≡ Some node
+  pub by_parent : names_in number node.body + lacks number ≡ 1
+  pub apart : (steps : ℕ) → ancestor tree steps parent ≢ number
+  pub reached : Reached tree parent
+
+module _ (tree next : Tree) (lacks : ℕ → ℕ) (number parent : ℕ) (old new : Node)
+    (change : Change tree next number (Some old) (Some new)) (good : Lacking tree lacks)
+    (move : Moved tree lacks number parent old new) where
+  kind : is_directory new.body ≡ is_directory old.body
+  kind = move.directory ∙ sym move.was_directory
+
+  in_both : (q : ℕ) → names_in q new.body ≡ names_in q old.body
+  in_both q = ap (count_by (λ entry. nat_eq entry.1.number q)) move.entries_are
+
+  names_stay : (q : ℕ) → names_of next q ≡ names_of tree q
+  names_stay q =
+      let sum = names tree next lacks lacks number old new change good kind q in
+      let same = in_both q in
+      omega (arith, sum, same)
+
+  -- from the new parent on all ancestors stay
+  above : (steps q : ℕ) → ((more : ℕ) → ancestor tree more q ≢ number)
+      → ancestor next steps q ≡ ancestor tree steps q
+  above zero q never = refl
+  above (suc steps) q never =
+      ap (λ o. ancestor next steps (parent_in o)) (change.there q (never 0))
+      ∙ above steps (parent_in (node_at tree q)) (λ more. never (suc more))
+
+  from_number : Reached next number
+  from_number =
+      let to = move.reached in (
+        suc to.0,
+        ap (λ o. ancestor next to.0 (parent_in o)) change.here ∙ ap (ancestor next to.0) move.parent_is
+        ∙ above to.0 parent move.apart ∙ to.1,
+      )
+
+  on : (q : ℕ) → q ≢ number → Reached next (parent_in (node_at tree q)) → Reached next q
+  on q apart to = (suc to.0, ap (λ o. ancestor next to.0 (parent_in o)) (change.there q apart) ∙ to.1)
+
+  reached_by : (steps q : ℕ) → ancestor tree steps q ≡ ROOT → Reached next q
+  reached_by zero q is = (0, is)
+  reached_by (suc steps) q is =
+      elim (equal_or_not q number) [
+        | inl same ↦ subst (Reached next) (sym same) from_number
+        | inr apart ↦ on q apart (reached_by steps (parent_in (node_at tree q)) is)
+      ]
+
+  parent_stays : (q p : ℕ) (node : Node) → node_at tree p ≡ Some node
+      → ParentNow next lacks q p (names_in q node.body + lacks q)
+  parent_stays q p node is =
+      parent_by tree next lacks lacks number old new change good kind q p node is
+      (λ _. ap (λ n. n + lacks q) (in_both q)) (λ _. refl)
+
+  moved_child : LackingChild tree lacks number old.body → LackingChild next lacks number new.body
+  moved_child child =
+      let now = parent_stays number parent move.node move.node_is in
+      record {
+        once = let same = names_stay number in let one = child.once in omega (arith, same, one);
+        parent = now.node;
+        parent_is = ap (node_at next) move.parent_is ∙ now.is;
+        by_parent = now.names ∙ move.by_parent;
+      }
+
+  moved_directory : LackingDirectory tree lacks number old → LackingDirectory next lacks number new
+  moved_directory d = record {
+    counted =
+        let was = d.counted in
+        let links = move.links in
+        let same = children tree next lacks lacks number old new change good kind new.body in
+        let entries_same : child_directories tree new.body ≡ child_directories tree old.body =
+        ap (count_by (λ entry. is_directory_at (node_at tree entry.1.number))) move.entries_are in
+        omega (arith, was, links, same, entries_same);
+    root = λ is. absurd (move.not_root is);
+    child = λ other. moved_child (d.child other);
+    reached = from_number;
+  }
+
+  moved_at : LackingAt tree lacks number old → LackingAt next lacks number new
+  moved_at at = record {
+    least = at.least;
+    most = subst (λ g. number < g.inodes) (sym change.geometry) at.most;
+    itself = move.itself;
+    names = stand tree next lacks lacks number old new change good kind new.body
+        (subst (All (λ entry. IsSome (node_at tree entry.1.number))) (sym move.entries_are) at.names);
+    links = λ no. let never : true ≡ false = sym move.directory ∙ no in cc;
+    directory = λ dir. moved_directory (at.directory move.was_directory);
+  }
+
+  -- A directory that gets another parent leaves the tree as it should be.
+  pub moved_tree : Lacking next lacks
+  moved_tree =
+      changed_tree tree next lacks lacks number (Some old) (Some new) change good
+      (λ node is.
+      let one : new ≡ node = cc in
+      subst (LackingAt next lacks number) one (moved_at (good.files number old change.was)))
+      (λ q node apart is.
+      beside tree next lacks lacks number old new change good kind q node apart is
+      (ap (λ n. n + lacks q) (names_stay q))
+      (λ dir other p p_is. parent_stays q (parent_of node.body) p p_is)
+      (λ reached. reached_by reached.0 q reached.1))
+      (λ is. move.directory, λ is. absurd (move.not_root is))

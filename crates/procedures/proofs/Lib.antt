@@ -1,3 +1,4 @@
+pub mod Adding
 pub mod Answer
 pub mod Failures
 pub mod Lacking
