@@ -1,5 +1,6 @@
 pub mod Adding
 pub mod Answer
+pub mod Deeds
 pub mod Failures
 pub mod Lacking
 pub mod Keeping
