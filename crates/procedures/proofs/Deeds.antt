@@ -47,12 +47,12 @@ use Rattle.procedures.specs.Fresh.{IsNewNumber, IsUnused, created, fresh, make, 
 use Rattle.procedures.specs.Fresh.{with_new, without_size}
 use Rattle.procedures.specs.Link.{link, link_refusal, linking, with_link}
 use Rattle.procedures.specs.MkDir.{is_full, is_there, make_directory}
-use Rattle.procedures.specs.Places.{entry_at, file_at, is_found_directory, is_own_name, least_free_slot}
-use Rattle.procedures.specs.Places.{named_file}
-use Rattle.procedures.specs.Remove.{remove_refusal}
+use Rattle.procedures.specs.Places.{entry_at, file_at, is_found_directory, is_found_other, is_own_name}
+use Rattle.procedures.specs.Places.{least_free_slot, named_file}
+use Rattle.procedures.specs.Remove.{remove, remove_refusal}
 use Rattle.procedures.specs.Rename.{Place, file_in, move, move_refusal, new_slot, places_refusal, rename}
 use Rattle.procedures.specs.Rename.{rename_file, renaming, with_moved}
-use Rattle.procedures.specs.RmDir.{has_names, is_found_filled, rmdir_refusal}
+use Rattle.procedures.specs.RmDir.{has_names, is_found_filled, remove_directory, rmdir_refusal}
 use Rattle.procedures.specs.SymLink.{make_link}
 use Rattle.procedures.specs.Told.{Acts, Effect, tree_after}
 use Rattle.procedures.specs.WholeStep.{numbered_step}
@@ -581,3 +581,243 @@ module _ (tree : Tree) (ctx : Ctx) (fits : Type 0) where
           verifier_bounds = λ f. refl;
           body_bounds = λ f. target_sound target (bytes f) some.0 short.0;
         }))
+
+  module _ (at : ℕ) (directory : Node) (name : List ℕ) (stands : node_at tree at ≡ Some directory) where
+    removed : (found : Option (ℕ × Node)) → named_file tree directory name ≡ found
+        → is_none found ≡ false → (is_found_directory found ≡ true → is_found_filled found ≡ false)
+        → Done (without_name tree ctx.moment at name found)
+    removed None is some empty = cc
+    removed (Some file) is some empty = removes (record {
+      at = at;
+      directory = directory;
+      name = name;
+      file = file;
+      stands = stands;
+      found = is;
+      empty = empty;
+      leads = refl;
+    })
+
+    remove_done : Leads Done (remove tree ctx name at directory)
+    remove_done =
+        let found = named_file tree directory name in
+        leads_unless Done (remove_refusal ctx.credential directory name found)
+        (Ok (record { answer = tt; next = without_name tree ctx.moment at name found })) (λ tested.
+        let placed = placed_by (may_change ctx.credential directory) directory name (is_own_name name) status.IsDir
+        ((is_none found, status.NoEnt) ∷ (is_found_directory found, status.IsDir) ∷ []) (λ own. own) tested in
+        let some = passed (is_none found) _ _ placed.2 in
+        let other = passed (is_found_directory found) _ _ some.1 in
+        removed found refl some.0 (λ dir. let never : true ≡ false = sym dir ∙ other.0 in cc))
+
+    rmdir_done : Leads Done (remove_directory tree ctx name at directory)
+    rmdir_done =
+        let found = named_file tree directory name in
+        leads_unless Done (rmdir_refusal ctx.credential directory name found)
+        (Ok (record { answer = tt; next = without_name tree ctx.moment at name found })) (λ tested.
+        let placed = placed_by (may_change ctx.credential directory) directory name (is_own_name name) status.Inval
+        ((is_none found, status.NoEnt) ∷ (is_found_other found, status.NotDir)
+        ∷ (is_found_filled found, status.NotEmpty) ∷ []) (λ own. own) tested in
+        let some = passed (is_none found) _ _ placed.2 in
+        let other = passed (is_found_other found) _ _ some.1 in
+        let filled = passed (is_found_filled found) _ _ other.1 in
+        removed found refl some.0 (λ dir. filled.0))
+
+  linked_done : (name : List ℕ) (number : ℕ) (node : Node) (at : ℕ) (directory : Node)
+      → (fits → AreBytes name) → node_at tree number ≡ Some node → node_at tree at ≡ Some directory
+      → Leads Done (link tree ctx name number node at directory)
+  linked_done name number node at directory bounds file_stands stands =
+      let entry = new_entry (Some number) (least_free_slot directory.body) in
+      leads_unless Done (link_refusal tree ctx.credential name node directory)
+      (if_entry tree entry (with_link tree ctx.moment name number node at)) (λ tested.
+      leads_entry Done tree entry (with_link tree ctx.moment name number node at) (λ e is room.
+      let kind = passed (is_no_directory directory) _ _ tested in
+      let lawful = passed (is_no_name name) _ _ kind.1 in
+      let short = passed (is_long name) _ _ lawful.1 in
+      let may = passed (not (may_change ctx.credential directory)) _ _ short.1 in
+      let file = passed (is_directory node.body) _ _ may.1 in
+      let there = passed (is_there tree directory name) _ _ file.1 in
+      let full = passed (is_full node) _ _ there.1 in
+      let parts = entry_is (Some number) (least_free_slot directory.body) e is in
+      links (record {
+        number = number;
+        node = node;
+        at = at;
+        directory = directory;
+        name = name;
+        entry = e;
+        file_stands = file_stands;
+        stands = stands;
+        placed = record {
+          directory_is = negated _ kind.0;
+          lawful = lawful.0;
+          short = short.0;
+          not_own = (or_none _ _ there.0).0;
+        };
+        absent = no_some _ (or_none _ _ there.0).1;
+        no_directory = file.0;
+        not_full = full.0;
+        number_is = let one = parts.number_is in cc;
+        slot = parts.slot_is;
+        leads = refl;
+        room = room;
+        name_bounds = bounds;
+      })))
+
+  module _ (source target : Place) (source_stands : node_at tree source.number ≡ Some source.directory)
+      (target_stands : node_at tree target.number ≡ Some target.directory)
+      (bounds : fits → AreBytes target.name) where
+    move_done : (found : Option (ℕ × Node)) → Placed target.directory target.name
+        → file_in tree source ≡ found → Leads Done (rename_file tree ctx source target found (file_in tree target))
+    move_done None placed is = tt
+    move_done (Some file) placed is =
+        let replaced = file_in tree target in
+        let entry = new_entry (Some file.0) (new_slot source target) in
+        let effect = with_moved tree ctx.moment file.0 file.1 source target replaced in
+        leads_same Done (given replaced (λ other. nat_eq other.0 file.0)) (record { answer = tt; next = tree })
+        (move tree ctx file.0 file.1 source target replaced) (leaves refl) (λ apart.
+        leads_unless Done (move_refusal tree file.0 file.1 source target replaced) (if_entry tree entry effect)
+        (λ tested. leads_entry Done tree entry effect (λ e e_is room.
+        let parts = entry_is (Some file.0) (new_slot source target) e e_is in
+        renames (record {
+          source = source;
+          target = target;
+          file = file;
+          entry = e;
+          source_stands = source_stands;
+          target_stands = target_stands;
+          placed = placed;
+          found = is;
+          apart = apart;
+          tested = tested;
+          number_is = let one = parts.number_is in cc;
+          slot = parts.slot_is;
+          leads = refl;
+          room = room;
+          name_bounds = bounds;
+        }))))
+
+    rename_done : Leads Done (rename tree ctx source target)
+    rename_done =
+        leads_unless Done (places_refusal tree ctx.credential source target)
+        (rename_file tree ctx source target (file_in tree source) (file_in tree target)) (λ tested.
+        let from = passed (is_no_directory source.directory) _ _ tested in
+        let to = passed (is_no_directory target.directory) _ _ from.1 in
+        let old = passed (is_no_name source.name) _ _ to.1 in
+        let old_short = passed (is_long source.name) _ _ old.1 in
+        let lawful = passed (is_no_name target.name) _ _ old_short.1 in
+        let short = passed (is_long target.name) _ _ lawful.1 in
+        let may = passed (not (may_change ctx.credential source.directory)) _ _ short.1 in
+        let may_too = passed (not (may_change ctx.credential target.directory)) _ _ may.1 in
+        let own = passed (is_own_name source.name || is_own_name target.name) _ _ may_too.1 in
+        move_done (file_in tree source) (record {
+          directory_is = negated _ to.0;
+          lawful = lawful.0;
+          short = short.0;
+          not_own = (or_none _ _ own.0).1;
+        }) refl)
+
+module _ (tree next : Tree) (ctx : Ctx) (fits : Type 0) (wanted : NewAttributes) (guard : Option Moment)
+    (bounds : fits → NewAttributesFit wanted) (outcome : Result (Unit {0}) Status) (told : WeakCacheData) where
+  set_tested : (number : ℕ) (node : Node) (test : Option Status) → node_at tree number ≡ Some node
+      → refusal ctx wanted guard node ≡ test
+      → SetOrLeft tree number node (with_attributes ctx.moment wanted node) test outcome told next
+      → Deed tree ctx fits next
+  set_tested number node None is tested s = sets (record {
+    number = number;
+    node = node;
+    wanted = wanted;
+    guard = guard;
+    stands = is;
+    tested = tested;
+    leads = s.changed;
+    bounds = bounds;
+  })
+  set_tested number node (Some status) is tested s = leaves s.unchanged
+
+  set_done : (handle : List ℕ) (found : Result (ℕ × Node) Status) → find_file tree handle ≡ found
+      → SetFound tree ctx wanted guard found outcome told next → Deed tree ctx fits next
+  set_done handle (Ok found) is s =
+      set_tested found.0 found.1 (refusal ctx wanted guard found.1) (found-stands tree handle found is) refl s
+  set_done handle (Err status) is s = leaves s.unchanged
+
+-- What a step does, whatever the call.
+pub what_is_done : (tree next : Tree) (ctx : Ctx) (new : Option ℕ) (asked : Call) (given : Reply)
+    → IsNewNumber tree new → numbered_step tree ctx new asked given next → Deed tree ctx (CallFits asked) next
+what_is_done tree next ctx new (call.GetAttr object) (reply.GetAttr outcome) is_new s = leaves s.unchanged
+what_is_done tree next ctx new (call.SetAttr object wanted guard) (reply.SetAttr outcome told) is_new s =
+    set_done tree next ctx (CallFits (call.SetAttr object wanted guard)) wanted guard (λ f. f.1) outcome told
+    object.bytes (find_file tree object.bytes) refl s
+what_is_done tree next ctx new (call.Lookup name) (reply.Lookup outcome told) is_new s = leaves s.unchanged
+what_is_done tree next ctx new (call.Access object bits) (reply.Access outcome told) is_new s =
+    leaves s.unchanged
+what_is_done tree next ctx new (call.ReadLink link) (reply.ReadLink outcome told) is_new s = leaves s.unchanged
+what_is_done tree next ctx new (call.Read file offset count) (reply.Read outcome told) is_new s =
+    leaves s.unchanged
+what_is_done tree next ctx new (call.ReadDir directory cookie verifier count)
+    (reply.ReadDir outcome told) is_new s =
+    leaves s.unchanged
+what_is_done tree next ctx new (call.ReadDirPlus directory cookie verifier names_count count)
+    (reply.ReadDirPlus outcome told) is_new s =
+    leaves s.unchanged
+what_is_done tree next ctx new (call.FsStat object) (reply.FsStat outcome told) is_new s = leaves s.unchanged
+what_is_done tree next ctx new (call.FsInfo object) (reply.FsInfo outcome told) is_new s = leaves s.unchanged
+what_is_done tree next ctx new (call.PathConf object) (reply.PathConf outcome told) is_new s =
+    leaves s.unchanged
+what_is_done tree next ctx new (call.MkNod name special) (reply.MkNod outcome told) is_new s =
+    leaves (telling_leaves tree next ctx new (call.MkNod name special) (reply.MkNod outcome told) s refl)
+what_is_done tree next ctx new (call.Commit file offset count) (reply.Commit outcome told) is_new s =
+    leaves (telling_leaves tree next ctx new (call.Commit file offset count) (reply.Commit outcome told) s refl)
+what_is_done tree next ctx new (call.Write file offset count stability text)
+    (reply.Write outcome told) is_new s =
+    let fits = CallFits (call.Write file offset count stability text) in
+    leads_acts (Deed tree ctx fits) tree next _ _ outcome told s (leaves refl)
+    (λ number node is. write_done tree ctx fits offset count stability text number node (λ f. f.3.each) is)
+what_is_done tree next ctx new (call.Create name how) (reply.Create outcome told) is_new s =
+    let fits = CallFits (call.Create name how) in
+    leads_acts (Deed tree ctx fits) tree next _ _ outcome told s (leaves refl)
+    (λ at directory is. create_done tree ctx fits new is_new at directory name.name is (λ f. f.0.name.each) how
+    (λ f. f.1))
+what_is_done tree next ctx new (call.MkDir name wanted) (reply.MkDir outcome told) is_new s =
+    let fits = CallFits (call.MkDir name wanted) in
+    leads_acts (Deed tree ctx fits) tree next _ _ outcome told s (leaves refl)
+    (λ at directory is. directory_done tree ctx fits new is_new at directory name.name is (λ f. f.0.name.each)
+    wanted (λ f. f.1))
+what_is_done tree next ctx new (call.SymLink name wanted target) (reply.SymLink outcome told) is_new s =
+    let fits = CallFits (call.SymLink name wanted target) in
+    leads_acts (Deed tree ctx fits) tree next _ _ outcome told s (leaves refl)
+    (λ at directory is. link_done tree ctx fits new is_new at directory name.name is (λ f. f.0.name.each)
+    wanted target (λ f. f.1) (λ f. f.2.each))
+what_is_done tree next ctx new (call.Remove name) (reply.Remove outcome told) is_new s =
+    leads_acts (Deed tree ctx (CallFits (call.Remove name))) tree next _ _ outcome told s (leaves refl)
+    (λ at directory is. remove_done tree ctx (CallFits (call.Remove name)) at directory name.name is)
+what_is_done tree next ctx new (call.RmDir name) (reply.RmDir outcome told) is_new s =
+    leads_acts (Deed tree ctx (CallFits (call.RmDir name))) tree next _ _ outcome told s (leaves refl)
+    (λ at directory is. rmdir_done tree ctx (CallFits (call.RmDir name)) at directory name.name is)
+what_is_done tree next ctx new (call.Rename source target) (reply.Rename outcome told told_too) is_new s =
+    let fits = CallFits (call.Rename source target) in
+    let act : ℕ → Node → ℕ → Node → Result (Effect (Unit {0})) Status = λ number directory other parent.
+    rename tree ctx (record { number = number; directory = directory; name = source.name })
+    (record { number = other; directory = parent; name = target.name }) in
+    subst (Deed tree ctx fits) (sym s.leads)
+    (leads_to (Deed tree ctx fits) tree
+    (renaming tree ctx source.directory.bytes source.name target.directory.bytes target.name) (leaves refl)
+    (leads_found (Deed tree ctx fits) tree source.directory.bytes
+    (λ number directory. found_then (find_file tree target.directory.bytes) (act number directory))
+    (find_file tree source.directory.bytes) refl
+    (λ number directory is. leads_found (Deed tree ctx fits) tree target.directory.bytes (act number directory)
+    (find_file tree target.directory.bytes) refl
+    (λ other parent too. rename_done tree ctx fits
+    (record { number = number; directory = directory; name = source.name })
+    (record { number = other; directory = parent; name = target.name }) is too (λ f. f.1.name.each)))))
+what_is_done tree next ctx new (call.Link file name) (reply.Link outcome told told_too) is_new s =
+    let fits = CallFits (call.Link file name) in
+    subst (Deed tree ctx fits) (sym s.leads)
+    (leads_to (Deed tree ctx fits) tree (linking tree ctx file.bytes name.directory.bytes name.name) (leaves refl)
+    (leads_found (Deed tree ctx fits) tree file.bytes (λ number node.
+    found_then (find_file tree name.directory.bytes) (link tree ctx name.name number node))
+    (find_file tree file.bytes) refl
+    (λ number node is. leads_found (Deed tree ctx fits) tree name.directory.bytes
+    (link tree ctx name.name number node) (find_file tree name.directory.bytes) refl
+    (λ at directory too. linked_done tree ctx fits name.name number node at directory (λ f. f.1.name.each) is
+    too))))
+what_is_done tree next ctx new _ _ is_new s = absurd s
