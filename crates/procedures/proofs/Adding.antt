@@ -84,7 +84,7 @@ module _ (tree next : Tree) (lacks after : ℕ → ℕ) (number : ℕ) (old new 
       no_parent (Directory named span parent) fails = cc
       no_parent (Link target) fails = refl
 
-  ancestors : 0 < number → (steps q : ℕ) → q ≢ number → ancestor next steps q ≡ ancestor tree steps q
+  pub ancestors : 0 < number → (steps q : ℕ) → q ≢ number → ancestor next steps q ≡ ancestor tree steps q
   ancestors some zero q apart = refl
   ancestors some (suc steps) q apart =
       ap (λ o. ancestor next steps (parent_in o)) (change.there q apart)
@@ -254,7 +254,7 @@ module _ (tree next : Tree) (lacks after : ℕ → ℕ) (number : ℕ) (old : No
   names_none : (q : ℕ) → names_in q old.body ≡ 0
   names_none q = names_in_none q old.body going.empty
 
-  no_child_of : (q : ℕ) (node : Node) → node_at tree q ≡ Some node → is_directory node.body ≡ true
+  pub no_child_of : (q : ℕ) (node : Node) → node_at tree q ≡ Some node → is_directory node.body ≡ true
       → q ≢ number → parent_of node.body ≢ number
   no_child_of q node is dir apart =
       let d = (good.files q node is).directory dir in

@@ -48,7 +48,7 @@ module _ (tree next : Tree) (lacks after : ℕ → ℕ) (number : ℕ) (old new 
   names : (q : ℕ) → names_of next q + names_in q old.body ≡ names_of tree q + names_in q new.body
   names q = change.sums (λ entry. names_in q entry.1.body)
 
-  ancestors : parent_of new.body ≡ parent_of old.body → (steps q : ℕ)
+  pub ancestors : parent_of new.body ≡ parent_of old.body → (steps q : ℕ)
       → ancestor next steps q ≡ ancestor tree steps q
   ancestors parent zero q = refl
   ancestors parent (suc steps) q =

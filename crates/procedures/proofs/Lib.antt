@@ -1,9 +1,11 @@
 pub mod Adding
 pub mod Answer
 pub mod Deeds
+pub mod Entering
 pub mod Failures
 pub mod Lacking
 pub mod Keeping
+pub mod Naming
 pub mod Numbers
 pub mod Parts
 pub mod Stamps
