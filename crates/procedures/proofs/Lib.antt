@@ -7,7 +7,9 @@ pub mod Lacking
 pub mod Keeping
 pub mod Naming
 pub mod Numbers
+pub mod Overwriting
 pub mod Parts
+pub mod Room
 pub mod Stamps
 pub mod Sums
 pub mod Unchanged

@@ -41,11 +41,11 @@ module _ {X : Type 0} (f : ℕ × X → ℕ) (k : ℕ) (v : X) where
       ap (sum_by f) (entries-insert nat_cmp_total m k v)
       ∙ sum_put_new (entries m) (sym (get-entries m k) ∙ none)
 
-and_first : (a b : Bool) → T (a && b) → T a
+pub and_first : (a b : Bool) → T (a && b) → T a
 and_first true b t = tt
 and_first false b t = absurd t
 
-and_second : (a b : Bool) → T (a && b) → T b
+pub and_second : (a b : Bool) → T (a && b) → T b
 and_second true b t = t
 and_second false b t = absurd t
 
@@ -55,7 +55,7 @@ equal_of Equal e = refl
 equal_of Greater e = cc
 
 -- a key above another isn't it
-apart : (k q : ℕ) → T (is_lt (nat_cmp k q)) → (b : Bool) → eq_by_cmp nat_cmp q k ≡ b → b ≡ false
+pub apart : (k q : ℕ) → T (is_lt (nat_cmp k q)) → (b : Bool) → eq_by_cmp nat_cmp q k ≡ b → b ≡ false
 apart k q less false e = refl
 apart k q less true e =
     let same : q ≡ k = eq_by_cmp-is q k e in
@@ -63,14 +63,14 @@ apart k q less true e =
     absurd (subst (λ r. T (is_lt r)) (ap (nat_cmp k) same ∙ tied) less)
 
 module _ {X : Type 0} where
-  below_at : (k : ℕ) (es : List (ℕ × X)) (d : ℕ × X) (index : ℕ) → index < length es
+  pub below_at : (k : ℕ) (es : List (ℕ × X)) (d : ℕ × X) (index : ℕ) → index < length es
       → T (below_all nat_cmp k es) → T (is_lt (nat_cmp k (get_or es index d).0))
   below_at k [] d index inside below = absurd (omega arith)
   below_at k (e ∷ es) d zero inside below = and_first _ _ below
   below_at k (e ∷ es) d (suc index) inside below =
       below_at k es d index (omega arith) (and_second _ _ below)
 
-  skipped : (b : Bool) (v : X) (o : Option X) → b ≡ false → cond b (Some v) o ≡ o
+  pub skipped : (b : Bool) (v : X) (o : Option X) → b ≡ false → cond b (Some v) o ≡ o
   skipped true v o e = cc
   skipped false v o e = refl
 
