@@ -124,11 +124,11 @@ any_none p (x ∷ xs) e =
     let rest = any_none p xs parts.1 in
     omega (arith, first, rest, sum_by-cons (λ y. cond (p y) 1 0) x xs)
 
-one_or_none : (b : Bool) → cond b 1 0 ≤ 0 → b ≡ false
+pub one_or_none : (b : Bool) → cond b 1 0 ≤ 0 → b ≡ false
 one_or_none true small = absurd (omega (arith, small))
 one_or_none false small = refl
 
-differs : (a b : ℕ) → nat_eq a b ≡ false → a ≢ b
+pub differs : (a b : ℕ) → nat_eq a b ≡ false → a ≢ b
 differs a b fails same =
     let is : nat_eq a b ≡ true = grind (arith, nat_tests, same) in
     let never : true ≡ false = sym is ∙ fails in cc

@@ -10,6 +10,7 @@ pub mod Numbers
 pub mod Overwriting
 pub mod Parts
 pub mod Room
+pub mod Soundness
 pub mod Stamps
 pub mod Sums
 pub mod Unchanged

@@ -9,14 +9,15 @@ use Rattle.std.specs.FinMap.{get-remove, nat_cmp-IsAntisymmetric, remove}
 use Rattle.std.specs.Ordering.{eq_by_cmp, nat_cmp}
 use Rattle.limits.specs.declared.TheConstants.{MOST_LINKS, MOST_SPAN, ROOT, SLOTS_PER_BLOCK}
 use Rattle.nfs_types.specs.declared.ctx.Moment.{Moment}
+use Rattle.model.specs.Cost.{cost}
 use Rattle.model.specs.Names.{ancestor, child_directories, entries_of, is_directory, is_directory_at, names_in}
 use Rattle.model.specs.Names.{names_of, parent_in, parent_of}
 use Rattle.model.specs.Node.{Node, Body, DirectoryEntry, Regular, Directory, Link}
 use Rattle.model.specs.Sound.{SoundName, SoundNode, SoundTime}
-use Rattle.model.specs.Tree.{Tree, node_at, with_node}
+use Rattle.model.specs.Tree.{Tree, node_at, used, with_node}
 use Rattle.procedures.proofs.Adding as adding
 use Rattle.procedures.proofs.Adding.{gone, names_in_of}
-use Rattle.procedures.proofs.Entering.{FreeSlot, count_departed, count_entered, named_in, node_departed}
+use Rattle.procedures.proofs.Entering.{FreeSlot, count_departed, count_entered, named_in, node_departed, one_or_none}
 use Rattle.procedures.proofs.Entering.{node_entered, same_kind_departed, same_kind_entered, same_parent_departed}
 use Rattle.procedures.proofs.Entering.{same_parent_entered}
 use Rattle.procedures.proofs.Keeping as keeping
@@ -60,7 +61,7 @@ two_names tree p r q a b apart a_is b_is =
     omega (arith, first, a_counts, rest)
 
 -- each entry names a file, by a count of those that don't
-unfounded : Tree → List ℕ × DirectoryEntry → Bool
+pub unfounded : Tree → List ℕ × DirectoryEntry → Bool
 unfounded tree entry = not (is_some (node_at tree entry.1.number))
 
 not_false : (b : Bool) → not b ≡ false → b ≡ true
@@ -78,6 +79,16 @@ all_founded : (tree : Tree) (xs : List (List ℕ × DirectoryEntry)) → count_b
     → All (λ entry. IsSome (node_at tree entry.1.number)) xs
 unfolding unfounded
 all_founded tree xs none index d inside = not_false _ (each_fails (unfounded tree) xs none index d inside)
+
+-- an entry of a directory names a file
+pub entry_stands : (tree : Tree) (lacks : ℕ → ℕ) → Lacking tree lacks → (at : ℕ) (directory : Node)
+    → node_at tree at ≡ Some directory → (name : List ℕ) (entry : DirectoryEntry)
+    → entry_at directory.body name ≡ Some entry → is_some (node_at tree entry.number) ≡ true
+unfolding unfounded
+entry_stands tree lacks good at directory stands name entry is =
+    let none = no_unfounded tree (entries_of directory.body) (good.files at directory stands).names in
+    let sum = count_departed (unfounded tree) name entry directory.body is in
+    not_false _ (one_or_none (unfounded tree (name, entry)) (omega (arith, none, sum)))
 
 module _ (tree : Tree) (lacks : ℕ → ℕ) (good : Lacking tree lacks) (at : ℕ) (directory : Node)
     (stands : node_at tree at ≡ Some directory) (name : List ℕ) (entry : DirectoryEntry)
@@ -126,9 +137,11 @@ module _ (tree : Tree) (lacks : ℕ → ℕ) (good : Lacking tree lacks) (at : �
   not_in_itself same =
       let one : Some file ≡ Some directory = sym file_stands ∙ ap (node_at tree) same ∙ stands in
       let file_is : file ≡ directory = cc in
-      let dir = ap (λ n. is_directory n.body) file_is ∙ named_in directory.body name entry entry_is in
+      let dir : is_directory file.body ≡ true =
+      ap (λ n. is_directory n.body) file_is ∙ named_in directory.body name entry entry_is in
+      let parent : parent_of file.body ≡ entry.number = namer_is_parent dir not_root ∙ sym same in
       let own : parent_in (node_at tree entry.number) ≡ entry.number =
-      ap parent_in file_stands ∙ namer_is_parent dir not_root ∙ sym same in
+      ap parent_in file_stands ∙ parent in
       let to = ((good.files entry.number file file_stands).directory dir).reached in
       not_root (sym (stays_itself to.0 own) ∙ to.1)
 
@@ -265,11 +278,15 @@ none_of : {A : Type 0} (xs : List A) → nat_lt 0 (length xs) ≡ false → xs �
 none_of [] e = refl
 none_of (x ∷ xs) e = absurd (grind (arith, nat_tests, e))
 
+more_than_one : (n : ℕ) → nat_le n 1 ≡ false → 1 < n
+more_than_one n many = grind (arith, nat_tests, many)
+
 -- what becomes of a tree where a file loses one of its links, or is gone
 pub record Unnamed (tree next : Tree) (after : ℕ → ℕ) (number : ℕ) : Type 0 where
   pub tree_is : Lacking next after
   pub there : (q : ℕ) → q ≢ number → node_at next q ≡ node_at tree q
   pub ancestors : (steps q : ℕ) → q ≢ number → ancestor next steps q ≡ ancestor tree steps q
+  pub room : used next ≤ used tree
 
 module _ (tree : Tree) (lacks after : ℕ → ℕ) (good : Lacking tree lacks) (number : ℕ) (file : Node)
     (stands : node_at tree number ≡ Some file) (lacks_one : lacks number ≡ 1) (whole : after number ≡ 0)
@@ -336,6 +353,7 @@ module _ (tree : Tree) (lacks after : ℕ → ℕ) (good : Lacking tree lacks) (
               others = others;
               orphans = orphans;
             })) mine.least;
+        room = let sum = change.sums (λ entry. cost entry.1.body) in omega (arith, sum);
       }
 
   fewer_tree : is_last_name file ≡ false → Unnamed tree (with_node tree number fewer) after number
@@ -344,7 +362,7 @@ module _ (tree : Tree) (lacks after : ℕ → ℕ) (good : Lacking tree lacks) (
       let mine = (good.files number file stands).itself in
       let parts = split _ _ more in
       let many = parts.1 in
-      let big : 1 < file.nlink = grind (arith, nat_tests, many) in
+      let big = more_than_one file.nlink many in
       record {
         tree_is = reshaped tree (with_node tree number fewer) lacks after number file fewer change good (record {
           itself = record {
@@ -372,6 +390,7 @@ module _ (tree : Tree) (lacks after : ℕ → ℕ) (good : Lacking tree lacks) (
         there = change.there;
         ancestors = λ steps q apart. keeping.ancestors tree (with_node tree number fewer) lacks after number file
             fewer change good refl refl steps q;
+        room = let sum = change.sums (λ entry. cost entry.1.body) in omega (arith, sum);
       }
     where
       split : (a b : Bool) → (a || b) ≡ false → (a ≡ false) × (b ≡ false)
