@@ -15,3 +15,4 @@ pub mod Stamps
 pub mod Sums
 pub mod Unchanged
 pub mod Verifiers
+pub mod Within
