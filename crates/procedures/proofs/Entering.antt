@@ -25,7 +25,7 @@ use Rattle.procedures.specs.FirstTests.{is_long, is_no_name}
 use Rattle.procedures.specs.Places.{entry_at, is_itself, is_own_name, is_parent, is_taken_slot, least_free_slot}
 
 -- names are keys that the order tells apart
-names_apart : IsAntisymmetric (slice_cmp nat_cmp)
+pub names_apart : IsAntisymmetric (slice_cmp nat_cmp)
 names_apart = slice_cmp-IsAntisymmetric nat_cmp-IsAntisymmetric
 
 -- what a test counts of the entries of a directory with one name more
