@@ -31,8 +31,8 @@ use Rattle.procedures.proofs.Room.{room_after}
 use Rattle.procedures.proofs.Soundness.{changed_is, few_links, links_of_directory, no_entry, parent_links_is}
 use Rattle.procedures.proofs.Soundness.{same_geometry, with_two}
 use Rattle.procedures.proofs.Within.{never_reached}
-use Rattle.procedures.specs.Changes.{changed_at, departed, entered, lacks_room, parent_links, unnamed, without_entry}
-use Rattle.procedures.specs.Changes.{without_name}
+use Rattle.procedures.specs.Changes.{changed_at, departed, entered, lacks_room, parent_links, unnamed, with_entry}
+use Rattle.procedures.specs.Changes.{without_entry, without_name}
 use Rattle.procedures.specs.MkDir.{is_full}
 use Rattle.procedures.specs.Places.{entry_at, is_found_directory, is_found_other, least_free_slot}
 use Rattle.procedures.specs.Rename.{Place, file_in, goes_below_itself, has_no_link, is_other_sort, is_within, moved}
@@ -528,3 +528,201 @@ module _ (tree : Tree) (ctx : Ctx) (fits : Type 0) (next : Tree) (good : Sound t
 
   cleared : Cleared
   cleared = cleared_of (file_in tree target) refl
+
+  -- The slot of the new name.
+
+  record Slot : Type 0 where
+    small : d.entry.slot < SLOTS_PER_BLOCK * MOST_SPAN
+    taken : (name : List ℕ) (entry : DirectoryEntry) → entry_at target.directory.body name ≡ Some entry
+        → entry.slot ≡ d.entry.slot
+        → (name ≡ target.name) ⊎ ((target.number ≡ source.number) × (name ≡ source.name))
+
+  slot_within : (entry : Option DirectoryEntry) → entry_at source.directory.body source.name ≡ entry
+      → target.number ≡ source.number → option_map (λ e. e.slot) entry ≡ Some d.entry.slot → Slot
+  slot_within None is same slot = cc
+  slot_within (Some entry) is same slot =
+      let slot_is : entry.slot ≡ d.entry.slot = cc in
+      let one : Some target.directory ≡ Some source.directory =
+      sym d.target_stands ∙ ap (node_at tree) same ∙ d.source_stands in
+      let directory_is : target.directory ≡ source.directory = cc in
+      let small = body_slots source.directory.body source.name entry source_sound.body is in
+      record {
+        small = omega (arith, slot_is, small);
+        taken = λ name other has same_slot.
+            inr (
+              same,
+              body_distinct source.directory.body name source.name other entry source_sound.body
+              (ap (λ n. entry_at n.body name) (sym directory_is) ∙ has) is (same_slot ∙ sym slot_is),
+            );
+      }
+
+  slot_by : (within : Bool) (old replaced : Option DirectoryEntry) → nat_eq source.number target.number ≡ within
+      → entry_at source.directory.body source.name ≡ old → entry_at target.directory.body target.name ≡ replaced
+      → slot_for within old replaced target.directory.body ≡ Some d.entry.slot → Slot
+  slot_by within old (Some entry) same is has slot =
+      let slot_is : entry.slot ≡ d.entry.slot = cc in
+      let small = body_slots target.directory.body target.name entry target_sound.body has in
+      record {
+        small = omega (arith, slot_is, small);
+        taken = λ name other there same_slot.
+            inl (body_distinct target.directory.body name target.name other entry target_sound.body there has
+            (same_slot ∙ sym slot_is));
+      }
+  slot_by true old None same is has slot =
+      slot_within old is (sym (equal_by source.number target.number same)) slot
+  slot_by false old None same is has slot =
+      let free = least_is_free target.directory.body d.entry.slot slot in
+      record {
+        small = free.1;
+        taken = λ name other there same_slot. absurd (free.0 name other there same_slot);
+      }
+
+  slot_is : Slot
+  slot_is =
+      slot_by (nat_eq source.number target.number) (entry_at source.directory.body source.name)
+      (entry_at target.directory.body target.name) refl refl refl d.slot
+
+  free_in : (c : Cleared) → FreeSlot c.directory.body d.entry.slot
+  free_in c name entry is same_slot =
+      elim (slot_is.taken name entry (c.before name entry is) same_slot) [
+        | inl same_name ↦
+            let there = ap (entry_at c.directory.body) (sym same_name) ∙ is in
+            let never : None ≡ Some entry = sym c.absent ∙ there in cc
+        | inr within ↦
+            let there = ap (entry_at c.directory.body) (sym within.1) ∙ is in
+            let never : None ≡ Some entry = sym (c.old_gone within.0) ∙ there in cc
+      ]
+
+  -- The file in its new place.
+
+  abbrev placed_node : Node
+  placed_node = moved ctx.moment target.number node
+
+  placed_sound : SoundNode placed_node
+  placed_sound =
+      let old = (good.files number node named.stands).itself in
+      record {
+        mode = old.mode;
+        uid = old.uid;
+        gid = old.gid;
+        nlink = old.nlink;
+        atime = old.atime;
+        mtime = old.mtime;
+        ctime = now.moment;
+        stamp = old.stamp;
+        verifier = sound_verifier target.number node.body node.verifier old.verifier;
+        body = sound_body target.number node.body old.body;
+      }
+
+  module _ (c : Cleared) where
+    abbrev placed_tree : Tree
+    placed_tree = with_node c.tree_is number placed_node
+
+    put_placed : Change c.tree_is placed_tree number (Some node) (Some placed_node)
+    put_placed = put_change c.tree_is number (Some node) placed_node c.node_is
+
+    lacks_its_name : lacking number ≡ 1
+    lacks_its_name = let one = one_of_itself number in omega (arith, one)
+
+    placed_other : is_directory node.body ≡ false → Lacking placed_tree lacking
+    placed_other other =
+        reshaped c.tree_is placed_tree lacking lacking number node placed_node put_placed c.lacks (record {
+          itself = placed_sound;
+          entries_are = same_entries target.number node.body;
+          directory = same_kind target.number node.body;
+          parent = no_parent target.number node.body other;
+          stamp = refl;
+          links = λ dir. refl;
+          whole = λ dir. refl;
+          names = λ _. refl;
+          named = λ _. ((c.lacks.files number node c.node_is).links other).named;
+          others = λ q apart. refl;
+        })
+
+    placed_directory : is_directory node.body ≡ true → Lacking placed_tree lacking
+    placed_directory dir =
+        let child = ((c.lacks.files number node c.node_is).directory dir).child no_root in
+        let once = child.once in
+        let lacks_one = lacks_its_name in
+        let less_names = names_in_of c.tree_is target.number number c.directory c.is in
+        moved_tree c.tree_is placed_tree lacking number target.number node placed_node put_placed c.lacks (record {
+          itself = placed_sound;
+          not_root = no_root;
+          entries_are = same_entries target.number node.body;
+          was_directory = dir;
+          directory = same_kind target.number node.body ∙ dir;
+          links = refl;
+          parent_is = new_parent target.number node.body dir;
+          node = c.directory;
+          node_is = c.is;
+          by_parent = omega (arith, once, lacks_one, less_names);
+          apart = λ steps there. not_above dir steps (sym (c.ancestors steps) ∙ there);
+          reached = ((c.lacks.files target.number c.directory c.is).directory c.kind).reached;
+        })
+
+    placed_lacks : Lacking placed_tree lacking
+    placed_lacks =
+        elim (directory_or_not (is_directory node.body)) [
+          | inl dir ↦ placed_directory dir
+          | inr other ↦ placed_other other
+        ]
+
+    abbrev entered_directory : Node
+    entered_directory = entered ctx.moment target.name d.entry node.body c.directory
+
+    abbrev last_tree : Tree
+    last_tree = with_node placed_tree target.number entered_directory
+
+    same_links_placed : parent_links placed_node.body ≡ parent_links node.body
+    same_links_placed = ap (λ b. cond b 1 0) (same_kind target.number node.body)
+
+    -- the new name counts for what moved as for what it was
+    same_entered : entered ctx.moment target.name d.entry placed_node.body c.directory ≡ entered_directory
+    same_entered = λ i. record c.directory {
+      nlink = c.directory.nlink + same_links_placed i;
+      mtime = ctx.moment;
+      ctime = ctx.moment;
+      body = with_entry target.name d.entry c.directory.body;
+    }
+
+    last_lacks : Lacking last_tree none_lacks
+    last_lacks =
+        let links = same_links_placed in
+        let few = c.few in
+        subst (λ n. Lacking (with_node placed_tree target.number n) none_lacks) same_entered
+        (enter placed_tree lacking none_lacks placed_lacks target.number c.directory
+        (put_placed.there target.number (λ same. apart_target (sym same)) ∙ c.is) c.kind target.name d.entry
+        c.absent placed_node (ap (node_at placed_tree) d.number_is ∙ put_placed.here)
+        (sound_name target.directory target.name d.placed (d.name_bounds f)) slot_is.small (free_in c) ctx.moment
+        now.moment (omega (arith, links, few))
+        (λ dir. new_parent target.number node.body (sym (same_kind target.number node.body) ∙ dir))
+        (λ q. ap (λ n. one_less none_lacks n q) (sym d.number_is)))
+
+    abbrev change : Node → Node
+    change = entered ctx.moment target.name d.entry node.body
+
+    leads_to_last : next ≡ last_tree
+    leads_to_last =
+        let named_first = put_change c.tree_is target.number (Some c.directory) entered_directory c.is in
+        d.leads
+        ∙ ap (λ s. changed_at (changed_at (without_name s ctx.moment target.number target.name (file_in tree target))
+        target.number change) number (moved ctx.moment target.number))
+        (changed_is tree source.number (departed ctx.moment source.name node.body) source.directory d.source_stands)
+        ∙ ap (λ s. changed_at (changed_at s target.number change) number (moved ctx.moment target.number)) c.made
+        ∙ ap (λ s. changed_at s number (moved ctx.moment target.number))
+        (changed_is c.tree_is target.number change c.directory c.is)
+        ∙ changed_is (with_node c.tree_is target.number entered_directory) number (moved ctx.moment target.number) node
+        (named_first.there number apart_target ∙ c.node_is)
+        ∙ with_two c.tree_is target.number number entered_directory placed_node (λ same. apart_target (sym same))
+
+    sound_by : Sound next
+    sound_by =
+        let blocks : last_tree.geometry.data_blocks ≡ tree.geometry.data_blocks =
+        ap (λ g. g.data_blocks) c.geometry in
+        let room = room_after tree last_tree good.room
+        (subst (λ t. lacks_room tree t ≡ false) leads_to_last d.room) in
+        subst Sound (sym leads_to_last) (to_sound last_tree last_lacks (omega (arith, blocks, room)))
+
+  -- A renaming keeps the tree sound.
+  pub rename_sound : Sound next
+  rename_sound = sound_by cleared
