@@ -11,6 +11,7 @@ pub mod Overwriting
 pub mod Parts
 pub mod Renaming
 pub mod Room
+pub mod SoundSteps
 pub mod Soundness
 pub mod Stamps
 pub mod Sums

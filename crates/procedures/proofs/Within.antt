@@ -73,13 +73,13 @@ module _ (tree : Tree) (good : Sound tree) where
   zero_by (Some node) is = let least = (good.files 0 node is).least in absurd (omega (arith, least))
 
   -- 0 is no file's number, and its parent is 0 again
-  zero_stays : (steps : ℕ) → ancestor tree steps 0 ≡ 0
+  pub zero_stays : (steps : ℕ) → ancestor tree steps 0 ≡ 0
   zero_stays zero = refl
   zero_stays (suc steps) =
       ap (λ o. ancestor tree steps (parent_in o)) (zero_by (node_at tree 0) refl) ∙ zero_stays steps
 
   -- the ancestors of an ancestor
-  along : (first more q : ℕ) → ancestor tree (first + more) q ≡ ancestor tree more (ancestor tree first q)
+  pub along : (first more q : ℕ) → ancestor tree (first + more) q ≡ ancestor tree more (ancestor tree first q)
   along zero more q = let same : zero + more ≡ more = omega arith in ap (λ n. ancestor tree n q) same
   along (suc first) more q =
       let same : suc first + more ≡ suc (first + more) = omega arith in

@@ -8,6 +8,7 @@ mod bits;
 mod cookies;
 mod files;
 mod steps;
+mod trees;
 
 pub use bits::{
     ACCESS_DELETE, ACCESS_EXECUTE, ACCESS_EXTEND, ACCESS_LOOKUP, ACCESS_MODIFY, ACCESS_READ,
@@ -21,4 +22,7 @@ pub use files::{
 pub use steps::{
     a_numbered_step_is_determined, a_refusal_leaves_the_tree, each_call_has_a_step,
     no_step_makes_a_later_stamp, no_step_tells_a_failure, what_only_tells_leaves_the_tree,
+};
+pub use trees::{
+    histories_keep_trees_sound, no_step_makes_a_file_its_own_ancestor, steps_keep_trees_sound,
 };
