@@ -13,8 +13,10 @@ pub mod Renaming
 pub mod Room
 pub mod SoundSteps
 pub mod Soundness
+pub mod Stale
 pub mod Stamps
 pub mod Sums
 pub mod Unchanged
 pub mod Verifiers
 pub mod Within
+pub mod Written

@@ -1,11 +1,12 @@
 -- Histories of whole steps: what they lead to, and which transactions made them.
-use Rattle.std.specs.Prelude.{◌≡◌, ◌⊎◌, ℕ, ◌<◌, List, [], ◌∷◌, All}
+use Rattle.std.specs.Prelude.{◌≡◌, ◌⊎◌, ℕ, ◌<◌, List, [], ◌∷◌, Some}
 use Rattle.nfs_types.specs.declared.ctx.Ctx.{Ctx}
 use Rattle.nfs_types.specs.declared.handle.Stamp.{Stamp}
 use Rattle.nfs_types.specs.Fits.{CallFits}
 use Rattle.model.specs.After.{Entry}
+use Rattle.model.specs.Node.{Node}
 use Rattle.model.specs.Sound.{SoundCtx}
-use Rattle.model.specs.Tree.{Tree}
+use Rattle.model.specs.Tree.{Tree, node_at}
 use Rattle.procedures.specs.WholeStep.{WholeStep}
 
 -- the entries of a history, one whole step after another, lead from a tree to a tree
@@ -35,3 +36,8 @@ IsEarlier a b = (a.boot < b.boot) ⊎ ((a.boot ≡ b.boot) × (a.transaction < b
 abbrev pub Rising : Stamp → List Entry → Type 0
 Rising from [] = Unit {0}
 Rising from (entry ∷ entries) = IsEarlier from (stamp_of entry.ctx) × Rising (stamp_of entry.ctx) entries
+
+-- each file was made by this stamp's transaction or before it
+abbrev pub IsMadeUpTo : Stamp → Tree → Type 0
+IsMadeUpTo stamp tree = (number : ℕ) (node : Node) → node_at tree number ≡ Some node
+    → IsEarlier node.stamp stamp ⊎ (node.stamp ≡ stamp)

@@ -7,6 +7,7 @@
 mod bits;
 mod cookies;
 mod files;
+mod handles;
 mod steps;
 mod trees;
 
@@ -18,6 +19,9 @@ pub use cookies::{FIRST_SLOT_COOKIE, ITSELF_COOKIE, PARENT_COOKIE};
 pub use files::{
     a_commit_bears_the_verifier_of_what_was_written, a_hole_is_zeros, one_file_needs_what_it_adds,
     what_is_written_is_read, what_lies_before_stays, what_lies_behind_stays,
+};
+pub use handles::{
+    a_handle_once_stale_names_no_file_again, a_stale_handle_stays_stale, steps_give_their_own_stamp,
 };
 pub use steps::{
     a_numbered_step_is_determined, a_refusal_leaves_the_tree, each_call_has_a_step,
