@@ -9,6 +9,7 @@ pub mod Naming
 pub mod Numbers
 pub mod Overwriting
 pub mod Parts
+pub mod Removed
 pub mod Renaming
 pub mod Room
 pub mod SoundSteps
