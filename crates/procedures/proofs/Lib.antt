@@ -15,7 +15,6 @@ pub mod Room
 pub mod SoundSteps
 pub mod Soundness
 pub mod Stale
-pub mod Stamps
 pub mod Sums
 pub mod Unchanged
 pub mod Verifiers

@@ -16,6 +16,7 @@ use Rattle.nfs_types.specs.declared.status.Status.TheVariants as status
 use Rattle.model.specs.After.{Entry}
 use Rattle.model.specs.Find.{find_file, is_number, number_in, same_stamp, stamp_in, stamped}
 use Rattle.model.specs.Node.{Node}
+use Rattle.model.specs.Sound.{IsMadeBy}
 use Rattle.model.specs.Tree.{Geometry, Tree, node_at, with_node}
 use Rattle.procedures.proofs.Deeds.{Deed, leaves, links, makes, named_is, removes, renames, sets, what_is_done, writes}
 use Rattle.procedures.proofs.Lacking.{Change, equal_or_not, gone_change, put_change}
@@ -218,6 +219,15 @@ pub step_follows : (tree next : Tree) (ctx : Ctx) (asked : Call) (given : Reply)
 step_follows tree next ctx asked given step =
     deed_follows tree next ctx (CallFits asked)
     (what_is_done tree next ctx step.new asked given step.is_new step.leads)
+
+-- No step gives the stamp of a later boot.
+pub no_later : (boot : ℕ) (tree next : Tree) (ctx : Ctx) (asked : Call) (given : Reply) → IsMadeBy boot tree
+    → ctx.boot ≤ boot → WholeStep tree ctx asked given next → IsMadeBy boot next
+no_later boot tree next ctx asked given made now step number node is =
+    elim ((step_follows tree next ctx asked given step).stamps number node is) [
+      | inl old ↦ subst (λ s. s.boot ≤ boot) old.2 (made number old.0 old.1)
+      | inr own ↦ subst (λ s. s.boot ≤ boot) (sym own) now
+    ]
 
 -- Stamps in their order.
 

@@ -5,6 +5,7 @@ use Rattle.std.proofs.Common.{Result, Ok, Err, fold, arith, rules}
 use Rattle.std.proofs.lemmas.Bool.Decides.{nat_tests}
 use Rattle.std.proofs.lemmas.List.{ext_get_or, get_or-drop, get_or-take, length-drop, length-take}
 use Rattle.std.specs.Cmp.{nat_cmp_total}
+use Rattle.std.specs.FinMap.{nat_cmp-IsAntisymmetric}
 use Rattle.std.specs.FinSet.{FinSet, contains, contains-insert, contains-items, insert, items, len, len-insert}
 use Rattle.std.specs.List.{range_with_len}
 use Rattle.std.specs.Ordering.{eq_by_cmp, nat_cmp}
@@ -28,6 +29,7 @@ use Rattle.model.specs.Tree.{Tree, need, node_at, used, with_node}
 use Rattle.procedures.proofs.Deeds.{passed}
 use Rattle.procedures.proofs.Lacking.{put_change}
 use Rattle.procedures.proofs.Overwriting.{kept_before, kept_behind, length_overwritten, written_at}
+use Rattle.procedures.proofs.Parts.{insert_same}
 use Rattle.procedures.proofs.Stale.{refound}
 use Rattle.procedures.proofs.Sums.{need_of_one}
 use Rattle.procedures.specs.Changes.{if_room, lacks_room}
@@ -335,3 +337,14 @@ write_takes tree next ctx handle offset text done =
     let taken : used (with_node tree done.found.0 new) ≡ used tree + need tree (with_node tree done.found.0 new) =
     omega (arith, sum, needs, more) in
     subst (λ t. used t ≡ used tree + need tree t) (sym done.leads) taken
+
+-- Without any byte the tree stays.
+pub nothing_written : (tree next : Tree) (ctx : Ctx) (handle : List ℕ) (offset : ℕ)
+    → Wrote tree next ctx handle offset [] → next ≡ tree
+nothing_written tree next ctx handle offset done =
+    let there = found-stands tree handle done.found done.found_is in
+    done.leads
+    ∙ λ i. record {
+      geometry = tree.geometry;
+      nodes = insert_same nat_cmp_total nat_cmp-IsAntisymmetric tree.nodes done.found.0 done.found.1 there i;
+    }
