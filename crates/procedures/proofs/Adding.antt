@@ -1,9 +1,8 @@
 -- What is kept of a tree in the middle of a step where a file comes or goes that no entry names.
-use Rattle.std.proofs.Common.{◌≡◌, ◌≢◌, ◌⊎◌, inl, inr, ℕ, zero, suc, ◌+◌, ◌<◌, ◌≤◌, sym, ap, subst, ◌∙◌, refl}
-use Rattle.std.proofs.Common.{Bool, true, false, cond, nat_eq, List, [], length, get_or, Option, Some, None}
-use Rattle.std.proofs.Common.{is_some, All, IsSome, sum_by, count_by, arith}
+use Rattle.std.proofs.Common.{◌≡◌, ◌≢◌, inl, inr, ℕ, zero, suc, ◌+◌, ◌<◌, ◌≤◌, sym, ap, subst, ◌∙◌, refl}
+use Rattle.std.proofs.Common.{true, false, cond, nat_eq, [], length, get_or, Option, Some, None}
+use Rattle.std.proofs.Common.{is_some, All, IsSome, count_by, arith}
 use Rattle.std.specs.FinMap.{entries}
-use Rattle.std.specs.Ordering.{nat_cmp}
 use Rattle.std.proofs.lemmas.Bool.Decides.{nat_tests}
 use Rattle.limits.specs.declared.TheConstants.{ROOT}
 use Rattle.model.specs.Names.{ancestor, child_directories, entries_of, is_directory, is_directory_at, names_in}
@@ -12,8 +11,8 @@ use Rattle.model.specs.Node.{Node, Body, Regular, Directory, Link}
 use Rattle.model.specs.Sound.{SoundNode}
 use Rattle.model.specs.Tree.{Tree, node_at}
 use Rattle.procedures.proofs.Keeping.{directory_or_not, names_in_none}
-use Rattle.procedures.proofs.Lacking.{Change, Kept, Lacking, LackingAt, LackingChild, LackingDirectory}
-use Rattle.procedures.proofs.Lacking.{LackingFile, LackingRoot, ParentNow, Reached, changed_tree, equal_or_not}
+use Rattle.procedures.proofs.Lacking.{Change, Kept, Lacking, LackingAt, LackingChild}
+use Rattle.procedures.proofs.Lacking.{Reached, changed_tree, equal_or_not}
 use Rattle.procedures.proofs.Parts.{count_alike, each_fails, part, sum_none, sum_remove}
 use Rattle.procedures.proofs.Sums.{got_at}
 use Rattle.std.specs.Cmp.{nat_cmp_total}
@@ -193,10 +192,10 @@ module _ (tree next : Tree) (lacks after : ℕ → ℕ) (number : ℕ) (new : No
       let to = add.reached dir in (
         suc to.0,
         ap (λ o. ancestor next to.0 (parent_in o)) change.here
-        ∙ ancestors tree next lacks after number None (Some new) change good unused add.others (λ q. refl)
-        adds_nothing (no_child tree lacks number good change.was) add.least to.0 (parent_of new.body)
-        (not_itself _ add.parent (add.parent_is dir))
-        ∙ to.1,
+            ∙ ancestors tree next lacks after number None (Some new) change good unused add.others (λ q. refl)
+            adds_nothing (no_child tree lacks number good change.was) add.least to.0 (parent_of new.body)
+            (not_itself _ add.parent (add.parent_is dir))
+            ∙ to.1,
       )
 
   added_at : LackingAt next after number new
@@ -231,12 +230,11 @@ module _ (tree next : Tree) (lacks after : ℕ → ℕ) (number : ℕ) (new : No
       let one : new ≡ node = cc in
       subst (LackingAt next after number) one added_at)
       (beside tree next lacks after number None (Some new) change good unused add.others (λ q. refl) adds_nothing
-      (no_child tree lacks number good change.was) add.least)
-      (
+      (no_child tree lacks number good change.was) add.least) (
         λ is. let never : false ≡ true =
-        sym (ap is_some (ap (node_at tree) (sym is) ∙ change.was)) ∙ ap is_some good.root_is in cc,
+            sym (ap is_some (ap (node_at tree) (sym is) ∙ change.was)) ∙ ap is_some good.root_is in cc,
         λ is. let never : false ≡ true =
-        sym (ap is_some (ap (node_at tree) (sym is) ∙ change.was)) ∙ ap is_some good.root_is in cc,
+            sym (ap is_some (ap (node_at tree) (sym is) ∙ change.was)) ∙ ap is_some good.root_is in cc,
       )
 
 -- A file that goes: no entry names it, it names none, and no directory that lacks its name lies in it.

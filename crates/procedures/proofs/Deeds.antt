@@ -11,9 +11,8 @@ use Rattle.std.specs.Option.{option_and_then, option_map}
 use Rattle.std.specs.Ordering.{nat_cmp}
 use Rattle.limits.specs.declared.TheConstants.{EXCLUSIVE_MODE, MODE_BITS, NEW_DIRECTORY_MODE, NEW_FILE_MODE}
 use Rattle.limits.specs.declared.TheConstants.{NEW_LINK_MODE, TARGET_BYTES}
-use Rattle.nfs_types.specs.Fits.{AreBytes, CallFits, CreateHowFits, NewAttributesFit, VerifierFits}
+use Rattle.nfs_types.specs.Fits.{AreBytes, CallFits, CreateHowFits, NewAttributesFit}
 use Rattle.nfs_types.specs.declared.attributes.NewAttributes.{NewAttributes}
-use Rattle.nfs_types.specs.declared.attributes.SetTime.TheVariants.{Unchanged}
 use Rattle.nfs_types.specs.declared.attributes.WeakCacheData.{WeakCacheData}
 use Rattle.nfs_types.specs.declared.call.Call.{Call}
 use Rattle.nfs_types.specs.declared.call.Call.TheVariants as call
@@ -38,12 +37,12 @@ use Rattle.model.specs.SetAttr.{with_attributes}
 use Rattle.model.specs.Sound.{SoundBody, SoundBytes, SoundEntries, SoundTarget, SoundVerifier}
 use Rattle.model.specs.Tree.{Tree, node_at, with_node}
 use Rattle.procedures.proofs.Unchanged.{telling_leaves}
-use Rattle.procedures.specs.Changes.{changed_at, entered, if_entry, if_room, lacks_room, without_name}
+use Rattle.procedures.specs.Changes.{if_entry, if_room, lacks_room, without_name}
 use Rattle.procedures.specs.Create.{becomes, create, create_at, create_new, create_over, is_made_with, no_bytes}
 use Rattle.procedures.specs.Create.{only_size, resize}
 use Rattle.procedures.specs.FirstTests.{found_then, is_long, is_no_directory, is_no_name, may_change, place_tests}
 use Rattle.procedures.specs.FirstTests.{unless}
-use Rattle.procedures.specs.Fresh.{IsNewNumber, IsUnused, created, fresh, make, made, new_entry, nothing_given}
+use Rattle.procedures.specs.Fresh.{IsNewNumber, IsUnused, fresh, make, made, new_entry, nothing_given}
 use Rattle.procedures.specs.Fresh.{with_new, without_size}
 use Rattle.procedures.specs.Link.{link, link_refusal, linking, with_link}
 use Rattle.procedures.specs.MkDir.{is_full, is_there, make_directory}

@@ -1,28 +1,26 @@
 -- A directory gets a name or loses one: what it counts, and that it stays sound.
-use Rattle.std.proofs.Common.{◌≡◌, ◌≢◌, ◌⊎◌, inl, inr, ℕ, zero, suc, ◌+◌, ◌-◌, ◌*◌, ◌/◌, ◌<◌, ◌≤◌, max, sym, ap}
+use Rattle.std.proofs.Common.{◌≡◌, ◌≢◌, ℕ, suc, ◌+◌, ◌*◌, ◌/◌, ◌<◌, ◌≤◌, max, sym, ap}
 use Rattle.std.proofs.Common.{subst, ◌∙◌, refl, Bool, true, false, cond, not, ◌||◌, List, [], ◌∷◌, length, get_or}
-use Rattle.std.proofs.Common.{nat_eq, nat_le, nat_lt, Option, Some, None, All, IsSome, Contains, count_by, find, arith}
+use Rattle.std.proofs.Common.{nat_eq, Option, Some, None, Contains, count_by, find, arith}
 use Rattle.std.proofs.lemmas.Bool.Decides.{nat_tests}
 use Rattle.std.proofs.lemmas.List.Folds.{list_any_at}
 use Rattle.std.proofs.lemmas.List.FromFn.{get_or-range_with_len, length-range_with_len}
 use Rattle.std.proofs.lemmas.List.Sums.{sum_by-cons}
-use Rattle.std.specs.Cmp.{nat_cmp_total}
 use Rattle.std.specs.Cmp.Lexicographic.{nat_list_cmp_total, slice_cmp}
-use Rattle.std.specs.FinMap.{IsAntisymmetric, entries, get, get-insert, get-remove, insert, nat_cmp-IsAntisymmetric, remove}
+use Rattle.std.specs.FinMap.{IsAntisymmetric, get, get-insert, get-remove, insert, nat_cmp-IsAntisymmetric, remove}
 use Rattle.std.specs.FinMap.{slice_cmp-IsAntisymmetric}
 use Rattle.std.specs.List.{list_any, range_with_len}
 use Rattle.std.specs.Ordering.{eq_by_cmp, nat_cmp}
-use Rattle.limits.specs.declared.TheConstants.{MOST_LINKS, MOST_SPAN, NAME_BYTES, SLOTS_PER_BLOCK}
+use Rattle.limits.specs.declared.TheConstants.{MOST_LINKS, MOST_SPAN, SLOTS_PER_BLOCK}
 use Rattle.nfs_types.specs.Fits.{AreBytes}
 use Rattle.nfs_types.specs.declared.ctx.Moment.{Moment}
-use Rattle.model.specs.Names.{entries_of, is_directory, is_directory_at, names_in, parent_of}
+use Rattle.model.specs.Names.{entries_of, is_directory, parent_of}
 use Rattle.model.specs.Node.{Node, Body, DirectoryEntry, Entries, Regular, Directory, Link}
-use Rattle.model.specs.Sound.{DOT, SLASH, SoundBody, SoundEntries, SoundName, SoundNode, SoundTime, SoundVerifier}
+use Rattle.model.specs.Sound.{SLASH, SoundBody, SoundEntries, SoundName, SoundNode, SoundTime, SoundVerifier}
 use Rattle.procedures.proofs.Deeds.{Placed}
 use Rattle.procedures.proofs.Parts.{one_key, part, sum_insert, sum_remove}
 use Rattle.procedures.specs.Changes.{departed, entered, parent_links, with_entry, without_entry}
-use Rattle.procedures.specs.FirstTests.{is_long, is_no_name}
-use Rattle.procedures.specs.Places.{entry_at, is_itself, is_own_name, is_parent, is_taken_slot, least_free_slot}
+use Rattle.procedures.specs.Places.{entry_at, is_itself, is_parent, is_taken_slot, least_free_slot}
 
 -- names are keys that the order tells apart
 pub names_apart : IsAntisymmetric (slice_cmp nat_cmp)
@@ -246,7 +244,7 @@ pub body_departed : (name : List ℕ) (body : Body) → SoundBody body → Sound
 body_departed name (Regular bytes mapped) good = good
 body_departed name (Directory named span parent) good =
     let before : (other : List ℕ) (entry : DirectoryEntry) → get (remove named name) other ≡ Some entry
-        → get named other ≡ Some entry =
+    → get named other ≡ Some entry =
     λ other entry is. entry_before name other (Directory named span parent) entry is in
     record {
       blocks = good.blocks;

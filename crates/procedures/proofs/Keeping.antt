@@ -1,8 +1,7 @@
 -- What a change of one file keeps of a tree in the middle of a step: one case for each sort of change.
-use Rattle.std.proofs.Common.{◌≡◌, ◌≢◌, ◌⊎◌, inl, inr, ℕ, zero, suc, ◌+◌, ◌<◌, ◌≤◌, sym, ap, subst, ◌∙◌, refl}
-use Rattle.std.proofs.Common.{Bool, true, false, cond, nat_eq, List, [], length, get_or, Option, Some, None}
-use Rattle.std.proofs.Common.{is_some, All, IsSome, sum_by, count_by, arith}
-use Rattle.std.specs.FinMap.{entries}
+use Rattle.std.proofs.Common.{◌≡◌, ◌≢◌, ◌⊎◌, inl, inr, ℕ, zero, suc, ◌+◌, ◌<◌, sym, ap, subst, ◌∙◌, refl}
+use Rattle.std.proofs.Common.{Bool, true, false, nat_eq, [], get_or, Option, Some}
+use Rattle.std.proofs.Common.{is_some, All, IsSome, count_by, arith}
 use Rattle.limits.specs.declared.TheConstants.{ROOT}
 use Rattle.model.specs.Names.{ancestor, child_directories, entries_of, is_directory, is_directory_at, names_in}
 use Rattle.model.specs.Names.{names_of, parent_in, parent_of}
@@ -10,9 +9,8 @@ use Rattle.model.specs.Node.{Node, Body}
 use Rattle.model.specs.Sound.{SoundNode}
 use Rattle.model.specs.Tree.{Tree, node_at}
 use Rattle.procedures.proofs.Lacking.{Change, Kept, Lacking, LackingAt, LackingChild, LackingDirectory}
-use Rattle.procedures.proofs.Lacking.{LackingFile, LackingRoot, ParentNow, Reached, changed_tree, equal_or_not}
+use Rattle.procedures.proofs.Lacking.{ParentNow, Reached, changed_tree, equal_or_not}
 use Rattle.procedures.proofs.Lacking.{kept_at}
-use Rattle.procedures.proofs.Parts.{count_alike, each_fails, part}
 
 -- a file is a directory or none
 pub directory_or_not : (b : Bool) → (b ≡ true) ⊎ (b ≡ false)
@@ -304,7 +302,7 @@ module _ (tree next : Tree) (lacks : ℕ → ℕ) (number parent : ℕ) (old new
       let to = move.reached in (
         suc to.0,
         ap (λ o. ancestor next to.0 (parent_in o)) change.here ∙ ap (ancestor next to.0) move.parent_is
-        ∙ above to.0 parent move.apart ∙ to.1,
+            ∙ above to.0 parent move.apart ∙ to.1,
       )
 
   on : (q : ℕ) → q ≢ number → Reached next (parent_in (node_at tree q)) → Reached next q

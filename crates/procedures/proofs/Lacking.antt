@@ -1,19 +1,19 @@
 -- Trees that are sound but for names that some files lack, as they are in the middle of a step; and what a
 -- change of one file keeps.
-use Rattle.std.proofs.Common.{◌≡◌, ◌≢◌, ◌⊎◌, inl, inr, ℕ, zero, suc, ◌+◌, ◌<◌, ◌≤◌, sym, ap, subst, ◌∙◌, refl}
-use Rattle.std.proofs.Common.{Bool, true, false, cond, nat_eq, List, length, get_or, Option, Some, None, is_some}
-use Rattle.std.proofs.Common.{All, IsSome, sum_by, count_by, arith}
+use Rattle.std.proofs.Common.{◌≡◌, ◌≢◌, ◌⊎◌, inl, inr, ℕ, ◌+◌, ◌<◌, ◌≤◌, sym, ap, subst, ◌∙◌, refl}
+use Rattle.std.proofs.Common.{Bool, true, false, cond, Option, Some, None}
+use Rattle.std.proofs.Common.{All, IsSome, sum_by, arith}
 use Rattle.std.specs.Cmp.{nat_cmp_total}
 use Rattle.std.specs.FinMap.{entries, get-insert, get-remove, nat_cmp-IsAntisymmetric}
 use Rattle.std.specs.Ordering.{eq_by_cmp, nat_cmp}
 use Rattle.limits.specs.declared.TheConstants.{ROOT}
 use Rattle.model.proofs.Sets.{eq_by_cmp-is, itself}
-use Rattle.model.specs.Names.{ancestor, child_directories, entries_of, is_directory, is_directory_at, names_in}
-use Rattle.model.specs.Names.{names_of, parent_in, parent_of}
+use Rattle.model.specs.Names.{ancestor, child_directories, entries_of, is_directory, names_in}
+use Rattle.model.specs.Names.{names_of, parent_of}
 use Rattle.model.specs.Node.{Node, Body}
 use Rattle.model.specs.Sound.{Sound, SoundAt, SoundGeometry, SoundNode}
 use Rattle.model.specs.Tree.{Tree, node_at, used, with_node}
-use Rattle.procedures.proofs.Parts.{count_alike, each_fails, part, sum_insert, sum_remove}
+use Rattle.procedures.proofs.Parts.{part, sum_insert, sum_remove}
 use Rattle.procedures.specs.Changes.{without_node}
 
 -- What is no directory has as many links as names, with those that it lacks.

@@ -1,19 +1,18 @@
 -- The changes of names in the middle of a step: a directory loses a name, a file that lost one is gone or has
 -- a link less, and a directory gets a name for a file that lacks one.
-use Rattle.std.proofs.Common.{◌≡◌, ◌≢◌, ◌⊎◌, inl, inr, ℕ, zero, suc, ◌+◌, ◌-◌, ◌*◌, ◌<◌, ◌≤◌, sym, ap, subst}
-use Rattle.std.proofs.Common.{◌∙◌, refl, Bool, true, false, cond, not, ◌||◌, List, [], ◌∷◌, length, get_or, nat_eq}
-use Rattle.std.proofs.Common.{nat_le, nat_lt, Option, Some, None, is_some, All, IsSome, count_by, arith}
+use Rattle.std.proofs.Common.{◌≡◌, ◌≢◌, inl, inr, ℕ, zero, suc, ◌+◌, ◌-◌, ◌*◌, ◌<◌, ◌≤◌, sym, ap}
+use Rattle.std.proofs.Common.{◌∙◌, refl, Bool, true, false, cond, not, ◌||◌, List, [], ◌∷◌, length, nat_eq}
+use Rattle.std.proofs.Common.{nat_le, nat_lt, Some, None, is_some, All, IsSome, count_by, arith}
 use Rattle.std.proofs.lemmas.Bool.Decides.{nat_tests}
 use Rattle.std.specs.Cmp.{nat_cmp_total}
-use Rattle.std.specs.FinMap.{get-remove, nat_cmp-IsAntisymmetric, remove}
-use Rattle.std.specs.Ordering.{eq_by_cmp, nat_cmp}
+use Rattle.std.specs.FinMap.{nat_cmp-IsAntisymmetric}
 use Rattle.limits.specs.declared.TheConstants.{MOST_LINKS, MOST_SPAN, ROOT, SLOTS_PER_BLOCK}
 use Rattle.nfs_types.specs.declared.ctx.Moment.{Moment}
 use Rattle.model.specs.Cost.{cost}
 use Rattle.model.specs.Names.{ancestor, child_directories, entries_of, is_directory, is_directory_at, names_in}
 use Rattle.model.specs.Names.{names_of, parent_in, parent_of}
 use Rattle.model.specs.Node.{Node, Body, DirectoryEntry, Regular, Directory, Link}
-use Rattle.model.specs.Sound.{SoundName, SoundNode, SoundTime}
+use Rattle.model.specs.Sound.{SoundName, SoundTime}
 use Rattle.model.specs.Tree.{Tree, node_at, used, with_node}
 use Rattle.procedures.proofs.Adding as adding
 use Rattle.procedures.proofs.Adding.{gone, names_in_of}
@@ -22,10 +21,10 @@ use Rattle.procedures.proofs.Entering.{node_entered, same_kind_departed, same_ki
 use Rattle.procedures.proofs.Entering.{same_parent_entered}
 use Rattle.procedures.proofs.Keeping as keeping
 use Rattle.procedures.proofs.Keeping.{directory_or_not, names_in_none, reentered, reshaped}
-use Rattle.procedures.proofs.Lacking.{Change, Lacking, LackingChild, equal_or_not, gone_change, put_change}
+use Rattle.procedures.proofs.Lacking.{Lacking, equal_or_not, gone_change, put_change}
 use Rattle.procedures.proofs.Parts.{each_fails, part, sum_none, sum_remove}
-use Rattle.procedures.specs.Changes.{departed, entered, is_last_name, parent_links, unnamed, with_entry}
-use Rattle.procedures.specs.Changes.{without_entry, without_node}
+use Rattle.procedures.specs.Changes.{departed, entered, is_last_name, parent_links, unnamed}
+use Rattle.procedures.specs.Changes.{without_node}
 use Rattle.procedures.specs.Places.{entry_at}
 use Rattle.procedures.specs.RmDir.{has_names}
 

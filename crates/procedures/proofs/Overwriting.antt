@@ -1,7 +1,7 @@
 -- What WRITE makes of the bytes of a sound file.
-use Rattle.std.proofs.Common.{◌≡◌, ◌⊎◌, inl, inr, ℕ, zero, suc, ◌+◌, ◌-◌, ◌*◌, ◌/◌, ◌<◌, ◌≤◌, max, sym, ap, ◌∙◌, refl}
-use Rattle.std.proofs.Common.{Bool, true, false, ◌||◌, List, [], ◌∷◌, ◌++◌, length, get_or, take, drop, replicate}
-use Rattle.std.proofs.Common.{length-append, fold, arith, rules}
+use Rattle.std.proofs.Common.{◌≡◌, ◌⊎◌, inl, inr, ℕ, zero, suc, ◌+◌, ◌-◌, ◌/◌, ◌<◌, ◌≤◌, max, sym, ap, ◌∙◌, refl}
+use Rattle.std.proofs.Common.{Bool, true, false, ◌||◌, List, ◌++◌, length, get_or, take, drop, replicate}
+use Rattle.std.proofs.Common.{length-append, arith, rules}
 use Rattle.std.proofs.lemmas.Bool.{cases_lt}
 use Rattle.std.proofs.lemmas.List.{get_or-append_right, get_or-drop, get_or-replicate, get_or-take}
 use Rattle.std.proofs.lemmas.List.{get_or_append_left, get_or_past, length-drop, length-replicate, length-take}
@@ -9,7 +9,7 @@ use Rattle.std.specs.Cmp.{nat_cmp_total}
 use Rattle.std.specs.FinSet.{FinSet, contains, contains-insert, insert}
 use Rattle.std.specs.List.{range_with_len}
 use Rattle.std.specs.Ordering.{eq_by_cmp, nat_cmp}
-use Rattle.limits.specs.declared.TheConstants.{BLOCK_BYTES, FILE_INDEXES, LARGEST_FILE}
+use Rattle.limits.specs.declared.TheConstants.{BLOCK_BYTES, LARGEST_FILE}
 use Rattle.nfs_types.specs.Fits.{AreBytes}
 use Rattle.model.proofs.Sets.{eq_by_cmp-is, itself}
 use Rattle.model.specs.Sound.{SoundBytes}

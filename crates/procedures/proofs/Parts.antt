@@ -1,6 +1,6 @@
 -- Sums over the entries of a map after an entry was put in or taken out, whatever its keys are.
 use Rattle.std.proofs.Common.{◌≡◌, ℕ, ◌+◌, ◌≤◌, sym, ap, ◌∙◌, refl, Bool, true, false, cond, List, [], ◌∷◌}
-use Rattle.std.proofs.Common.{Option, Some, None, sum_by, length, get_or, nat_eq, count_by, zero, suc, ◌<◌, All, ◌≢◌, ◌⊎◌, inl, inr, arith}
+use Rattle.std.proofs.Common.{Option, Some, None, sum_by, length, get_or, count_by, suc, ◌<◌, arith}
 use Rattle.std.proofs.lemmas.List.Sums.{get_or-le-sum_by, sum_by-cons, sum_by-le}
 use Rattle.std.specs.Cmp.{IsTotalOrder, tied_itself}
 use Rattle.std.specs.FinMap.{FinMap, IsAntisymmetric, entries, entries-insert, find, get, get-entries, get-insert}

@@ -1,6 +1,6 @@
 -- A REMOVE of a file's last name: the file is gone, and its blocks are free.
-use Rattle.std.proofs.Common.{◌≡◌, ℕ, ◌+◌, ◌-◌, ◌<◌, ◌≤◌, sym, ap, subst, ◌∙◌, refl, Bool, true, false, cond, ◌||◌}
-use Rattle.std.proofs.Common.{List, nat_le, Option, Some, None, Result, Ok, Err, arith}
+use Rattle.std.proofs.Common.{◌≡◌, ℕ, ◌+◌, ◌-◌, sym, ap, ◌∙◌, refl, Bool, true, false, cond, ◌||◌}
+use Rattle.std.proofs.Common.{List, nat_le, Some, None, Ok, arith}
 use Rattle.std.proofs.lemmas.Bool.Decides.{nat_tests}
 use Rattle.nfs_types.specs.declared.attributes.WeakCacheData.{WeakCacheData}
 use Rattle.nfs_types.specs.declared.ctx.Ctx.{Ctx}
@@ -10,7 +10,7 @@ use Rattle.model.specs.Find.{find_file}
 use Rattle.model.specs.Names.{is_directory}
 use Rattle.model.specs.Node.{Node}
 use Rattle.model.specs.Sound.{Sound}
-use Rattle.model.specs.Tree.{Tree, free, node_at, used, with_node}
+use Rattle.model.specs.Tree.{Tree, free, node_at, with_node}
 use Rattle.procedures.proofs.Deeds.{named_is}
 use Rattle.procedures.proofs.Lacking.{gone_change, none_lacks, of_sound, put_change}
 use Rattle.procedures.proofs.Naming.{not_in_itself}
@@ -68,6 +68,7 @@ last_one node one = by (is_directory node.body) (small node.nlink one)
   where
     small : (n : ℕ) → n ≡ 1 → nat_le n 1 ≡ true
     small n e = grind (arith, nat_tests, e)
+
     by : (b : Bool) → nat_le node.nlink 1 ≡ true → (b || nat_le node.nlink 1) ≡ true
     by true e = refl
     by false e = e
@@ -92,11 +93,11 @@ removed_last tree next ctx handle name told directory file good directory_is fou
     let stands = found-stands tree handle directory directory_is in
     let last = last_one file.1 one in
     let leads_to : next ≡ without_node (with_node tree directory.0 (departed ctx.moment name file.1.body directory.1))
-        file.0 =
+    file.0 =
     done.leads ∙ ap (λ e. e.next) (sym effect_is) ∙ ap (λ d. (effect d).next) directory_same
     ∙ ap (without_name tree ctx.moment directory.0 name) found
     ∙ leads tree good directory.0 directory.1 stands name file found ctx last in (
       ap (λ t. node_at t file.0) leads_to
-      ∙ file_gone tree good directory.0 directory.1 stands name file found ctx last,
+          ∙ file_gone tree good directory.0 directory.1 stands name file found ctx last,
       ap free leads_to ∙ blocks_freed tree good directory.0 directory.1 stands name file found ctx last,
     )

@@ -1,7 +1,7 @@
 -- A renaming keeps a sound tree sound.
-use Rattle.std.proofs.Common.{◌≡◌, ◌≢◌, ◌⊎◌, inl, inr, ℕ, zero, suc, ◌+◌, ◌-◌, ◌*◌, ◌<◌, ◌≤◌, sym, ap, subst, ◌∙◌}
-use Rattle.std.proofs.Common.{refl, Bool, true, false, cond, not, ◌&&◌, ◌||◌, List, [], ◌∷◌, length, nat_eq, nat_le, nat_lt}
-use Rattle.std.proofs.Common.{is_none, Option, Some, None, arith}
+use Rattle.std.proofs.Common.{◌≡◌, ◌≢◌, ◌⊎◌, inl, inr, ℕ, ◌+◌, ◌*◌, ◌<◌, ◌≤◌, sym, ap, subst, ◌∙◌}
+use Rattle.std.proofs.Common.{refl, Bool, true, false, cond, not, ◌&&◌, List, length, nat_eq, nat_le, nat_lt}
+use Rattle.std.proofs.Common.{Option, Some, None, arith}
 use Rattle.std.proofs.lemmas.Bool.Decides.{nat_tests}
 use Rattle.std.proofs.lemmas.List.Sums.{count_by-le-length}
 use Rattle.std.specs.Cmp.{tied_itself}
@@ -12,11 +12,11 @@ use Rattle.std.specs.Ordering.{eq_by_cmp, is_eq, nat_cmp}
 use Rattle.limits.specs.declared.TheConstants.{MOST_LINKS, MOST_SPAN, ROOT, SLOTS_PER_BLOCK}
 use Rattle.nfs_types.specs.declared.ctx.Ctx.{Ctx}
 use Rattle.nfs_types.specs.declared.verifier.Verifier.{Verifier}
-use Rattle.model.specs.Names.{ancestor, entries_of, is_directory, names_in, parent_of}
+use Rattle.model.specs.Names.{ancestor, entries_of, is_directory, parent_of}
 use Rattle.model.specs.Node.{Node, Body, DirectoryEntry, Regular, Directory, Link}
 use Rattle.model.specs.SetAttr.{given}
-use Rattle.model.specs.Sound.{Sound, SoundBody, SoundCtx, SoundGeometry, SoundNode, SoundVerifier}
-use Rattle.model.specs.Tree.{Geometry, Tree, node_at, with_node}
+use Rattle.model.specs.Sound.{Sound, SoundBody, SoundCtx, SoundNode, SoundVerifier}
+use Rattle.model.specs.Tree.{Tree, node_at, with_node}
 use Rattle.procedures.proofs.Adding.{names_in_of}
 use Rattle.procedures.proofs.Deeds.{NamedBy, Renames, named_is, passed}
 use Rattle.procedures.proofs.Entering.{FreeSlot, count_departed, entry_before, least_is_free, named_in, names_apart}
@@ -25,7 +25,7 @@ use Rattle.procedures.proofs.Keeping as keeping
 use Rattle.procedures.proofs.Keeping.{directory_or_not, moved_tree, reshaped}
 use Rattle.procedures.proofs.Lacking.{Change, Lacking, equal_or_not, none_lacks, of_sound, put_change, to_sound}
 use Rattle.procedures.proofs.Naming.{Unnamed, depart, enter, namer_is_parent, not_in_itself, not_root, one_less}
-use Rattle.procedures.proofs.Naming.{one_of, one_of_itself, one_of_other, unname}
+use Rattle.procedures.proofs.Naming.{one_of_itself, one_of_other, unname}
 use Rattle.procedures.proofs.Parts.{one_key}
 use Rattle.procedures.proofs.Room.{room_after}
 use Rattle.procedures.proofs.Soundness.{changed_is, few_links, links_of_directory, no_entry, parent_links_is}
@@ -34,7 +34,7 @@ use Rattle.procedures.proofs.Within.{never_reached}
 use Rattle.procedures.specs.Changes.{changed_at, departed, entered, lacks_room, parent_links, unnamed, with_entry}
 use Rattle.procedures.specs.Changes.{without_entry, without_name}
 use Rattle.procedures.specs.MkDir.{is_full}
-use Rattle.procedures.specs.Places.{entry_at, is_found_directory, is_found_other, least_free_slot}
+use Rattle.procedures.specs.Places.{entry_at}
 use Rattle.procedures.specs.Rename.{Place, file_in, goes_below_itself, has_no_link, is_other_sort, is_within, moved}
 use Rattle.procedures.specs.Rename.{slot_for, with_parent}
 use Rattle.procedures.specs.RmDir.{has_names, is_found_filled}
@@ -552,7 +552,7 @@ module _ (tree : Tree) (ctx : Ctx) (fits : Type 0) (next : Tree) (good : Sound t
             inr (
               same,
               body_distinct source.directory.body name source.name other entry source_sound.body
-              (ap (λ n. entry_at n.body name) (sym directory_is) ∙ has) is (same_slot ∙ sym slot_is),
+                  (ap (λ n. entry_at n.body name) (sym directory_is) ∙ has) is (same_slot ∙ sym slot_is),
             );
       }
 

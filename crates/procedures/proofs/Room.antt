@@ -1,13 +1,12 @@
 -- What a change needs covers what it adds, so that the blocks reach where NOSPC isn't answered.
-use Rattle.std.proofs.Common.{◌≡◌, ℕ, zero, suc, ◌+◌, ◌-◌, ◌<◌, ◌≤◌, sym, ap, ◌∙◌, refl, Bool, true, false, cond, T, List, []}
-use Rattle.std.proofs.Common.{◌∷◌, length, get_or, nat_lt, Option, Some, None, sum_by, arith}
+use Rattle.std.proofs.Common.{◌≡◌, ℕ, suc, ◌+◌, ◌-◌, ◌<◌, ◌≤◌, ap, ◌∙◌, refl, Bool, true, false, cond, T, List, []}
+use Rattle.std.proofs.Common.{◌∷◌, length, get_or, Option, Some, None, sum_by, arith}
 use Rattle.std.proofs.lemmas.Bool.Decides.{nat_tests}
 use Rattle.std.proofs.lemmas.List.Sums.{sum_by-cons}
 use Rattle.std.specs.Cmp.{nat_cmp_total}
 use Rattle.std.specs.FinMap.{FinMap, entries, entries_sorted, get, get-remove, is_sorted, nat_cmp-IsAntisymmetric}
 use Rattle.std.specs.FinMap.{remove}
-use Rattle.std.specs.FinMap.Entries.{below_all}
-use Rattle.std.specs.Ordering.{eq_by_cmp, is_lt, nat_cmp}
+use Rattle.std.specs.Ordering.{eq_by_cmp, nat_cmp}
 use Rattle.model.specs.Cost.{cost}
 use Rattle.model.specs.Node.{Node}
 use Rattle.model.specs.Tree.{Tree, cost_at, free, need, node_at, used}

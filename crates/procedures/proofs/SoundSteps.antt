@@ -1,6 +1,6 @@
 -- Steps and histories keep trees sound, and no file of a sound tree but the root is its own ancestor.
-use Rattle.std.proofs.Common.{◌≡◌, ◌≢◌, ℕ, zero, suc, ◌+◌, ◌-◌, ◌*◌, ◌<◌, ◌≤◌, sym, ap, subst, ◌∙◌, refl, Bool}
-use Rattle.std.proofs.Common.{true, false, List, [], ◌∷◌, Option, Some, None, arith, inl, inr}
+use Rattle.std.proofs.Common.{◌≡◌, ◌≢◌, ℕ, zero, suc, ◌+◌, ◌-◌, ◌*◌, ◌≤◌, sym, ap, subst, ◌∙◌, refl}
+use Rattle.std.proofs.Common.{true, false, List, [], ◌∷◌, Some, arith, inl, inr}
 use Rattle.limits.specs.declared.TheConstants.{ROOT}
 use Rattle.nfs_types.specs.Fits.{CallFits}
 use Rattle.nfs_types.specs.declared.call.Call.{Call}
@@ -70,8 +70,8 @@ module _ (tree : Tree) (good : Sound tree) (number steps : ℕ) (node : Node)
       let whole : reached.0 * suc steps ≡ reached.0 + (reached.0 * suc steps - reached.0) = omega (arith, far) in
       let more = reached.0 * suc steps - reached.0 in
       other (
-        sym (rounds reached.0) ∙ ap (λ n. ancestor tree n number) whole
-        ∙ along tree good reached.0 more number ∙ ap (ancestor tree more) reached.1 ∙ root_stays more
+      sym (rounds reached.0) ∙ ap (λ n. ancestor tree n number) whole
+      ∙ along tree good reached.0 more number ∙ ap (ancestor tree more) reached.1 ∙ root_stays more
       )
     where
       grows : (n : ℕ) → n ≤ n * suc steps

@@ -1,16 +1,14 @@
 -- Each deed but a renaming keeps a sound tree sound.
-use Rattle.std.proofs.Common.{◌≡◌, ◌≢◌, ◌⊎◌, inl, inr, ℕ, zero, suc, ◌+◌, ◌-◌, ◌<◌, ◌≤◌, ◌^◌, sym, ap, subst, ◌∙◌, refl}
-use Rattle.std.proofs.Common.{Bool, true, false, cond, not, ◌||◌, List, [], ◌∷◌, length, nat_eq, nat_le, nat_lt}
+use Rattle.std.proofs.Common.{◌≡◌, ◌≢◌, ℕ, zero, suc, ◌+◌, ◌-◌, ◌<◌, ◌≤◌, sym, ap, subst, ◌∙◌, refl}
+use Rattle.std.proofs.Common.{Bool, true, false, cond, not, ◌||◌, List, length, nat_eq, nat_le, nat_lt}
 use Rattle.std.proofs.Common.{Option, Some, None, is_some, arith}
 use Rattle.std.proofs.lemmas.Bool.Decides.{nat_tests}
 use Rattle.std.specs.Cmp.{nat_cmp_total}
 use Rattle.std.specs.FinMap.{nat_cmp-IsAntisymmetric}
 use Rattle.std.specs.Option.{option_and_then, option_map}
-use Rattle.limits.specs.declared.TheConstants.{LARGEST_FILE, MODE_BITS, MOST_LINKS, ROOT}
-use Rattle.nfs_types.specs.Fits.{AreBytes}
+use Rattle.limits.specs.declared.TheConstants.{LARGEST_FILE, MOST_LINKS}
 use Rattle.nfs_types.specs.declared.ctx.Ctx.{Ctx}
 use Rattle.nfs_types.specs.declared.ctx.Moment.{Moment}
-use Rattle.nfs_types.specs.declared.status.Status.{Status}
 use Rattle.nfs_types.specs.declared.verifier.Verifier.{Verifier}
 use Rattle.model.proofs.Attributed.{shape, sound_node}
 use Rattle.model.proofs.Replaced as replaced
@@ -19,12 +17,12 @@ use Rattle.model.specs.Names.{entries_of, is_directory, parent_of}
 use Rattle.model.specs.Node.{Node, Body, DirectoryEntry, Regular, Directory, Link}
 use Rattle.model.specs.SetAttr.{is_regular, with_attributes}
 use Rattle.model.specs.Sound.{Sound, SoundBody, SoundCtx, SoundNode, SoundVerifier}
-use Rattle.model.specs.Tree.{Tree, node_at, used, with_node}
-use Rattle.procedures.proofs.Adding.{Added, added}
+use Rattle.model.specs.Tree.{Tree, node_at, with_node}
+use Rattle.procedures.proofs.Adding.{added}
 use Rattle.procedures.proofs.Deeds.{Links, Makes, Removes, Sets, Writes, named_is, passed}
-use Rattle.procedures.proofs.Entering.{least_is_free, named_in, same_kind_departed, sound_name}
-use Rattle.procedures.proofs.Keeping.{Reshaped, directory_or_not, reshaped}
-use Rattle.procedures.proofs.Lacking.{Lacking, Reached, equal_or_not, none_lacks, of_sound, put_change, to_sound}
+use Rattle.procedures.proofs.Entering.{least_is_free, sound_name}
+use Rattle.procedures.proofs.Keeping.{reshaped}
+use Rattle.procedures.proofs.Lacking.{Lacking, Reached, none_lacks, of_sound, put_change, to_sound}
 use Rattle.procedures.proofs.Naming.{depart, enter, entry_stands, not_in_itself, one_less, one_of, one_of_itself}
 use Rattle.procedures.proofs.Naming.{one_of_other, unname}
 use Rattle.procedures.proofs.Overwriting.{overwritten_sound}
@@ -61,6 +59,7 @@ no_entry tree good at directory stands name absent = by (entry_at directory.body
         → is_some o ≡ true → ⊥
     none_by entry None e some = cc
     none_by entry (Some node) e some = cc
+
     by : (o : Option DirectoryEntry) → entry_at directory.body name ≡ o
         → option_and_then (λ e. file_at tree e.number) o ≡ None → o ≡ None
     by None is e = refl

@@ -1,5 +1,5 @@
 -- Handles over steps: which stamps a step gives, and that a stale handle stays stale.
-use Rattle.std.proofs.Common.{◌≡◌, ◌≢◌, ◌⊎◌, inl, inr, ℕ, ◌-◌, ◌<◌, ◌≤◌, sym, ap, subst, ◌∙◌, refl, Bool, true, false}
+use Rattle.std.proofs.Common.{◌≡◌, ◌≢◌, ◌⊎◌, inl, inr, ℕ, ◌-◌, ◌≤◌, sym, ap, subst, ◌∙◌, refl, Bool, true, false}
 use Rattle.std.proofs.Common.{cond, ◌&&◌, List, [], ◌∷◌, ◌++◌, length, nat_eq, nat_lt, Option, Some, None, Result, Ok, Err}
 use Rattle.std.proofs.Common.{arith}
 use Rattle.std.proofs.lemmas.Bool.Decides.{nat_tests}
@@ -17,16 +17,14 @@ use Rattle.model.specs.After.{Entry}
 use Rattle.model.specs.Find.{find_file, is_number, number_in, same_stamp, stamp_in, stamped}
 use Rattle.model.specs.Node.{Node}
 use Rattle.model.specs.Sound.{IsMadeBy}
-use Rattle.model.specs.Tree.{Geometry, Tree, node_at, with_node}
+use Rattle.model.specs.Tree.{Tree, node_at, with_node}
 use Rattle.procedures.proofs.Deeds.{Deed, leaves, links, makes, named_is, removes, renames, sets, what_is_done, writes}
-use Rattle.procedures.proofs.Lacking.{Change, equal_or_not, gone_change, put_change}
-use Rattle.procedures.specs.Changes.{changed_at, departed, entered, is_last_name, unnamed, with_file, without_name}
+use Rattle.procedures.proofs.Lacking.{equal_or_not, gone_change, put_change}
+use Rattle.procedures.specs.Changes.{changed_at, departed, is_last_name, with_file, without_name}
 use Rattle.procedures.specs.Changes.{without_node}
 use Rattle.procedures.specs.Histories.{IsEarlier, IsMadeUpTo, Rising, stamp_of, whole_after}
 use Rattle.procedures.specs.Link.{linked}
-use Rattle.procedures.specs.Places.{entry_at, file_at, named_file}
 use Rattle.procedures.specs.Rename.{file_in, moved}
-use Rattle.procedures.specs.Told.{Effect}
 use Rattle.procedures.specs.WholeStep.{WholeStep}
 use Rattle.procedures.specs.Write.{with_text, written}
 
@@ -186,11 +184,15 @@ module _ (tree next : Tree) (ctx : Ctx) (fits : Type 0) where
   deed_follows (writes d) =
       subst (λ t. Follows tree t (stamp_of ctx)) (sym d.leads)
       (puts (stamp_of ctx) tree tree d.number (written ctx.moment d.offset d.text d.node) (stays (stamp_of ctx) tree)
-      (inl (d.node, d.stands, written_stamp (nat_eq (length d.text) 0) d.node (record d.node {
-        mtime = ctx.moment;
-        ctime = ctx.moment;
-        body = with_text d.offset d.text d.node.body;
-      }) refl)))
+      (inl (
+        d.node,
+        d.stands,
+        written_stamp (nat_eq (length d.text) 0) d.node (record d.node {
+          mtime = ctx.moment;
+          ctime = ctx.moment;
+          body = with_text d.offset d.text d.node.body;
+        }) refl,
+      )))
   deed_follows (makes d) =
       subst (λ t. Follows tree t (stamp_of ctx)) (sym d.leads)
       (puts (stamp_of ctx) tree _ d.entry.number _
@@ -282,6 +284,7 @@ stamps_are a b e =
     both : (x y : Bool) → (x && y) ≡ true → (x ≡ true) × (y ≡ true)
     both true y e = (refl, e)
     both false y e = cc
+
     equal : (x y : ℕ) → nat_eq x y ≡ true → x ≡ y
     equal x y e = grind (arith, nat_tests, e)
 

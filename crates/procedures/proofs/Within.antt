@@ -1,6 +1,6 @@
 -- A directory that isn't among as many ancestors of another as there are numbers is none of its ancestors.
 use Rattle.std.proofs.Common.{◌≡◌, ◌≢◌, ◌⊎◌, inl, inr, ℕ, zero, suc, ◌+◌, ◌-◌, ◌<◌, ◌≤◌, sym, ap, ◌∙◌, refl, Bool, cond}
-use Rattle.std.proofs.Common.{true, false, nat_eq, Option, Some, None, get_or, length, arith}
+use Rattle.std.proofs.Common.{true, false, nat_eq, Option, Some, None, get_or, arith}
 use Rattle.std.proofs.lemmas.Bool.{cases_lt}
 use Rattle.std.proofs.lemmas.Bool.Decides.{nat_tests}
 use Rattle.std.proofs.lemmas.List.Folds.{list_any_at}

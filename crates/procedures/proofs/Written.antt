@@ -1,19 +1,17 @@
 -- What a WRITE that is answered OK leaves, what a READ behind it gives, and what both take of the blocks.
-use Rattle.std.proofs.Common.{◌≡◌, ℕ, zero, suc, ◌+◌, ◌-◌, ◌<◌, ◌≤◌, min, ◌⊎◌, inl, inr, not, nat_lt, sym, ap, subst, ◌∙◌, refl, Bool, true, false}
-use Rattle.std.proofs.Common.{cond, ◌||◌, List, [], ◌∷◌, length, get_or, take, drop, nat_eq, nat_le, Option, Some, None}
-use Rattle.std.proofs.Common.{Result, Ok, Err, fold, arith, rules}
+use Rattle.std.proofs.Common.{◌≡◌, ℕ, ◌+◌, ◌-◌, ◌<◌, ◌≤◌, min, ◌⊎◌, inl, inr, not, nat_lt, sym, ap, subst, ◌∙◌, refl, Bool, true, false}
+use Rattle.std.proofs.Common.{cond, ◌||◌, List, [], ◌∷◌, length, get_or, drop, nat_eq, nat_le, Option, Some, None}
+use Rattle.std.proofs.Common.{Result, Ok, Err, arith, rules}
 use Rattle.std.proofs.lemmas.Bool.Decides.{nat_tests}
 use Rattle.std.proofs.lemmas.List.{ext_get_or, get_or-drop, get_or-take, length-drop, length-take}
 use Rattle.std.specs.Cmp.{nat_cmp_total}
 use Rattle.std.specs.FinMap.{nat_cmp-IsAntisymmetric}
 use Rattle.std.specs.FinSet.{FinSet, contains, contains-insert, contains-items, insert, items, len, len-insert}
-use Rattle.std.specs.List.{range_with_len}
 use Rattle.std.specs.Ordering.{eq_by_cmp, nat_cmp}
 use Rattle.limits.specs.declared.TheConstants.{DIRECT_INDEXES, TRANSFER_BYTES}
 use Rattle.nfs_types.specs.declared.attributes.Attributes.{Attributes}
 use Rattle.nfs_types.specs.declared.attributes.WeakCacheData.{WeakCacheData}
 use Rattle.nfs_types.specs.declared.call.Stability.{Stability}
-use Rattle.nfs_types.specs.declared.ctx.Credential.{Credential}
 use Rattle.nfs_types.specs.declared.ctx.Ctx.{Ctx}
 use Rattle.nfs_types.specs.declared.reply.ReadBytes.{ReadBytes}
 use Rattle.nfs_types.specs.declared.reply.Written.{Written}
@@ -25,7 +23,7 @@ use Rattle.model.specs.Cost.{cost, file_cost}
 use Rattle.model.specs.Find.{find_file}
 use Rattle.model.specs.Node.{Node, Body, Regular, Directory, Link}
 use Rattle.model.specs.SetAttr.{is_regular}
-use Rattle.model.specs.Tree.{Tree, need, node_at, used, with_node}
+use Rattle.model.specs.Tree.{Tree, need, used, with_node}
 use Rattle.procedures.proofs.Deeds.{passed}
 use Rattle.procedures.proofs.Lacking.{put_change}
 use Rattle.procedures.proofs.Overwriting.{kept_before, kept_behind, length_overwritten, written_at}
@@ -35,7 +33,7 @@ use Rattle.procedures.proofs.Sums.{need_of_one}
 use Rattle.procedures.specs.Changes.{if_room, lacks_room}
 use Rattle.procedures.specs.FirstTests.{found_then, unless}
 use Rattle.procedures.specs.Read.{ReadStep, bytes_of, piece, read, read_bytes, read_refusal}
-use Rattle.procedures.specs.Told.{Acts, Effect, Tells, answer_of, tree_after}
+use Rattle.procedures.specs.Told.{Acts, Effect, answer_of, tree_after}
 use Rattle.procedures.specs.Write.{WriteStep, is_wrong_count, mapped_with, overwritten, touched, with_text, write, write_refusal}
 use Rattle.procedures.specs.Write.{written, written_reply}
 
@@ -98,8 +96,10 @@ few count text right = by (nat_eq count (length text)) refl right
   where
     not_above : (a b : ℕ) → nat_lt a b ≡ false → b ≤ a
     not_above a b e = grind (arith, nat_tests, e)
+
     equal : (a b : ℕ) → nat_eq a b ≡ true → a ≡ b
     equal a b e = grind (arith, nat_tests, e)
+
     by : (b : Bool) → nat_eq count (length text) ≡ b → (not b || nat_lt TRANSFER_BYTES count) ≡ false
         → length text ≤ TRANSFER_BYTES
     by true same e =
