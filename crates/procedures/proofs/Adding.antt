@@ -3,32 +3,20 @@ use Rattle.std.proofs.Common.{◌≡◌, ◌≢◌, inl, inr, ℕ, zero, suc, �
 use Rattle.std.proofs.Common.{true, false, cond, nat_eq, [], length, get_or, Option, Some, None}
 use Rattle.std.proofs.Common.{is_some, All, IsSome, count_by, arith}
 use Rattle.std.specs.FinMap.{entries}
-use Rattle.std.proofs.lemmas.Bool.Decides.{nat_tests}
 use Rattle.limits.specs.declared.TheConstants.{ROOT}
 use Rattle.model.specs.Names.{ancestor, child_directories, entries_of, is_directory, is_directory_at, names_in}
 use Rattle.model.specs.Names.{names_of, parent_in, parent_of}
 use Rattle.model.specs.Node.{Node, Body, Regular, Directory, Link}
 use Rattle.model.specs.Sound.{SoundNode}
 use Rattle.model.specs.Tree.{Tree, node_at}
-use Rattle.procedures.proofs.Keeping.{directory_or_not, names_in_none}
+use Rattle.procedures.proofs.Tests.{differs, unequal, yes_or_no}
+use Rattle.procedures.proofs.Keeping.{names_in_none}
 use Rattle.procedures.proofs.Lacking.{Change, Kept, Lacking, LackingAt, LackingChild}
 use Rattle.procedures.proofs.Lacking.{Reached, changed_tree, equal_or_not}
 use Rattle.procedures.proofs.Parts.{count_alike, each_fails, part, sum_none, sum_remove}
 use Rattle.procedures.proofs.Sums.{got_at}
 use Rattle.std.specs.Cmp.{nat_cmp_total}
 use Rattle.std.specs.FinMap.{nat_cmp-IsAntisymmetric}
-
-differs : (a b : ℕ) → nat_eq a b ≡ false → a ≢ b
-differs a b fails same =
-    let is : nat_eq a b ≡ true = grind (arith, nat_tests, same) in
-    let never : true ≡ false = sym is ∙ fails in cc
-
-not_named : (a b : ℕ) → a ≢ b → nat_eq a b ≡ false
-not_named a b apart =
-    elim (directory_or_not (nat_eq a b)) [
-      | inl is ↦ absurd (apart (grind (arith, nat_tests, is)))
-      | inr fails ↦ fails
-    ]
 
 -- one file names a number no more often than all together
 pub names_in_of : (tree : Tree) (at q : ℕ) (node : Node) → node_at tree at ≡ Some node
@@ -73,7 +61,7 @@ module _ (tree next : Tree) (lacks after : ℕ → ℕ) (number : ℕ) (old new 
       → parent_in at ≢ number
   no_parent_by q None is apart some = λ zero_is. omega (arith, zero_is, some)
   no_parent_by q (Some node) is apart some =
-      elim (directory_or_not (is_directory node.body)) [
+      elim (yes_or_no (is_directory node.body)) [
         | inl dir ↦ childless q node is dir apart
         | inr fails ↦ λ same. let none = no_parent node.body fails in omega (arith, same, none, some)
       ]
@@ -142,7 +130,7 @@ module _ (tree : Tree) (lacks : ℕ → ℕ) (number : ℕ) (good : Lacking tree
       let entry = get_or (entries tree.nodes) index d in
       let at = good.files entry.0 entry.1 (got_at tree.nodes d index inside) in
       sum_none (λ e. cond (nat_eq e.1.number number) 1 0) (entries_of entry.1.body) (λ place e below.
-      ap (λ b. cond b 1 0) (not_named _ _ (some_other _ (at.names place e below)))))
+      ap (λ b. cond b 1 0) (unequal _ _ (some_other _ (at.names place e below)))))
 
   pub no_child : (q : ℕ) (node : Node) → node_at tree q ≡ Some node → is_directory node.body ≡ true
       → q ≢ number → parent_of node.body ≢ number

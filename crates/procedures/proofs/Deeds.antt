@@ -36,6 +36,7 @@ use Rattle.model.specs.SetAttr.{SetFound, SetOrLeft, first_of_tests, given, is_r
 use Rattle.model.specs.SetAttr.{with_attributes}
 use Rattle.model.specs.Sound.{SoundBody, SoundBytes, SoundEntries, SoundTarget, SoundVerifier}
 use Rattle.model.specs.Tree.{Tree, node_at, with_node}
+use Rattle.procedures.proofs.Tests.{neither, passes}
 use Rattle.procedures.proofs.Unchanged.{telling_leaves}
 use Rattle.procedures.specs.Changes.{if_entry, if_room, lacks_room, without_name}
 use Rattle.procedures.specs.Create.{becomes, create, create_at, create_new, create_over, is_made_with, no_bytes}
@@ -237,14 +238,6 @@ module _ (P : Tree → Type 0) {A : Type 0} where
       (leads_to tree (found_then (find_file tree handle) act) kept
       (leads_found tree handle act (find_file tree handle) refl each))
 
-negated : (b : Bool) → not b ≡ false → b ≡ true
-negated true e = refl
-negated false e = cc
-
-or_none : (a b : Bool) → (a || b) ≡ false → (a ≡ false) × (b ≡ false)
-or_none true b e = cc
-or_none false b e = (refl, e)
-
 no_some : {X : Type 0} (o : Option X) → is_some o ≡ false → o ≡ None
 no_some None e = refl
 no_some (Some x) e = cc
@@ -261,7 +254,7 @@ placed_by allowed directory name own s tests own_is e =
     let may = passed (not allowed) _ _ short.1 in
     let last = passed own _ _ may.1 in (
       record {
-        directory_is = negated _ kind.0;
+        directory_is = passes _ kind.0;
         lawful = lawful.0;
         short = short.0;
         not_own = own_is last.0;
@@ -536,12 +529,12 @@ module _ (tree : Tree) (ctx : Ctx) (fits : Type 0) where
         (fresh ctx NEW_DIRECTORY_MODE None (Directory map.empty 0 at))) (λ tested.
         let placed = placed_by (may_change ctx.credential directory) directory name
         (is_there tree directory name) status.Exist ((is_full directory, status.MLink) ∷ [])
-        (λ there. (or_none _ _ there).0) tested in
+        (λ there. (neither _ _ there).0) tested in
         make_done new at directory name (without_size wanted) NEW_DIRECTORY_MODE None (Directory map.empty 0 at)
         is_new (record {
           stands = stands;
           placed = placed.0;
-          absent = no_some _ (or_none _ _ placed.1).1;
+          absent = no_some _ (neither _ _ placed.1).1;
           mode_bits = omega arith;
           empty = entries-empty _;
           parent = λ dir. refl;
@@ -564,13 +557,13 @@ module _ (tree : Tree) (ctx : Ctx) (fits : Type 0) where
         let placed = placed_by (may_change ctx.credential directory) directory name
         (is_there tree directory name) status.Exist
         ((nat_eq (length target) 0, status.Inval) ∷ (nat_lt TARGET_BYTES (length target), status.NameTooLong) ∷ [])
-        (λ there. (or_none _ _ there).0) tested in
+        (λ there. (neither _ _ there).0) tested in
         let some = passed (nat_eq (length target) 0) _ _ placed.2 in
         let short = passed (nat_lt TARGET_BYTES (length target)) _ _ some.1 in
         make_done new at directory name (without_size wanted) NEW_LINK_MODE None (Link target) is_new (record {
           stands = stands;
           placed = placed.0;
-          absent = no_some _ (or_none _ _ placed.1).1;
+          absent = no_some _ (neither _ _ placed.1).1;
           mode_bits = omega arith;
           empty = refl;
           parent = λ no_dir. cc;
@@ -647,12 +640,12 @@ module _ (tree : Tree) (ctx : Ctx) (fits : Type 0) where
         file_stands = file_stands;
         stands = stands;
         placed = record {
-          directory_is = negated _ kind.0;
+          directory_is = passes _ kind.0;
           lawful = lawful.0;
           short = short.0;
-          not_own = (or_none _ _ there.0).0;
+          not_own = (neither _ _ there.0).0;
         };
-        absent = no_some _ (or_none _ _ there.0).1;
+        absent = no_some _ (neither _ _ there.0).1;
         no_directory = file.0;
         not_full = full.0;
         number_is = let one = parts.number_is in cc;
@@ -709,10 +702,10 @@ module _ (tree : Tree) (ctx : Ctx) (fits : Type 0) where
         let may_too = passed (not (may_change ctx.credential target.directory)) _ _ may.1 in
         let own = passed (is_own_name source.name || is_own_name target.name) _ _ may_too.1 in
         move_done (file_in tree source) (record {
-          directory_is = negated _ to.0;
+          directory_is = passes _ to.0;
           lawful = lawful.0;
           short = short.0;
-          not_own = (or_none _ _ own.0).1;
+          not_own = (neither _ _ own.0).1;
         }) refl)
 
 module _ (tree next : Tree) (ctx : Ctx) (fits : Type 0) (wanted : NewAttributes) (guard : Option Moment)

@@ -17,6 +17,7 @@ use Rattle.nfs_types.specs.declared.ctx.Moment.{Moment}
 use Rattle.model.specs.Names.{entries_of, is_directory, parent_of}
 use Rattle.model.specs.Node.{Node, Body, DirectoryEntry, Entries, Regular, Directory, Link}
 use Rattle.model.specs.Sound.{SLASH, SoundBody, SoundEntries, SoundName, SoundNode, SoundTime, SoundVerifier}
+use Rattle.procedures.proofs.Tests.{differs, neither, one_or_none}
 use Rattle.procedures.proofs.Deeds.{Placed}
 use Rattle.procedures.proofs.Parts.{one_key, part, sum_insert, sum_remove}
 use Rattle.procedures.specs.Changes.{departed, entered, parent_links, with_entry, without_entry}
@@ -87,14 +88,10 @@ none_contained p xs x none passes there =
     let yes : list_any p xs ≡ true = list_any_at p xs there.0 x there.1 (ap p there.2 ∙ passes) in
     let never : true ≡ false = sym yes ∙ none in cc
 
-or_none : (a b : Bool) → (a || b) ≡ false → (a ≡ false) × (b ≡ false)
-or_none true b e = cc
-or_none false b e = (refl, e)
-
 pub sound_name : (directory : Node) (name : List ℕ) → Placed directory name → AreBytes name → SoundName name
 sound_name directory name placed bytes =
-    let lawful = or_none (nat_eq (length name) 0) _ placed.lawful in
-    let own = or_none (is_itself name) (is_parent name) placed.not_own in
+    let lawful = neither (nat_eq (length name) 0) _ placed.lawful in
+    let own = neither (is_itself name) (is_parent name) placed.not_own in
     let some = lawful.0 in
     let short = placed.short in
     record {
@@ -117,19 +114,10 @@ FreeSlot body slot = (other : List ℕ) (entry : DirectoryEntry) → entry_at bo
 any_none : {A : Type 0} (p : A → Bool) (xs : List A) → list_any p xs ≡ false → count_by p xs ≡ 0
 any_none p [] e = refl
 any_none p (x ∷ xs) e =
-    let parts = or_none (p x) (list_any p xs) e in
+    let parts = neither (p x) (list_any p xs) e in
     let first : ◌≡◌ {A = ℕ} (cond (p x) 1 0) 0 = ap (λ b. cond b 1 0) parts.0 in
     let rest = any_none p xs parts.1 in
     omega (arith, first, rest, sum_by-cons (λ y. cond (p y) 1 0) x xs)
-
-pub one_or_none : (b : Bool) → cond b 1 0 ≤ 0 → b ≡ false
-one_or_none true small = absurd (omega (arith, small))
-one_or_none false small = refl
-
-pub differs : (a b : ℕ) → nat_eq a b ≡ false → a ≢ b
-differs a b fails same =
-    let is : nat_eq a b ≡ true = grind (arith, nat_tests, same) in
-    let never : true ≡ false = sym is ∙ fails in cc
 
 pub free_slot : (body : Body) (slot : ℕ) → is_taken_slot body slot ≡ false → FreeSlot body slot
 free_slot body slot free other entry is =

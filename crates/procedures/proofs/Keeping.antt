@@ -1,6 +1,6 @@
 -- What a change of one file keeps of a tree in the middle of a step: one case for each sort of change.
-use Rattle.std.proofs.Common.{◌≡◌, ◌≢◌, ◌⊎◌, inl, inr, ℕ, zero, suc, ◌+◌, ◌<◌, sym, ap, subst, ◌∙◌, refl}
-use Rattle.std.proofs.Common.{Bool, true, false, nat_eq, [], get_or, Option, Some}
+use Rattle.std.proofs.Common.{◌≡◌, ◌≢◌, inl, inr, ℕ, zero, suc, ◌+◌, ◌<◌, sym, ap, subst, ◌∙◌, refl}
+use Rattle.std.proofs.Common.{true, false, nat_eq, [], get_or, Option, Some}
 use Rattle.std.proofs.Common.{is_some, All, IsSome, count_by, arith}
 use Rattle.limits.specs.declared.TheConstants.{ROOT}
 use Rattle.model.specs.Names.{ancestor, child_directories, entries_of, is_directory, is_directory_at, names_in}
@@ -11,11 +11,6 @@ use Rattle.model.specs.Tree.{Tree, node_at}
 use Rattle.procedures.proofs.Lacking.{Change, Kept, Lacking, LackingAt, LackingChild, LackingDirectory}
 use Rattle.procedures.proofs.Lacking.{ParentNow, Reached, changed_tree, equal_or_not}
 use Rattle.procedures.proofs.Lacking.{kept_at}
-
--- a file is a directory or none
-pub directory_or_not : (b : Bool) → (b ≡ true) ⊎ (b ≡ false)
-directory_or_not true = inl refl
-directory_or_not false = inr refl
 
 pub names_in_none : (q : ℕ) (body : Body) → entries_of body ≡ [] → names_in q body ≡ 0
 names_in_none q body none = ap (count_by (λ entry. nat_eq entry.1.number q)) none

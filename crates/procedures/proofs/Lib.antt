@@ -16,6 +16,7 @@ pub mod SoundSteps
 pub mod Soundness
 pub mod Stale
 pub mod Sums
+pub mod Tests
 pub mod Unchanged
 pub mod Verifiers
 pub mod Within

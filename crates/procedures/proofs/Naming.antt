@@ -14,13 +14,14 @@ use Rattle.model.specs.Names.{names_of, parent_in, parent_of}
 use Rattle.model.specs.Node.{Node, Body, DirectoryEntry, Regular, Directory, Link}
 use Rattle.model.specs.Sound.{SoundName, SoundTime}
 use Rattle.model.specs.Tree.{Tree, node_at, used, with_node}
+use Rattle.procedures.proofs.Tests.{equal, neither, not_within, one_or_none, passes, yes_or_no}
 use Rattle.procedures.proofs.Adding as adding
 use Rattle.procedures.proofs.Adding.{gone, names_in_of}
-use Rattle.procedures.proofs.Entering.{FreeSlot, count_departed, count_entered, named_in, node_departed, one_or_none}
+use Rattle.procedures.proofs.Entering.{FreeSlot, count_departed, count_entered, named_in, node_departed}
 use Rattle.procedures.proofs.Entering.{node_entered, same_kind_departed, same_kind_entered, same_parent_departed}
 use Rattle.procedures.proofs.Entering.{same_parent_entered}
 use Rattle.procedures.proofs.Keeping as keeping
-use Rattle.procedures.proofs.Keeping.{directory_or_not, names_in_none, reentered, reshaped}
+use Rattle.procedures.proofs.Keeping.{names_in_none, reentered, reshaped}
 use Rattle.procedures.proofs.Lacking.{Lacking, equal_or_not, gone_change, put_change}
 use Rattle.procedures.proofs.Parts.{each_fails, part, sum_none, sum_remove}
 use Rattle.procedures.specs.Changes.{departed, entered, is_last_name, parent_links, unnamed}
@@ -36,15 +37,12 @@ one_of number q = cond (nat_eq number q) 1 0
 abbrev pub one_less : (ℕ → ℕ) → ℕ → ℕ → ℕ
 one_less lacks number q = lacks q + one_of number q
 
-pub equal : (a b : ℕ) → nat_eq a b ≡ true → a ≡ b
-equal a b is = grind (arith, nat_tests, is)
-
 pub one_of_itself : (number : ℕ) → one_of number number ≡ 1
 one_of_itself number = let is : nat_eq number number ≡ true = grind (arith, nat_tests) in ap (λ b. cond b 1 0) is
 
 pub one_of_other : (number q : ℕ) → q ≢ number → one_of number q ≡ 0
 one_of_other number q apart =
-    elim (directory_or_not (nat_eq number q)) [
+    elim (yes_or_no (nat_eq number q)) [
       | inl is ↦ absurd (apart (sym (equal number q is)))
       | inr fails ↦ ap (λ b. cond b 1 0) fails
     ]
@@ -63,10 +61,6 @@ two_names tree p r q a b apart a_is b_is =
 pub unfounded : Tree → List ℕ × DirectoryEntry → Bool
 unfounded tree entry = not (is_some (node_at tree entry.1.number))
 
-not_false : (b : Bool) → not b ≡ false → b ≡ true
-not_false true e = refl
-not_false false e = cc
-
 no_unfounded : (tree : Tree) (xs : List (List ℕ × DirectoryEntry))
     → All (λ entry. IsSome (node_at tree entry.1.number)) xs → count_by (unfounded tree) xs ≡ 0
 unfolding unfounded
@@ -77,7 +71,7 @@ no_unfounded tree xs all =
 all_founded : (tree : Tree) (xs : List (List ℕ × DirectoryEntry)) → count_by (unfounded tree) xs ≡ 0
     → All (λ entry. IsSome (node_at tree entry.1.number)) xs
 unfolding unfounded
-all_founded tree xs none index d inside = not_false _ (each_fails (unfounded tree) xs none index d inside)
+all_founded tree xs none index d inside = passes _ (each_fails (unfounded tree) xs none index d inside)
 
 -- an entry of a directory names a file
 pub entry_stands : (tree : Tree) (lacks : ℕ → ℕ) → Lacking tree lacks → (at : ℕ) (directory : Node)
@@ -87,7 +81,7 @@ unfolding unfounded
 entry_stands tree lacks good at directory stands name entry is =
     let none = no_unfounded tree (entries_of directory.body) (good.files at directory stands).names in
     let sum = count_departed (unfounded tree) name entry directory.body is in
-    not_false _ (one_or_none (unfounded tree (name, entry)) (omega (arith, none, sum)))
+    passes _ (one_or_none (unfounded tree (name, entry)) (omega (arith, none, sum)))
 
 module _ (tree : Tree) (lacks : ℕ → ℕ) (good : Lacking tree lacks) (at : ℕ) (directory : Node)
     (stands : node_at tree at ≡ Some directory) (name : List ℕ) (entry : DirectoryEntry)
@@ -140,7 +134,7 @@ module _ (tree : Tree) (lacks : ℕ → ℕ) (good : Lacking tree lacks) (at : �
       ap (λ n. is_directory n.body) file_is ∙ named_in directory.body name entry entry_is in
       let parent : parent_of file.body ≡ entry.number = namer_is_parent dir not_root ∙ sym same in
       let own : parent_in (node_at tree entry.number) ≡ entry.number =
-      ap parent_in file_stands ∙ parent in
+      ◌∙◌ {b = parent_of file.body} (ap parent_in file_stands) parent in
       let to = ((good.files entry.number file file_stands).directory dir).reached in
       not_root (sym (stays_itself to.0 own) ∙ to.1)
 
@@ -277,9 +271,6 @@ none_of : {A : Type 0} (xs : List A) → nat_lt 0 (length xs) ≡ false → xs �
 none_of [] e = refl
 none_of (x ∷ xs) e = absurd (grind (arith, nat_tests, e))
 
-more_than_one : (n : ℕ) → nat_le n 1 ≡ false → 1 < n
-more_than_one n many = grind (arith, nat_tests, many)
-
 -- what becomes of a tree where a file loses one of its links, or is gone
 pub record Unnamed (tree next : Tree) (after : ℕ → ℕ) (number : ℕ) : Type 0 where
   pub tree_is : Lacking next after
@@ -308,14 +299,14 @@ module _ (tree : Tree) (lacks after : ℕ → ℕ) (good : Lacking tree lacks) (
 
   nothing_in_it : entries_of file.body ≡ []
   nothing_in_it =
-      elim (directory_or_not (is_directory file.body)) [
+      elim (yes_or_no (is_directory file.body)) [
         | inl dir ↦ none_of (entries_of file.body) (empty dir)
         | inr other ↦ no_entries file.body other
       ]
 
   last_by : is_last_name file ≡ true → names_of tree number ≡ 0
   last_by last =
-      elim (directory_or_not (is_directory file.body)) [
+      elim (yes_or_no (is_directory file.body)) [
         | inl dir ↦
             let once = (((good.files number file stands).directory dir).child no_root).once in
             omega (arith, once, lacks_one)
@@ -359,9 +350,9 @@ module _ (tree : Tree) (lacks after : ℕ → ℕ) (good : Lacking tree lacks) (
   fewer_tree more =
       let change = put_change tree number (Some file) fewer stands in
       let mine = (good.files number file stands).itself in
-      let parts = split _ _ more in
+      let parts = neither _ _ more in
       let many = parts.1 in
-      let big = more_than_one file.nlink many in
+      let big = not_within file.nlink 1 many in
       record {
         tree_is = reshaped tree (with_node tree number fewer) lacks after number file fewer change good (record {
           itself = record {
@@ -391,10 +382,6 @@ module _ (tree : Tree) (lacks after : ℕ → ℕ) (good : Lacking tree lacks) (
             fewer change good refl refl steps q;
         room = let sum = change.sums (λ entry. cost entry.1.body) in omega (arith, sum);
       }
-    where
-      split : (a b : Bool) → (a || b) ≡ false → (a ≡ false) × (b ≡ false)
-      split true b e = cc
-      split false b e = (refl, e)
 
   unnamed_by : (last : Bool) → is_last_name file ≡ last
       → Unnamed tree (cond last (without_node tree number) (with_node tree number fewer)) after number

@@ -1,5 +1,5 @@
 -- Sums over the entries of a map after an entry was put in or taken out, whatever its keys are.
-use Rattle.std.proofs.Common.{◌≡◌, ℕ, ◌+◌, ◌≤◌, sym, ap, ◌∙◌, refl, Bool, true, false, cond, List, [], ◌∷◌}
+use Rattle.std.proofs.Common.{◌≡◌, ℕ, ◌+◌, sym, ap, ◌∙◌, refl, Bool, true, false, cond, List, [], ◌∷◌}
 use Rattle.std.proofs.Common.{Option, Some, None, sum_by, length, get_or, count_by, suc, ◌<◌, arith}
 use Rattle.std.proofs.lemmas.List.Sums.{get_or-le-sum_by, sum_by-cons, sum_by-le}
 use Rattle.std.specs.Cmp.{IsTotalOrder, tied_itself}
@@ -9,6 +9,7 @@ use Rattle.std.specs.FinMap.Entries.{by_order}
 use Rattle.std.specs.Ordering.{eq_by_cmp, is_eq}
 use Rattle.std.specs.declared.cmp.Ordering.{Ordering}
 use Rattle.std.specs.declared.cmp.Ordering.TheVariants.{Less, Equal, Greater}
+use Rattle.procedures.proofs.Tests.{one_or_none}
 
 tied : (r : Ordering) → is_eq r ≡ true → r ≡ Equal
 tied Less e = cc
@@ -124,10 +125,6 @@ pub sum_none : {A : Type 0} (f : A → ℕ) (xs : List A)
 sum_none f xs each =
     let most = sum_by-le f 0 xs (λ index d inside. let none = each index d inside in omega (arith, none)) in
     omega (arith, most)
-
-one_or_none : (b : Bool) → cond b 1 0 ≤ 0 → b ≡ false
-one_or_none true small = absurd (omega (arith, small))
-one_or_none false small = refl
 
 -- where none passes, each fails
 pub each_fails : {A : Type 0} (p : A → Bool) (xs : List A) → count_by p xs ≡ 0 → (index : ℕ) (d : A)

@@ -17,12 +17,13 @@ use Rattle.model.specs.Node.{Node, Body, DirectoryEntry, Regular, Directory, Lin
 use Rattle.model.specs.SetAttr.{given}
 use Rattle.model.specs.Sound.{Sound, SoundBody, SoundCtx, SoundNode, SoundVerifier}
 use Rattle.model.specs.Tree.{Tree, node_at, with_node}
+use Rattle.procedures.proofs.Tests.{differs, equal, unequal, yes_or_no}
 use Rattle.procedures.proofs.Adding.{names_in_of}
 use Rattle.procedures.proofs.Deeds.{NamedBy, Renames, named_is, passed}
 use Rattle.procedures.proofs.Entering.{FreeSlot, count_departed, entry_before, least_is_free, named_in, names_apart}
 use Rattle.procedures.proofs.Entering.{same_kind_departed, same_parent_departed, sound_name}
 use Rattle.procedures.proofs.Keeping as keeping
-use Rattle.procedures.proofs.Keeping.{directory_or_not, moved_tree, reshaped}
+use Rattle.procedures.proofs.Keeping.{moved_tree, reshaped}
 use Rattle.procedures.proofs.Lacking.{Change, Lacking, equal_or_not, none_lacks, of_sound, put_change, to_sound}
 use Rattle.procedures.proofs.Naming.{Unnamed, depart, enter, namer_is_parent, not_in_itself, not_root, one_less}
 use Rattle.procedures.proofs.Naming.{one_of_itself, one_of_other, unname}
@@ -120,20 +121,6 @@ sound_verifier parent (Link target) verifier good = good
 and_none : (a b : Bool) → (a && b) ≡ false → a ≡ true → b ≡ false
 and_none true b e yes_a = e
 and_none false b e yes_a = cc
-
-apart_by : (a b : ℕ) → nat_eq a b ≡ false → a ≢ b
-apart_by a b e same = let is : nat_eq a b ≡ true = grind (arith, nat_tests, same) in
-    let never : true ≡ false = sym is ∙ e in cc
-
-equal_by : (a b : ℕ) → nat_eq a b ≡ true → a ≡ b
-equal_by a b e = grind (arith, nat_tests, e)
-
-not_equal : (a b : ℕ) → a ≢ b → nat_eq a b ≡ false
-not_equal a b apart =
-    elim (directory_or_not (nat_eq a b)) [
-      | inl is ↦ absurd (apart (equal_by a b is))
-      | inr fails ↦ fails
-    ]
 
 third : (a b c : Bool) → (a && true && not b && c) ≡ false → a ≡ true → b ≡ false → c ≡ false
 third true true c e is_a no_b = cc
@@ -366,7 +353,7 @@ module _ (tree : Tree) (ctx : Ctx) (fits : Type 0) (next : Tree) (good : Sound t
   room_for_link none apart dir =
       let test : has_no_link node source target None ≡ false = ap (has_no_link node source target) (sym none) ∙ link_test in
       third (is_directory node.body) (nat_eq source.number target.number) (is_full target.directory) test dir
-      (not_equal source.number target.number (λ same. apart (sym same)))
+      (unequal source.number target.number (λ same. apart (sym same)))
 
   few_in_left : (t : Target) → file_in tree target ≡ None
       → t.directory.nlink + parent_links node.body ≤ MOST_LINKS
@@ -407,7 +394,7 @@ module _ (tree : Tree) (ctx : Ctx) (fits : Type 0) (next : Tree) (good : Sound t
 
     other_apart : other.0 ≢ number
     other_apart =
-        apart_by other.0 number (ap (λ o. given o (λ file. nat_eq file.0 number)) (sym there) ∙ d.apart)
+        differs other.0 number (ap (λ o. given o (λ file. nat_eq file.0 number)) (sym there) ∙ d.apart)
 
     abbrev way : ℕ
     way = in_way.entry.number
@@ -569,7 +556,7 @@ module _ (tree : Tree) (ctx : Ctx) (fits : Type 0) (next : Tree) (good : Sound t
             (same_slot ∙ sym slot_is));
       }
   slot_by true old None same is has slot =
-      slot_within old is (sym (equal_by source.number target.number same)) slot
+      slot_within old is (sym (equal source.number target.number same)) slot
   slot_by false old None same is has slot =
       let free = least_is_free target.directory.body d.entry.slot slot in
       record {
@@ -662,7 +649,7 @@ module _ (tree : Tree) (ctx : Ctx) (fits : Type 0) (next : Tree) (good : Sound t
 
     placed_lacks : Lacking placed_tree lacking
     placed_lacks =
-        elim (directory_or_not (is_directory node.body)) [
+        elim (yes_or_no (is_directory node.body)) [
           | inl dir ↦ placed_directory dir
           | inr other ↦ placed_other other
         ]

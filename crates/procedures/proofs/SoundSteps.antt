@@ -11,8 +11,8 @@ use Rattle.model.specs.Names.{ancestor, is_directory, parent_in, parent_of}
 use Rattle.model.specs.Node.{Node, Body, Regular, Directory, Link}
 use Rattle.model.specs.Sound.{Sound, SoundCtx}
 use Rattle.model.specs.Tree.{Tree, node_at}
+use Rattle.procedures.proofs.Tests.{yes_or_no}
 use Rattle.procedures.proofs.Deeds.{Deed, leaves, links, makes, removes, renames, sets, what_is_done, writes}
-use Rattle.procedures.proofs.Keeping.{directory_or_not}
 use Rattle.procedures.proofs.Renaming.{rename_sound}
 use Rattle.procedures.proofs.Soundness.{link_sound, make_sound, remove_sound, set_sound, write_sound}
 use Rattle.procedures.proofs.Within.{along, zero_stays}
@@ -94,7 +94,7 @@ module _ (tree : Tree) (good : Sound tree) (number steps : ℕ) (node : Node)
 
   pub own_ancestor : ⊥
   own_ancestor =
-      elim (directory_or_not (is_directory node.body)) [
+      elim (yes_or_no (is_directory node.body)) [
         | inl dir ↦ directory_case dir
         | inr no_directory ↦ other_case no_directory
       ]

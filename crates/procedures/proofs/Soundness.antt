@@ -1,6 +1,6 @@
 -- Each deed but a renaming keeps a sound tree sound.
 use Rattle.std.proofs.Common.{◌≡◌, ◌≢◌, ℕ, zero, suc, ◌+◌, ◌-◌, ◌<◌, ◌≤◌, sym, ap, subst, ◌∙◌, refl}
-use Rattle.std.proofs.Common.{Bool, true, false, cond, not, ◌||◌, List, length, nat_eq, nat_le, nat_lt}
+use Rattle.std.proofs.Common.{Bool, true, false, cond, not, List, length, nat_eq, nat_le, nat_lt}
 use Rattle.std.proofs.Common.{Option, Some, None, is_some, arith}
 use Rattle.std.proofs.lemmas.Bool.Decides.{nat_tests}
 use Rattle.std.specs.Cmp.{nat_cmp_total}
@@ -18,6 +18,7 @@ use Rattle.model.specs.Node.{Node, Body, DirectoryEntry, Regular, Directory, Lin
 use Rattle.model.specs.SetAttr.{is_regular, with_attributes}
 use Rattle.model.specs.Sound.{Sound, SoundBody, SoundCtx, SoundNode, SoundVerifier}
 use Rattle.model.specs.Tree.{Tree, node_at, with_node}
+use Rattle.procedures.proofs.Tests.{equal, neither, not_above, passes}
 use Rattle.procedures.proofs.Adding.{added}
 use Rattle.procedures.proofs.Deeds.{Links, Makes, Removes, Sets, Writes, named_is, passed}
 use Rattle.procedures.proofs.Entering.{least_is_free, sound_name}
@@ -89,20 +90,6 @@ links_of_directory body = by (is_directory body)
     by : (b : Bool) → 1 ≤ cond b 1 0 → b ≡ true
     by true one = refl
     by false one = absurd (omega (arith, one))
-
-or_none : (a b : Bool) → (a || b) ≡ false → a ≡ false
-or_none true b e = cc
-or_none false b e = refl
-
-positive : (b : Bool) → not b ≡ false → b ≡ true
-positive true e = refl
-positive false e = cc
-
-equal : (a b : ℕ) → nat_eq a b ≡ true → a ≡ b
-equal a b e = grind (arith, nat_tests, e)
-
-not_above : (a b : ℕ) → nat_lt a b ≡ false → b ≤ a
-not_above a b e = grind (arith, nat_tests, e)
 
 not_none : (n : ℕ) → nat_eq n 0 ≡ false → 0 < n
 not_none n e = grind (arith, nat_tests, e)
@@ -181,7 +168,7 @@ module _ (tree : Tree) (ctx : Ctx) (fits : Type 0) (next : Tree) (good : Sound t
         let count = passed (is_wrong_count d.count d.text) _ _ kind.1 in
         let may = passed _ _ _ count.1 in
         let within = passed (nat_lt LARGEST_FILE (d.offset + d.count)) _ _ may.1 in
-        (positive _ kind.0, equal _ _ (positive _ (or_none _ _ count.0)), not_above _ _ within.0)
+        (passes _ kind.0, equal _ _ (passes _ (neither _ _ count.0).0), not_above _ _ within.0)
 
     body_by : (body : Body) → is_regular body ≡ true → SoundBody body → 0 < length d.text
         → SoundBody (with_text d.offset d.text body)

@@ -2,7 +2,6 @@
 use Rattle.std.proofs.Common.{◌≡◌, ◌≢◌, ◌⊎◌, inl, inr, ℕ, ◌-◌, ◌≤◌, sym, ap, subst, ◌∙◌, refl, Bool, true, false}
 use Rattle.std.proofs.Common.{cond, ◌&&◌, List, [], ◌∷◌, ◌++◌, length, nat_eq, nat_lt, Option, Some, None, Result, Ok, Err}
 use Rattle.std.proofs.Common.{arith}
-use Rattle.std.proofs.lemmas.Bool.Decides.{nat_tests}
 use Rattle.std.specs.Option.{option_map}
 use Rattle.limits.specs.declared.TheConstants.{HANDLE_BYTES}
 use Rattle.nfs_types.specs.Fits.{CallFits}
@@ -18,6 +17,7 @@ use Rattle.model.specs.Find.{find_file, is_number, number_in, same_stamp, stamp_
 use Rattle.model.specs.Node.{Node}
 use Rattle.model.specs.Sound.{IsMadeBy}
 use Rattle.model.specs.Tree.{Tree, node_at, with_node}
+use Rattle.procedures.proofs.Tests.{equal}
 use Rattle.procedures.proofs.Deeds.{Deed, leaves, links, makes, named_is, removes, renames, sets, what_is_done, writes}
 use Rattle.procedures.proofs.Lacking.{equal_or_not, gone_change, put_change}
 use Rattle.procedures.specs.Changes.{changed_at, departed, is_last_name, with_file, without_name}
@@ -284,9 +284,6 @@ stamps_are a b e =
     both : (x y : Bool) → (x && y) ≡ true → (x ≡ true) × (y ≡ true)
     both true y e = (refl, e)
     both false y e = cc
-
-    equal : (x y : ℕ) → nat_eq x y ≡ true → x ≡ y
-    equal x y e = grind (arith, nat_tests, e)
 
 outcome_stale : (number : ℕ) (stamp : Stamp) (at : Option Node)
     → ((found : ℕ × Node) → stamped number stamp at ≡ Ok found → ⊥) → stamped number stamp at ≡ Err status.Stale

@@ -10,10 +10,8 @@ use Rattle.model.specs.Names.{ancestor, parent_in}
 use Rattle.model.specs.Node.{Node}
 use Rattle.model.specs.Sound.{Sound}
 use Rattle.model.specs.Tree.{Tree, node_at}
+use Rattle.procedures.proofs.Tests.{is_equal}
 use Rattle.procedures.specs.Rename.{is_within}
-
-same_is : (a b : ℕ) → a ≡ b → nat_eq a b ≡ true
-same_is a b e = grind (arith, nat_tests, e)
 
 -- Different numbers below a bound are no more than the bound.
 
@@ -27,7 +25,7 @@ record Choice (x top other r : ℕ) : Type 0 where
 choice_by : (x top other : ℕ) (b : Bool) → nat_eq x top ≡ b → Choice x top other (cond b other x)
 choice_by x top other true e = record { chosen = inl (grind (arith, nat_tests, e), refl) }
 choice_by x top other false e =
-    record { chosen = inr (λ same. let never : true ≡ false = sym (same_is x top same) ∙ e in cc, refl) }
+    record { chosen = inr (λ same. let never : true ≡ false = sym (is_equal x top same) ∙ e in cc, refl) }
 
 choice : (f : ℕ → ℕ) (top last i : ℕ) → Choice (f i) top (f last) (replaced f top last i)
 unfolding replaced
@@ -96,7 +94,7 @@ module _ (tree : Tree) (good : Sound tree) where
         let at = get_or-range_with_len 0 all steps 0 below in
         let here : get_or (range_with_len 0 all) steps 0 ≡ steps = omega (arith, at) in
         let yes = list_any_at (λ s. nat_eq (above s) file) (range_with_len 0 all) steps 0 (omega (arith, long, below))
-        (ap (λ s. nat_eq (above s) file) here ∙ same_is (above steps) file same) in
+        (ap (λ s. nat_eq (above s) file) here ∙ is_equal (above steps) file same) in
         let never : true ≡ false = sym yes ∙ outside in cc
 
     -- on the way to it each ancestor is a file

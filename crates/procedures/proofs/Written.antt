@@ -24,6 +24,7 @@ use Rattle.model.specs.Find.{find_file}
 use Rattle.model.specs.Node.{Node, Body, Regular, Directory, Link}
 use Rattle.model.specs.SetAttr.{is_regular}
 use Rattle.model.specs.Tree.{Tree, need, used, with_node}
+use Rattle.procedures.proofs.Tests.{equal, not_above, passes}
 use Rattle.procedures.proofs.Deeds.{passed}
 use Rattle.procedures.proofs.Lacking.{put_change}
 use Rattle.procedures.proofs.Overwriting.{kept_before, kept_behind, length_overwritten, written_at}
@@ -87,19 +88,9 @@ room_ok : {A : Type 0} (lacks : Bool) (effect answer : Effect A)
 room_ok true effect answer is = cc
 room_ok false effect answer is = (refl, cc)
 
-positive : (b : Bool) → not b ≡ false → b ≡ true
-positive true e = refl
-positive false e = cc
-
 few : (count : ℕ) (text : List ℕ) → is_wrong_count count text ≡ false → length text ≤ TRANSFER_BYTES
 few count text right = by (nat_eq count (length text)) refl right
   where
-    not_above : (a b : ℕ) → nat_lt a b ≡ false → b ≤ a
-    not_above a b e = grind (arith, nat_tests, e)
-
-    equal : (a b : ℕ) → nat_eq a b ≡ true → a ≡ b
-    equal a b e = grind (arith, nat_tests, e)
-
     by : (b : Bool) → nat_eq count (length text) ≡ b → (not b || nat_lt TRANSFER_BYTES count) ≡ false
         → length text ≤ TRANSFER_BYTES
     by true same e =
@@ -134,7 +125,7 @@ wrote tree next ctx handle offset count stability text answer told s =
     record {
       found = done.found;
       found_is = done.found_is;
-      regular = positive _ kind.0;
+      regular = passes _ kind.0;
       short = few count text right.0;
       leads = done.leads ∙ ap (λ e. e.next) (sym room.1);
     }
