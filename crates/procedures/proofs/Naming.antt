@@ -22,7 +22,7 @@ use Rattle.procedures.proofs.Entering.{node_entered, same_kind_departed, same_ki
 use Rattle.procedures.proofs.Entering.{same_parent_entered}
 use Rattle.procedures.proofs.Keeping as keeping
 use Rattle.procedures.proofs.Keeping.{names_in_none, reentered, reshaped}
-use Rattle.procedures.proofs.Lacking.{Lacking, equal_or_not, gone_change, put_change}
+use Rattle.procedures.proofs.Lacking.{Lacking, Reached, equal_or_not, gone_change, put_change}
 use Rattle.procedures.proofs.Parts.{each_fails, part, sum_none, sum_remove}
 use Rattle.procedures.specs.Changes.{departed, entered, is_last_name, parent_links, unnamed}
 use Rattle.procedures.specs.Changes.{without_node}
@@ -125,6 +125,10 @@ module _ (tree : Tree) (lacks : ℕ → ℕ) (good : Lacking tree lacks) (at : �
   stays_itself zero own = refl
   stays_itself (suc steps) own = ap (ancestor tree steps) own ∙ stays_itself steps own
 
+  comes_to_root : Reached tree entry.number → parent_in (node_at tree entry.number) ≡ entry.number
+      → entry.number ≡ ROOT
+  comes_to_root to own = sym (stays_itself to.0 own) ∙ to.1
+
   -- no directory names itself
   pub not_in_itself : entry.number ≢ at
   not_in_itself same =
@@ -135,8 +139,7 @@ module _ (tree : Tree) (lacks : ℕ → ℕ) (good : Lacking tree lacks) (at : �
       let parent : parent_of file.body ≡ entry.number = namer_is_parent dir not_root ∙ sym same in
       let own : parent_in (node_at tree entry.number) ≡ entry.number =
       ◌∙◌ {b = parent_of file.body} (ap parent_in file_stands) parent in
-      let to = ((good.files entry.number file file_stands).directory dir).reached in
-      not_root (sym (stays_itself to.0 own) ∙ to.1)
+      not_root (comes_to_root ((good.files entry.number file file_stands).directory dir).reached own)
 
   module _ (moment : Moment) (now : SoundTime moment) where
     abbrev less : Node
