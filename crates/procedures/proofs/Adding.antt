@@ -4,7 +4,8 @@ use Rattle.std.proofs.Common.{true, false, cond, nat_eq, [], length, get_or, Opt
 use Rattle.std.proofs.Common.{is_some, All, IsSome, count_by, arith}
 use Rattle.std.specs.FinMap.{entries}
 use Rattle.limits.specs.declared.TheConstants.{ROOT}
-use Rattle.model.specs.Names.{ancestor, child_directories, entries_of, is_directory, is_directory_at, names_in}
+use Rattle.model.specs.Names.{ancestor, child_directories, entries_of, is_directory, is_directory_at}
+use Rattle.model.specs.Names.{names_in}
 use Rattle.model.specs.Names.{names_of, parent_in, parent_of}
 use Rattle.model.specs.Node.{Node, Body, Regular, Directory, Link}
 use Rattle.model.specs.Sound.{SoundNode}
@@ -22,7 +23,8 @@ use Rattle.std.specs.FinMap.{nat_cmp-IsAntisymmetric}
 pub names_in_of : (tree : Tree) (at q : ℕ) (node : Node) → node_at tree at ≡ Some node
     → names_in q node.body ≤ names_of tree q
 names_in_of tree at q node is =
-    let sum = sum_remove nat_cmp_total nat_cmp-IsAntisymmetric (λ entry. names_in q entry.1.body) tree.nodes at in
+    let sum = sum_remove nat_cmp_total nat_cmp-IsAntisymmetric
+    (λ entry. names_in q entry.1.body) tree.nodes at in
     let counts = ap (part (λ entry. names_in q entry.1.body) at) is in
     omega (arith, sum, counts)
 
@@ -217,7 +219,8 @@ module _ (tree next : Tree) (lacks after : ℕ → ℕ) (number : ℕ) (new : No
       (λ node is.
       let one : new ≡ node = cc in
       subst (LackingAt next after number) one added_at)
-      (beside tree next lacks after number None (Some new) change good unused add.others (λ q. refl) adds_nothing
+      (beside tree next lacks after number None (Some new) change good unused add.others
+      (λ q. refl) adds_nothing
       (no_child tree lacks number good change.was) add.least) (
         λ is. let never : false ≡ true =
             sym (ap is_some (ap (node_at tree) (sym is) ∙ change.was)) ∙ ap is_some good.root_is in cc,

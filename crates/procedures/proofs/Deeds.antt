@@ -1,6 +1,8 @@
 -- What the steps of all procedures do to a tree: one of seven deeds, each with what the tests before it showed.
-use Rattle.std.proofs.Common.{◌≡◌, ℕ, ◌<◌, ◌≤◌, sym, ap, subst, ◌∙◌, refl, Bool, true, false, cond, not, List, []}
-use Rattle.std.proofs.Common.{◌∷◌, ◌++◌, ◌||◌, length, nat_eq, nat_lt, is_some, is_none, Option, Some, None, Result}
+use Rattle.std.proofs.Common.{◌≡◌, ℕ, ◌<◌, ◌≤◌, sym, ap, subst, ◌∙◌, refl, Bool, true, false, cond, not}
+use Rattle.std.proofs.Common.{List, []}
+use Rattle.std.proofs.Common.{◌∷◌, ◌++◌, ◌||◌, length, nat_eq, nat_lt, is_some, is_none, Option, Some, None}
+use Rattle.std.proofs.Common.{Result}
 use Rattle.std.proofs.Common.{Ok, Err, IfSome, T, ◌^◌, arith, lit<}
 use Rattle.std.proofs.lemmas.Bool.Decides.{nat_tests}
 use Rattle.std.specs.Cmp.Lexicographic.{slice_cmp}
@@ -39,9 +41,11 @@ use Rattle.model.specs.Tree.{Tree, node_at, with_node}
 use Rattle.procedures.proofs.Tests.{neither, passes}
 use Rattle.procedures.proofs.Unchanged.{telling_leaves}
 use Rattle.procedures.specs.Changes.{if_entry, if_room, lacks_room, without_name}
-use Rattle.procedures.specs.Create.{becomes, create, create_at, create_new, create_over, is_made_with, no_bytes}
+use Rattle.procedures.specs.Create.{becomes, create, create_at, create_new, create_over, is_made_with}
+use Rattle.procedures.specs.Create.{no_bytes}
 use Rattle.procedures.specs.Create.{only_size, resize}
-use Rattle.procedures.specs.FirstTests.{found_then, is_long, is_no_directory, is_no_name, may_change, place_tests}
+use Rattle.procedures.specs.FirstTests.{found_then, is_long, is_no_directory, is_no_name, may_change}
+use Rattle.procedures.specs.FirstTests.{place_tests}
 use Rattle.procedures.specs.FirstTests.{unless}
 use Rattle.procedures.specs.Fresh.{IsNewNumber, IsUnused, fresh, make, made, new_entry, nothing_given}
 use Rattle.procedures.specs.Fresh.{with_new, without_size}
@@ -556,7 +560,11 @@ module _ (tree : Tree) (ctx : Ctx) (fits : Type 0) where
         (λ tested.
         let placed = placed_by (may_change ctx.credential directory) directory name
         (is_there tree directory name) status.Exist
-        ((nat_eq (length target) 0, status.Inval) ∷ (nat_lt TARGET_BYTES (length target), status.NameTooLong) ∷ [])
+        ((nat_eq (length target) 0, status.Inval) ∷ (
+          nat_lt TARGET_BYTES
+              (length target),
+          status.NameTooLong,
+        ) ∷ [])
         (λ there. (neither _ _ there).0) tested in
         let some = passed (nat_eq (length target) 0) _ _ placed.2 in
         let short = passed (nat_lt TARGET_BYTES (length target)) _ _ some.1 in
@@ -595,7 +603,8 @@ module _ (tree : Tree) (ctx : Ctx) (fits : Type 0) where
         let found = named_file tree directory name in
         leads_unless Done (remove_refusal ctx.credential directory name found)
         (Ok (record { answer = tt; next = without_name tree ctx.moment at name found })) (λ tested.
-        let placed = placed_by (may_change ctx.credential directory) directory name (is_own_name name) status.IsDir
+        let placed = placed_by (may_change ctx.credential directory) directory name
+        (is_own_name name) status.IsDir
         ((is_none found, status.NoEnt) ∷ (is_found_directory found, status.IsDir) ∷ []) (λ own. own) tested in
         let some = passed (is_none found) _ _ placed.2 in
         let other = passed (is_found_directory found) _ _ some.1 in
@@ -606,7 +615,8 @@ module _ (tree : Tree) (ctx : Ctx) (fits : Type 0) where
         let found = named_file tree directory name in
         leads_unless Done (rmdir_refusal ctx.credential directory name found)
         (Ok (record { answer = tt; next = without_name tree ctx.moment at name found })) (λ tested.
-        let placed = placed_by (may_change ctx.credential directory) directory name (is_own_name name) status.Inval
+        let placed = placed_by (may_change ctx.credential directory) directory name
+        (is_own_name name) status.Inval
         ((is_none found, status.NoEnt) ∷ (is_found_other found, status.NotDir)
         ∷ (is_found_filled found, status.NotEmpty) ∷ []) (λ own. own) tested in
         let some = passed (is_none found) _ _ placed.2 in
@@ -659,7 +669,8 @@ module _ (tree : Tree) (ctx : Ctx) (fits : Type 0) where
       (target_stands : node_at tree target.number ≡ Some target.directory)
       (bounds : fits → AreBytes target.name) where
     move_done : (found : Option (ℕ × Node)) → Placed target.directory target.name
-        → file_in tree source ≡ found → Leads Done (rename_file tree ctx source target found (file_in tree target))
+        → file_in tree source ≡ found → Leads Done (rename_file tree ctx source target found
+        (file_in tree target))
     move_done None placed is = tt
     move_done (Some file) placed is =
         let replaced = file_in tree target in
@@ -804,7 +815,8 @@ what_is_done tree next ctx new (call.Rename source target) (reply.Rename outcome
 what_is_done tree next ctx new (call.Link file name) (reply.Link outcome told told_too) is_new s =
     let fits = CallFits (call.Link file name) in
     subst (Deed tree ctx fits) (sym s.leads)
-    (leads_to (Deed tree ctx fits) tree (linking tree ctx file.bytes name.directory.bytes name.name) (leaves refl)
+    (leads_to (Deed tree ctx fits) tree (linking tree ctx file.bytes name.directory.bytes name.name)
+    (leaves refl)
     (leads_found (Deed tree ctx fits) tree file.bytes (λ number node.
     found_then (find_file tree name.directory.bytes) (link tree ctx name.name number node))
     (find_file tree file.bytes) refl

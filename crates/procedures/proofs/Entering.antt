@@ -1,13 +1,15 @@
 -- A directory gets a name or loses one: what it counts, and that it stays sound.
 use Rattle.std.proofs.Common.{◌≡◌, ◌≢◌, ℕ, suc, ◌+◌, ◌*◌, ◌/◌, ◌<◌, ◌≤◌, max, sym, ap}
-use Rattle.std.proofs.Common.{subst, ◌∙◌, refl, Bool, true, false, cond, not, ◌||◌, List, [], ◌∷◌, length, get_or}
+use Rattle.std.proofs.Common.{subst, ◌∙◌, refl, Bool, true, false, cond, not, ◌||◌, List, [], ◌∷◌, length}
+use Rattle.std.proofs.Common.{get_or}
 use Rattle.std.proofs.Common.{nat_eq, Option, Some, None, Contains, count_by, find, arith}
 use Rattle.std.proofs.lemmas.Bool.Decides.{nat_tests}
 use Rattle.std.proofs.lemmas.List.Folds.{list_any_at}
 use Rattle.std.proofs.lemmas.List.FromFn.{get_or-range_with_len, length-range_with_len}
 use Rattle.std.proofs.lemmas.List.Sums.{sum_by-cons}
 use Rattle.std.specs.Cmp.Lexicographic.{nat_list_cmp_total, slice_cmp}
-use Rattle.std.specs.FinMap.{IsAntisymmetric, get, get-insert, get-remove, insert, nat_cmp-IsAntisymmetric, remove}
+use Rattle.std.specs.FinMap.{IsAntisymmetric, get, get-insert, get-remove, insert, nat_cmp-IsAntisymmetric}
+use Rattle.std.specs.FinMap.{remove}
 use Rattle.std.specs.FinMap.{slice_cmp-IsAntisymmetric}
 use Rattle.std.specs.List.{list_any, range_with_len}
 use Rattle.std.specs.Ordering.{eq_by_cmp, nat_cmp}
@@ -30,7 +32,8 @@ names_apart = slice_cmp-IsAntisymmetric nat_cmp-IsAntisymmetric
 -- what a test counts of the entries of a directory with one name more
 pub count_entered : (p : List ℕ × DirectoryEntry → Bool) (name : List ℕ) (entry : DirectoryEntry) (body : Body)
     → is_directory body ≡ true → entry_at body name ≡ None
-    → count_by p (entries_of (with_entry name entry body)) ≡ count_by p (entries_of body) + cond (p (name, entry)) 1 0
+    → count_by p (entries_of (with_entry name entry body)) ≡ count_by p (entries_of body) + cond (p
+    (name, entry)) 1 0
 count_entered p name entry (Regular bytes mapped) dir absent = cc
 count_entered p name entry (Directory named span parent) dir absent =
     let f : List ℕ × DirectoryEntry → ℕ = λ e. cond (p e) 1 0 in
@@ -42,7 +45,8 @@ count_entered p name entry (Link target) dir absent = cc
 -- and with one name less
 pub count_departed : (p : List ℕ × DirectoryEntry → Bool) (name : List ℕ) (entry : DirectoryEntry) (body : Body)
     → entry_at body name ≡ Some entry
-    → count_by p (entries_of (without_entry name body)) + cond (p (name, entry)) 1 0 ≡ count_by p (entries_of body)
+    → count_by p (entries_of (without_entry name body)) + cond (p (name, entry)) 1 0
+    ≡ count_by p (entries_of body)
 count_departed p name entry (Regular bytes mapped) is = cc
 count_departed p name entry (Directory named span parent) is =
     let f : List ℕ × DirectoryEntry → ℕ = λ e. cond (p e) 1 0 in
@@ -64,7 +68,8 @@ same_kind_entered name entry (Regular bytes mapped) = refl
 same_kind_entered name entry (Directory named span parent) = refl
 same_kind_entered name entry (Link target) = refl
 
-pub same_kind_departed : (name : List ℕ) (body : Body) → is_directory (without_entry name body) ≡ is_directory body
+pub same_kind_departed : (name : List ℕ) (body : Body) → is_directory (without_entry name body)
+    ≡ is_directory body
 same_kind_departed name (Regular bytes mapped) = refl
 same_kind_departed name (Directory named span parent) = refl
 same_kind_departed name (Link target) = refl
@@ -126,7 +131,8 @@ free_slot body slot free other entry is =
     differs _ _ (one_or_none (nat_eq entry.slot slot) (omega (arith, none, sum)))
 
 -- what is found in a list passes the test
-found_by : (p : ℕ → Bool) (xs : List ℕ) (most x : ℕ) → ((index d : ℕ) → index < length xs → get_or xs index d < most)
+found_by : (p : ℕ → Bool) (xs : List ℕ) (most x : ℕ) → ((index d : ℕ) → index < length xs
+    → get_or xs index d < most)
     → find p xs ≡ Some x → (p x ≡ true) × (x < most)
 found_by p [] most x small is = cc
 found_by p (y ∷ ys) most x small is =
@@ -135,7 +141,11 @@ found_by p (y ∷ ys) most x small is =
     by : (b : Bool) → p y ≡ b → (find p ys ≡ Some x → (p x ≡ true) × (x < most))
         → cond b (Some y) (find p ys) ≡ Some x → (p x ≡ true) × (x < most)
     by true passes rest e =
-        let same : y ≡ x = cc in (ap p (sym same) ∙ passes, subst (λ n. n < most) same (small 0 0 (omega arith)))
+        let same : y ≡ x = cc in (
+          ap p (sym same) ∙ passes,
+          subst (λ n. n < most) same (small 0 0
+              (omega arith)),
+        )
     by false fails rest e = rest e
 
 not_true : (b : Bool) → not b ≡ true → b ≡ false
@@ -162,7 +172,8 @@ chosen_entry false new entry o P mine others is = others entry is
 
 module _ (named : Entries) (span : ℕ) (name : List ℕ) (new : DirectoryEntry) (good : SoundEntries named span)
     (lawful : SoundName name) (slot : new.slot < SLOTS_PER_BLOCK * MOST_SPAN)
-    (free : (other : List ℕ) (entry : DirectoryEntry) → get named other ≡ Some entry → entry.slot ≢ new.slot) where
+    (free : (other : List ℕ) (entry : DirectoryEntry) → get named other ≡ Some entry
+    → entry.slot ≢ new.slot) where
   abbrev wide : ℕ
   wide = max span (suc (new.slot / SLOTS_PER_BLOCK))
 
@@ -203,7 +214,8 @@ module _ (named : Entries) (span : ℕ) (name : List ℕ) (new : DirectoryEntry)
     names = λ q entry is. name_by q (eq_by_cmp (slice_cmp nat_cmp) q name) entry refl (sym (looked q) ∙ is);
     slots = λ q entry is. slot_by q (eq_by_cmp (slice_cmp nat_cmp) q name) entry (sym (looked q) ∙ is);
     distinct = λ one other x y is has same.
-        distinct_by one other (eq_by_cmp (slice_cmp nat_cmp) one name) (eq_by_cmp (slice_cmp nat_cmp) other name)
+        distinct_by one other (eq_by_cmp (slice_cmp nat_cmp) one name) (eq_by_cmp
+        (slice_cmp nat_cmp) other name)
         x y refl refl (sym (looked one) ∙ is) (sym (looked other) ∙ has) same;
   }
 
@@ -238,11 +250,13 @@ body_departed name (Directory named span parent) good =
       blocks = good.blocks;
       names = λ q entry is. good.names q entry (before q entry is);
       slots = λ q entry is. good.slots q entry (before q entry is);
-      distinct = λ one other a b is has same. good.distinct one other a b (before one a is) (before other b has) same;
+      distinct = λ one other a b is has same. good.distinct one other a b (before one a is)
+          (before other b has) same;
     }
 body_departed name (Link target) good = good
 
-verifier_entered : (name : List ℕ) (new : DirectoryEntry) (body : Body) (verifier : _) → SoundVerifier body verifier
+verifier_entered : (name : List ℕ) (new : DirectoryEntry) (body : Body) (verifier : _)
+    → SoundVerifier body verifier
     → SoundVerifier (with_entry name new body) verifier
 verifier_entered name new (Regular bytes mapped) verifier good = good
 verifier_entered name new (Directory named span parent) verifier good = good

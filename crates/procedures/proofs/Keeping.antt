@@ -3,7 +3,8 @@ use Rattle.std.proofs.Common.{◌≡◌, ◌≢◌, inl, inr, ℕ, zero, suc, �
 use Rattle.std.proofs.Common.{true, false, nat_eq, [], get_or, Option, Some}
 use Rattle.std.proofs.Common.{is_some, All, IsSome, count_by, arith}
 use Rattle.limits.specs.declared.TheConstants.{ROOT}
-use Rattle.model.specs.Names.{ancestor, child_directories, entries_of, is_directory, is_directory_at, names_in}
+use Rattle.model.specs.Names.{ancestor, child_directories, entries_of, is_directory, is_directory_at}
+use Rattle.model.specs.Names.{names_in}
 use Rattle.model.specs.Names.{names_of, parent_in, parent_of}
 use Rattle.model.specs.Node.{Node, Body}
 use Rattle.model.specs.Sound.{SoundNode}
@@ -148,7 +149,8 @@ module _ (tree next : Tree) (lacks after : ℕ → ℕ) (number : ℕ) (old new 
             let entries_same : child_directories tree new.body ≡ child_directories tree old.body =
             ap (count_by (λ entry. is_directory_at (node_at tree entry.1.number))) shape.entries_are in
             omega (arith, links, same, entries_same);
-        named = λ dir. let same = same_names number in let whole = shape.whole dir in omega (arith, same, whole);
+        named = λ dir. let same = same_names number in let whole =
+            shape.whole dir in omega (arith, same, whole);
         root = λ dir is_root. shape.parent;
         child = λ dir other parent is.
             subst (λ p. ParentNow next after number p (names_in number parent.body + lacks number))
@@ -162,7 +164,8 @@ module _ (tree next : Tree) (lacks after : ℕ → ℕ) (number : ℕ) (old new 
   besides q node apart is =
       beside tree next lacks after number old new change good shape.directory q node apart is
       (let same = same_names q in let keeps = shape.others q apart in omega (arith, same, keeps))
-      (λ dir other parent parent_is. parent_of_q q (parent_of node.body) parent parent_is (shape.others q apart))
+      (λ dir other parent parent_is. parent_of_q q (parent_of node.body) parent parent_is
+      (shape.others q apart))
       (still tree next lacks after number old new change good shape.directory shape.parent q)
 
   root_old : number ≡ ROOT → old ≡ good.root
@@ -176,7 +179,8 @@ module _ (tree next : Tree) (lacks after : ℕ → ℕ) (number : ℕ) (old new 
       (λ node is.
       let one : new ≡ node = cc in
       subst (LackingAt next after number) one
-      (kept_at tree next lacks after change.geometry number old new (good.files number old change.was) at_number))
+      (kept_at tree next lacks after change.geometry number old new
+      (good.files number old change.was) at_number))
       besides (
         λ is. shape.directory ∙ ap (λ n. is_directory n.body) (root_old is) ∙ good.root_directory,
         λ is. shape.stamp ∙ ap (λ n. n.stamp) (root_old is) ∙ good.root_stamp,
@@ -250,7 +254,8 @@ module _ (tree next : Tree) (lacks after : ℕ → ℕ) (number : ℕ) (old new 
       (λ node is.
       let one : new ≡ node = cc in
       subst (LackingAt next after number) one
-      (kept_at tree next lacks after change.geometry number old new (good.files number old change.was) entered_at))
+      (kept_at tree next lacks after change.geometry number old new
+      (good.files number old change.was) entered_at))
       entered_beside
       (λ is. entry.directory, λ is. entry.stamp ∙ ap (λ n. n.stamp) (root_was is) ∙ good.root_stamp)
 

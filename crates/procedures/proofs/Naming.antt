@@ -9,16 +9,18 @@ use Rattle.std.specs.FinMap.{nat_cmp-IsAntisymmetric}
 use Rattle.limits.specs.declared.TheConstants.{MOST_LINKS, MOST_SPAN, ROOT, SLOTS_PER_BLOCK}
 use Rattle.nfs_types.specs.declared.ctx.Moment.{Moment}
 use Rattle.model.specs.Cost.{cost}
-use Rattle.model.specs.Names.{ancestor, child_directories, entries_of, is_directory, is_directory_at, names_in}
+use Rattle.model.specs.Names.{ancestor, child_directories, entries_of, is_directory, is_directory_at}
+use Rattle.model.specs.Names.{names_in}
 use Rattle.model.specs.Names.{names_of, parent_in, parent_of}
 use Rattle.model.specs.Node.{Node, Body, DirectoryEntry, Regular, Directory, Link}
 use Rattle.model.specs.Sound.{SoundName, SoundTime}
 use Rattle.model.specs.Tree.{Tree, node_at, used, with_node}
-use Rattle.procedures.proofs.Tests.{equal, neither, not_within, one_or_none, passes, yes_or_no}
+use Rattle.procedures.proofs.Tests.{at_most_one, equal, neither, not_within, one_or_none, passes, yes_or_no}
 use Rattle.procedures.proofs.Adding as adding
 use Rattle.procedures.proofs.Adding.{gone, names_in_of}
 use Rattle.procedures.proofs.Entering.{FreeSlot, count_departed, count_entered, named_in, node_departed}
-use Rattle.procedures.proofs.Entering.{node_entered, same_kind_departed, same_kind_entered, same_parent_departed}
+use Rattle.procedures.proofs.Entering.{node_entered, same_kind_departed, same_kind_entered}
+use Rattle.procedures.proofs.Entering.{same_parent_departed}
 use Rattle.procedures.proofs.Entering.{same_parent_entered}
 use Rattle.procedures.proofs.Keeping as keeping
 use Rattle.procedures.proofs.Keeping.{names_in_none, reentered, reshaped}
@@ -38,7 +40,8 @@ abbrev pub one_less : (ℕ → ℕ) → ℕ → ℕ → ℕ
 one_less lacks number q = lacks q + one_of number q
 
 pub one_of_itself : (number : ℕ) → one_of number number ≡ 1
-one_of_itself number = let is : nat_eq number number ≡ true = grind (arith, nat_tests) in ap (λ b. cond b 1 0) is
+one_of_itself number = let is : nat_eq number number ≡ true =
+    grind (arith, nat_tests) in ap (λ b. cond b 1 0) is
 
 pub one_of_other : (number q : ℕ) → q ≢ number → one_of number q ≡ 0
 one_of_other number q apart =
@@ -48,7 +51,8 @@ one_of_other number q apart =
     ]
 
 -- names in two files are among all
-pub two_names : (tree : Tree) (p r q : ℕ) (a b : Node) → p ≢ r → node_at tree p ≡ Some a → node_at tree r ≡ Some b
+pub two_names : (tree : Tree) (p r q : ℕ) (a b : Node) → p ≢ r → node_at tree p ≡ Some a
+    → node_at tree r ≡ Some b
     → names_in q a.body + names_in q b.body ≤ names_of tree q
 two_names tree p r q a b apart a_is b_is =
     let first = sum_remove nat_cmp_total nat_cmp-IsAntisymmetric (λ e. names_in q e.1.body) tree.nodes p in
@@ -170,11 +174,7 @@ module _ (tree : Tree) (lacks : ℕ → ℕ) (good : Lacking tree lacks) (at : �
         ]
 
     small_links : parent_links file.body ≤ 1
-    small_links = by (is_directory file.body)
-      where
-        by : (b : Bool) → cond b 1 0 ≤ 1
-        by true = omega arith
-        by false = omega arith
+    small_links = at_most_one (is_directory file.body)
 
     -- A directory loses the name of a file, which lacks it then.
     pub depart : Lacking (with_node tree at less) (one_less lacks entry.number)
@@ -214,7 +214,8 @@ module _ (tree : Tree) (lacks after : ℕ → ℕ) (good : Lacking tree lacks) (
   abbrev more : Node
   more = entered moment name entry file.body directory
 
-  more_children : child_directories tree more.body ≡ child_directories tree directory.body + parent_links file.body
+  more_children : child_directories tree more.body ≡ child_directories tree directory.body + parent_links
+      file.body
   more_children =
       let sum = count_entered (λ e. is_directory_at (node_at tree e.1.number)) name entry directory.body kind
       absent in
@@ -337,7 +338,8 @@ module _ (tree : Tree) (lacks after : ℕ → ℕ) (good : Lacking tree lacks) (
           orphans = orphans;
         });
         there = change.there;
-        ancestors = adding.ancestors tree (without_node tree number) lacks after number (Some file) None change good
+        ancestors = adding.ancestors tree (without_node tree number) lacks after number
+            (Some file) None change good
             (last_by last) others (λ q. names_in_none q file.body nothing_in_it) (λ q. refl)
             (adding.no_child_of tree (without_node tree number) lacks after number file change good (record {
               not_root = no_root;
@@ -357,31 +359,33 @@ module _ (tree : Tree) (lacks after : ℕ → ℕ) (good : Lacking tree lacks) (
       let many = parts.1 in
       let big = not_within file.nlink 1 many in
       record {
-        tree_is = reshaped tree (with_node tree number fewer) lacks after number file fewer change good (record {
-          itself = record {
-            mode = mine.mode;
-            uid = mine.uid;
-            gid = mine.gid;
-            nlink = let few = mine.nlink in omega (arith, few);
-            atime = mine.atime;
-            mtime = mine.mtime;
-            ctime = now;
-            stamp = mine.stamp;
-            verifier = mine.verifier;
-            body = mine.body;
-          };
-          entries_are = refl;
-          directory = refl;
-          parent = refl;
-          stamp = refl;
-          links = λ dir. let never : true ≡ false = sym dir ∙ parts.0 in cc;
-          whole = λ dir. let never : true ≡ false = sym dir ∙ parts.0 in cc;
-          names = λ other. omega (arith, big, lacks_one, whole);
-          named = λ other. omega (arith, big);
-          others = others;
-        });
+        tree_is = reshaped tree (with_node tree number fewer) lacks after number file fewer change good
+            (record {
+              itself = record {
+                mode = mine.mode;
+                uid = mine.uid;
+                gid = mine.gid;
+                nlink = let few = mine.nlink in omega (arith, few);
+                atime = mine.atime;
+                mtime = mine.mtime;
+                ctime = now;
+                stamp = mine.stamp;
+                verifier = mine.verifier;
+                body = mine.body;
+              };
+              entries_are = refl;
+              directory = refl;
+              parent = refl;
+              stamp = refl;
+              links = λ dir. let never : true ≡ false = sym dir ∙ parts.0 in cc;
+              whole = λ dir. let never : true ≡ false = sym dir ∙ parts.0 in cc;
+              names = λ other. omega (arith, big, lacks_one, whole);
+              named = λ other. omega (arith, big);
+              others = others;
+            });
         there = change.there;
-        ancestors = λ steps q apart. keeping.ancestors tree (with_node tree number fewer) lacks after number file
+        ancestors = λ steps q apart. keeping.ancestors tree
+            (with_node tree number fewer) lacks after number file
             fewer change good refl refl steps q;
         room = let sum = change.sums (λ entry. cost entry.1.body) in omega (arith, sum);
       }

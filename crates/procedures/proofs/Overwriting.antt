@@ -1,10 +1,12 @@
 -- What WRITE makes of the bytes of a sound file.
-use Rattle.std.proofs.Common.{◌≡◌, ◌⊎◌, inl, inr, ℕ, zero, suc, ◌+◌, ◌-◌, ◌/◌, ◌<◌, ◌≤◌, max, sym, ap, ◌∙◌, refl}
+use Rattle.std.proofs.Common.{◌≡◌, ◌⊎◌, inl, inr, ℕ, zero, suc, ◌+◌, ◌-◌, ◌/◌, ◌<◌, ◌≤◌, max, sym, ap, ◌∙◌}
+use Rattle.std.proofs.Common.{refl}
 use Rattle.std.proofs.Common.{Bool, true, false, ◌||◌, List, ◌++◌, length, get_or, take, drop, replicate}
 use Rattle.std.proofs.Common.{length-append, arith, rules}
 use Rattle.std.proofs.lemmas.Bool.{cases_lt}
 use Rattle.std.proofs.lemmas.List.{get_or-append_right, get_or-drop, get_or-replicate, get_or-take}
-use Rattle.std.proofs.lemmas.List.{get_or_append_left, get_or_past, length-drop, length-replicate, length-take}
+use Rattle.std.proofs.lemmas.List.{get_or_append_left, get_or_past, length-drop, length-replicate}
+use Rattle.std.proofs.lemmas.List.{length-take}
 use Rattle.std.specs.Cmp.{nat_cmp_total}
 use Rattle.std.specs.FinSet.{FinSet, contains, contains-insert, insert}
 use Rattle.std.specs.List.{range_with_len}
@@ -100,7 +102,8 @@ hole n at =
           get_or_past (replicate n 0) at 0 (omega (arith, long, past))
     ]
 
-at_before : (offset at : ℕ) (bytes : List ℕ) → at < offset → get_or (before offset bytes) at 0 ≡ get_or bytes at 0
+at_before : (offset at : ℕ) (bytes : List ℕ) → at < offset → get_or (before offset bytes) at 0
+    ≡ get_or bytes at 0
 unfolding before
 at_before offset at bytes below =
     elim (cases_lt at (length bytes)) [
@@ -143,7 +146,8 @@ pub kept_behind : (offset at : ℕ) (text bytes : List ℕ) → offset + length 
 kept_behind offset at text bytes above =
     let there : offset + length text + (at - (offset + length text)) ≡ at = omega (arith, above) in
     ap (λ xs. get_or xs at 0) (pieces offset text bytes)
-    ∙ get_or-append_right (before offset bytes ++ text) (drop (offset + length text) bytes) (offset + length text)
+    ∙ get_or-append_right (before offset bytes ++ text) (drop (offset + length text) bytes)
+    (offset + length text)
     at 0 (length_first offset text bytes) above
     ∙ get_or-drop (offset + length text) bytes (at - (offset + length text)) 0
     ∙ ap (λ n. get_or bytes n 0) there
@@ -152,7 +156,8 @@ small : (b c : ℕ) → c ≡ b → b < 256 → c < 256
 small b c e h = omega (arith, e, h)
 
 module _ (offset : ℕ) (text bytes : List ℕ) (mapped : FinSet nat_cmp) (some : 0 < length text)
-    (fits : offset + length text ≤ LARGEST_FILE) (are_bytes : AreBytes text) (good : SoundBytes bytes mapped) where
+    (fits : offset + length text ≤ LARGEST_FILE) (are_bytes : AreBytes text)
+    (good : SoundBytes bytes mapped) where
   each_byte : AreBytes (overwritten offset text bytes)
   each_byte at =
       elim (cases_lt at offset) [
@@ -174,10 +179,12 @@ module _ (offset : ℕ) (text bytes : List ℕ) (mapped : FinSet nat_cmp) (some 
   touched_index at above below = (omega (arith, above), omega (arith, above, below))
 
   -- A sound file stays sound where bytes are written into it.
-  pub overwritten_sound : SoundBytes (overwritten offset text bytes) (mapped_with (touched offset (length text)) mapped)
+  pub overwritten_sound : SoundBytes (overwritten offset text bytes) (mapped_with (touched offset
+      (length text)) mapped)
   overwritten_sound = record {
     each = each_byte;
-    size = let size = length_overwritten offset text bytes in let was = good.size in omega (arith, size, was, fits);
+    size = let size = length_overwritten offset text bytes in let was =
+        good.size in omega (arith, size, was, fits);
     indexes = λ index is.
         elim (mapped_in indexes_count first_index index mapped is) [
           | inl was ↦ good.indexes index was

@@ -3,7 +3,8 @@ use Rattle.std.proofs.Common.{◌≡◌, ℕ, ◌+◌, sym, ap, ◌∙◌, refl,
 use Rattle.std.proofs.Common.{Option, Some, None, sum_by, length, get_or, count_by, suc, ◌<◌, arith}
 use Rattle.std.proofs.lemmas.List.Sums.{get_or-le-sum_by, sum_by-cons, sum_by-le}
 use Rattle.std.specs.Cmp.{IsTotalOrder, tied_itself}
-use Rattle.std.specs.FinMap.{FinMap, IsAntisymmetric, entries, entries-insert, find, get, get-entries, get-insert}
+use Rattle.std.specs.FinMap.{FinMap, IsAntisymmetric, entries, entries-insert, find, get, get-entries}
+use Rattle.std.specs.FinMap.{get-insert}
 use Rattle.std.specs.FinMap.{get-remove, insert, put, remove, same_map}
 use Rattle.std.specs.FinMap.Entries.{by_order}
 use Rattle.std.specs.Ordering.{eq_by_cmp, is_eq}
@@ -139,7 +140,8 @@ pub count_alike : {A : Type 0} (p q : A → Bool) (xs : List A)
     → count_by p xs ≡ count_by q xs
 count_alike p q [] alike = refl
 count_alike p q (x ∷ xs) alike =
-    let first : ◌≡◌ {A = ℕ} (cond (p x) 1 0) (cond (q x) 1 0) = ap (λ b. cond b 1 0) (alike 0 x (omega arith)) in
+    let first : ◌≡◌ {A = ℕ} (cond (p x) 1 0) (cond (q x) 1 0) =
+    ap (λ b. cond b 1 0) (alike 0 x (omega arith)) in
     let rest = count_alike p q xs (λ index d inside. alike (suc index) d (omega arith)) in
     omega (
       arith,

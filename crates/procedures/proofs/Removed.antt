@@ -42,12 +42,14 @@ module _ (tree : Tree) (good : Sound tree) (at : ℕ) (directory : Node)
   apart : file.0 ≡ at → ⊥
   apart same =
       let named = named_is tree directory name file found in
-      not_in_itself tree none_lacks (of_sound tree good) at directory stands name named.entry named.entry_is file.1
+      not_in_itself tree none_lacks (of_sound tree good) at directory stands name named.entry
+      named.entry_is file.1
       (ap (node_at tree) named.number_is ∙ named.stands) refl (named.number_is ∙ same)
 
   in_left : node_at left file.0 ≡ Some file.1
   in_left =
-      (put_change tree at (Some directory) (departed ctx.moment name file.1.body directory) stands).there file.0 apart
+      (put_change tree at (Some directory) (departed ctx.moment name file.1.body directory) stands).there
+      file.0 apart
       ∙ (named_is tree directory name file found).stands
 
   pub file_gone : node_at to file.0 ≡ None
@@ -92,7 +94,8 @@ removed_last tree next ctx handle name told directory file good directory_is fou
     let effect_is : effect done.found ≡ done.effect = let both = tests.1 in cc in
     let stands = found-stands tree handle directory directory_is in
     let last = last_one file.1 one in
-    let leads_to : next ≡ without_node (with_node tree directory.0 (departed ctx.moment name file.1.body directory.1))
+    let leads_to : next ≡ without_node (with_node tree directory.0
+    (departed ctx.moment name file.1.body directory.1))
     file.0 =
     done.leads ∙ ap (λ e. e.next) (sym effect_is) ∙ ap (λ d. (effect d).next) directory_same
     ∙ ap (without_name tree ctx.moment directory.0 name) found

@@ -20,23 +20,28 @@ use Rattle.model.specs.Tree.{Tree, node_at, with_node}
 use Rattle.procedures.proofs.Tests.{differs, equal, unequal, yes_or_no}
 use Rattle.procedures.proofs.Adding.{names_in_of}
 use Rattle.procedures.proofs.Deeds.{NamedBy, Renames, named_is, passed}
-use Rattle.procedures.proofs.Entering.{FreeSlot, count_departed, entry_before, least_is_free, named_in, names_apart}
+use Rattle.procedures.proofs.Entering.{FreeSlot, count_departed, entry_before, least_is_free, named_in}
+use Rattle.procedures.proofs.Entering.{names_apart}
 use Rattle.procedures.proofs.Entering.{same_kind_departed, same_parent_departed, sound_name}
 use Rattle.procedures.proofs.Keeping as keeping
 use Rattle.procedures.proofs.Keeping.{moved_tree, reshaped}
-use Rattle.procedures.proofs.Lacking.{Change, Lacking, equal_or_not, none_lacks, of_sound, put_change, to_sound}
-use Rattle.procedures.proofs.Naming.{Unnamed, depart, enter, namer_is_parent, not_in_itself, not_root, one_less}
+use Rattle.procedures.proofs.Lacking.{Change, Lacking, equal_or_not, none_lacks, of_sound, put_change}
+use Rattle.procedures.proofs.Lacking.{to_sound}
+use Rattle.procedures.proofs.Naming.{Unnamed, depart, enter, namer_is_parent, not_in_itself, not_root}
+use Rattle.procedures.proofs.Naming.{one_less}
 use Rattle.procedures.proofs.Naming.{one_of_itself, one_of_other, unname}
 use Rattle.procedures.proofs.Parts.{one_key}
 use Rattle.procedures.proofs.Room.{room_after}
 use Rattle.procedures.proofs.Soundness.{changed_is, few_links, links_of_directory, no_entry, parent_links_is}
 use Rattle.procedures.proofs.Soundness.{same_geometry, with_two}
 use Rattle.procedures.proofs.Within.{never_reached}
-use Rattle.procedures.specs.Changes.{changed_at, departed, entered, lacks_room, parent_links, unnamed, with_entry}
+use Rattle.procedures.specs.Changes.{changed_at, departed, entered, lacks_room, parent_links, unnamed}
+use Rattle.procedures.specs.Changes.{with_entry}
 use Rattle.procedures.specs.Changes.{without_entry, without_name}
 use Rattle.procedures.specs.MkDir.{is_full}
 use Rattle.procedures.specs.Places.{entry_at}
-use Rattle.procedures.specs.Rename.{Place, file_in, goes_below_itself, has_no_link, is_other_sort, is_within, moved}
+use Rattle.procedures.specs.Rename.{Place, file_in, goes_below_itself, has_no_link, is_other_sort}
+use Rattle.procedures.specs.Rename.{is_within, moved}
 use Rattle.procedures.specs.Rename.{slot_for, with_parent}
 use Rattle.procedures.specs.RmDir.{has_names, is_found_filled}
 
@@ -96,7 +101,8 @@ same_kind parent (Regular bytes mapped) = refl
 same_kind parent (Directory named span old) = refl
 same_kind parent (Link target) = refl
 
-new_parent : (parent : ℕ) (body : Body) → is_directory body ≡ true → parent_of (with_parent parent body) ≡ parent
+new_parent : (parent : ℕ) (body : Body) → is_directory body ≡ true
+    → parent_of (with_parent parent body) ≡ parent
 new_parent parent (Regular bytes mapped) dir = cc
 new_parent parent (Directory named span old) dir = refl
 new_parent parent (Link target) dir = cc
@@ -206,7 +212,8 @@ module _ (tree : Tree) (ctx : Ctx) (fits : Type 0) (next : Tree) (good : Sound t
 
   parent_is_source : is_directory node.body ≡ true → parent_of node.body ≡ source.number
   parent_is_source dir =
-      namer_is_parent tree none_lacks base source.number source.directory d.source_stands source.name named.entry
+      namer_is_parent tree none_lacks base source.number source.directory d.source_stands source.name
+      named.entry
       named.entry_is node named_there refl dir (λ same. no_root (sym named.number_is ∙ same))
 
   below_test : goes_below_itself tree number node target ≡ false
@@ -351,7 +358,8 @@ module _ (tree : Tree) (ctx : Ctx) (fits : Type 0) (next : Tree) (good : Sound t
   room_for_link : file_in tree target ≡ None → target.number ≢ source.number → is_directory node.body ≡ true
       → is_full target.directory ≡ false
   room_for_link none apart dir =
-      let test : has_no_link node source target None ≡ false = ap (has_no_link node source target) (sym none) ∙ link_test in
+      let test : has_no_link node source target None ≡ false =
+      ap (has_no_link node source target) (sym none) ∙ link_test in
       third (is_directory node.body) (nat_eq source.number target.number) (is_full target.directory) test dir
       (unequal source.number target.number (λ same. apart (sym same)))
 
@@ -436,12 +444,14 @@ module _ (tree : Tree) (ctx : Ctx) (fits : Type 0) (next : Tree) (good : Sound t
 
     parted_lacks : Lacking parted (one_less lacking way)
     parted_lacks =
-        depart left lacking left_lacks target.number t.directory t.is target.name in_way.entry entry_there other.1
+        depart left lacking left_lacks target.number t.directory t.is target.name in_way.entry entry_there
+        other.1
         way_in_left whole ctx.moment now.moment
 
     way_not_target : way ≢ target.number
     way_not_target =
-        not_in_itself left lacking left_lacks target.number t.directory t.is target.name in_way.entry entry_there
+        not_in_itself left lacking left_lacks target.number t.directory t.is target.name in_way.entry
+        entry_there
         other.1 way_in_left whole
 
     put_parted : Change left parted target.number (Some t.directory) (Some lesser)
@@ -632,7 +642,8 @@ module _ (tree : Tree) (ctx : Ctx) (fits : Type 0) (next : Tree) (good : Sound t
         let once = child.once in
         let lacks_one = lacks_its_name in
         let less_names = names_in_of c.tree_is target.number number c.directory c.is in
-        moved_tree c.tree_is placed_tree lacking number target.number node placed_node put_placed c.lacks (record {
+        moved_tree c.tree_is placed_tree lacking number target.number node placed_node put_placed c.lacks
+        (record {
           itself = placed_sound;
           not_root = no_root;
           entries_are = same_entries target.number node.body;
@@ -680,7 +691,8 @@ module _ (tree : Tree) (ctx : Ctx) (fits : Type 0) (next : Tree) (good : Sound t
         (enter placed_tree lacking none_lacks placed_lacks target.number c.directory
         (put_placed.there target.number (λ same. apart_target (sym same)) ∙ c.is) c.kind target.name d.entry
         c.absent placed_node (ap (node_at placed_tree) d.number_is ∙ put_placed.here)
-        (sound_name target.directory target.name d.placed (d.name_bounds f)) slot_is.small (free_in c) ctx.moment
+        (sound_name target.directory target.name d.placed (d.name_bounds f)) slot_is.small
+        (free_in c) ctx.moment
         now.moment (omega (arith, links, few))
         (λ dir. new_parent target.number node.body (sym (same_kind target.number node.body) ∙ dir))
         (λ q. ap (λ n. one_less none_lacks n q) (sym d.number_is)))
@@ -692,15 +704,20 @@ module _ (tree : Tree) (ctx : Ctx) (fits : Type 0) (next : Tree) (good : Sound t
     leads_to_last =
         let named_first = put_change c.tree_is target.number (Some c.directory) entered_directory c.is in
         d.leads
-        ∙ ap (λ s. changed_at (changed_at (without_name s ctx.moment target.number target.name (file_in tree target))
+        ∙ ap (λ s. changed_at (changed_at (without_name s ctx.moment target.number target.name
+        (file_in tree target))
         target.number change) number (moved ctx.moment target.number))
-        (changed_is tree source.number (departed ctx.moment source.name node.body) source.directory d.source_stands)
-        ∙ ap (λ s. changed_at (changed_at s target.number change) number (moved ctx.moment target.number)) c.made
+        (changed_is tree source.number (departed ctx.moment source.name node.body) source.directory
+        d.source_stands)
+        ∙ ap (λ s. changed_at (changed_at s target.number change) number
+        (moved ctx.moment target.number)) c.made
         ∙ ap (λ s. changed_at s number (moved ctx.moment target.number))
         (changed_is c.tree_is target.number change c.directory c.is)
-        ∙ changed_is (with_node c.tree_is target.number entered_directory) number (moved ctx.moment target.number) node
+        ∙ changed_is (with_node c.tree_is target.number entered_directory) number
+        (moved ctx.moment target.number) node
         (named_first.there number apart_target ∙ c.node_is)
-        ∙ with_two c.tree_is target.number number entered_directory placed_node (λ same. apart_target (sym same))
+        ∙ with_two c.tree_is target.number number entered_directory placed_node (λ same. apart_target
+        (sym same))
 
     sound_by : Sound next
     sound_by =

@@ -1,10 +1,12 @@
 -- What a change needs covers what it adds, so that the blocks reach where NOSPC isn't answered.
-use Rattle.std.proofs.Common.{◌≡◌, ℕ, suc, ◌+◌, ◌-◌, ◌<◌, ◌≤◌, ap, ◌∙◌, refl, Bool, true, false, cond, T, List, []}
+use Rattle.std.proofs.Common.{◌≡◌, ℕ, suc, ◌+◌, ◌-◌, ◌<◌, ◌≤◌, ap, ◌∙◌, refl, Bool, true, false, cond, T}
+use Rattle.std.proofs.Common.{List, []}
 use Rattle.std.proofs.Common.{◌∷◌, length, get_or, Option, Some, None, sum_by, arith}
 use Rattle.std.proofs.lemmas.Bool.Decides.{nat_tests}
 use Rattle.std.proofs.lemmas.List.Sums.{sum_by-cons}
 use Rattle.std.specs.Cmp.{nat_cmp_total}
-use Rattle.std.specs.FinMap.{FinMap, entries, entries_sorted, get, get-remove, is_sorted, nat_cmp-IsAntisymmetric}
+use Rattle.std.specs.FinMap.{FinMap, entries, entries_sorted, get, get-remove, is_sorted}
+use Rattle.std.specs.FinMap.{nat_cmp-IsAntisymmetric}
 use Rattle.std.specs.FinMap.{remove}
 use Rattle.std.specs.Ordering.{eq_by_cmp, nat_cmp}
 use Rattle.model.specs.Cost.{cost}
@@ -46,7 +48,8 @@ covered : (es : List (ℕ × Node)) (nodes : FinMap nat_cmp Node) → T (is_sort
 covered [] nodes sorted = omega arith
 covered (e ∷ es) nodes sorted =
     let rest = covered es (remove nodes e.0) (and_second _ _ sorted) in
-    let same = sum_alike (λ entry. cost_at (get (remove nodes e.0) entry.0)) (λ entry. cost_at (get nodes entry.0)) es
+    let same = sum_alike (λ entry. cost_at (get (remove nodes e.0) entry.0)) (λ entry. cost_at
+    (get nodes entry.0)) es
     (λ index d inside.
     let key = (get_or es index d).0 in
     ap cost_at (get-remove nat_cmp_total nodes e.0 key)

@@ -40,7 +40,8 @@ pub history_sound : (tree next : Tree) (entries : List Entry) → Sound tree →
 history_sound tree next [] good each same = subst Sound (sym same) good
 history_sound tree next (entry ∷ entries) good each leads =
     history_sound leads.0 next entries
-    (step_sound tree leads.0 entry.ctx entry.call entry.reply good each.0.ctx each.0.call leads.1) each.1 leads.2
+    (step_sound tree leads.0 entry.ctx entry.call entry.reply good each.0.ctx each.0.call leads.1) each.1
+    leads.2
 
 -- A file that is its own ancestor.
 module _ (tree : Tree) (good : Sound tree) (number steps : ℕ) (node : Node)
@@ -67,7 +68,8 @@ module _ (tree : Tree) (good : Sound tree) (number steps : ℕ) (node : Node)
   directory_case dir =
       let reached = ((good.files number node there).directory dir).reached in
       let far : reached.0 ≤ reached.0 * suc steps = grows reached.0 in
-      let whole : reached.0 * suc steps ≡ reached.0 + (reached.0 * suc steps - reached.0) = omega (arith, far) in
+      let whole : reached.0 * suc steps ≡ reached.0 + (reached.0 * suc steps - reached.0) =
+      omega (arith, far) in
       let more = reached.0 * suc steps - reached.0 in
       other (
       sym (rounds reached.0) ∙ ap (λ n. ancestor tree n number) whole

@@ -18,18 +18,20 @@ use Rattle.model.specs.Node.{Node, Body, DirectoryEntry, Regular, Directory, Lin
 use Rattle.model.specs.SetAttr.{is_regular, with_attributes}
 use Rattle.model.specs.Sound.{Sound, SoundBody, SoundCtx, SoundNode, SoundVerifier}
 use Rattle.model.specs.Tree.{Tree, node_at, with_node}
-use Rattle.procedures.proofs.Tests.{equal, neither, not_above, passes}
+use Rattle.procedures.proofs.Tests.{at_most_one, equal, neither, not_above, passes}
 use Rattle.procedures.proofs.Adding.{added}
 use Rattle.procedures.proofs.Deeds.{Links, Makes, Removes, Sets, Writes, named_is, passed}
 use Rattle.procedures.proofs.Entering.{least_is_free, sound_name}
 use Rattle.procedures.proofs.Keeping.{reshaped}
 use Rattle.procedures.proofs.Lacking.{Lacking, Reached, none_lacks, of_sound, put_change, to_sound}
-use Rattle.procedures.proofs.Naming.{depart, enter, entry_stands, not_in_itself, one_less, one_of, one_of_itself}
+use Rattle.procedures.proofs.Naming.{depart, enter, entry_stands, not_in_itself, one_less, one_of}
+use Rattle.procedures.proofs.Naming.{one_of_itself}
 use Rattle.procedures.proofs.Naming.{one_of_other, unname}
 use Rattle.procedures.proofs.Overwriting.{overwritten_sound}
 use Rattle.procedures.proofs.Parts.{insert_swap}
 use Rattle.procedures.proofs.Room.{room_after}
-use Rattle.procedures.specs.Changes.{changed_at, departed, entered, lacks_room, parent_links, is_last_name, unnamed, with_file, without_node}
+use Rattle.procedures.specs.Changes.{changed_at, departed, entered, lacks_room, parent_links, is_last_name}
+use Rattle.procedures.specs.Changes.{unnamed, with_file, without_node}
 use Rattle.procedures.specs.Changes.{without_entry}
 use Rattle.procedures.specs.Fresh.{fresh, made}
 use Rattle.procedures.specs.Link.{linked}
@@ -38,7 +40,8 @@ use Rattle.procedures.specs.Places.{entry_at, file_at, named_file}
 use Rattle.procedures.specs.Write.{is_wrong_count, with_text, written}
 
 -- the file that is changed stands there
-pub changed_is : (tree : Tree) (number : ℕ) (change : Node → Node) (node : Node) → node_at tree number ≡ Some node
+pub changed_is : (tree : Tree) (number : ℕ) (change : Node → Node) (node : Node)
+    → node_at tree number ≡ Some node
     → changed_at tree number change ≡ with_node tree number (change node)
 changed_is tree number change node is = ap (λ o. with_file tree number (option_map change o)) is
 
@@ -56,7 +59,8 @@ pub no_entry : (tree : Tree) → Sound tree → (at : ℕ) (directory : Node) �
     → (name : List ℕ) → named_file tree directory name ≡ None → entry_at directory.body name ≡ None
 no_entry tree good at directory stands name absent = by (entry_at directory.body name) refl absent
   where
-    none_by : (entry : DirectoryEntry) (o : Option Node) → option_map {U = ℕ × Node} (λ node. (entry.number, node)) o ≡ None
+    none_by : (entry : DirectoryEntry) (o : Option Node) → option_map {U =
+        ℕ × Node} (λ node. (entry.number, node)) o ≡ None
         → is_some o ≡ true → ⊥
     none_by entry None e some = cc
     none_by entry (Some node) e some = cc
@@ -78,11 +82,7 @@ few_links (suc n) directory small one full =
     below links e = grind (arith, nat_tests, e)
 
 pub parent_links_is : (body : Body) → parent_links body ≤ 1
-parent_links_is body = by (is_directory body)
-  where
-    by : (b : Bool) → cond b 1 0 ≤ 1
-    by true = omega arith
-    by false = omega arith
+parent_links_is body = at_most_one (is_directory body)
 
 pub links_of_directory : (body : Body) → 1 ≤ parent_links body → is_directory body ≡ true
 links_of_directory body = by (is_directory body)
@@ -145,7 +145,8 @@ module _ (tree : Tree) (ctx : Ctx) (fits : Type 0) (next : Tree) (good : Sound t
       subst Sound (sym d.leads)
       (replaced.sound tree d.number d.node (with_attributes ctx.moment d.wanted d.node) d.stands
       (shape ctx.moment d.wanted d.node) good
-      (sound_node ctx d.wanted d.guard d.node d.tested now.moment bounds.uid bounds.gid bounds.atime bounds.mtime
+      (sound_node ctx d.wanted d.guard d.node d.tested now.moment bounds.uid bounds.gid bounds.atime
+      bounds.mtime
       (good.files d.number d.node d.stands).itself))
 
   -- What is written.
@@ -308,7 +309,8 @@ module _ (tree : Tree) (ctx : Ctx) (fits : Type 0) (next : Tree) (good : Sound t
         let to = with_node first d.at (change d.directory) in
         let result : Lacking to none_lacks =
         enter first (one_of number) none_lacks with_file_first d.at d.directory
-        ((put_change tree number None node d.unused.free).there d.at apart ∙ d.stands) d.placed.directory_is d.name
+        ((put_change tree number None node d.unused.free).there d.at apart
+        ∙ d.stands) d.placed.directory_is d.name
         d.entry (no_entry tree good d.at d.directory d.stands d.name d.absent) node
         (put_change tree number None node d.unused.free).here
         (sound_name d.directory d.name d.placed (d.name_bounds f)) slot.1 slot.0 ctx.moment now.moment
@@ -319,7 +321,8 @@ module _ (tree : Tree) (ctx : Ctx) (fits : Type 0) (next : Tree) (good : Sound t
         d.leads ∙ ap (λ t. with_node t number node) (changed_is tree d.at change d.directory d.stands)
         ∙ with_two tree d.at number (change d.directory) node apart in
         subst Sound (sym leads)
-        (to_sound to result (room_after tree to good.room (subst (λ t. lacks_room tree t ≡ false) leads d.room)))
+        (to_sound to result (room_after tree to good.room (subst (λ t. lacks_room tree t
+        ≡ false) leads d.room)))
 
   -- What is linked.
 
@@ -364,7 +367,8 @@ module _ (tree : Tree) (ctx : Ctx) (fits : Type 0) (next : Tree) (good : Sound t
     more_links : Lacking with_one_more (one_of d.entry.number)
     more_links =
         reshaped tree with_one_more none_lacks (one_of d.entry.number) d.entry.number d.node
-        (linked ctx.moment d.node) (put_change tree d.entry.number (Some d.node) (linked ctx.moment d.node) file_there)
+        (linked ctx.moment d.node) (put_change tree d.entry.number (Some d.node)
+        (linked ctx.moment d.node) file_there)
         (of_sound tree good) (record {
           itself = linked_sound;
           entries_are = refl;
@@ -397,12 +401,14 @@ module _ (tree : Tree) (ctx : Ctx) (fits : Type 0) (next : Tree) (good : Sound t
         let leads : next ≡ to =
         d.leads ∙ ap (λ t. changed_at t d.number (linked ctx.moment))
         (changed_is tree d.at change d.directory d.stands)
-        ∙ ap (λ n. changed_at (with_node tree d.at (change d.directory)) n (linked ctx.moment)) (sym d.number_is)
+        ∙ ap (λ n. changed_at (with_node tree d.at (change d.directory)) n (linked ctx.moment))
+        (sym d.number_is)
         ∙ changed_is (with_node tree d.at (change d.directory)) d.entry.number (linked ctx.moment) d.node
         (entered_first.there d.entry.number (λ same. not_at (sym same)) ∙ file_there)
         ∙ with_two tree d.at d.entry.number (change d.directory) (linked ctx.moment d.node) not_at in
         subst Sound (sym leads)
-        (to_sound to result (room_after tree to good.room (subst (λ t. lacks_room tree t ≡ false) leads d.room)))
+        (to_sound to result (room_after tree to good.room (subst (λ t. lacks_room tree t
+        ≡ false) leads d.room)))
 
   -- What is removed.
 
@@ -420,7 +426,8 @@ module _ (tree : Tree) (ctx : Ctx) (fits : Type 0) (next : Tree) (good : Sound t
         let lacking : Lacking left (one_less none_lacks number) =
         depart tree none_lacks base d.at d.directory d.stands d.name named.entry named.entry_is file there refl
         ctx.moment now.moment in
-        let apart = not_in_itself tree none_lacks base d.at d.directory d.stands d.name named.entry named.entry_is file
+        let apart = not_in_itself tree none_lacks base d.at d.directory d.stands d.name named.entry
+        named.entry_is file
         there refl in
         let one = one_of_itself number in
         let result =

@@ -1,6 +1,8 @@
 -- Handles over steps: which stamps a step gives, and that a stale handle stays stale.
-use Rattle.std.proofs.Common.{◌≡◌, ◌≢◌, ◌⊎◌, inl, inr, ℕ, ◌-◌, ◌≤◌, sym, ap, subst, ◌∙◌, refl, Bool, true, false}
-use Rattle.std.proofs.Common.{cond, ◌&&◌, List, [], ◌∷◌, ◌++◌, length, nat_eq, nat_lt, Option, Some, None, Result, Ok, Err}
+use Rattle.std.proofs.Common.{◌≡◌, ◌≢◌, ◌⊎◌, inl, inr, ℕ, ◌-◌, ◌≤◌, sym, ap, subst, ◌∙◌, refl, Bool, true}
+use Rattle.std.proofs.Common.{false}
+use Rattle.std.proofs.Common.{cond, ◌&&◌, List, [], ◌∷◌, ◌++◌, length, nat_eq, nat_lt, Option, Some, None}
+use Rattle.std.proofs.Common.{Result, Ok, Err}
 use Rattle.std.proofs.Common.{arith}
 use Rattle.std.specs.Option.{option_map}
 use Rattle.limits.specs.declared.TheConstants.{HANDLE_BYTES}
@@ -18,7 +20,8 @@ use Rattle.model.specs.Node.{Node}
 use Rattle.model.specs.Sound.{IsMadeBy}
 use Rattle.model.specs.Tree.{Tree, node_at, with_node}
 use Rattle.procedures.proofs.Tests.{equal}
-use Rattle.procedures.proofs.Deeds.{Deed, leaves, links, makes, named_is, removes, renames, sets, what_is_done, writes}
+use Rattle.procedures.proofs.Deeds.{Deed, leaves, links, makes, named_is, removes, renames, sets}
+use Rattle.procedures.proofs.Deeds.{what_is_done, writes}
 use Rattle.procedures.proofs.Lacking.{equal_or_not, gone_change, put_change}
 use Rattle.procedures.specs.Changes.{changed_at, departed, is_last_name, with_file, without_name}
 use Rattle.procedures.specs.Changes.{without_node}
@@ -36,7 +39,8 @@ pub record Found (tree : Tree) (handle : List ℕ) (found : ℕ × Node) : Type 
   pub there : node_at tree found.0 ≡ Some found.1
   pub stamp : same_stamp (stamp_in handle) found.1.stamp ≡ true
 
-chosen : (b : Bool) (x found : ℕ × Node) (e : Status) → cond b (Ok x) (Err e) ≡ Ok found → (b ≡ true) × (x ≡ found)
+chosen : (b : Bool) (x found : ℕ × Node) (e : Status) → cond b (Ok x) (Err e) ≡ Ok found
+    → (b ≡ true) × (x ≡ found)
 chosen true x found e is = (refl, cc)
 chosen false x found e is = cc
 
@@ -46,7 +50,8 @@ found_by : (tree : Tree) (handle : List ℕ) (found : ℕ × Node) (at : Option 
     → Found tree handle found
 found_by tree handle found None lawful there is = cc
 found_by tree handle found (Some node) lawful there is =
-    let parts = chosen (same_stamp (stamp_in handle) node.stamp) (number_in handle, node) found status.Stale is in
+    let parts = chosen (same_stamp (stamp_in handle) node.stamp)
+    (number_in handle, node) found status.Stale is in
     let number : number_in handle ≡ found.0 = ap (λ f. f.0) parts.1 in
     let node_is : node ≡ found.1 = ap (λ f. f.1) parts.1 in
     record {
@@ -140,7 +145,8 @@ module _ (mine : Stamp) (tree : Tree) where
       }
 
   changes_by : (middle : Tree) (number : ℕ) (change : Node → Node) (at : Option Node)
-      → node_at middle number ≡ at → Follows tree middle mine → ((node : Node) → (change node).stamp ≡ node.stamp)
+      → node_at middle number ≡ at → Follows tree middle mine → ((node : Node)
+      → (change node).stamp ≡ node.stamp)
       → Follows tree (with_file middle number (option_map change at)) mine
   changes_by middle number change None is before keeps = before
   changes_by middle number change (Some node) is before keeps =
@@ -183,7 +189,8 @@ module _ (tree next : Tree) (ctx : Ctx) (fits : Type 0) where
       (puts (stamp_of ctx) tree tree d.number _ (stays (stamp_of ctx) tree) (inl (d.node, d.stands, refl)))
   deed_follows (writes d) =
       subst (λ t. Follows tree t (stamp_of ctx)) (sym d.leads)
-      (puts (stamp_of ctx) tree tree d.number (written ctx.moment d.offset d.text d.node) (stays (stamp_of ctx) tree)
+      (puts (stamp_of ctx) tree tree d.number (written ctx.moment d.offset d.text d.node) (stays
+      (stamp_of ctx) tree)
       (inl (
         d.node,
         d.stands,
@@ -213,7 +220,8 @@ module _ (tree next : Tree) (ctx : Ctx) (fits : Type 0) where
       (changes (stamp_of ctx) tree _ d.target.number _
       (unnames (stamp_of ctx) tree _ ctx.moment d.target.number d.target.name (file_in tree d.target)
       (changes (stamp_of ctx) tree tree d.source.number _ (stays (stamp_of ctx) tree) (λ node. refl))
-      (λ file is. (named_is tree d.target.directory d.target.name file is).stands)) (λ node. refl)) (λ node. refl))
+      (λ file is. (named_is tree d.target.directory d.target.name file is).stands)) (λ node. refl))
+      (λ node. refl))
 
 -- A step gives no other stamp than that of its context.
 pub step_follows : (tree next : Tree) (ctx : Ctx) (asked : Call) (given : Reply)
@@ -296,7 +304,8 @@ outcome_stale number stamp (Some node) never = by (same_stamp stamp node.stamp) 
     by true file never = absurd (never file refl)
     by false file never = refl
 
-lawful_by : (b : Bool) (r : Result (ℕ × Node) Status) → cond b r (Err status.BadHandle) ≡ Err status.Stale → b ≡ true
+lawful_by : (b : Bool) (r : Result (ℕ × Node) Status) → cond b r (Err status.BadHandle) ≡ Err status.Stale
+    → b ≡ true
 lawful_by true r is = refl
 lawful_by false r is = cc
 
@@ -307,12 +316,15 @@ stale_too : (tree next : Tree) (handle : List ℕ) → next.geometry ≡ tree.ge
 stale_too tree next handle same stale never =
     let lawful = lawful_by _ _ stale in
     let here : (nat_eq (length handle) HANDLE_BYTES && is_number next (number_in handle)) ≡ true =
-    ap (λ g. nat_eq (length handle) HANDLE_BYTES && (nat_lt 0 (number_in handle) && nat_lt (number_in handle) g.inodes))
+    ap (λ g. nat_eq (length handle) HANDLE_BYTES && (nat_lt 0 (number_in handle) && nat_lt
+    (number_in handle) g.inodes))
     same ∙ lawful in
-    let is : find_file next handle ≡ stamped (number_in handle) (stamp_in handle) (node_at next (number_in handle)) =
+    let is : find_file next handle ≡ stamped (number_in handle) (stamp_in handle) (node_at next
+    (number_in handle)) =
     ap (λ b. cond b (stamped (number_in handle) (stamp_in handle) (node_at next (number_in handle)))
     (Err status.BadHandle)) here in
-    is ∙ outcome_stale (number_in handle) (stamp_in handle) (node_at next (number_in handle)) (λ found found_there. never found (is ∙ found_there))
+    is ∙ outcome_stale (number_in handle) (stamp_in handle) (node_at next (number_in handle))
+    (λ found found_there. never found (is ∙ found_there))
 
 step_stale : (tree next : Tree) (ctx : Ctx) (asked : Call) (given : Reply) (handle : List ℕ)
     → find_file tree handle ≡ Err status.Stale → IsEarlier (stamp_in handle) (stamp_of ctx)
@@ -336,7 +348,8 @@ step_stale tree next ctx asked given handle stale before step =
     ])
 
 pub history_stale : (tree next : Tree) (entries : List Entry) (handle : List ℕ)
-    → find_file tree handle ≡ Err status.Stale → Rising (stamp_in handle) entries → whole_after tree entries next
+    → find_file tree handle ≡ Err status.Stale → Rising (stamp_in handle) entries
+    → whole_after tree entries next
     → find_file next handle ≡ Err status.Stale
 history_stale tree next [] handle stale rises same = ap (λ t. find_file t handle) same ∙ stale
 history_stale tree next (entry ∷ entries) handle stale rises leads =

@@ -1,5 +1,6 @@
 -- A directory that isn't among as many ancestors of another as there are numbers is none of its ancestors.
-use Rattle.std.proofs.Common.{◌≡◌, ◌≢◌, ◌⊎◌, inl, inr, ℕ, zero, suc, ◌+◌, ◌-◌, ◌<◌, ◌≤◌, sym, ap, ◌∙◌, refl, Bool, cond}
+use Rattle.std.proofs.Common.{◌≡◌, ◌≢◌, ◌⊎◌, inl, inr, ℕ, zero, suc, ◌+◌, ◌-◌, ◌<◌, ◌≤◌, sym, ap, ◌∙◌, refl}
+use Rattle.std.proofs.Common.{Bool, cond}
 use Rattle.std.proofs.Common.{true, false, nat_eq, Option, Some, None, get_or, arith}
 use Rattle.std.proofs.lemmas.Bool.{cases_lt}
 use Rattle.std.proofs.lemmas.Bool.Decides.{nat_tests}
@@ -93,7 +94,8 @@ module _ (tree : Tree) (good : Sound tree) where
         let long = length-range_with_len 0 all in
         let at = get_or-range_with_len 0 all steps 0 below in
         let here : get_or (range_with_len 0 all) steps 0 ≡ steps = omega (arith, at) in
-        let yes = list_any_at (λ s. nat_eq (above s) file) (range_with_len 0 all) steps 0 (omega (arith, long, below))
+        let yes = list_any_at (λ s. nat_eq (above s) file) (range_with_len 0 all) steps 0 (omega
+        (arith, long, below))
         (ap (λ s. nat_eq (above s) file) here ∙ is_equal (above steps) file same) in
         let never : true ≡ false = sym yes ∙ outside in cc
 
@@ -139,12 +141,14 @@ module _ (tree : Tree) (good : Sound tree) where
               let positive = b.positive in
               let small = b.small in
               omega (arith, positive, small) in
-              let apart : (i j : ℕ) → i < j → j < all → above i - 1 ≡ above j - 1 → ⊥ = λ i j before inside same.
+              let apart : (i j : ℕ) → i < j → j < all → above i - 1 ≡ above j - 1 → ⊥ =
+              λ i j before inside same.
               let a = (between i steps (omega (arith, before, inside, far)) there).positive in
               let b = (between j steps (omega (arith, inside, far)) there).positive in
               never bound (steps - (j - i)) (omega (arith, below, before, inside, far))
               (shorter i j steps before (omega (arith, inside, far)) (omega (arith, same, a, b)) ∙ there) in
-              let one : (i j : ℕ) → i < all → j < all → above i - 1 ≡ above j - 1 → i ≡ j = λ i j i_in j_in same.
+              let one : (i j : ℕ) → i < all → j < all → above i - 1 ≡ above j - 1 → i ≡ j =
+              λ i j i_in j_in same.
               elim (cases_lt i j) [
                 | inl before ↦ absurd (apart i j before j_in same)
                 | inr not_before ↦ elim (cases_lt j i) [

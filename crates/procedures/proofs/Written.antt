@@ -1,12 +1,15 @@
 -- What a WRITE that is answered OK leaves, what a READ behind it gives, and what both take of the blocks.
-use Rattle.std.proofs.Common.{◌≡◌, ℕ, ◌+◌, ◌-◌, ◌<◌, ◌≤◌, min, ◌⊎◌, inl, inr, not, nat_lt, sym, ap, subst, ◌∙◌, refl, Bool, true, false}
-use Rattle.std.proofs.Common.{cond, ◌||◌, List, [], ◌∷◌, length, get_or, drop, nat_eq, nat_le, Option, Some, None}
+use Rattle.std.proofs.Common.{◌≡◌, ℕ, ◌+◌, ◌-◌, ◌<◌, ◌≤◌, min, ◌⊎◌, inl, inr, not, nat_lt, sym, ap, subst}
+use Rattle.std.proofs.Common.{◌∙◌, refl, Bool, true, false}
+use Rattle.std.proofs.Common.{cond, ◌||◌, List, [], ◌∷◌, length, get_or, drop, nat_eq, nat_le, Option, Some}
+use Rattle.std.proofs.Common.{None}
 use Rattle.std.proofs.Common.{Result, Ok, Err, arith, rules}
 use Rattle.std.proofs.lemmas.Bool.Decides.{nat_tests}
 use Rattle.std.proofs.lemmas.List.{ext_get_or, get_or-drop, get_or-take, length-drop, length-take}
 use Rattle.std.specs.Cmp.{nat_cmp_total}
 use Rattle.std.specs.FinMap.{nat_cmp-IsAntisymmetric}
-use Rattle.std.specs.FinSet.{FinSet, contains, contains-insert, contains-items, insert, items, len, len-insert}
+use Rattle.std.specs.FinSet.{FinSet, contains, contains-insert, contains-items, insert, items, len}
+use Rattle.std.specs.FinSet.{len-insert}
 use Rattle.std.specs.Ordering.{eq_by_cmp, nat_cmp}
 use Rattle.limits.specs.declared.TheConstants.{DIRECT_INDEXES, TRANSFER_BYTES}
 use Rattle.nfs_types.specs.declared.attributes.Attributes.{Attributes}
@@ -35,7 +38,8 @@ use Rattle.procedures.specs.Changes.{if_room, lacks_room}
 use Rattle.procedures.specs.FirstTests.{found_then, unless}
 use Rattle.procedures.specs.Read.{ReadStep, bytes_of, piece, read, read_bytes, read_refusal}
 use Rattle.procedures.specs.Told.{Acts, Effect, answer_of, tree_after}
-use Rattle.procedures.specs.Write.{WriteStep, is_wrong_count, mapped_with, overwritten, touched, with_text, write, write_refusal}
+use Rattle.procedures.specs.Write.{WriteStep, is_wrong_count, mapped_with, overwritten, touched, with_text}
+use Rattle.procedures.specs.Write.{write, write_refusal}
 use Rattle.procedures.specs.Write.{written, written_reply}
 
 -- Answers that aren't refusals.
@@ -144,7 +148,8 @@ pub read_gives : (tree next : Tree) (ctx : Ctx) (handle : List ℕ) (offset coun
 read_gives tree next ctx handle offset count answer told file is s =
     let given = told_by (find_file tree handle) (read ctx.credential offset count) answer file is s.answered in
     let bytes = bytes_of file.1.body in
-    let whole = unless_ok (read_refusal ctx.credential file.1) (Ok (read_bytes offset bytes (piece offset count bytes)))
+    let whole = unless_ok (read_refusal ctx.credential file.1) (Ok (read_bytes offset bytes
+    (piece offset count bytes)))
     answer (sym given) in
     let same : read_bytes offset bytes (piece offset count bytes) ≡ answer = let one = whole.1 in cc in
     ap (λ r. r.bytes) (sym same)
@@ -183,7 +188,8 @@ piece_written offset text bytes short =
     let taken = length-take (min (length text) TRANSFER_BYTES) (drop offset all) in
     let left = length-drop offset all in
     let whole = length_overwritten offset text bytes in
-    let long : length (piece offset (length text) all) ≡ length text = omega (arith, taken, left, whole, short) in
+    let long : length (piece offset (length text) all) ≡ length text =
+    omega (arith, taken, left, whole, short) in
     ext_get_or 0 (piece offset (length text) all) text long (λ index inside.
     let here : offset + index - offset ≡ index = omega arith in
     item_of offset (length text) index all inside
@@ -218,11 +224,13 @@ pub text_is_read : (tree middle last : Tree) (ctx later : Ctx) (handle : List �
     (stability : Stability) (text : List ℕ) (answer : Written) (given : ReadBytes) (told : WeakCacheData)
     (tells : Option Attributes) → WriteStep tree ctx handle offset count stability text (Ok answer) told middle
     → ReadStep middle later handle offset (length text) (Ok given) tells last → given.bytes ≡ text
-text_is_read tree middle last ctx later handle offset count stability text answer given told tells write_is read_is =
+text_is_read tree middle last ctx later handle offset count stability text answer given told tells write_is
+    read_is =
     let done = wrote tree middle ctx handle offset count stability text answer told write_is in
     let node = done.found.1 in
     read_gives middle last later handle offset (length text) given tells
-    (done.found.0, written ctx.moment offset text node) (found_again tree middle ctx handle offset text done) read_is
+    (done.found.0, written ctx.moment offset text node) (found_again tree middle ctx handle offset text
+    done) read_is
     ∙ text_by (nat_eq (length text) 0) offset text node (record node {
       mtime = ctx.moment;
       ctime = ctx.moment;
@@ -243,11 +251,13 @@ beside_by false offset at text node new some (inr behind) is =
 pub rest_is_read : (tree middle last : Tree) (ctx later : Ctx) (handle : List ℕ)
     (offset count at asked index : ℕ) (stability : Stability) (text : List ℕ) (answer : Written)
     (given : ReadBytes) (told : WeakCacheData) (tells : Option Attributes) (file : ℕ × Node)
-    → find_file tree handle ≡ Ok file → WriteStep tree ctx handle offset count stability text (Ok answer) told middle
+    → find_file tree handle ≡ Ok file → WriteStep tree ctx handle offset count stability text
+    (Ok answer) told middle
     → ReadStep middle later handle at asked (Ok given) tells last → index < length given.bytes
     → (at + index < offset) ⊎ (offset + length text ≤ at + index)
     → get_or given.bytes index 0 ≡ get_or (bytes_of file.1.body) (at + index) 0
-rest_is_read tree middle last ctx later handle offset count at asked index stability text answer given told tells
+rest_is_read tree middle last ctx later handle offset count at asked index stability text answer given told
+    tells
     file file_is write_is read_is inside where_it_is =
     let done = wrote tree middle ctx handle offset count stability text answer told write_is in
     let node = done.found.1 in
@@ -294,7 +304,8 @@ one_more_index mapped index =
       more_by _ _ (any_more (λ i. nat_le DIRECT_INDEXES i) (items mapped) (items (insert mapped index)) more),
     )
 
-more_indexes : (indexes : List ℕ) (mapped : FinSet nat_cmp) → file_cost mapped ≤ file_cost (mapped_with indexes mapped)
+more_indexes : (indexes : List ℕ) (mapped : FinSet nat_cmp)
+    → file_cost mapped ≤ file_cost (mapped_with indexes mapped)
 more_indexes [] mapped = omega arith
 more_indexes (index ∷ indexes) mapped =
     let one = one_more_index mapped index in
@@ -306,7 +317,8 @@ costs_more offset text (Regular bytes mapped) = more_indexes (touched offset (le
 costs_more offset text (Directory named span parent) = omega arith
 costs_more offset text (Link target) = omega arith
 
-written_costs : (b : Bool) (node new : Node) → cost node.body ≤ cost new.body → cost node.body ≤ cost (cond b node new).body
+written_costs : (b : Bool) (node new : Node) → cost node.body ≤ cost new.body
+    → cost node.body ≤ cost (cond b node new).body
 written_costs true node new more = omega arith
 written_costs false node new more = more
 
@@ -325,7 +337,8 @@ write_takes tree next ctx handle offset text done =
       ctime = ctx.moment;
       body = with_text offset text node.body;
     }) (costs_more offset text node.body) in
-    let taken : used (with_node tree done.found.0 new) ≡ used tree + need tree (with_node tree done.found.0 new) =
+    let taken : used (with_node tree done.found.0 new) ≡ used tree + need tree
+    (with_node tree done.found.0 new) =
     omega (arith, sum, needs, more) in
     subst (λ t. used t ≡ used tree + need tree t) (sym done.leads) taken
 
