@@ -1,10 +1,11 @@
 pub mod Adding
 pub mod Answer
 pub mod Deeds
+pub mod Doing
 pub mod Entering
 pub mod Failures
-pub mod Lacking
 pub mod Keeping
+pub mod Lacking
 pub mod Naming
 pub mod Numbers
 pub mod Overwriting

@@ -12,7 +12,8 @@ use Rattle.model.specs.Node.{Node, Body, Regular, Directory, Link}
 use Rattle.model.specs.Sound.{Sound, SoundCtx}
 use Rattle.model.specs.Tree.{Tree, node_at}
 use Rattle.procedures.proofs.Tests.{yes_or_no}
-use Rattle.procedures.proofs.Deeds.{Deed, leaves, links, makes, removes, renames, sets, what_is_done, writes}
+use Rattle.procedures.proofs.Doing.{what_is_done}
+use Rattle.procedures.proofs.Deeds.{Deed, leaves, links, makes, removes, renames, sets, writes}
 use Rattle.procedures.proofs.Renaming.{rename_sound}
 use Rattle.procedures.proofs.Soundness.{link_sound, make_sound, remove_sound, set_sound, write_sound}
 use Rattle.procedures.proofs.Within.{along, zero_stays}

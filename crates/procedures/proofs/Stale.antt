@@ -20,8 +20,9 @@ use Rattle.model.specs.Node.{Node}
 use Rattle.model.specs.Sound.{IsMadeBy}
 use Rattle.model.specs.Tree.{Tree, node_at, with_node}
 use Rattle.procedures.proofs.Tests.{equal}
+use Rattle.procedures.proofs.Doing.{what_is_done}
 use Rattle.procedures.proofs.Deeds.{Deed, leaves, links, makes, named_is, removes, renames, sets}
-use Rattle.procedures.proofs.Deeds.{what_is_done, writes}
+use Rattle.procedures.proofs.Deeds.{writes}
 use Rattle.procedures.proofs.Lacking.{equal_or_not, gone_change, put_change}
 use Rattle.procedures.specs.Changes.{changed_at, departed, is_last_name, with_file, without_name}
 use Rattle.procedures.specs.Changes.{without_node}
