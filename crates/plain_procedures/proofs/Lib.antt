@@ -1,4 +1,3 @@
-pub mod Entries
 pub mod Listed
 pub mod Tell
 pub mod Touched

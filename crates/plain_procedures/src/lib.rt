@@ -3,7 +3,9 @@
 //! step that `procedures` defines.
 #![tactic(auto)]
 
+mod changes;
 mod committing;
+mod effects;
 mod file_system;
 mod finding;
 mod looking;
@@ -15,8 +17,9 @@ mod targets;
 mod writing;
 
 pub use committing::commit;
+pub use effects::{Changed, PlainEffect};
 pub use file_system::{file_system_info, path_limits};
-pub use finding::{Changed, Told, found};
+pub use finding::{Told, found};
 pub use looking::look_up;
 pub use reading::read;
 pub use rights::access;

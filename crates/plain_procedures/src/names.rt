@@ -1,13 +1,12 @@
 //! Names in directories, and the tests on them (RFC 1813, section 3.2).
-ghost use Rattle.std.specs.Prelude.{◌≡◌, ◌||◌, IfSome, IfNone, nat_eq, position, Some, None};
-ghost use Rattle.std.specs.Cmp.Lexicographic.{slice_cmp};
+ghost use Rattle.std.specs.Prelude.{◌≡◌, ◌||◌, IfSome, IfNone, nat_eq, Some, None};
 ghost use Rattle.std.specs.List.{list_all, list_any};
-ghost use Rattle.std.specs.Ordering.{eq_by_cmp, nat_cmp};
 ghost use Rattle.model.specs.SetAttr.{first_of_tests};
 ghost use Rattle.model.specs.Sound.{DOT, SLASH};
 ghost use Rattle.procedures.specs.FirstTests.{is_no_name, may_search, place_tests};
 ghost use Rattle.procedures.specs.Places.{entry_at, file_at, is_dots, named_file};
-ghost use Rattle.plain_server.specs.Plain.{body_of, entry_of, node_of, numbered, tree_of};
+ghost use Rattle.plain_server.specs.Named.{place_of};
+ghost use Rattle.plain_server.specs.Plain.{body_of, node_of, numbered, tree_of};
 
 use limits::{EXECUTE_RIGHT, NAME_BYTES};
 use nfs_types::{Credential, Status};
@@ -69,33 +68,16 @@ pub(crate) fn file_at(tree: &PlainTree, number: u32) -> Option<&NumberedNode>
     Some(&tree.nodes[index])
 }
 
-// Whether two names are one.
-fn same_name(one: &[u8], other: &[u8]) -> bool
-    ensures { result ≡ eq_by_cmp (slice_cmp nat_cmp) one.now other.now }
-{
-    one.cmp(other).is_eq()
-}
-
-// Where the first entry of a name stands.
-fn position_of_name(entries: &[PlainEntry], name: &[u8]) -> Option<usize>
-    ensures { result ≡ position (λ entry. eq_by_cmp (slice_cmp nat_cmp) name.now entry.name) entries.now }
-{
-    entries
-        .iter()
-        .position(|entry| same_name(name, entry.name.as_slice()))
-}
-
 /// What a name in a directory leads to.
 pub(crate) fn entry_at<'t>(body: &'t PlainBody, name: &[u8]) -> Option<&'t PlainEntry>
     ensures some { IfSome result (λ entry. entry_at (body_of body.now) name.now ≡ Some
-        (entry_of entry.now).1) }
+        (place_of entry.now)) }
     ensures none { IfNone result (entry_at (body_of body.now) name.now ≡ None) }
 {
     let PlainBody::Directory { entries, .. } = body else {
         return None;
     };
-    let index = position_of_name(entries, name)?;
-    Some(&entries[index])
+    entries.get(name)
 }
 
 /// The file that a name in a directory leads to.

@@ -4,6 +4,7 @@
 
 mod attributes;
 mod mapped;
+mod names;
 mod node;
 mod permissions;
 mod refusal;
@@ -11,7 +12,8 @@ mod server;
 mod tree;
 
 pub use mapped::MappedIndexes;
-pub use node::{PlainBody, PlainEntry, PlainNode};
+pub use names::{PlainEntry, PlainNames};
+pub use node::{PlainBody, PlainNode};
 pub use permissions::{
     acts_as_owner, class_of, has_right, has_write, is_own_group, is_superuser, may_write_file,
 };

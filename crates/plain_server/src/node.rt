@@ -4,29 +4,21 @@ ghost use Rattle.model.specs.Attributes.{attributes_of, before_change, kind_of, 
 ghost use Rattle.model.specs.Cost.{cost};
 ghost use Rattle.plain_server.specs.Plain.{body_of, node_of};
 
-use crate::MappedIndexes;
+use crate::{MappedIndexes, PlainNames};
 use limits::{BLOCK_BYTES, DIRECT_INDEXES, FILE_SYSTEM};
 use nfs_types::{
     Attributes, DeviceNumber, FileKind, Moment, Octets, Stamp, Verifier, WeakCacheAttributes,
 };
 
-/// A name in a directory, with the file that it leads to and the slot in which it lies.
-#[derive(Drop)]
-pub struct PlainEntry {
-    pub name: Octets,
-    pub number: u32,
-    pub slot: u32,
-}
-
 /// What is in a file.
-#[derive(Drop)]
+#[derive(Clone, Drop)]
 pub enum PlainBody {
     Regular {
         bytes: Vec<u8>,
         mapped: MappedIndexes,
     },
     Directory {
-        entries: Vec<PlainEntry>,
+        entries: PlainNames,
         span: u32,
         parent: u32,
     },
@@ -36,7 +28,7 @@ pub enum PlainBody {
 }
 
 /// A file with its attributes.
-#[derive(Drop)]
+#[derive(Clone, Drop)]
 pub struct PlainNode {
     pub mode: u32,
     pub uid: u32,

@@ -5,20 +5,20 @@ ghost use Rattle.model.specs.Find.{find_file};
 ghost use Rattle.model.specs.Format.{format_tree};
 ghost use Rattle.plain_server.specs.Plain.{Locates, tree_of};
 
-use crate::{PlainBody, PlainNode};
+use crate::{PlainBody, PlainNames, PlainNode};
 use limits::{ROOT, ROOT_MODE};
 use nfs_types::{Handle, Moment, Stamp, Status};
 use std::alloc::{AllocError, Global};
 
 /// A file and its number.
-#[derive(Drop)]
+#[derive(Clone, Drop)]
 pub struct NumberedNode {
     pub number: u32,
     pub node: PlainNode,
 }
 
 /// The files of a server, in any order.
-#[derive(Drop)]
+#[derive(Clone, Drop)]
 pub struct PlainTree {
     pub data_blocks: u32,
     pub inodes: u32,
@@ -50,7 +50,7 @@ impl PlainTree {
             },
             verifier: None,
             body: PlainBody::Directory {
-                entries: Vec::new(alloc),
+                entries: PlainNames::new(alloc),
                 span: 0,
                 parent: ROOT,
             },
