@@ -1,3 +1,4 @@
+pub mod OneChange
 pub mod Listed
 pub mod Tell
 pub mod Touched

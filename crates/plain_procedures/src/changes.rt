@@ -1,5 +1,5 @@
 //! Trees with one change more. Each function takes a tree and gives the changed one.
-ghost use Rattle.std.specs.Prelude.{◌≡◌, ◌+◌, ◌<◌, ◌≤◌, ◌^◌, IfOk, IfSome, OnOk};
+ghost use Rattle.std.specs.Prelude.{◌≡◌, ◌+◌, ◌<◌, ◌≤◌, IfOk, IfSome, OnOk, filter, nat_eq, not};
 ghost use Rattle.model.specs.Tree.{node_at, with_node};
 ghost use Rattle.limits.specs.declared.TheConstants.{MOST_LINKS};
 ghost use Rattle.procedures.specs.Changes.{changed_at, is_last_name, parent_links, unnamed, with_entry};
@@ -13,6 +13,22 @@ use nfs_types::{Moment, Octets};
 use plain_server::{NumberedNode, PlainBody, PlainNode, PlainTree};
 use std::alloc::{AllocError, Global};
 
+// Takes the files of a number away.
+fn retain_others(files: &mut Vec<NumberedNode>, number: u32)
+    ensures { files.new.items ≡ filter (λ file. not (nat_eq number file.number)) files.old.items }
+{
+    files.retain(|file| number != file.number);
+}
+
+/// The tree without the file of a number.
+pub(crate) fn without_node(tree: PlainTree, number: u32) -> PlainTree
+    ensures { tree_of result ≡ without_node (tree_of tree) number }
+{
+    let mut next = tree;
+    retain_others(&mut next.nodes, number);
+    next
+}
+
 /// The tree with this file under this number.
 pub(crate) fn with_node(
     tree: PlainTree,
@@ -21,21 +37,9 @@ pub(crate) fn with_node(
 ) -> Result<PlainTree, AllocError>
     ensures { IfOk result (λ next. tree_of next ≡ with_node (tree_of tree) number (node_of node)) }
 {
-    let mut next = tree;
-    match next.position_of(number) {
-        Some(index) => next.nodes[index].node = node,
-        None => next.nodes.push(NumberedNode { number, node })?,
-    }
+    let mut next = without_node(tree, number);
+    next.nodes.push(NumberedNode { number, node })?;
     Ok(next)
-}
-
-/// The tree without the file of a number.
-pub(crate) fn without_node(tree: PlainTree, number: u32) -> PlainTree
-    ensures { tree_of result ≡ without_node (tree_of tree) number }
-{
-    let mut next = tree;
-    next.nodes.retain(|file| number != file.number);
-    next
 }
 
 /// How many links of its directory a file is.
@@ -68,6 +72,14 @@ fn remove_entry(body: &mut PlainBody, name: &[u8])
     }
 }
 
+fn more_links(nlink: u32, links: u32) -> u32
+    requires few { links ≤ 1 }
+    requires room { links ≡ 1 → nlink < MOST_LINKS }
+    ensures { result ≡ nlink + links }
+{
+    nlink + links
+}
+
 // A directory that gets a name for a file that is so many links of it.
 fn entered(
     alloc: Global,
@@ -78,14 +90,15 @@ fn entered(
     slot: u32,
     links: u32,
 ) -> Result<PlainNode, AllocError>
-    requires { directory.now.nlink + links < 2 ^ 32 }
+    requires few { links ≤ 1 }
+    requires room { links ≡ 1 → directory.now.nlink < MOST_LINKS }
     ensures { IfOk result (λ node. node_of node ≡ entered_with moment name.now
         (record { number = number; slot = slot }) links (node_of directory.now)) }
 {
     let mut node = directory.clone()?;
     let name = Octets::copied(alloc, name)?;
     add_entry(&mut node.body, name, number, slot)?;
-    node.nlink += links;
+    node.nlink = more_links(directory.nlink, links);
     node.mtime = moment;
     node.ctime = moment;
     Ok(node)
@@ -152,10 +165,12 @@ pub(crate) fn with_departed(
 fn less_linked(node: &PlainNode, moment: Moment) -> Result<PlainNode, AllocError>
     ensures { IfOk result (λ less. node_of less ≡ less_linked moment (node_of node.now)) }
 {
-    let mut less = node.clone()?;
-    less.nlink = less.nlink.saturating_sub(1);
-    less.ctime = moment;
-    Ok(less)
+    let nlink = node.nlink.saturating_sub(1);
+    Ok(PlainNode {
+        nlink,
+        ctime: moment,
+        ..node.clone()?
+    })
 }
 
 fn is_last_name(node: &PlainNode) -> bool

@@ -9,9 +9,10 @@ use limits::{BLOCK_BYTES, DIRECT_INDEXES, FILE_SYSTEM};
 use nfs_types::{
     Attributes, DeviceNumber, FileKind, Moment, Octets, Stamp, Verifier, WeakCacheAttributes,
 };
+use std::alloc::AllocError;
 
 /// What is in a file.
-#[derive(Clone, Drop)]
+#[derive(Drop)]
 pub enum PlainBody {
     Regular {
         bytes: Vec<u8>,
@@ -28,7 +29,7 @@ pub enum PlainBody {
 }
 
 /// A file with its attributes.
-#[derive(Clone, Drop)]
+#[derive(Drop)]
 pub struct PlainNode {
     pub mode: u32,
     pub uid: u32,
@@ -40,6 +41,50 @@ pub struct PlainNode {
     pub stamp: Stamp,
     pub verifier: Option<Verifier>,
     pub body: PlainBody,
+}
+
+impl Clone for PlainBody {
+    ghost is_clone = { λ body copy. body_of copy ≡ body_of body };
+
+    fn clone(&self) -> Result<PlainBody, AllocError> {
+        match self {
+            PlainBody::Regular { bytes, mapped } => Ok(PlainBody::Regular {
+                bytes: bytes.clone()?,
+                mapped: mapped.clone()?,
+            }),
+            PlainBody::Directory {
+                entries,
+                span,
+                parent,
+            } => Ok(PlainBody::Directory {
+                entries: entries.clone()?,
+                span: *span,
+                parent: *parent,
+            }),
+            PlainBody::Link { target } => Ok(PlainBody::Link {
+                target: target.clone()?,
+            }),
+        }
+    }
+}
+
+impl Clone for PlainNode {
+    ghost is_clone = { λ node copy. node_of copy ≡ node_of node };
+
+    fn clone(&self) -> Result<PlainNode, AllocError> {
+        Ok(PlainNode {
+            mode: self.mode,
+            uid: self.uid,
+            gid: self.gid,
+            nlink: self.nlink,
+            atime: self.atime,
+            mtime: self.mtime,
+            ctime: self.ctime,
+            stamp: self.stamp,
+            verifier: self.verifier,
+            body: self.body.clone()?,
+        })
+    }
 }
 
 impl PlainBody {
