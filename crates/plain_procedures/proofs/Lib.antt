@@ -1,3 +1,4 @@
+pub mod Acted
 pub mod OneChange
 pub mod Listed
 pub mod Tell

@@ -1,3 +1,4 @@
 pub mod Effects
 pub mod Listed
+pub mod Tests
 pub mod Writing
