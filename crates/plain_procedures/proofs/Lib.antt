@@ -1,6 +1,7 @@
 pub mod Acted
-pub mod OneChange
 pub mod Listed
+pub mod OneChange
+pub mod Ranges
 pub mod Tell
 pub mod Touched
 pub mod Writes

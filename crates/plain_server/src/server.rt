@@ -9,7 +9,7 @@ ghost use Rattle.plain_server.specs.Plain.{tree_of};
 
 use crate::PlainTree;
 use crate::attributes::set_attributes;
-use crate::refusal::refusal;
+use crate::refusals::refusal;
 use nfs_types::{
     Attributes, Call, Ctx, Handle, Moment, NewAttributes, Reply, Status, WeakCacheData,
 };
