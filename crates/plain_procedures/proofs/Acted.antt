@@ -9,7 +9,7 @@ use Rattle.model.specs.Find.{find_file}
 use Rattle.model.specs.Node.{Node}
 use Rattle.model.specs.SetAttr.{first_of_tests}
 use Rattle.model.specs.Tree.{Tree}
-use Rattle.procedures.specs.FirstTests.{found_then}
+use Rattle.procedures.specs.FirstTests.{found_then, unless}
 use Rattle.procedures.specs.Told.{Acts, Effect, answer_of, change_told, tree_after}
 use Rattle.plain_procedures.specs.Effects.{told_since}
 use Rattle.plain_procedures.specs.Tests.{first_of}
@@ -40,3 +40,11 @@ pub joined : (tests other : List (Bool × Status))
     → first_of_tests (tests ++ other) ≡ first_of (first_of_tests tests) (first_of_tests other)
 joined [] other = refl
 joined (test ∷ tests) other = joined_one test.0 test.1 tests other (joined tests other)
+
+pub unless_some : {A : Type 0} (test : Option Status) (status : Status) (answer : Result A Status)
+    → test ≡ Some status → Err status ≡ unless test answer
+unless_some test status answer is = ap (λ t. unless t answer) (sym is)
+
+pub unless_none : {A : Type 0} (test : Option Status) (answer : Result A Status) → test ≡ None
+    → answer ≡ unless test answer
+unless_none test answer is = ap (λ t. unless t answer) (sym is)

@@ -1,4 +1,5 @@
 pub mod Acted
+pub mod Linked
 pub mod Listed
 pub mod OneChange
 pub mod Ranges

@@ -103,24 +103,24 @@ fn add_made(
     tree: &PlainTree,
     ctx: &Ctx,
     at: u32,
-    directory: &PlainBody,
     name: &[u8],
     node: PlainNode,
+    number: Option<u32>,
+    slot: Option<u32>,
 ) -> Result<Result<PlainEffect<Created>, Status>, AllocError>
     requires { parent_links (body_of node.body) ≡ 1
         → IfSome (node_at (tree_of tree.now) at) (λ d. d.nlink < MOST_LINKS) }
-    ensures { IfOk result (λ r. effect_in r ≡ if_entry (tree_of tree.now)
-        (new_entry (least_unused (tree_of tree.now)) (least_free_slot (body_of directory.now)))
+    ensures { IfOk result (λ r. effect_in r ≡ if_entry (tree_of tree.now) (new_entry number slot)
         (with_new (tree_of tree.now) ctx.now at name.now (node_of node))) }
 {
-    match (least_unused(tree), least_free_slot(directory)) {
-        (Some(number), Some(slot)) => {
-            let effect = with_new(alloc, tree, ctx, at, name, node, number, slot)?;
-            Ok(if_room(tree, effect))
-        }
-        (None, _) => Ok(Err(Status::NoSpc)),
-        (Some(_), None) => Ok(Err(Status::NoSpc)),
-    }
+    let Some(number) = number else {
+        return Ok(Err(Status::NoSpc));
+    };
+    let Some(slot) = slot else {
+        return Ok(Err(Status::NoSpc));
+    };
+    let effect = with_new(alloc, tree, ctx, at, name, node, number, slot)?;
+    Ok(if_room(tree, effect))
 }
 
 /// A new file, where its attributes may be set so, and there are a number, a slot and the blocks for it.
@@ -144,7 +144,9 @@ pub(crate) fn make(
         None => {
             let mut made = node;
             set_attributes(&mut made, &ctx.moment, wanted)?;
-            Ok(add_made(alloc, tree, ctx, at, &directory.body, name, made)?)
+            let number = least_unused(tree);
+            let slot = least_free_slot(&directory.body);
+            Ok(add_made(alloc, tree, ctx, at, name, made, number, slot)?)
         }
     }
 }
