@@ -1,4 +1,5 @@
 pub mod Acted
+pub mod LinkSteps
 pub mod Linked
 pub mod Listed
 pub mod OneChange

@@ -23,8 +23,8 @@ pub struct Changed<A> {
     pub file: WeakCacheData,
 }
 
-// The attributes of the file of a number, if there is one.
-fn attributes_at(tree: &PlainTree, number: u32) -> Option<Attributes>
+/// The attributes of the file of a number, if there is one.
+pub(crate) fn attributes_at(tree: &PlainTree, number: u32) -> Option<Attributes>
     ensures { result ≡ attributes_at (tree_of tree.now) number }
 {
     match file_at(tree, number) {
