@@ -1,3 +1,4 @@
+pub mod Computed
 pub mod Effects
 pub mod Listed
 pub mod Tests

@@ -3,6 +3,7 @@
 //! step that `procedures` defines.
 #![tactic(auto)]
 
+mod answering;
 mod changes;
 mod committing;
 mod creating;
@@ -26,6 +27,7 @@ mod special;
 mod targets;
 mod writing;
 
+pub use answering::{answer, answer_changing, answer_reading};
 pub use committing::commit;
 pub use creating::create;
 pub use directories::make_directory;
