@@ -1,6 +1,5 @@
 //! The procedures of NFS version 3 computed in a plain, slow way over trees in memory. Each is proved to be
-//! the
-//! step that `procedures` defines.
+//! the step that `procedures` defines.
 #![tactic(auto)]
 
 mod answering;
