@@ -11,7 +11,7 @@ use Rattle.model.specs.Find.{find_file}
 use Rattle.model.specs.Node.{Node}
 use Rattle.model.specs.Tree.{Tree}
 use Rattle.procedures.specs.FirstTests.{after_first, found_then}
-use Rattle.procedures.specs.Link.{LinkStep, link, linking}
+use Rattle.procedures.specs.Link.{LinkStep, link}
 use Rattle.procedures.specs.Told.{Effect, answer_of, attributes_at, change_told, told_in, tree_after}
 use Rattle.std.specs.Option.{option_map}
 use Rattle.plain_procedures.specs.Effects.{told_since}

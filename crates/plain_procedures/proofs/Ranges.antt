@@ -1,10 +1,9 @@
 -- The first number of a range that passes a test.
 use Rattle.std.proofs.Common.{rules, ◌≡◌, ℕ, zero, suc, ◌+◌, ◌-◌, ◌<◌, ◌≤◌, sym, ap, ◌∙◌, refl, Bool, true, false}
-use Rattle.std.proofs.Common.{cond, not, ◌||◌, List, [], ◌∷◌, map, nat_eq, Option, Some, None, is_none, is_some, arith}
+use Rattle.std.proofs.Common.{cond, ◌||◌, List, [], ◌∷◌, map, nat_eq, Option, Some, None, is_none, is_some, arith}
 use Rattle.std.specs.List.{find, list_any, range_with_len}
-use Rattle.model.specs.Node.{DirectoryEntry}
 use Rattle.model.specs.Tree.{Tree, node_at}
-use Rattle.procedures.specs.Fresh.{IsNewNumber, IsUnused}
+use Rattle.procedures.specs.Fresh.{IsNewNumber}
 use Rattle.plain_server.specs.Named.{entry_of}
 use Rattle.plain_server.specs.declared.names.PlainEntry.{PlainEntry}
 use Rattle.plain_procedures.specs.Listed.{least_unused}

@@ -1,5 +1,5 @@
 -- What the plain structs of this crate stand for, and what a changed directory is.
-use Rattle.std.specs.Prelude.{ℕ, ◌+◌, ◌-◌, List, Option, Some, Result, Ok, Err}
+use Rattle.std.specs.Prelude.{ℕ, ◌+◌, ◌-◌, List, Some, Result, Ok, Err}
 use Rattle.nfs_types.specs.declared.attributes.WeakCacheAttributes.{WeakCacheAttributes}
 use Rattle.nfs_types.specs.declared.attributes.WeakCacheData.{WeakCacheData}
 use Rattle.nfs_types.specs.declared.ctx.Moment.{Moment}

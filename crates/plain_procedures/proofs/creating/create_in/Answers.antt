@@ -1,11 +1,11 @@
-use Rattle.std.proofs.Common.{ℕ, ◌≡◌, sym, ap, ◌∙◌, [], ◌∷◌, ◌++◌, List, Bool, Option}
+use Rattle.std.proofs.Common.{ℕ, sym, ap, ◌∙◌, [], ◌∷◌, List, Bool}
 use Rattle.nfs_types.specs.declared.status.Status.{Status}
 use Rattle.nfs_types.specs.declared.status.Status.TheVariants as status
 use Rattle.model.specs.SetAttr.{first_of_tests}
 use Rattle.procedures.specs.Create.{create_at}
 use Rattle.procedures.specs.FirstTests.{may_change, place_tests}
 use Rattle.procedures.specs.Places.{is_own_name}
-use Rattle.plain_server.specs.Plain.{node_of, numbered, tree_of}
+use Rattle.plain_server.specs.Plain.{node_of, tree_of}
 use Rattle.plain_procedures.specs.Listed.{least_unused}
 use Rattle.plain_procedures.specs.Tests.{first_of}
 use Rattle.plain_procedures.proofs.Acted.{joined, unless_none, unless_some}

@@ -1,11 +1,10 @@
-use Rattle.std.proofs.Common.{ℕ, sym, ap, ◌∙◌, [], ◌∷◌, ◌++◌, None}
-use Rattle.std.specs.FinMap as finmap
+use Rattle.std.proofs.Common.{sym, ap, ◌∙◌, [], ◌∷◌, ◌++◌, None}
 use Rattle.limits.specs.declared.TheConstants.{NEW_DIRECTORY_MODE}
 use Rattle.nfs_types.specs.declared.status.Status.TheVariants as status
 use Rattle.model.specs.Node.{Directory, Entries}
 use Rattle.model.specs.Tree.{node_at}
 use Rattle.procedures.specs.FirstTests.{may_change, place_tests}
-use Rattle.procedures.specs.Fresh.{fresh, make, without_size}
+use Rattle.procedures.specs.Fresh.{fresh, make}
 use Rattle.procedures.specs.MkDir.{is_full, is_there}
 use Rattle.plain_server.specs.Plain.{node_of, numbered, tree_of}
 use Rattle.plain_procedures.specs.Listed.{least_unused}

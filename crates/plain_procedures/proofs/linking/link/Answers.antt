@@ -1,9 +1,9 @@
-use Rattle.std.proofs.Common.{sym, ap, ◌∙◌}
+use Rattle.std.proofs.Common.{ap, ◌∙◌}
 use Rattle.model.proofs.Answered.{found-stands}
 use Rattle.procedures.specs.Link.{link}
 use Rattle.plain_server.specs.Plain.{numbered, tree_of}
 use Rattle.plain_procedures.specs.Effects.{effect_in}
-use Rattle.plain_procedures.proofs.LinkSteps.{links, names_no_directory, names_no_file}
+use Rattle.plain_procedures.proofs.LinkSteps.{links}
 use Rattle.plain_procedures.proofs.linking.link.Goals as goal
 
 pub link_in-requires : goal.link_in-requires

@@ -1,4 +1,4 @@
-use Rattle.std.proofs.Common.{ℕ, sym, ap, ◌∙◌, [], ◌∷◌, ◌++◌, Some}
+use Rattle.std.proofs.Common.{sym, ap, ◌∙◌, [], ◌∷◌, ◌++◌, Some}
 use Rattle.nfs_types.specs.declared.status.Status.TheVariants as status
 use Rattle.model.specs.Names.{is_directory}
 use Rattle.model.specs.Tree.{node_at}

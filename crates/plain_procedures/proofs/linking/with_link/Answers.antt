@@ -1,6 +1,6 @@
-use Rattle.std.proofs.Common.{◌≡◌, ℕ, sym, ap, ◌∙◌, arith}
+use Rattle.std.proofs.Common.{sym, ap, ◌∙◌, arith}
 use Rattle.model.specs.Node.{DirectoryEntry}
-use Rattle.procedures.specs.Changes.{changed_at, parent_links}
+use Rattle.procedures.specs.Changes.{changed_at}
 use Rattle.procedures.specs.Link.{linked}
 use Rattle.plain_server.specs.Plain.{numbered, tree_of}
 use Rattle.plain_procedures.proofs.Linked.{links_stay, no_links}

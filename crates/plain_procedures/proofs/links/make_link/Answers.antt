@@ -1,4 +1,4 @@
-use Rattle.std.proofs.Common.{ap, ◌∙◌}
+use Rattle.std.proofs.Common.{◌∙◌}
 use Rattle.procedures.specs.SymLink.{make_link}
 use Rattle.plain_server.specs.Plain.{numbered, tree_of}
 use Rattle.plain_procedures.specs.Effects.{effect_in}

@@ -1,9 +1,9 @@
-use Rattle.std.proofs.Common.{◌≡◌, ℕ, sym, ap, ◌∙◌, List, None, arith}
+use Rattle.std.proofs.Common.{◌≡◌, sym, ap, ◌∙◌, None, arith}
 use Rattle.limits.specs.declared.TheConstants.{NEW_LINK_MODE}
 use Rattle.model.specs.Node.{Link}
 use Rattle.procedures.specs.Changes.{parent_links}
 use Rattle.procedures.specs.Fresh.{fresh, make}
-use Rattle.plain_server.specs.Plain.{node_of, numbered, tree_of}
+use Rattle.plain_server.specs.Plain.{numbered, tree_of}
 use Rattle.plain_procedures.specs.Listed.{least_unused}
 use Rattle.plain_procedures.proofs.Acted.{unless_none, unless_some}
 use Rattle.plain_procedures.proofs.links.make_link_in.Goals as goal

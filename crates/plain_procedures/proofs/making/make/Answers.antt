@@ -1,7 +1,7 @@
 use Rattle.std.proofs.Common.{sym, ap, ◌∙◌}
 use Rattle.procedures.specs.Changes.{if_entry, parent_links}
 use Rattle.procedures.specs.Fresh.{new_entry, with_new}
-use Rattle.plain_server.specs.Plain.{body_of, node_of, tree_of}
+use Rattle.plain_server.specs.Plain.{body_of, tree_of}
 use Rattle.plain_procedures.proofs.Acted.{unless_none, unless_some}
 use Rattle.plain_procedures.proofs.Linked.{links_kept}
 use Rattle.plain_procedures.proofs.making.make.Goals as goal

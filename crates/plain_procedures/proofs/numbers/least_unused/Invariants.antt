@@ -1,4 +1,4 @@
-use Rattle.std.proofs.Common.{◌≡◌, ◌-◌, ◌≤◌, is_none}
+use Rattle.std.proofs.Common.{◌≡◌, ◌-◌, is_none}
 use Rattle.model.specs.Tree.{node_at}
 use Rattle.plain_server.specs.Plain.{tree_of}
 use Rattle.plain_procedures.proofs.Ranges.{first_in}
