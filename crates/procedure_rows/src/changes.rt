@@ -3,12 +3,12 @@
 
 use crate::tests::{NOTHING_WANTED, called_by, handle_of, tree};
 use nfs_types::{
-    CreateHow, Created, DirectoryName, Handle, NewAttributes, Octets, Stamp, Status, Verifier,
-    WeakCacheData,
+    Call, CreateHow, Created, DirectoryName, Handle, NewAttributes, Octets, Reply, Stamp, Status,
+    Verifier, WeakCacheData,
 };
 use plain_procedures::{
-    Changed, create, link, make_directory, make_link, make_special, read_link, remove,
-    remove_directory,
+    Changed, answer, create, least_unused, link, make_directory, make_link, make_special,
+    read_link, remove, remove_directory,
 };
 use plain_server::PlainTree;
 use std::alloc::{AllocError, Global};
@@ -428,6 +428,24 @@ fn a_directory_without_names_keeps_its_size(rt: HostRuntime) -> Result<(), Alloc
     let ctx = called_by(alloc, 0);
     let last = remove(&mut tree, &ctx, &in_root(alloc, b"a")?)?;
     assert_eq!(rt; sizes(&last.file), Some((8192, 8192)));
+    Ok(())
+}
+
+#[test]
+fn one_call_after_another(rt: HostRuntime) -> Result<(), AllocError> {
+    let alloc = rt.alloc();
+    let mut tree = tree(alloc, 64)?;
+    let ctx = called_by(alloc, 0);
+    let call = Call::MkDir {
+        name: in_root(alloc, b"d")?,
+        attributes: NOTHING_WANTED,
+    };
+    assert_eq!(rt; least_unused(&tree), Some(3));
+    let reply = answer(alloc, &mut tree, &ctx, &call)?;
+    assert!(rt; matches!(&reply, Some(Reply::MkDir { outcome: Ok(_), .. })));
+    assert_eq!(rt; least_unused(&tree), Some(4));
+    let none = answer(alloc, &mut tree, &ctx, &Call::Null)?;
+    assert!(rt; none.is_none());
     Ok(())
 }
 
