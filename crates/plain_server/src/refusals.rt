@@ -111,7 +111,7 @@ fn is_too_large(wanted: &NewAttributes) -> bool
 }
 
 /// The status of the first test that refuses the call, if one does.
-pub(crate) fn refusal(
+pub fn refusal(
     ctx: &Ctx,
     wanted: &NewAttributes,
     guard: &Option<Moment>,
