@@ -1,6 +1,6 @@
 //! Why bytes are no spelling of what was to be read.
 ghost use Rattle.std.specs.Prelude.{◌≡◌};
-ghost use Rattle.session_wire.specs.declared.xdr.fault.XdrFault.TheVariants.{NoMemory};
+ghost use Rattle.xdr.specs.declared.fault.XdrFault.TheVariants.{NoMemory};
 
 use std::alloc::{AllocError, AllocFailed};
 use thiserror::Error;

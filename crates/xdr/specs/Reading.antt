@@ -1,12 +1,12 @@
 -- Reading items from left to right, with the first refusal that is met (RFC 4506).
 use Rattle.std.specs.Prelude.{◌≡◌, ◌⊎◌, ℕ, zero, suc, ◌+◌, Bool, true, false, List, [], ◌∷◌, length, take}
-use Rattle.std.specs.Prelude.{drop, Result, Ok, Err, nat_lt, ◌==◌, if◌then◌else◌}
+use Rattle.std.specs.Prelude.{drop, Option, Some, None, Result, Ok, Err, nat_lt, ◌==◌, if◌then◌else◌}
 use Rattle.std.specs.Int.{Width, w32, byte_len, from_be_bytes}
 use Rattle.std.specs.List.{list_all}
-use Rattle.session_wire.specs.Items.{padding}
-use Rattle.session_wire.specs.declared.xdr.fault.XdrFault.{XdrFault}
-use Rattle.session_wire.specs.declared.xdr.fault.XdrFault.TheVariants.{Short, Padding, Value, Length, Left}
-use Rattle.session_wire.specs.declared.xdr.fault.XdrFault.TheVariants.{NoMemory}
+use Rattle.xdr.specs.Items.{padding}
+use Rattle.xdr.specs.declared.fault.XdrFault.{XdrFault}
+use Rattle.xdr.specs.declared.fault.XdrFault.TheVariants.{Short, Padding, Value, Length, Left}
+use Rattle.xdr.specs.declared.fault.XdrFault.TheVariants.{NoMemory}
 
 infixl 10 ◌>>=◌
 abbrev pub ◌>>=◌ : {A B : Type 0} → Result A XdrFault → (A → Result B XdrFault) → Result B XdrFault
@@ -52,6 +52,17 @@ opaque_at bound bytes = do
       if nat_lt (length n.1) (n.0 + padding n.0) then Err Short else
       if list_all (λ b. b == 0) (take (padding n.0) (drop n.0 n.1))
       then Ok (take n.0 n.1, drop (padding n.0) (drop n.0 n.1)) else Err Padding
+
+-- eight bytes as they stand there
+unfoldable pub eight_at : List ℕ → Result (List ℕ × List ℕ) XdrFault
+eight_at bytes = if nat_lt (length bytes) 8 then Err Short else Ok (take 8 bytes, drop 8 bytes)
+
+-- a flag, and the item where it is true
+abbrev pub optional_at : {A : Type 0} → (List ℕ → Result (A × List ℕ) XdrFault) → List ℕ
+    → Result (Option A × List ℕ) XdrFault
+optional_at item bytes = do
+  there ← flag_at bytes
+  if there.0 then (item there.1 >>= λ x. Ok (Some x.0, x.1)) else Ok (None, there.1)
 
 -- nothing, where nothing is left
 abbrev pub end_at : List ℕ → Result (Unit {0}) XdrFault

@@ -2,9 +2,9 @@
 ghost use Rattle.std.specs.Prelude.{◌≡◌, ◌==◌};
 ghost use Rattle.std.specs.List.{list_all};
 ghost use Rattle.std.specs.Int.{w32, w64};
-ghost use Rattle.session_wire.specs.Reading.{Reads, number_at, flag_at, opaque_at, end_at};
+ghost use Rattle.xdr.specs.Reading.{Reads, number_at, flag_at, opaque_at, eight_at, end_at};
 
-use crate::xdr::XdrFault;
+use crate::XdrFault;
 use byteorder::{BigEndian, ByteOrder};
 use std::marker::Model;
 
@@ -87,6 +87,21 @@ impl<'a> Reader<'a> {
             return Err(XdrFault::Padding);
         }
         Ok(bytes)
+    }
+
+    /// Eight bytes as they stand there (RFC 4506, section 4.9).
+    #[tactic(auto, unfolding(crate::specs::Reading::eight_at))]
+    pub fn eight(&mut self) -> Result<[u8; 8], XdrFault>
+        ensures { Reads (λ x. (x, self.new)) result (eight_at self.old) }
+    {
+        if self.rest.len() < 8 {
+            return Err(XdrFault::Short);
+        }
+        let (front, rest) = self.rest.split_at(8);
+        self.rest = rest;
+        Ok([
+            front[0], front[1], front[2], front[3], front[4], front[5], front[6], front[7],
+        ])
     }
 
     /// The bytes that are left.

@@ -3,21 +3,19 @@ use Rattle.std.proofs.Common.{◌≡◌, ℕ, zero, suc, ◌+◌, ◌^◌, ◌<�
 use Rattle.std.proofs.Common.{◌∷◌, ◌++◌, length, get_or, take, drop, replicate, Option, Some, None, Result}
 use Rattle.std.proofs.Common.{Ok, Err, refl, sym, ap, subst, ◌∙◌, append_assoc, arith, inl, inr}
 use Rattle.std.proofs.Common.{length-append}
-use Rattle.std.specs.Prelude.{IfSome, ◌==◌, ◌&&◌, flat_map}
+use Rattle.std.specs.Prelude.{IfSome, ◌==◌, ◌&&◌}
 use Rattle.std.specs.Int.{Width, w32, w64, byte_len, from_be_bytes, to_be_bytes}
-use Rattle.std.specs.List.{list_all, AllByRecursion}
+use Rattle.std.specs.List.{list_all}
 use Rattle.std.proofs.lemmas.Bool.{cases_lt, ltb-false, le-ltb, eqb-true}
 use Rattle.std.proofs.lemmas.List.{length-replicate, take_at, drop_at, take-append-drop, length-take}
 use Rattle.std.proofs.lemmas.List.{length-drop, get_or-drop, get_or-take, get_or_past}
-use Rattle.std.proofs.lemmas.List.Concat.{flat_map-cons}
+use Rattle.std.proofs.lemmas.List.{get_or_append_left, get_or-append-add}
 use Rattle.std.proofs.lemmas.Nat.{be_bytes_4, be_bytes_8, from_be_bytes-to_be_bytes_4}
 use Rattle.std.proofs.lemmas.Nat.{from_be_bytes-to_be_bytes_8}
-use Rattle.session_wire.specs.declared.xdr.fault.XdrFault.{XdrFault}
-use Rattle.session_wire.specs.declared.xdr.fault.XdrFault.TheVariants.{Short, Padding, Length}
-use Rattle.session_wire.specs.Items.{word, double, flag, padding, opaque, optional}
-use Rattle.session_wire.specs.Reading.{◌>>=◌, number_at, flag_of, flag_at, opaque_at}
-use Rattle.session_wire.specs.Credentials.{numbers_at}
-use Rattle.session_wire.specs.ReadingCalls.{optional_at}
+use Rattle.xdr.specs.declared.fault.XdrFault.{XdrFault}
+use Rattle.xdr.specs.declared.fault.XdrFault.TheVariants.{Short, Padding, Length}
+use Rattle.xdr.specs.Items.{word, double, flag, padding, opaque, optional}
+use Rattle.xdr.specs.Reading.{◌>>=◌, number_at, flag_of, flag_at, opaque_at, eight_at, optional_at}
 
 abbrev pub IsBytes : List ℕ → Type 0
 IsBytes bytes = (i : ℕ) → get_or bytes i 0 < 256
@@ -309,37 +307,51 @@ optionals spelled Fits read coded = record {
   again = optional_again spelled Fits read coded;
 }
 
--- ---- so many numbers
+-- ---- bytes as they came
 
-pub numbers_take : (n : ℕ) (bytes : List ℕ) (x : List ℕ × List ℕ) → IsBytes bytes → numbers_at n bytes ≡ Ok x
-    → Takes bytes (flat_map word x.0) x.1 × (length x.0 ≡ n) × AllByRecursion (λ m. m < 2 ^ 32) x.0
-unfolding numbers_at
-numbers_take zero bytes x fits e =
-    subst (λ (y : List ℕ × List ℕ). Takes bytes (flat_map word y.0) y.1 × (length y.0 ≡ 0)
-    × AllByRecursion (λ m. m < 2 ^ 32) y.0) (ok_is ([], bytes) x e)
-    (record { parts = refl; rest_fits = fits }, refl, tt)
-numbers_take (suc n) bytes x fits e =
-    let a = bind_ok (number_at w32 bytes)
-    (λ first. numbers_at n first.1 >>= λ others. Ok (first.0 ∷ others.0, others.1)) x e in
-    let b = bind_ok (numbers_at n a.0.1) (λ others. Ok (a.0.0 ∷ others.0, others.1)) x a.2 in
-    let first = words.takes bytes a.0.0 a.0.1 fits a.1 in
-    let second = numbers_take n a.0.1 b.0 first.0.rest_fits b.1 in
-    let both = Takes-then bytes (word a.0.0) a.0.1 (flat_map word b.0.0) b.0.1 first.0 second.0 in
-    let made : List ℕ × List ℕ = (a.0.0 ∷ b.0.0, b.0.1) in
-    subst (λ (y : List ℕ × List ℕ). Takes bytes (flat_map word y.0) y.1 × (length y.0 ≡ suc n)
-    × AllByRecursion (λ m. m < 2 ^ 32) y.0) (ok_is made x b.2) (
-      rw flat_map-cons both,
-      ap suc second.1,
-      (first.1, second.2),
+-- the parts of bytes are bytes
+pub front_bytes : (a b : List ℕ) → IsBytes (a ++ b) → IsBytes a
+front_bytes a b h i =
+    elim (cases_lt i (length a)) [
+      | inl lt ↦ subst (λ (n : ℕ). n < 256) (get_or_append_left a b 0 i lt) (h i)
+      | inr le ↦ rw (get_or_past a i 0 le) (omega arith)
+    ]
+
+pub back_bytes : (a b : List ℕ) → IsBytes (a ++ b) → IsBytes b
+back_bytes a b h i = subst (λ (n : ℕ). n < 256) (get_or-append-add a b i 0) (h (length a + i))
+
+-- a string that was read is of bytes
+pub string_bytes : (bytes text rest : List ℕ) → IsBytes bytes → Takes bytes (opaque text) rest → IsBytes text
+unfolding opaque
+string_bytes bytes text rest fits t =
+    let all : IsBytes (opaque text ++ rest) = subst IsBytes t.parts fits in
+    back_bytes (word (length text)) text
+    (front_bytes (word (length text) ++ text) (replicate (padding (length text)) 0)
+    (front_bytes (opaque text) rest all))
+
+eight_takes : (bytes text rest : List ℕ) → IsBytes bytes → eight_at bytes ≡ Ok (text, rest)
+    → Takes bytes text rest × ((length text ≡ 8) × IsBytes text)
+unfolding eight_at
+eight_takes bytes text rest fits e =
+    let g = guard_ok (ltb (length bytes) 8) Short (Ok (take 8 bytes, drop 8 bytes)) (text, rest) e in
+    let long : 8 ≤ length bytes = ltb-false _ _ g.0 in
+    let is = ok_is (take 8 bytes, drop 8 bytes) (text, rest) g.1 in
+    let front : take 8 bytes ≡ text = ap (λ (p : List ℕ × List ℕ). p.0) is in
+    let behind : drop 8 bytes ≡ rest = ap (λ (p : List ℕ × List ℕ). p.1) is in (
+      record {
+        parts = rw (← front, ← behind) (sym (take-append-drop 8 bytes));
+        rest_fits = rw (← behind) (IsBytes-drop 8 bytes fits);
+      },
+      (rw (← front) (omega (arith, length-take 8 bytes)), rw (← front) (IsBytes-take 8 bytes fits)),
     )
 
-pub numbers_again : (ns : List ℕ) (rest : List ℕ) → AllByRecursion (λ m. m < 2 ^ 32) ns
-    → numbers_at (length ns) (flat_map word ns ++ rest) ≡ Ok (ns, rest)
-unfolding numbers_at
-numbers_again [] rest fits = refl
-numbers_again (n ∷ ns) rest fits =
-    let regrouped : flat_map word (n ∷ ns) ++ rest ≡ word n ++ (flat_map word ns ++ rest) =
-    ap (λ (x : List ℕ). x ++ rest) (flat_map-cons word n ns)
-    ∙ append_assoc (word n) (flat_map word ns) rest in
-    ap (numbers_at (suc (length ns))) regrouped
-    ∙ rw (words.again n (flat_map word ns ++ rest) fits.0, numbers_again ns rest fits.1) refl
+eight_again : (text rest : List ℕ) → (length text ≡ 8) × IsBytes text
+    → eight_at (text ++ rest) ≡ Ok (text, rest)
+unfolding eight_at
+eight_again text rest fits =
+    let long : ltb (length (text ++ rest)) 8 ≡ false =
+    le-ltb _ _ (omega (arith, length-append text rest, fits.0)) in
+    rw (long, take_at text rest 8 fits.0, drop_at text rest 8 fits.0) refl
+
+pub eights : Coded (λ text. text) (λ text. (length text ≡ 8) × IsBytes text) eight_at
+eights = record { takes = eight_takes; again = eight_again }
