@@ -370,7 +370,8 @@ fn decode_commit(alloc: Global, arguments: &[u8]) -> Result<ProgramCall, XdrFaul
 fn decode_mount_null(arguments: &[u8]) -> Result<ProgramCall, XdrFault>
     ensures { GivesWhole result (call_of (procedures.Mount mount.Null) arguments.now) }
 {
-    Reader::new(arguments).end()?;
+    let reader = Reader::new(arguments);
+    reader.end()?;
     Ok(ProgramCall::Mount(MountCall::Null))
 }
 

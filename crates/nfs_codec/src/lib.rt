@@ -18,3 +18,4 @@ pub use laws::{
 };
 pub use procedure::procedure_of;
 pub use results::{encode_mount_reply, encode_reply};
+pub use status::{number_of_kind, number_of_stability, number_of_status, status_numbered};

@@ -1,11 +1,11 @@
 -- Reading a chain as a loop does: what was read so far stands in front of what is still read.
-use Rattle.std.proofs.Common.{◌≡◌, ℕ, zero, suc, ◌<◌, true, false, List, [], ◌∷◌, ◌++◌, length, drop, get_or, ◌+◌, ◌≤◌, Result, Ok, Err, refl, sym, ap, ◌∙◌, append_assoc, arith}
+use Rattle.std.proofs.Common.{◌≡◌, ℕ, zero, suc, ◌<◌, true, false, List, [], ◌∷◌, ◌++◌, length, drop, get_or, ◌+◌, ◌-◌, ◌≤◌, Result, Ok, Err, refl, sym, ap, ◌∙◌, append_assoc, arith}
 use Rattle.std.proofs.lemmas.List.{append-nil, at_drop_more}
 use Rattle.std.proofs.Math.ListN.{drop_of_length-le}
 use Rattle.xdr.specs.declared.fault.XdrFault.{XdrFault}
 use Rattle.xdr.specs.Items as items
 use Rattle.xdr.specs.Reading.{◌>>=◌, flag_at}
-use Rattle.xdr.specs.Codes.{Code, chain_bytes, chain_at, chain, items_bytes}
+use Rattle.xdr.specs.Codes.{Code, chain_bytes, chain_at, chain, items_bytes, items_at}
 use Rattle.xdr.proofs.Lawful.{IsCode, flag_shrinks}
 
 abbrev pub behind : {A : Type 0} → List A → Result (List A × List ℕ) XdrFault → Result (List A × List ℕ) XdrFault
@@ -17,7 +17,7 @@ pub record Links {A : Type 0} (F : Code A) (front : List A) (bytes : List ℕ) (
   pub enough : length bytes < suc links
   pub so_far : behind front (chain_at F (suc links) bytes) ≡ total
 
-same_read : {A : Type 0} (read : Result (List A × List ℕ) XdrFault) → behind [] read ≡ read
+pub same_read : {A : Type 0} (read : Result (List A × List ℕ) XdrFault) → behind [] read ≡ read
 same_read (Ok x) = refl
 same_read (Err e) = refl
 
@@ -91,3 +91,33 @@ pub put_last : {A : Type 0} (F : Code A) (xs : List A) (i : ℕ) (out whole : Li
 put_last F xs i out whole le so_far =
     let none : drop i xs ≡ [] = drop_of_length-le xs le in
     sym (append-nil out) ∙ ap (λ (y : List _). out ++ items_bytes F y) (sym none) ∙ so_far
+
+-- ---- reading counted items as a loop does
+
+pub more_items : {A : Type 0} (F : Code A) (front : List A) (count i : ℕ) (bytes : List ℕ) (x : A) (after : List ℕ)
+    (total : Result (List A × List ℕ) XdrFault) → i < count → F.read bytes ≡ Ok (x, after)
+    → behind front (items_at F (count - i) bytes) ≡ total
+    → behind (front ++ x ∷ []) (items_at F (count - (i + 1)) after) ≡ total
+more_items F front count i bytes x after total lt there so_far =
+    let k : count - i ≡ suc (count - (i + 1)) = omega arith in
+    let one : behind front (items_at F (count - i) bytes)
+    ≡ behind (front ++ x ∷ []) (items_at F (count - (i + 1)) after) =
+    rw (k, there) (regroup front x (items_at F (count - (i + 1)) after)) in
+    sym one ∙ so_far
+
+pub items_refused : {A : Type 0} (F : Code A) (front : List A) (count i : ℕ) (bytes : List ℕ)
+    (total : Result (List A × List ℕ) XdrFault) (d : XdrFault) → i < count → F.read bytes ≡ Err d
+    → behind front (items_at F (count - i) bytes) ≡ total → total ≡ Err d
+items_refused F front count i bytes total d lt e so_far =
+    let k : count - i ≡ suc (count - (i + 1)) = omega arith in
+    let one : behind front (items_at F (count - i) bytes) ≡ Err d = rw (k, e) refl in
+    sym so_far ∙ one
+
+pub items_done : {A : Type 0} (F : Code A) (front : List A) (count i : ℕ) (bytes : List ℕ)
+    (total : Result (List A × List ℕ) XdrFault) → count ≤ i
+    → behind front (items_at F (count - i) bytes) ≡ total → total ≡ Ok (front, bytes)
+items_done F front count i bytes total le so_far =
+    let k : count - i ≡ 0 = omega arith in
+    let one : behind front (items_at F (count - i) bytes) ≡ Ok (front, bytes) =
+    rw k (ap (λ (xs : List _). Ok (xs, bytes)) (append-nil front)) in
+    sym so_far ∙ one
