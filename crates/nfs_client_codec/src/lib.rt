@@ -7,4 +7,4 @@ mod outcomes;
 mod results;
 mod told;
 
-pub use results::decode_reply;
+pub use results::{decode_reply, read_result};
