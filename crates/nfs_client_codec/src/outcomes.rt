@@ -5,12 +5,13 @@ ghost use Rattle.xdr.specs.Reading.{Reads, Gives};
 ghost use Rattle.nfs_codec.specs.Results as codes;
 
 use crate::told::{
-    read_handle, read_moment, read_optional_attributes, read_optional_handle, read_stability, read_text,
-    read_verifier,
+    read_handle, read_moment, read_optional_attributes, read_optional_handle, read_stability,
+    read_text, read_verifier,
 };
 use limits::RECORD_BYTES;
 use nfs_types::{
-    Created, FileSystemInfo, FileSystemSpace, Looked, Mounted, NumberList, PathLimits, ReadBytes, Written,
+    Created, FileSystemInfo, FileSystemSpace, Looked, Mounted, NumberList, PathLimits, ReadBytes,
+    Written,
 };
 use std::alloc::Global;
 use xdr::{Reader, XdrFault};
@@ -22,10 +23,7 @@ pub fn read_looked(alloc: Global, reader: &mut Reader) -> Result<Looked, XdrFaul
 {
     let object = read_handle(alloc, reader)?;
     let attributes = read_optional_attributes(reader)?;
-    Ok(Looked {
-        object,
-        attributes,
-    })
+    Ok(Looked { object, attributes })
 }
 
 /// What READ gives.
@@ -36,11 +34,7 @@ pub fn read_read_bytes(alloc: Global, reader: &mut Reader) -> Result<ReadBytes, 
     let count = reader.unsigned()?;
     let eof = reader.flag()?;
     let bytes = read_text(alloc, reader)?;
-    Ok(ReadBytes {
-        count,
-        eof,
-        bytes,
-    })
+    Ok(ReadBytes { count, eof, bytes })
 }
 
 /// What WRITE did.
@@ -65,10 +59,7 @@ pub fn read_created(alloc: Global, reader: &mut Reader) -> Result<Created, XdrFa
 {
     let object = read_optional_handle(alloc, reader)?;
     let attributes = read_optional_attributes(reader)?;
-    Ok(Created {
-        object,
-        attributes,
-    })
+    Ok(Created { object, attributes })
 }
 
 /// What FSSTAT tells.
@@ -151,10 +142,7 @@ pub fn read_mounted(alloc: Global, reader: &mut Reader) -> Result<Mounted, XdrFa
 {
     let root = read_handle(alloc, reader)?;
     let flavors = read_flavors(alloc, reader)?;
-    Ok(Mounted {
-        root,
-        flavors,
-    })
+    Ok(Mounted { root, flavors })
 }
 
 // A counted list of flavors.

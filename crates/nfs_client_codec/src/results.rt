@@ -6,22 +6,27 @@ ghost use Rattle.nfs_codec.specs.Results as codes;
 
 use crate::entries::{read_listed, read_listed_plus};
 use crate::outcomes::{
-    read_created, read_info, read_limits, read_looked, read_mounted, read_read_bytes, read_space, read_written,
+    read_created, read_info, read_limits, read_looked, read_mounted, read_read_bytes, read_space,
+    read_written,
 };
 use crate::told::{
     read_attributes, read_optional_attributes, read_text, read_verifier, read_weak_cache,
 };
 use nfs_codec::status_numbered;
 use nfs_types::{
-    Attributes, Created, FileSystemInfo, FileSystemSpace, Listed, ListedPlus, Looked, MountProcedure, MountReply,
-    Mounted, Octets, PathLimits, Procedure, ProgramProcedure, ProgramReply, ReadBytes, Reply, Status, Verifier,
-    WeakCacheData, Written,
+    Attributes, Created, FileSystemInfo, FileSystemSpace, Listed, ListedPlus, Looked,
+    MountProcedure, MountReply, Mounted, Octets, PathLimits, Procedure, ProgramProcedure,
+    ProgramReply, ReadBytes, Reply, Status, Verifier, WeakCacheData, Written,
 };
 use std::alloc::Global;
 use xdr::{Reader, XdrFault};
 
 /// The reply to a procedure whose result all of these bytes spell.
-pub fn decode_reply(alloc: Global, procedure: ProgramProcedure, bytes: &[u8]) -> Result<ProgramReply, XdrFault>
+pub fn decode_reply(
+    alloc: Global,
+    procedure: ProgramProcedure,
+    bytes: &[u8],
+) -> Result<ProgramReply, XdrFault>
     ensures { Gives (λ r. r) result (codes.reply_of procedure bytes.now) }
 {
     let mut reader = Reader::new(bytes);
@@ -39,12 +44,20 @@ pub fn read_result(
     ensures { Gives (λ r. (r, reader.new)) result (codes.reply_at procedure reader.old) }
 {
     match procedure {
-        ProgramProcedure::Nfs(procedure) => Ok(ProgramReply::Nfs(read_nfs_result(alloc, procedure, reader)?)),
-        ProgramProcedure::Mount(procedure) => Ok(ProgramReply::Mount(read_mount_result(alloc, procedure, reader)?)),
+        ProgramProcedure::Nfs(procedure) => Ok(ProgramReply::Nfs(read_nfs_result(
+            alloc, procedure, reader,
+        )?)),
+        ProgramProcedure::Mount(procedure) => Ok(ProgramReply::Mount(read_mount_result(
+            alloc, procedure, reader,
+        )?)),
     }
 }
 
-fn read_nfs_result(alloc: Global, procedure: Procedure, reader: &mut Reader) -> Result<Reply, XdrFault>
+fn read_nfs_result(
+    alloc: Global,
+    procedure: Procedure,
+    reader: &mut Reader,
+) -> Result<Reply, XdrFault>
     ensures { Gives (λ r. (r, reader.new)) result (codes.nfs_reply_at procedure reader.old) }
 {
     match procedure {
@@ -102,11 +115,19 @@ fn read_nfs_result(alloc: Global, procedure: Procedure, reader: &mut Reader) -> 
         }
         Procedure::Rename => {
             let (outcome, (source, target)) = take_rename(reader)?;
-            Ok(Reply::Rename { outcome, source, target })
+            Ok(Reply::Rename {
+                outcome,
+                source,
+                target,
+            })
         }
         Procedure::Link => {
             let (outcome, (file, directory)) = take_link(reader)?;
-            Ok(Reply::Link { outcome, file, directory })
+            Ok(Reply::Link {
+                outcome,
+                file,
+                directory,
+            })
         }
         Procedure::ReadDir => {
             let (outcome, directory) = take_read_dir(alloc, reader)?;
@@ -135,7 +156,11 @@ fn read_nfs_result(alloc: Global, procedure: Procedure, reader: &mut Reader) -> 
     }
 }
 
-fn read_mount_result(alloc: Global, procedure: MountProcedure, reader: &mut Reader) -> Result<MountReply, XdrFault>
+fn read_mount_result(
+    alloc: Global,
+    procedure: MountProcedure,
+    reader: &mut Reader,
+) -> Result<MountReply, XdrFault>
     ensures { Gives (λ r. (r, reader.new)) result (codes.mount_reply_at procedure reader.old) }
 {
     match procedure {
@@ -157,9 +182,7 @@ fn take_get_attr(reader: &mut Reader) -> Result<Result<Attributes, Status>, XdrF
             Ok(Ok(done))
         }
         number => match status_numbered(number) {
-            Some(status) => {
-                Ok(Err(status))
-            }
+            Some(status) => { Ok(Err(status)) }
             None => Err(XdrFault::Value),
         },
     }
@@ -185,7 +208,10 @@ fn take_set_attr(reader: &mut Reader) -> Result<(Result<(), Status>, WeakCacheDa
 }
 
 #[tactic(auto, unfolding(nfs_codec::specs::Results::lookup))]
-fn take_lookup(alloc: Global, reader: &mut Reader) -> Result<(Result<Looked, Status>, Option<Attributes>), XdrFault>
+fn take_lookup(
+    alloc: Global,
+    reader: &mut Reader,
+) -> Result<(Result<Looked, Status>, Option<Attributes>), XdrFault>
     ensures { Gives (λ x. (x, reader.new)) result (codes.lookup.read reader.old) }
 {
     match reader.unsigned()? {
@@ -225,7 +251,10 @@ fn take_access(reader: &mut Reader) -> Result<(Result<u32, Status>, Option<Attri
 }
 
 #[tactic(auto, unfolding(nfs_codec::specs::Results::read_link))]
-fn take_read_link(alloc: Global, reader: &mut Reader) -> Result<(Result<Octets, Status>, Option<Attributes>), XdrFault>
+fn take_read_link(
+    alloc: Global,
+    reader: &mut Reader,
+) -> Result<(Result<Octets, Status>, Option<Attributes>), XdrFault>
     ensures { Gives (λ x. (x, reader.new)) result (codes.read_link.read reader.old) }
 {
     match reader.unsigned()? {
@@ -245,7 +274,10 @@ fn take_read_link(alloc: Global, reader: &mut Reader) -> Result<(Result<Octets, 
 }
 
 #[tactic(auto, unfolding(nfs_codec::specs::Results::read))]
-fn take_read(alloc: Global, reader: &mut Reader) -> Result<(Result<ReadBytes, Status>, Option<Attributes>), XdrFault>
+fn take_read(
+    alloc: Global,
+    reader: &mut Reader,
+) -> Result<(Result<ReadBytes, Status>, Option<Attributes>), XdrFault>
     ensures { Gives (λ x. (x, reader.new)) result (codes.read.read reader.old) }
 {
     match reader.unsigned()? {
@@ -285,7 +317,10 @@ fn take_write(reader: &mut Reader) -> Result<(Result<Written, Status>, WeakCache
 }
 
 #[tactic(auto, unfolding(nfs_codec::specs::Results::create))]
-fn take_create(alloc: Global, reader: &mut Reader) -> Result<(Result<Created, Status>, WeakCacheData), XdrFault>
+fn take_create(
+    alloc: Global,
+    reader: &mut Reader,
+) -> Result<(Result<Created, Status>, WeakCacheData), XdrFault>
     ensures { Gives (λ x. (x, reader.new)) result (codes.create.read reader.old) }
 {
     match reader.unsigned()? {
@@ -324,7 +359,9 @@ fn take_remove(reader: &mut Reader) -> Result<(Result<(), Status>, WeakCacheData
 }
 
 #[tactic(auto, unfolding(nfs_codec::specs::Results::rename))]
-fn take_rename(reader: &mut Reader) -> Result<(Result<(), Status>, (WeakCacheData, WeakCacheData)), XdrFault>
+fn take_rename(
+    reader: &mut Reader,
+) -> Result<(Result<(), Status>, (WeakCacheData, WeakCacheData)), XdrFault>
     ensures { Reads (λ x. (x, reader.new)) result (codes.rename.read reader.old) }
 {
     match reader.unsigned()? {
@@ -345,7 +382,9 @@ fn take_rename(reader: &mut Reader) -> Result<(Result<(), Status>, (WeakCacheDat
 }
 
 #[tactic(auto, unfolding(nfs_codec::specs::Results::link))]
-fn take_link(reader: &mut Reader) -> Result<(Result<(), Status>, (Option<Attributes>, WeakCacheData)), XdrFault>
+fn take_link(
+    reader: &mut Reader,
+) -> Result<(Result<(), Status>, (Option<Attributes>, WeakCacheData)), XdrFault>
     ensures { Reads (λ x. (x, reader.new)) result (codes.link.read reader.old) }
 {
     match reader.unsigned()? {
@@ -366,7 +405,10 @@ fn take_link(reader: &mut Reader) -> Result<(Result<(), Status>, (Option<Attribu
 }
 
 #[tactic(auto, unfolding(nfs_codec::specs::Results::read_dir))]
-fn take_read_dir(alloc: Global, reader: &mut Reader) -> Result<(Result<Listed, Status>, Option<Attributes>), XdrFault>
+fn take_read_dir(
+    alloc: Global,
+    reader: &mut Reader,
+) -> Result<(Result<Listed, Status>, Option<Attributes>), XdrFault>
     ensures { Gives (λ x. (x, reader.new)) result (codes.read_dir.read reader.old) }
 {
     match reader.unsigned()? {
@@ -386,7 +428,10 @@ fn take_read_dir(alloc: Global, reader: &mut Reader) -> Result<(Result<Listed, S
 }
 
 #[tactic(auto, unfolding(nfs_codec::specs::Results::read_dir_plus))]
-fn take_read_dir_plus(alloc: Global, reader: &mut Reader) -> Result<(Result<ListedPlus, Status>, Option<Attributes>), XdrFault>
+fn take_read_dir_plus(
+    alloc: Global,
+    reader: &mut Reader,
+) -> Result<(Result<ListedPlus, Status>, Option<Attributes>), XdrFault>
     ensures { Gives (λ x. (x, reader.new)) result (codes.read_dir_plus.read reader.old) }
 {
     match reader.unsigned()? {
@@ -406,7 +451,9 @@ fn take_read_dir_plus(alloc: Global, reader: &mut Reader) -> Result<(Result<List
 }
 
 #[tactic(auto, unfolding(nfs_codec::specs::Results::fs_stat))]
-fn take_fs_stat(reader: &mut Reader) -> Result<(Result<FileSystemSpace, Status>, Option<Attributes>), XdrFault>
+fn take_fs_stat(
+    reader: &mut Reader,
+) -> Result<(Result<FileSystemSpace, Status>, Option<Attributes>), XdrFault>
     ensures { Reads (λ x. (x, reader.new)) result (codes.fs_stat.read reader.old) }
 {
     match reader.unsigned()? {
@@ -426,7 +473,9 @@ fn take_fs_stat(reader: &mut Reader) -> Result<(Result<FileSystemSpace, Status>,
 }
 
 #[tactic(auto, unfolding(nfs_codec::specs::Results::fs_info))]
-fn take_fs_info(reader: &mut Reader) -> Result<(Result<FileSystemInfo, Status>, Option<Attributes>), XdrFault>
+fn take_fs_info(
+    reader: &mut Reader,
+) -> Result<(Result<FileSystemInfo, Status>, Option<Attributes>), XdrFault>
     ensures { Reads (λ x. (x, reader.new)) result (codes.fs_info.read reader.old) }
 {
     match reader.unsigned()? {
@@ -446,7 +495,9 @@ fn take_fs_info(reader: &mut Reader) -> Result<(Result<FileSystemInfo, Status>, 
 }
 
 #[tactic(auto, unfolding(nfs_codec::specs::Results::path_conf))]
-fn take_path_conf(reader: &mut Reader) -> Result<(Result<PathLimits, Status>, Option<Attributes>), XdrFault>
+fn take_path_conf(
+    reader: &mut Reader,
+) -> Result<(Result<PathLimits, Status>, Option<Attributes>), XdrFault>
     ensures { Reads (λ x. (x, reader.new)) result (codes.path_conf.read reader.old) }
 {
     match reader.unsigned()? {
@@ -495,9 +546,7 @@ fn take_mount_root(alloc: Global, reader: &mut Reader) -> Result<Result<Mounted,
             Ok(Ok(done))
         }
         number => match status_numbered(number) {
-            Some(status) => {
-                Ok(Err(status))
-            }
+            Some(status) => { Ok(Err(status)) }
             None => Err(XdrFault::Value),
         },
     }

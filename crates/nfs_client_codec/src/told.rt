@@ -5,8 +5,8 @@ ghost use Rattle.nfs_codec.specs.Items as codes;
 
 use limits::{MOST_HANDLE_BYTES, RECORD_BYTES};
 use nfs_types::{
-    Attributes, DeviceNumber, FileKind, Handle, Moment, Octets, Stability, Verifier, WeakCacheAttributes,
-    WeakCacheData,
+    Attributes, DeviceNumber, FileKind, Handle, Moment, Octets, Stability, Verifier,
+    WeakCacheAttributes, WeakCacheData,
 };
 use std::alloc::Global;
 use xdr::{Reader, XdrFault};

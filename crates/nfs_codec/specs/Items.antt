@@ -188,8 +188,37 @@ attributes = viewed
       mtime = x.1.1.1.1.1.1.1.1.1.1.1.0;
       ctime = x.1.1.1.1.1.1.1.1.1.1.1.1;
     })
-    (λ a. (a.kind, (a.mode, (a.nlink, (a.uid, (a.gid, (a.size, (a.used, (a.device, (a.file_system, (a.number,
-    (a.atime, (a.mtime, a.ctime)))))))))))))
+    (λ a. (
+      a.kind,
+      (
+        a.mode,
+        (
+          a.nlink,
+          (
+            a.uid,
+            (
+              a.gid,
+              (
+                a.size,
+                (
+                  a.used,
+                  (
+                    a.device,
+                    (
+                      a.file_system,
+                      (
+                        a.number,
+                        (a.atime, (a.mtime, a.ctime)),
+                      ),
+                    ),
+                  ),
+                ),
+              ),
+            ),
+          ),
+        ),
+      ),
+    ))
     (kind then word then word then word then word then double then double then device then double then double
     then moment then moment then moment)
 

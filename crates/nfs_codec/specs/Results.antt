@@ -174,8 +174,25 @@ space = viewed
       available_files = x.1.1.1.1.1.0;
       unchanged_seconds = x.1.1.1.1.1.1;
     })
-    (λ s. (s.total_bytes, (s.free_bytes, (s.available_bytes, (s.total_files, (s.free_files, (s.available_files,
-    s.unchanged_seconds)))))))
+    (λ s. (
+      s.total_bytes,
+      (
+        s.free_bytes,
+        (
+          s.available_bytes,
+          (
+            s.total_files,
+            (
+              s.free_files,
+              (
+                s.available_files,
+                s.unchanged_seconds,
+              ),
+            ),
+          ),
+        ),
+      ),
+    ))
     (double then double then double then double then double then double then word)
 
 unfoldable pub info : Code FileSystemInfo
@@ -192,8 +209,25 @@ info = viewed
       time_delta = x.1.1.1.1.1.1.1.1.0;
       properties = x.1.1.1.1.1.1.1.1.1;
     })
-    (λ i. (i.read_max, (i.read_preferred, (i.read_multiple, (i.write_max, (i.write_preferred, (i.write_multiple,
-    (i.directory_preferred, (i.largest_file, (i.time_delta, i.properties))))))))))
+    (λ i. (
+      i.read_max,
+      (
+        i.read_preferred,
+        (
+          i.read_multiple,
+          (
+            i.write_max,
+            (
+              i.write_preferred,
+              (
+                i.write_multiple,
+                (i.directory_preferred, (i.largest_file, (i.time_delta, i.properties))),
+              ),
+            ),
+          ),
+        ),
+      ),
+    ))
     (word then word then word then word then word then word then word then double then moment then word)
 
 unfoldable pub limits : Code PathLimits

@@ -12,8 +12,8 @@ use crate::items::{
     read_special_file, read_stability, read_text, read_verifier,
 };
 use nfs_types::{
-    Call, DirectoryName, Handle, MountCall, MountProcedure, Octets, PATH_BYTES, Procedure, ProgramCall,
-    ProgramProcedure,
+    Call, DirectoryName, Handle, MountCall, MountProcedure, Octets, PATH_BYTES, Procedure,
+    ProgramCall, ProgramProcedure,
 };
 use std::alloc::Global;
 use xdr::{Reader, XdrFault};
@@ -423,8 +423,10 @@ fn handle(alloc: Global, bytes: &[u8]) -> Result<Handle, XdrFault>
 }
 
 fn directory_name(alloc: Global, name: NameBytes<'_>) -> Result<DirectoryName, XdrFault>
-    ensures ok { IfOk result (λ n. n ≡ record { directory = record { bytes = name.entry.directory.now };
-        name = name.entry.name.now }) }
+    ensures ok { IfOk result (λ n. n ≡ record {
+      directory = record { bytes = name.entry.directory.now };
+      name = name.entry.name.now;
+    }) }
     ensures err { IfErr result (λ e. e ≡ XdrFault.NoMemory) }
 {
     Ok(DirectoryName {

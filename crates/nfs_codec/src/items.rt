@@ -37,8 +37,10 @@ pub struct NameBytes<'a> {
 /// A name in a directory (`diropargs3`).
 #[tactic(auto, unfolding(crate::specs::Items::directory_name))]
 pub fn read_directory_name<'a>(reader: &mut Reader<'a>) -> Result<NameBytes<'a>, XdrFault>
-    ensures { Reads (λ x. (record { directory = record { bytes = x.directory.now }; name = x.name.now },
-        reader.new)) result (directory_name.read reader.old) }
+    ensures { Reads (λ x. (
+      record { directory = record { bytes = x.directory.now }; name = x.name.now },
+      reader.new,
+    )) result (directory_name.read reader.old) }
 {
     let directory = read_handle(reader)?;
     let name = read_text(reader)?;

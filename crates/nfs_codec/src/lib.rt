@@ -14,7 +14,8 @@ mod told;
 
 pub use arguments::decode_call;
 pub use laws::{
-    arguments_share_no_spelling, results_share_no_spelling, spelled_arguments_are_read, spelled_results_are_read,
+    arguments_share_no_spelling, results_share_no_spelling, spelled_arguments_are_read,
+    spelled_results_are_read,
 };
 pub use procedure::procedure_of;
 pub use results::{encode_mount_reply, encode_reply};

@@ -5,10 +5,12 @@ ghost use Rattle.nfs_codec.specs.Results as codes;
 ghost use Rattle.xdr.specs.Codes.{word, items_bytes};
 
 use crate::told::{
-    put_handle, put_moment, put_optional_attributes, put_optional_handle, put_stability, put_verifier,
+    put_handle, put_moment, put_optional_attributes, put_optional_handle, put_stability,
+    put_verifier,
 };
 use nfs_types::{
-    Created, FileSystemInfo, FileSystemSpace, Looked, Mounted, Octets, PathLimits, ReadBytes, Written,
+    Created, FileSystemInfo, FileSystemSpace, Looked, Mounted, Octets, PathLimits, ReadBytes,
+    Written,
 };
 use xdr::{Writer, XdrFault};
 

@@ -7,13 +7,14 @@ ghost use Rattle.nfs_types.specs.declared.program.ProgramReply.TheVariants as pr
 
 use crate::entries::{put_listed, put_listed_plus};
 use crate::outcomes::{
-    put_created, put_info, put_limits, put_looked, put_mounted, put_read_bytes, put_space, put_text, put_written,
+    put_created, put_info, put_limits, put_looked, put_mounted, put_read_bytes, put_space,
+    put_text, put_written,
 };
 use crate::status::number_of_status;
 use crate::told::{put_attributes, put_optional_attributes, put_verifier, put_weak_cache};
 use nfs_types::{
-    Attributes, Created, FileSystemInfo, FileSystemSpace, Listed, ListedPlus, Looked, MountReply, Mounted, Octets,
-    PathLimits, ReadBytes, Reply, Status, Verifier, WeakCacheData, Written,
+    Attributes, Created, FileSystemInfo, FileSystemSpace, Listed, ListedPlus, Looked, MountReply,
+    Mounted, Octets, PathLimits, ReadBytes, Reply, Status, Verifier, WeakCacheData, Written,
 };
 use xdr::{Writer, XdrFault};
 
@@ -67,10 +68,7 @@ pub fn encode_mount_reply(out: &mut Writer, reply: &MountReply) -> Result<(), Xd
 }
 
 #[tactic(auto, unfolding(crate::specs::Results::get_attr))]
-fn put_get_attr(
-    out: &mut Writer,
-    outcome: &Result<Attributes, Status>,
-) -> Result<(), XdrFault>
+fn put_get_attr(out: &mut Writer, outcome: &Result<Attributes, Status>) -> Result<(), XdrFault>
     ensures { OnOk result (out.new ≡ out.old ++ codes.get_attr.spell outcome.now) }
 {
     match outcome {
@@ -421,10 +419,7 @@ fn put_commit(
 }
 
 #[tactic(auto, unfolding(crate::specs::Results::mount_root))]
-fn put_mount_root(
-    out: &mut Writer,
-    outcome: &Result<Mounted, Status>,
-) -> Result<(), XdrFault>
+fn put_mount_root(out: &mut Writer, outcome: &Result<Mounted, Status>) -> Result<(), XdrFault>
     ensures { OnOk result (out.new ≡ out.old ++ codes.mount_root.spell outcome.now) }
 {
     match outcome {

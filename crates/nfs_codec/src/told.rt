@@ -6,7 +6,8 @@ ghost use Rattle.nfs_codec.specs.Items.{weak_cache_attributes, before_attributes
 
 use crate::status::{number_of_kind, number_of_stability};
 use nfs_types::{
-    Attributes, DeviceNumber, FileKind, Handle, Moment, Stability, Verifier, WeakCacheAttributes, WeakCacheData,
+    Attributes, DeviceNumber, FileKind, Handle, Moment, Stability, Verifier, WeakCacheAttributes,
+    WeakCacheData,
 };
 use xdr::{Writer, XdrFault};
 

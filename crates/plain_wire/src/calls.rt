@@ -7,15 +7,15 @@ ghost use Rattle.nfs_codec.specs.Procedures as procedures;
 ghost use Rattle.session_wire.specs.Programs as programs;
 ghost use Rattle.plain_wire.specs.Messages.{wanted as is_wanted, numbered, named_in, credential_of, message_of};
 
-use nfs_types::{Octets, Program, ProgramProcedure};
 use nfs_codec::{decode_call, procedure_of};
+use nfs_types::{Octets, Program, ProgramProcedure};
 use rpc::{
-    AUTH_NONE, AUTH_SYS, CALL, MOUNT_PROGRAM, NFS_PROGRAM, NFS_VERSION, RPC_VERSION, read_caller, read_header,
-    read_opening,
+    AUTH_NONE, AUTH_SYS, CALL, MOUNT_PROGRAM, NFS_PROGRAM, NFS_VERSION, RPC_VERSION, read_caller,
+    read_header, read_opening,
 };
-use xdr::{Reader, XdrFault};
 use session_wire::{CallMessage, MessageCredential, MessageVerifier};
 use std::alloc::{AllocError, Global};
+use xdr::{Reader, XdrFault};
 
 /// The call that the bytes spell, or None where they spell none.
 pub fn read_call(alloc: Global, bytes: &[u8]) -> Result<Option<CallMessage>, AllocError>

@@ -9,9 +9,9 @@ use crate::items::{expect, read_versions};
 use nfs_client_codec::read_result;
 use nfs_types::ProgramProcedure;
 use rpc::{NFS_VERSION, REPLY, RPC_VERSION, Refusal};
-use xdr::{Reader, XdrFault};
 use session_wire::{ReplyBody, ReplyMessage};
 use std::alloc::{AllocError, Global};
+use xdr::{Reader, XdrFault};
 
 /// The reply to a call of a procedure that the bytes spell, or None where they spell none.
 pub fn read_reply(

@@ -5,10 +5,10 @@ ghost use Rattle.rpc.specs.Credentials.{numbers_at, gids_at, caller_at, credenti
 ghost use Rattle.rpc.specs.Credentials.{system};
 
 use crate::{AUTH_NONE, AUTH_SYS, Refusal};
-use xdr::{Reader, XdrFault};
 use limits::{MACHINE_NAME_BYTES, MOST_GIDS, NOBODY};
 use nfs_types::{Credential, NumberList};
 use std::alloc::{AllocError, Global};
+use xdr::{Reader, XdrFault};
 
 /// The caller that a credential names, or why the credential is refused.
 pub fn read_credential(

@@ -270,7 +270,7 @@ judged_takes bytes xid c call fits e =
           credential_fits = w.1.fits;
           verifier_flavor = u.1.verifier_flavor;
           verifier_body = u.1.verifier;
-            call_fits = v.1;
+          call_fits = v.1;
           spelled = spelled;
         };
         xid_is = q.same;

@@ -6,12 +6,12 @@ ghost use Rattle.session_wire.specs.Judging.{Judges, judged, on_header, requeste
 use crate::message::Judged;
 use crate::programs::program_of;
 use nfs_codec::{decode_call, procedure_of};
+use nfs_types::Credential;
 use rpc::{
     CALL, Header, NFS_VERSION, RPC_VERSION, Refusal, read_credential, read_header, read_opening,
 };
-use xdr::{Reader, XdrFault};
-use nfs_types::Credential;
 use std::alloc::{AllocError, Global};
+use xdr::{Reader, XdrFault};
 
 /// What a record is taken for. Refused memory is answered by `Err` while the header is read, and by the
 /// refusal `SystemError` afterwards.

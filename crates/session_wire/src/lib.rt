@@ -11,9 +11,9 @@ mod streams;
 
 pub use judging::judge;
 pub use laws::{
-    calls_have_one_spelling, calls_share_no_spelling,
-    judged_calls_are_spelled, replies_have_one_spelling,
-    replies_share_no_spelling, spelled_calls_are_judged_so, spelled_replies_are_read,
+    calls_have_one_spelling, calls_share_no_spelling, judged_calls_are_spelled,
+    replies_have_one_spelling, replies_share_no_spelling, spelled_calls_are_judged_so,
+    spelled_replies_are_read,
 };
 pub use message::{
     CallMessage, Judged, MessageCredential, MessageVerifier, ReplyBody, ReplyMessage, RpcReply,

@@ -21,24 +21,7 @@ pub const MOUNT: [u32; 13] = [
 ];
 
 /// The reply: OK, the root's handle of 20 bytes, and the one flavor AUTH_SYS.
-pub const MOUNT_DONE: [u32; 16] = [
-    0x8000_003c,
-    1,
-    1,
-    0,
-    0,
-    0,
-    0,
-    0,
-    20,
-    1,
-    0,
-    0,
-    0,
-    0,
-    1,
-    1,
-];
+pub const MOUNT_DONE: [u32; 16] = [0x8000_003c, 1, 1, 0, 0, 0, 0, 0, 20, 1, 0, 0, 0, 0, 1, 1];
 
 /// MNT of the path `/a`.
 pub const MOUNT_ANOTHER: [u32; 13] = [
