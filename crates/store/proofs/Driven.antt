@@ -1,9 +1,9 @@
 -- Each round of a call that one thread drives leaves less of it.
-use Rattle.std.proofs.Common.{arith, ◌≡◌, ◌∙◌, refl, sym, ap, subst, true≢false, ℕ, ◌+◌, ◌-◌, ◌*◌, ◌^◌, ◌<◌}
+use Rattle.std.proofs.Common.{arith, ◌≡◌, ◌∙◌, refl, sym, ap, subst, true≢false, ℕ, ◌+◌, ◌-◌, ◌*◌, ◌<◌}
 use Rattle.std.proofs.Common.{◌≤◌, ◌⊎◌, inl, inr}
-use Rattle.std.proofs.Common.{Bool, true, false, not, ◌||◌, if◌then◌else◌, nat_le, Option, Some, None}
+use Rattle.std.proofs.Common.{Bool, true, false, ◌||◌, if◌then◌else◌, nat_le, Option, Some, None}
 use Rattle.std.proofs.Common.{is_some}
-use Rattle.std.proofs.Common.{List, [], ◌∷◌, ◌++◌, length, Result, Ok, Err, is_ok, suc, IsTrue, IfSome, ◌↔◌}
+use Rattle.std.proofs.Common.{List, [], ◌∷◌, ◌++◌, length, Result, Ok, Err, is_ok, suc, IsTrue, ◌↔◌}
 use Rattle.std.proofs.Common.{OnOk, OnErr}
 use Rattle.std.specs.Prelude.{IsSomeAnd, MatchOption}
 use Rattle.std.proofs.lemmas.Bool.Decides.{nat_tests}
@@ -11,24 +11,26 @@ use Rattle.std.proofs.lemmas.List.{length-append}
 use Rattle.std.proofs.lemmas.Nat.{mul-le}
 use Rattle.disk.specs.Device.{Device}
 use Rattle.disk.specs.declared.device.Failed.{Failed}
+use Rattle.limits.specs.declared.TheConstants.{CHANGED_BLOCKS}
 use Rattle.objects.specs.declared.addr.Addr.{Addr}
 use Rattle.objects.specs.declared.mode.Mode.TheVariants as modes
-use Rattle.model.specs.Calls.{has_rules, is_answered_stable}
+use Rattle.model.specs.Calls.{is_answered_stable}
 use Rattle.nfs_types.specs.declared.call.Call.{Call}
 use Rattle.nfs_types.specs.declared.ctx.Ctx.{Ctx}
 use Rattle.nfs_types.specs.declared.reply.Reply.{Reply}
-use Rattle.wal_law.specs.Log.{settled_place}
+use Rattle.wal_law.specs.Log.{Log, settled_place}
 use Rattle.wal_law.specs.declared.outcomes.Seq.{Seq}
-use Rattle.procs.specs.Asks.{WereAskedOnce}
 use Rattle.procs.specs.MostAsked.{most_asked}
+use Rattle.procs.specs.MostChanged.{most_changed}
 use Rattle.procs.specs.Outcome.{Outcome}
 use Rattle.procs.specs.Planned.{IsPlanFor}
 use Rattle.procs.specs.declared.next.Plan.{Plan}
 use Rattle.procs.specs.declared.next.Plan.TheVariants as plan
 use Rattle.procs.specs.declared.snap.Snap.{Snap}
-use Rattle.procs.proofs.FewAsked.{few, none_read, one_asked_once}
+use Rattle.procs.proofs.FewAsked.{few, one_asked_once}
 use Rattle.txn.specs.Core.{CoreState}
 use Rattle.txn.specs.Fetch.{Fetch}
+use Rattle.txn.specs.Group.{blocks_of}
 use Rattle.txn.specs.Object.{ObjectBytes}
 use Rattle.txn.specs.Outcomes.{IsCommit, IsWanted}
 use Rattle.txn.specs.declared.outcomes.Commit.{Commit}
@@ -44,9 +46,15 @@ use Rattle.store_promise.specs.declared.events.Cause.{Cause}
 use Rattle.store_promise.specs.declared.events.Step.{Step}
 use Rattle.store_promise.specs.declared.events.Step.TheVariants as step
 use Rattle.store.proofs.AtHand.{at_most_all, fewer_away}
-use Rattle.store.specs.Driving.{HasGoneOn, IsAnswered, IsCounted, IsNearer, IsUnder, IsUnderWay, WereRead}
-use Rattle.store.specs.Driving.{away, count_of, is_at_hand}
-use Rattle.store.specs.Driving.{is_kept_off, left_in, most_of, rounds_left, steps_left, unread}
+use Rattle.store.proofs.LoneWorker.{has_of, seen_of}
+use Rattle.store.proofs.LogRoom.{few_changed, no_room}
+use Rattle.store.proofs.StepKinds.{Beginning, IsTold, beginning, ending}
+use Rattle.store.proofs.StepKinds.{begun, refused, replied, lacked, committed}
+use Rattle.store.specs.Alone.{HasOfCall, HasTaken, PlansAlone, is_full, is_kept_off}
+use Rattle.store.specs.Fetches.{KeepsFetches}
+use Rattle.store.specs.Driving.{HasGoneOn, IsAnswered, IsNearer, IsUnder, IsUnderWay}
+use Rattle.store.specs.Driving.{away, count_of, has_room, is_at_hand}
+use Rattle.store.specs.Driving.{left_in, most_of, rounds_left, steps_left, unread}
 use Rattle.store.specs.Driving.{waits_for_log}
 use Rattle.store.specs.Driving.{whole_round}
 use Rattle.store.specs.Counts.{SameFrame}
@@ -58,10 +66,10 @@ use Rattle.store.specs.WorkerAnswers.{told_of, wish_of, with_answer}
 use Rattle.store.specs.WorkerAnswers.{with_entry}
 use Rattle.store.specs.Worker.{with_call}
 use Rattle.store.specs.WorkerReads.{HasReadBlock}
-use Rattle.store.specs.WorkerSteps.{BeginsBy, GoesByNext, GoesOn, EndsBy, HasBegun, HasCommitted, HasLacked}
-use Rattle.store.specs.WorkerSteps.{IsNext, SawNothing, Side, Waits, IsTold, BeginsAgain, HasGivenBack}
+use Rattle.store.specs.WorkerSteps.{GoesByNext, GoesOn, HasBegun, HasLacked}
+use Rattle.store.specs.WorkerSteps.{IsNext, Side, Waits, IsTold as IsHeard, BeginsAgain, HasGivenBack}
 use Rattle.store.specs.WorkerSteps.{HasLeft, HasRefused}
-use Rattle.store.specs.WorkerSteps.{Refuses, numbered, none_begun, planned_of, side, with_snap}
+use Rattle.store.specs.WorkerSteps.{Refuses, none_begun, planned_of, side, with_snap}
 use Rattle.store.specs.declared.workers.parts.Begun.{Begun}
 use Rattle.store.specs.declared.workers.parts.Job.{Job}
 use Rattle.store.specs.declared.workers.parts.Phase.{Phase}
@@ -72,21 +80,15 @@ use Rattle.store.specs.declared.workers.parts.Work.{Work}
 
 -- ---- numbers
 
--- a transaction that was begun leaves fewer to begin, by more than is left of it
-round_less : (begun number most blocks unread away : ℕ) → number ≡ begun + 1 → number < 2 ^ 64 → unread ≤ most
-    → away ≤ blocks → (2 ^ 64 - number) * (most * (blocks + 1) + blocks + 4) + (3 + (unread * (blocks + 1) + away))
-    < (2 ^ 64 - begun) * (most * (blocks + 1) + blocks + 4) + 1
-round_less begun number most blocks unread away next within asked there =
-    let one : 2 ^ 64 - begun ≡ suc (2 ^ 64 - number) = grind (arith) in
+-- what a transaction takes is less than a whole round
+round_less : (rounds most blocks unread away : ℕ) → unread ≤ most → away ≤ blocks
+    → rounds + (3 + (unread * (blocks + 1) + away)) < rounds + (most * (blocks + 1) + blocks + 4)
+round_less rounds most blocks unread away asked there =
     let reads = mul-le unread (blocks + 1) most (blocks + 1) asked (grind (arith)) in
-    let whole : ℕ = most * (blocks + 1) + blocks + 4 in
-    subst (λ n. (2 ^ 64 - number) * whole + (3 + (unread * (blocks + 1) + away)) < n * whole + 1) (sym one)
-    (more (2 ^ 64 - number) whole (unread * (blocks + 1)) away (most * (blocks + 1)) blocks refl reads there)
+    more (unread * (blocks + 1)) (most * (blocks + 1)) reads
   where
-    more : (left whole reads away most blocks : ℕ) → whole ≡ most + blocks + 4 → reads ≤ most → away ≤ blocks
-        → left * whole + (3 + (reads + away)) < suc left * whole + 1
-    more left whole reads away most blocks is a b =
-        let product : suc left * whole ≡ whole + left * whole = grind (arith) in grind (arith)
+    more : (some all : ℕ) → some ≤ all → rounds + (3 + (some + away)) < rounds + (all + blocks + 4)
+    more some all few = grind (arith)
 
 -- an object that was read leaves fewer
 read_less : (most count blocks away was rounds : ℕ) → count + 1 ≤ most → away ≤ blocks
@@ -103,9 +105,9 @@ read_less most count blocks away was rounds few within =
 -- ---- what a round comes to
 
 nearer : (most : ℕ) (state : State) (core : CoreState) (phase : Phase) → state.phase ≡ phase
-    → IsUnder phase state.work core → left_in phase state.work core < most → HasGoneOn most state core
+    → IsUnder phase core → left_in phase state.work core < most → HasGoneOn most state core
 nearer most state core phase is under less = inr (record {
-  under_way = subst (λ p. IsUnder p state.work core) (sym is) under;
+  under_way = subst (λ p. IsUnder p core) (sym is) under;
   less = subst (λ p. left_in p state.work core < most) (sym is) less;
 })
 
@@ -127,12 +129,11 @@ pub record IsToRead (old new : Side) : Type 0 where
   pub within : addr.block.0 < old.core.log.blocks
   pub job : new.worker.work.job ≡ old.worker.work.job
   pub seen : seen_in new.worker.work.snap ≡ seen_in old.worker.work.snap
-  pub were : WereRead old.worker.work
 
--- a wish was kept off, or a commit refused for want of room: the call begins again
-pub record IsKeptOff (most : ℕ) (new : Side) : Type 0 where
+-- a commit was refused for want of room: the call begins again once there is some
+pub record IsFull (most : ℕ) (new : Side) : Type 0 where
   pub phase : new.worker.phase ≡ Planning
-  pub less : rounds_left new.worker.work new.core + 2 < most
+  pub less : whole_round new.worker.work.job new.core.log.blocks + 1 < most
 
 -- it waits for its place, which was taken
 pub record IsToSettle (old new : Side) (place : Seq) : Type 0 where
@@ -144,30 +145,23 @@ pub record IsToSettle (old new : Side) (place : Seq) : Type 0 where
 -- what a step comes to, before what it waits for
 pub data Came (phase : Phase) (old : Side) (made : Option Step) (new : Side) : Type 0 where
   gone : HasGoneOn (left_in phase old.worker.work old.core) new.worker new.core
-      → is_kept_off made ≡ false → waits_for_log made ≡ false → Came phase old made new
-  told : IsAnswered new.worker → is_kept_off made ≡ false → Came phase old made new
-  reads : IsToRead old new → phase ≡ Planning → is_kept_off made ≡ false → waits_for_log made ≡ false
+      → is_full made ≡ false → waits_for_log made ≡ false → Came phase old made new
+  told : IsAnswered new.worker → is_full made ≡ false → Came phase old made new
+  reads : IsToRead old new → phase ≡ Planning → is_full made ≡ false → waits_for_log made ≡ false
       → Came phase old made new
-  kept : IsKeptOff (left_in phase old.worker.work old.core) new → is_kept_off made ≡ true → Came phase old made new
-  waits : (place : Seq) → phase ≡ Waiting place → IsToSettle old new place → is_kept_off made ≡ false
+  full : IsFull (left_in phase old.worker.work old.core) new → is_full made ≡ true → waits_for_log made ≡ true
+      → Came phase old made new
+  waits : (place : Seq) → phase ≡ Waiting place → IsToSettle old new place → is_full made ≡ false
       → waits_for_log made ≡ true → Came phase old made new
 
+-- where it goes on without the log
+goes_by : (phase : Phase) (old : Side) (made what : Step) (new : Side)
+    → HasGoneOn (left_in phase old.worker.work old.core) new.worker new.core → made ≡ what
+    → is_full (Some what) ≡ false → waits_for_log (Some what) ≡ false → Came phase old (Some made) new
+goes_by phase old made what new on is unkept none =
+    gone on (ap (λ m. is_full (Some m)) is ∙ unkept) (ap (λ m. waits_for_log (Some m)) is ∙ none)
+
 -- ---- what was read
-
-were_of : (work : Work) (job : Job) (seen : Seen) → work.job ≡ Some job → seen_in work.snap ≡ Some seen
-    → WereRead work → WereAskedOnce seen.geometry job.call seen.objects
-were_of work job seen job_is seen_is were =
-    subst (λ (o : Option Seen). IfSome o (λ (s : Seen). WereAskedOnce s.geometry job.call s.objects)) seen_is
-    (subst (λ (o : Option Job). IfSome o (λ (j : Job). IfSome (seen_in work.snap)
-    (λ (s : Seen). WereAskedOnce s.geometry j.call s.objects))) job_is were)
-
-were_so : (work : Work) (job : Job) (seen : Seen) → work.job ≡ Some job → seen_in work.snap ≡ Some seen
-    → WereAskedOnce seen.geometry job.call seen.objects → WereRead work
-were_so work job seen job_is seen_is were =
-    subst (λ (o : Option Job). IfSome o (λ (j : Job). IfSome (seen_in work.snap)
-    (λ (s : Seen). WereAskedOnce s.geometry j.call s.objects))) (sym job_is)
-    (subst (λ (o : Option Seen). IfSome o (λ (s : Seen). WereAskedOnce s.geometry job.call s.objects))
-    (sym seen_is) were)
 
 unread_is : (work : Work) (job : Job) (seen : Seen) → work.job ≡ Some job → seen_in work.snap ≡ Some seen
     → unread work ≡ most_asked job.call - length seen.objects
@@ -178,132 +172,90 @@ unread_is work job seen job_is seen_is =
 unread_within : (work : Work) → unread work ≤ most_of work.job
 unread_within work = grind (arith)
 
-same_rounds : (old new : Side) → new.worker.work.job ≡ old.worker.work.job → new.core ≡ old.core
+-- what a round takes, and what comes behind it, by how much the job asks for and by the log
+abbrev round_of : ℕ → Log → ℕ
+round_of most log = most * (log.blocks + 1) + log.blocks + 4
+
+same_rounds : (old new : Side) → most_of new.worker.work.job ≡ most_of old.worker.work.job
+    → new.core.log ≡ old.core.log
     → rounds_left new.worker.work new.core ≡ rounds_left old.worker.work old.core
-same_rounds old new job core =
-    ap (λ (o : Option Job). (2 ^ 64 - new.core.begun) * whole_round o new.core.log.blocks) job
-    ∙ ap (λ (c : CoreState). (2 ^ 64 - c.begun) * whole_round old.worker.work.job c.log.blocks) core
+same_rounds old new most log =
+    ap (λ n. if has_room new.core.log then 0 else round_of n new.core.log) most
+    ∙ ap (λ (l : Log). if has_room l then 0 else round_of (most_of old.worker.work.job) l) log
 
 -- ---- a transaction is begun
 
-begun : (old new : Side) (job : Job) (number : ℕ) → old.worker.work.job ≡ Some job → number < 2 ^ 64
-    → HasBegun job old number new → (seen : Seen) → seen_in new.worker.work.snap ≡ Some seen
-    → SawNothing old.core seen → HasGoneOn (left_in Called old.worker.work old.core) new.worker new.core
-begun old new job number job_is counted has seen seen_is saw =
+begun_so : (old new : Side) (job : Job) (number : ℕ) → old.worker.work.job ≡ Some job → HasBegun job old number new
+    → HasGoneOn (left_in Called old.worker.work old.core) new.worker new.core
+begun_so old new job number job_is has =
     nearer (left_in Called old.worker.work old.core) new.worker new.core Planning
-    (ap (λ (s : State). s.phase) has.worker)
-    (were_so new.worker.work (numbered number job) seen new_job seen_is
-    (subst (λ objects. WereAskedOnce seen.geometry job.call objects) (sym saw.objects)
-    (none_read seen.geometry job.call)))
-    less
+    (ap (λ (s : State). s.phase) has.worker) tt
+    (subst (λ r. r + (3 + (unread new.worker.work * (new.core.log.blocks + 1) + away new.core))
+    < left_in Called old.worker.work old.core) (sym (same_rounds old new most log))
+    (subst (λ n. rounds_left old.worker.work old.core + (3 + (unread new.worker.work * (n + 1) + away new.core))
+    < left_in Called old.worker.work old.core) (sym (ap (λ (l : Log). l.blocks) log)) fewer))
   where
-    new_job : new.worker.work.job ≡ Some (numbered number job)
-    new_job = ap (λ (s : State). s.work.job) has.worker
-
-    blocks : new.core.log.blocks ≡ old.core.log.blocks
-    blocks = ap (λ (c : CoreState). c.log.blocks) has.core
+    log : new.core.log ≡ old.core.log
+    log = ap (λ (c : CoreState). c.log) has.core
 
     most : most_of new.worker.work.job ≡ most_of old.worker.work.job
-    most = ap most_of new_job ∙ sym (ap most_of job_is)
+    most = ap (λ (s : State). most_of s.work.job) has.worker ∙ sym (ap most_of job_is)
 
-    less : left_in Planning new.worker.work new.core < left_in Called old.worker.work old.core
-    less =
-        let fewer = round_less old.core.begun new.core.begun (most_of old.worker.work.job) old.core.log.blocks
-        (unread new.worker.work) (away new.core) (ap (λ (c : CoreState). c.begun) has.core ∙ has.next)
-        (subst (λ n. n < 2 ^ 64) (sym (ap (λ (c : CoreState). c.begun) has.core)) counted)
+    fewer : rounds_left old.worker.work old.core
+        + (3 + (unread new.worker.work * (old.core.log.blocks + 1) + away new.core))
+        < left_in Called old.worker.work old.core
+    fewer = round_less (rounds_left old.worker.work old.core) (most_of old.worker.work.job) old.core.log.blocks
+        (unread new.worker.work) (away new.core)
         (subst (λ n. unread new.worker.work ≤ n) most (unread_within new.worker.work))
-        (subst (λ n. away new.core ≤ n) blocks (at_most_all (is_at_hand new.core) new.core.log.blocks)) in
-        subst (λ n. (2 ^ 64 - new.core.begun) * (n * (new.core.log.blocks + 1) + new.core.log.blocks + 4)
-        + (3 + (unread new.worker.work * (new.core.log.blocks + 1) + away new.core))
-        < left_in Called old.worker.work old.core) (sym most)
-        (subst (λ n. (2 ^ 64 - new.core.begun) * (most_of old.worker.work.job * (n + 1) + n + 4)
-        + (3 + (unread new.worker.work * (n + 1) + away new.core)) < left_in Called old.worker.work old.core)
-        (sym blocks) fewer)
+        (subst (λ n. away new.core ≤ n) (ap (λ (l : Log). l.blocks) log)
+        (at_most_all (is_at_hand new.core) new.core.log.blocks))
 
-begins : (old new : Side) (made : Step) (job : Job) (served : Bool) → old.worker.work.job ≡ Some job
-    → IsCounted (Some made) → BeginsBy served job old made new → Came Called old (Some made) new
-begins old new (step.Begun (Ok number)) job true is counted has = by (seen_in new.worker.work.snap) refl has.seen
-  where
-    by : (found : Option Seen) → seen_in new.worker.work.snap ≡ found → IsSomeAnd found (SawNothing old.core)
-        → Came Called old (Some (step.Begun (Ok number))) new
-    by None at saw = absurd saw
-    by (Some seen) at saw = gone (begun old new job number is counted has seen at saw) refl refl
-begins old new (step.Begun (Err why)) job true is counted has =
-    gone (answered _ new.worker old.worker new.core _ _ has.2) refl refl
-begins old new step.Called job true is counted has = absurd has
-begins old new step.Replied job true is counted has = absurd has
-begins old new (step.Wanted a b c) job true is counted has = absurd has
-begins old new (step.Claimed a b) job true is counted has = absurd has
-begins old new (step.Fetched a) job true is counted has = absurd has
-begins old new (step.FetchFailed a) job true is counted has = absurd has
-begins old new (step.Commit a b) job true is counted has = absurd has
-begins old new (step.Ended a) job true is counted has = absurd has
-begins old new (step.Stable a b) job true is counted has = absurd has
-begins old new (step.Read a b) job true is counted has = absurd has
-begins old new (step.LogNext a) job true is counted has = absurd has
-begins old new (step.LogIo a) job true is counted has = absurd has
-begins old new (step.LogDone a) job true is counted has = absurd has
-begins old new (step.InstNext a) job true is counted has = absurd has
-begins old new (step.InstIo a) job true is counted has = absurd has
-begins old new (step.InstDone a) job true is counted has = absurd has
-begins old new made job false is counted has =
-    let told : HasGoneOn (left_in Called old.worker.work old.core) new.worker new.core =
-    answered (left_in Called old.worker.work old.core) new.worker old.worker new.core _ _ has.2 in
-    gone told (ap (λ m. is_kept_off (Some m)) has.0) (ap (λ m. waits_for_log (Some m)) has.0)
+told_so : (old new : Side) → IsTold old new → HasGoneOn (left_in Called old.worker.work old.core) new.worker new.core
+told_so old new is =
+    answered (left_in Called old.worker.work old.core) new.worker old.worker new.core is.heard None is.worker
 
-called : (old new : Side) (made : Step) → IsCounted (Some made) → (found : Option Job) → old.worker.work.job ≡ found
-    → IsSomeAnd found (λ job. BeginsBy (has_rules job.call) job old made new) → Came Called old (Some made) new
-called old new made counted None is begins_so = absurd begins_so
-called old new made counted (Some job) is begins_so =
-    begins old new made job (has_rules job.call) is counted begins_so
+called : (old new : Side) (made : Step) → Beginning old made new → Came Called old (Some made) new
+called old new made (begun job number job_is made_is has) =
+    goes_by Called old made (step.Begun (Ok number)) new (begun_so old new job number job_is has) made_is refl refl
+called old new made (refused why made_is is) =
+    goes_by Called old made (step.Begun (Err why)) new (told_so old new is) made_is refl refl
+called old new made (replied made_is is) =
+    goes_by Called old made step.Replied new (told_so old new is) made_is refl refl
 
 -- ---- a wish
 
-module _ (old new : Side) (addr : Addr) (job : Job) (snap : Snap) (job_is : old.worker.work.job ≡ Some job)
-    (snap_is : seen_in old.worker.work.snap ≡ seen_in (Some snap)) (were : WereRead old.worker.work)
+module _ (old new : Side) (addr : Addr) (job : Job) (tx : ℕ) (snap : Snap) (job_is : old.worker.work.job ≡ Some job)
+    (snap_is : seen_in old.worker.work.snap ≡ seen_in (Some snap)) (has : HasOfCall job tx old.core (seen_of snap))
     (is_plan : IsPlanFor job.call snap (plan.Need addr)) (same_job : new.worker.work.job ≡ old.worker.work.job) where
-  abbrev was_seen : Seen
-  was_seen = record { geometry = snap.geometry; objects = snap.objects.items; claims = snap.claims.items }
-
   abbrev left : ℕ
   left = left_in Planning old.worker.work old.core
 
-  held : (bytes : List ℕ) → new.worker.phase ≡ Planning → new.core.log.blocks ≡ old.core.log.blocks
-      → new.core.begun ≡ old.core.begun
+  held : (bytes : List ℕ) → new.worker.phase ≡ Planning → new.core.log ≡ old.core.log
       → seen_in new.worker.work.snap ≡ with_object addr bytes (seen_in old.worker.work.snap)
       → HasGoneOn left new.worker new.core
-  held bytes phase blocks begun_same seen =
-      nearer left new.worker new.core Planning phase (were_so new.worker.work job now_seen new_job seen_is once) less
+  held bytes phase log seen = nearer left new.worker new.core Planning phase tt less
     where
       object : ObjectBytes
       object = record { addr = addr; bytes = bytes }
 
       now_seen : Seen
-      now_seen = record was_seen { objects = snap.objects.items ++ object ∷ [] }
+      now_seen = record (seen_of snap) { objects = snap.objects.items ++ object ∷ [] }
 
-      new_job : new.worker.work.job ≡ Some job
-      new_job = same_job ∙ job_is
-
-      seen_is : seen_in new.worker.work.snap ≡ Some now_seen
-      seen_is = seen ∙ ap (with_object addr bytes) snap_is
-
-      once : WereAskedOnce snap.geometry job.call now_seen.objects
-      once = one_asked_once snap.geometry job.call snap.objects.items object
-          (were_of old.worker.work job was_seen job_is snap_is were) is_plan.1 is_plan.0
+      blocks : new.core.log.blocks ≡ old.core.log.blocks
+      blocks = ap (λ (l : Log). l.blocks) log
 
       less : left_in Planning new.worker.work new.core < left
       less =
           let count = length-append snap.objects.items (object ∷ []) in
-          let most = few snap.geometry job.call now_seen.objects once in
-          let now = unread_is new.worker.work job now_seen new_job seen_is in
-          let was = unread_is old.worker.work job was_seen job_is snap_is in
+          let most = few snap.geometry job.call now_seen.objects
+          (one_asked_once snap.geometry job.call snap.objects.items object has.were is_plan.1 is_plan.0) in
+          let now = unread_is new.worker.work job now_seen (same_job ∙ job_is)
+          (seen ∙ ap (with_object addr bytes) snap_is) in
+          let was = unread_is old.worker.work job (seen_of snap) job_is snap_is in
           let fewer = read_less (most_asked job.call) (length snap.objects.items) old.core.log.blocks (away new.core)
           (away old.core) (rounds_left old.worker.work old.core) (grind (arith))
           (subst (λ n. away new.core ≤ n) blocks (at_most_all (is_at_hand new.core) new.core.log.blocks)) in
-          let rounds : rounds_left new.worker.work new.core ≡ rounds_left old.worker.work old.core =
-          ap (λ (o : Option Job). (2 ^ 64 - new.core.begun) * whole_round o new.core.log.blocks) same_job
-          ∙ ap (λ n. (2 ^ 64 - n) * whole_round old.worker.work.job new.core.log.blocks) begun_same
-          ∙ ap (λ n. (2 ^ 64 - old.core.begun) * whole_round old.worker.work.job n) blocks in
+          let rounds = same_rounds old new (ap most_of same_job) log in
           let counted : unread new.worker.work ≡ most_asked job.call - (length snap.objects.items + 1) =
           now ∙ ap (λ n. most_asked job.call - n) count in
           subst (λ r. r + (3 + (unread new.worker.work * (new.core.log.blocks + 1) + away new.core)) < left) (sym rounds)
@@ -315,48 +267,40 @@ module _ (old new : Side) (addr : Addr) (job : Job) (snap : Snap) (job_is : old.
           * (old.core.log.blocks + 1) + away new.core))
           < rounds_left old.worker.work old.core + (3 + (u * (old.core.log.blocks + 1) + away old.core))) (sym was) fewer)))
 
-  kept_off : new.worker.phase ≡ Planning → new.core ≡ old.core → IsKeptOff left new
-  kept_off phase core = record {
-    phase = phase;
-    less = subst (λ r. r + 2 < left) (sym (same_rounds old new same_job core)) (grind (arith));
-  }
-
-  wanted : (made : Step) (tx : ℕ) (answer : Want) → made ≡ step.Wanted addr modes.Exclusive (wish_of answer)
+  wanted : (made : Step) → is_kept_off (Some made) ≡ false → (answer : Want)
+      → made ≡ step.Wanted addr modes.Exclusive (wish_of answer)
       → IsWanted old.core tx addr modes.Exclusive answer new.core → new.worker.phase ≡ phase_wanted answer
       → new.worker.begun ≡ begun_wanted answer
       → seen_in new.worker.work.snap ≡ seen_wanted addr answer (seen_in old.worker.work.snap)
       → Came Planning old (Some made) new
-  wanted made tx (want.Held back bytes) made_is core phase begun seen =
-      gone (held bytes.items phase (ap (λ (c : CoreState). c.log.blocks) core.2.only)
-      (ap (λ (c : CoreState). c.begun) core.2.only) seen)
-      (ap (λ m. is_kept_off (Some m)) made_is) (ap (λ m. waits_for_log (Some m)) made_is)
-  wanted made tx (want.Fetch back io) made_is core phase begun seen =
+  wanted made free (want.Held back bytes) made_is core phase got seen =
+      goes_by Planning old made _ new (held bytes.items phase (ap (λ (c : CoreState). c.log) core.2.only) seen)
+      made_is refl refl
+  wanted made free (want.Fetch back io) made_is core phase got seen =
       reads (record {
         phase = phase;
         tx = tx;
         addr = addr;
         io = io;
-        io_is = ap (λ (b : Begun). b.io) begun;
+        io_is = ap (λ (b : Begun). b.io) got;
         fetched = core.2;
         within = core.1.home.1;
         job = same_job;
         seen = seen;
-        were = were;
-      }) refl (ap (λ m. is_kept_off (Some m)) made_is) (ap (λ m. waits_for_log (Some m)) made_is)
-  wanted made tx (want.Busy back) made_is core phase begun seen =
-      kept (kept_off phase core.2) (ap (λ m. is_kept_off (Some m)) made_is)
-  wanted made tx (want.Loading back) made_is core phase begun seen =
-      kept (kept_off phase core.2) (ap (λ m. is_kept_off (Some m)) made_is)
-  wanted made tx (want.Outside back) made_is core phase begun seen =
-      gone (nearer left new.worker new.core _ phase tt (grind (arith)))
-      (ap (λ m. is_kept_off (Some m)) made_is) (ap (λ m. waits_for_log (Some m)) made_is)
-  wanted made tx (want.NoMemory back) made_is core phase begun seen =
-      gone (nearer left new.worker new.core _ phase tt (grind (arith)))
-      (ap (λ m. is_kept_off (Some m)) made_is) (ap (λ m. waits_for_log (Some m)) made_is)
+      }) refl (ap (λ m. is_full (Some m)) made_is) (ap (λ m. waits_for_log (Some m)) made_is)
+  wanted made free (want.Busy back) made_is core phase got seen =
+      absurd (true≢false (sym (ap (λ m. is_kept_off (Some m)) made_is) ∙ free))
+  wanted made free (want.Loading back) made_is core phase got seen =
+      absurd (true≢false (sym (ap (λ m. is_kept_off (Some m)) made_is) ∙ free))
+  wanted made free (want.Outside back) made_is core phase got seen =
+      goes_by Planning old made _ new (nearer left new.worker new.core _ phase tt (grind (arith))) made_is refl refl
+  wanted made free (want.NoMemory back) made_is core phase got seen =
+      goes_by Planning old made _ new (nearer left new.worker new.core _ phase tt (grind (arith))) made_is refl refl
 
 -- ---- a commit
 
-module _ (old new : Side) (tx : ℕ) (job : Job) (done : Outcome) (job_is : old.worker.work.job ≡ Some job) where
+module _ (old new : Side) (tx : ℕ) (job : Job) (done : Outcome) (job_is : old.worker.work.job ≡ Some job)
+    (little : length (blocks_of done.written) ≤ CHANGED_BLOCKS) where
   abbrev left_then : ℕ
   left_then = left_in Planning old.worker.work old.core
 
@@ -375,75 +319,78 @@ module _ (old new : Side) (tx : ℕ) (job : Job) (done : Outcome) (job_is : old.
     there = ap (λ (s : State). is_some s.work.answer) is;
   })
 
+  full_so : new.worker.phase ≡ Planning → new.worker.work.job ≡ old.worker.work.job → new.core ≡ old.core
+      → has_room old.core.log ≡ false → IsFull left_then new
+  full_so phase same core none = record {
+    phase = phase;
+    less = subst (λ n. n + 1 < left_then)
+        (sym (ap (λ (o : Option Job). whole_round o new.core.log.blocks) same
+        ∙ ap (λ (c : CoreState). whole_round old.worker.work.job c.log.blocks) core))
+        (subst (λ r. whole_round old.worker.work.job old.core.log.blocks + 1
+        < r + (3 + (unread old.worker.work * (old.core.log.blocks + 1) + away old.core)))
+        (sym (ap (λ b. if b then 0 else whole_round old.worker.work.job old.core.log.blocks) none)) (grind (arith)));
+  }
+
+  refused_so : (made : Step) (why : Cause) (added : ℕ) (answer : Commit Outcome)
+      → made ≡ step.Commit added (committing_of answer) → is_full (Some (step.Commit added (committing_of answer))) ≡ false
+      → waits_for_log (Some (step.Commit added (committing_of answer))) ≡ false
+      → new.worker.phase ≡ Refused why → Came Planning old (Some made) new
+  refused_so made why added answer made_is unkept none phase =
+      goes_by Planning old made (step.Commit added (committing_of answer)) new
+      (nearer left_then new.worker new.core (Refused why) phase tt (grind (arith))) made_is unkept none
+
   committed_so : (made : Step) (base : State) (answer : Commit Outcome) (added : ℕ)
-      → base.work.job ≡ old.worker.work.job → made ≡ step.Commit added (committing_of answer)
+      → base.work.job ≡ old.worker.work.job → is_kept_off (Some made) ≡ false
+      → made ≡ step.Commit added (committing_of answer)
       → IsCommit old.core tx (planned_of done) done answer new.core
       → new.worker ≡ after_commit job done.reply answer base → Came Planning old (Some made) new
-  committed_so made base (commit.Committed place) added same made_is core worker =
-      gone (placed base place (is_answered_stable job.call) (grind (arith, core.next, core.places)) worker)
-      (ap (λ m. is_kept_off (Some m)) made_is) (ap (λ m. waits_for_log (Some m)) made_is)
-  committed_so made base (commit.Full back change) added same made_is core worker =
-      kept (record {
-        phase = ap (λ (s : State). s.phase) worker;
-        less = subst (λ r. r + 2 < left_then) (sym (same_rounds old new (ap (λ (s : State). s.work.job) worker ∙ same)
-            core.0.core)) (grind (arith));
-      }) (ap (λ m. is_kept_off (Some m)) made_is)
-  committed_so made base (commit.Foreign back change) added same made_is core worker =
-      gone (nearer left_then new.worker new.core Again (ap (λ (s : State). s.phase) worker) tt
-      (subst (λ r. r + 2 < left_then) (sym (same_rounds old new (ap (λ (s : State). s.work.job) worker ∙ same)
-      core.0.core)) (grind (arith))))
-      (ap (λ m. is_kept_off (Some m)) made_is) (ap (λ m. waits_for_log (Some m)) made_is)
-  committed_so made base (commit.NoMemory back change) added same made_is core worker =
-      gone (nearer left_then new.worker new.core _ (ap (λ (s : State). s.phase) worker) tt (grind (arith)))
-      (ap (λ m. is_kept_off (Some m)) made_is) (ap (λ m. waits_for_log (Some m)) made_is)
-  committed_so made base (commit.Broken back change) added same made_is core worker =
-      gone (nearer left_then new.worker new.core _ (ap (λ (s : State). s.phase) worker) tt (grind (arith)))
-      (ap (λ m. is_kept_off (Some m)) made_is) (ap (λ m. waits_for_log (Some m)) made_is)
-  committed_so made base (commit.Spent back change) added same made_is core worker =
-      gone (nearer left_then new.worker new.core _ (ap (λ (s : State). s.phase) worker) tt (grind (arith)))
-      (ap (λ m. is_kept_off (Some m)) made_is) (ap (λ m. waits_for_log (Some m)) made_is)
+  committed_so made base (commit.Committed place) added same free made_is core worker =
+      goes_by Planning old made _ new
+      (placed base place (is_answered_stable job.call) (grind (arith, core.next, core.places)) worker) made_is refl refl
+  committed_so made base (commit.Full back change) added same free made_is core worker =
+      full (full_so (ap (λ (s : State). s.phase) worker) (ap (λ (s : State). s.work.job) worker ∙ same) core.0.core
+      (no_room old.core tx (planned_of done) core.1 little)) (ap (λ m. is_full (Some m)) made_is)
+      (ap (λ m. waits_for_log (Some m)) made_is)
+  committed_so made base (commit.Foreign back change) added same free made_is core worker =
+      absurd (true≢false (sym (ap (λ m. is_kept_off (Some m)) made_is) ∙ free))
+  committed_so made base (commit.NoMemory back change) added same free made_is core worker =
+      refused_so made _ added (commit.NoMemory back change) made_is refl refl (ap (λ (s : State). s.phase) worker)
+  committed_so made base (commit.Broken back change) added same free made_is core worker =
+      refused_so made _ added (commit.Broken back change) made_is refl refl (ap (λ (s : State). s.phase) worker)
+  committed_so made base (commit.Spent back change) added same free made_is core worker =
+      refused_so made _ added (commit.Spent back change) made_is refl refl (ap (λ (s : State). s.phase) worker)
 
-lacked : (old new : Side) (tx : ℕ) (made : Step) → HasLacked tx old made new → Came Planning old (Some made) new
-lacked old new tx made has =
-    gone (answered (left_in Planning old.worker.work old.core) new.worker
+lacked_so : (old new : Side) (tx : ℕ) (made : Step) → HasLacked tx old made new → Came Planning old (Some made) new
+lacked_so old new tx made has =
+    goes_by Planning old made _ new (answered (left_in Planning old.worker.work old.core) new.worker
     (record (with_snap new.worker old.worker) { begun = none_begun }) new.core verdict.NoMemory None has.worker)
-    (ap (λ m. is_kept_off (Some m)) has.made_is) (ap (λ m. waits_for_log (Some m)) has.made_is)
+    has.made_is refl refl
 
-commits : (old new : Side) (tx : ℕ) (done : Outcome) (made : Step) (found : Option Job) → old.worker.work.job ≡ found
-    → IsSomeAnd found (λ job. HasCommitted job tx done old made new) → Came Planning old (Some made) new
-commits old new tx done made None is has = absurd has
-commits old new tx done made (Some job) is has =
-    committed_so old new tx job done is made _ has.answer _ refl has.made_is has.core has.worker
-
-ends : (old new : Side) (tx : ℕ) (done : Outcome) (made : Step) → EndsBy tx done old made new
+goes : (old new : Side) (tx : ℕ) (made : Step) (next : Plan) → old.worker.begun.tx ≡ Some tx → IsNext old.worker next
+    → HasTaken old.worker old.core → is_kept_off (Some made) ≡ false → GoesByNext next tx old made new
     → Came Planning old (Some made) new
-ends old new tx done (step.Ended why) has = lacked old new tx (step.Ended why) has
-ends old new tx done step.Called has = commits old new tx done step.Called old.worker.work.job refl has
-ends old new tx done step.Replied has = commits old new tx done step.Replied old.worker.work.job refl has
-ends old new tx done (step.Begun a) has = commits old new tx done (step.Begun a) old.worker.work.job refl has
-ends old new tx done (step.Wanted a b c) has = commits old new tx done (step.Wanted a b c) old.worker.work.job refl has
-ends old new tx done (step.Claimed a b) has = commits old new tx done (step.Claimed a b) old.worker.work.job refl has
-ends old new tx done (step.Fetched a) has = commits old new tx done (step.Fetched a) old.worker.work.job refl has
-ends old new tx done (step.FetchFailed a) has = commits old new tx done (step.FetchFailed a) old.worker.work.job refl has
-ends old new tx done (step.Commit a b) has = commits old new tx done (step.Commit a b) old.worker.work.job refl has
-ends old new tx done (step.Stable a b) has = commits old new tx done (step.Stable a b) old.worker.work.job refl has
-ends old new tx done (step.Read a b) has = commits old new tx done (step.Read a b) old.worker.work.job refl has
-ends old new tx done (step.LogNext a) has = commits old new tx done (step.LogNext a) old.worker.work.job refl has
-ends old new tx done (step.LogIo a) has = commits old new tx done (step.LogIo a) old.worker.work.job refl has
-ends old new tx done (step.LogDone a) has = commits old new tx done (step.LogDone a) old.worker.work.job refl has
-ends old new tx done (step.InstNext a) has = commits old new tx done (step.InstNext a) old.worker.work.job refl has
-ends old new tx done (step.InstIo a) has = commits old new tx done (step.InstIo a) old.worker.work.job refl has
-ends old new tx done (step.InstDone a) has = commits old new tx done (step.InstDone a) old.worker.work.job refl has
-
-goes : (old new : Side) (tx : ℕ) (made : Step) (next : Plan) → IsNext old.worker next → WereRead old.worker.work
-    → GoesByNext next tx old made new → Came Planning old (Some made) new
-goes old new tx made (plan.Need addr) is were has =
-    wanted old new addr is.job is.snap is.job_is is.snap_is were is.plan
-    (ap (λ (s : State). s.work.job) has.worker) made tx has.answer has.made_is has.core
-    (ap (λ (s : State). s.phase) has.worker) (ap (λ (s : State). s.begun) has.worker) has.seen
-goes old new tx made (plan.Claim block) is were has = absurd is.plan.1
-goes old new tx made (plan.Done done) is were has = ends old new tx done made has
-goes old new tx made plan.NoMemory is were has = lacked old new tx made has
+goes old new tx made next tx_is is taken free goes_so = of_next next is.plan goes_so
+  where
+    of_next : (next : Plan) → IsPlanFor is.job.call is.snap next → GoesByNext next tx old made new
+        → Came Planning old (Some made) new
+    of_next (plan.Need addr) planned wish =
+        wanted old new addr is.job tx is.snap is.job_is is.snap_is
+        (has_of old.worker old.core is.job tx (seen_of is.snap) is.job_is tx_is is.snap_is taken) planned
+        (ap (λ (s : State). s.work.job) wish.worker) made free wish.answer wish.made_is wish.core
+        (ap (λ (s : State). s.phase) wish.worker) (ap (λ (s : State). s.begun) wish.worker) wish.seen
+    of_next (plan.Claim block) planned wish = absurd planned.1
+    of_next (plan.Done done) planned end = elim (ending old new tx done made end) [
+      | lacked has ↦ lacked_so old new tx made has
+      | committed job job_is has ↦
+          committed_so old new tx job done job_is (few_of (most_changed is.job.call) planned.1 (few_changed is.job.call))
+          made (record (with_snap new.worker old.worker) { begun = none_begun }) has.answer _ refl free has.made_is
+          has.core has.worker
+    ]
+      where
+        few_of : (most : ℕ) → length (blocks_of done.written) ≤ most → most ≤ CHANGED_BLOCKS
+            → length (blocks_of done.written) ≤ CHANGED_BLOCKS
+        few_of most fewer all = omega (arith, fewer, all)
+    of_next plan.NoMemory planned lack = lacked_so old new tx made lack
 
 -- ---- any step
 
@@ -452,8 +399,8 @@ waited : (old new : Side) (place : Seq) (made : Step) → place.0 ≤ old.core.l
 waited old new place made within has =
     by has.settled has.settled_is has.made_is old.core.log.broken refl has.told
   where
-    kept_is : (settled : Bool) → made ≡ step.Stable place settled → is_kept_off (Some made) ≡ false
-    kept_is settled is = ap (λ m. is_kept_off (Some m)) is
+    room_is : (settled : Bool) → made ≡ step.Stable place settled → is_full (Some made) ≡ false
+    room_is settled is = ap (λ m. is_full (Some m)) is
 
     told_so : (heard : Verdict) (base : State) → new.worker ≡ with_answer heard (Some place) base → IsAnswered new.worker
     told_so heard base is = record {
@@ -467,19 +414,19 @@ waited old new place made within has =
     reply (Some r) base has = told_so (verdict.Reply r) base has
 
     by : (settled : Bool) → (IsTrue settled ↔ (place.0 ≤ settled_place old.core.log)) → made ≡ step.Stable place settled
-        → (broken : Bool) → old.core.log.broken ≡ broken → IsTold settled broken place old.worker new.worker
+        → (broken : Bool) → old.core.log.broken ≡ broken → IsHeard settled broken place old.worker new.worker
         → Came (Waiting place) old (Some made) new
     by true is made_is broken at has = told (reply old.worker.work.reply
-        (record old.worker { work = record old.worker.work { reply = None } }) has) (kept_is true made_is)
+        (record old.worker { work = record old.worker.work { reply = None } }) has) (room_is true made_is)
     by false is made_is true at has = told (reply old.worker.work.broken_reply
-        (record old.worker { work = record old.worker.work { broken_reply = None } }) has) (kept_is false made_is)
+        (record old.worker { work = record old.worker.work { broken_reply = None } }) has) (room_is false made_is)
     by false is made_is false at same =
         waits place refl (record {
           same = same;
           unsettled = unsettled (nat_le place.0 (settled_place old.core.log)) refl;
           sound = at;
           within = subst (λ (c : CoreState). place.0 ≤ c.log.places) (sym has.core) within;
-        }) (kept_is false made_is) (ap (λ m. waits_for_log (Some m)) made_is)
+        }) (room_is false made_is) (ap (λ m. waits_for_log (Some m)) made_is)
       where
         unsettled : (there : Bool) → nat_le place.0 (settled_place old.core.log) ≡ there → there ≡ false
         unsettled false test = refl
@@ -496,9 +443,8 @@ refuses old new why made has = by_job old.worker.work.job old.worker.begun.tx ha
     by_job None tx has = absurd has
     by_job (Some job) None has = absurd has
     by_job (Some job) (Some tx) has =
-        gone (answered (left_in (Refused why) old.worker.work old.core) new.worker
-        (record old.worker { begun = none_begun }) new.core (refusal job.call why) None has.worker)
-        (ap (λ m. is_kept_off (Some m)) has.made_is) (ap (λ m. waits_for_log (Some m)) has.made_is)
+        goes_by (Refused why) old made _ new (answered (left_in (Refused why) old.worker.work old.core) new.worker
+        (record old.worker { begun = none_begun }) new.core (refusal job.call why) None has.worker) has.made_is refl refl
 
 again : (old new : Side) (made : Step) → BeginsAgain old made new → Came Again old (Some made) new
 again old new made has = by old.worker.begun.tx has
@@ -506,33 +452,43 @@ again old new made has = by old.worker.begun.tx has
     by : (tx : Option ℕ) → IsSomeAnd tx (λ tx. HasLeft tx old made new) → Came Again old (Some made) new
     by None has = absurd has
     by (Some tx) has =
-        gone (nearer (left_in Again old.worker.work old.core) new.worker new.core Called
-        (ap (λ (s : State). s.phase) has.worker) tt less)
-        (ap (λ m. is_kept_off (Some m)) has.made_is) (ap (λ m. waits_for_log (Some m)) has.made_is)
+        goes_by Again old made _ new (nearer (left_in Again old.worker.work old.core) new.worker new.core Called
+        (ap (λ (s : State). s.phase) has.worker) tt less) has.made_is refl refl
       where
-        rounds : rounds_left new.worker.work new.core ≡ rounds_left old.worker.work old.core
-        rounds = ap (λ (o : Option Job). (2 ^ 64 - new.core.begun) * whole_round o new.core.log.blocks)
-            (ap (λ (s : State). s.work.job) has.worker)
-            ∙ ap (λ (c : CoreState). (2 ^ 64 - c.begun) * whole_round old.worker.work.job c.log.blocks) has.core.only
+        job : new.worker.work.job ≡ old.worker.work.job
+        job = ap (λ (s : State). s.work.job) has.worker
+
+        log : new.core.log ≡ old.core.log
+        log = ap (λ (c : CoreState). c.log) has.core.only
+
+        whole : whole_round new.worker.work.job new.core.log.blocks
+            ≡ whole_round old.worker.work.job old.core.log.blocks
+        whole = ap (λ (o : Option Job). whole_round o new.core.log.blocks) job
+            ∙ ap (λ (l : Log). whole_round old.worker.work.job l.blocks) log
 
         less : left_in Called new.worker.work new.core < left_in Again old.worker.work old.core
-        less = subst (λ r. r + 1 < left_in Again old.worker.work old.core) (sym rounds) (grind (arith))
+        less = subst (λ r. r + whole_round new.worker.work.job new.core.log.blocks
+            < left_in Again old.worker.work old.core) (sym (same_rounds old new (ap most_of job) log))
+            (subst (λ w. rounds_left old.worker.work old.core + w < left_in Again old.worker.work old.core) (sym whole)
+            (grind (arith)))
 
-pub stepped : (phase : Phase) (old new : Side) (made : Option Step) → IsUnder phase old.worker.work old.core
-    → IsCounted made → GoesOn phase old made new → Came phase old made new
-stepped Idle old new made under counted has = absurd under
-stepped Reading old new made under counted has = absurd under
-stepped (Read ok) old new made under counted has = absurd under
-stepped Called old new (Some made) under counted has = called old new made counted old.worker.work.job refl has
-stepped Planning old new (Some made) under counted has = goes old new has.tx made has.next has.next_is under has.goes
-stepped (Refused why) old new (Some made) under counted has = refuses old new why made has
-stepped Again old new (Some made) under counted has = again old new made has
-stepped (Waiting place) old new (Some made) under counted has = waited old new place made under has
-stepped Called old new None under counted has = absurd has
-stepped Planning old new None under counted has = absurd has
-stepped (Refused why) old new None under counted has = absurd has
-stepped Again old new None under counted has = absurd has
-stepped (Waiting place) old new None under counted has = absurd has
+pub stepped : (phase : Phase) (old new : Side) (made : Option Step) → IsUnder phase old.core
+    → PlansAlone phase old.worker old.core → is_kept_off made ≡ false → GoesOn phase old made new
+    → Came phase old made new
+stepped Idle old new made under plans free has = absurd under
+stepped Reading old new made under plans free has = absurd under
+stepped (Read ok) old new made under plans free has = absurd under
+stepped Called old new (Some made) under plans free has = called old new made (beginning old new made has)
+stepped Planning old new (Some made) under plans free has =
+    goes old new has.tx made has.next has.tx_is has.next_is plans free has.goes
+stepped (Refused why) old new (Some made) under plans free has = refuses old new why made has
+stepped Again old new (Some made) under plans free has = again old new made has
+stepped (Waiting place) old new (Some made) under plans free has = waited old new place made under has
+stepped Called old new None under plans free has = absurd has
+stepped Planning old new None under plans free has = absurd has
+stepped (Refused why) old new None under plans free has = absurd has
+stepped Again old new None under plans free has = absurd has
+stepped (Waiting place) old new None under plans free has = absurd has
 
 -- ---- a read, given back
 
@@ -544,7 +500,7 @@ given old mid new is read back made same work false has =
     nearer (left_in Planning old.worker.work old.core) new.worker new.core _ (ap (λ (s : State). s.phase) has.worker) tt
     (grind (arith))
 given old mid new is read back made same work true has =
-    nearer left new.worker new.core Planning (ap (λ (s : State). s.phase) has.worker) were less
+    nearer left new.worker new.core Planning (ap (λ (s : State). s.phase) has.worker) tt less
   where
     left : ℕ
     left = left_in Planning old.worker.work old.core
@@ -555,28 +511,21 @@ given old mid new is read back made same work true has =
     seen : seen_in new.worker.work.snap ≡ seen_in old.worker.work.snap
     seen = ap (λ (s : State). seen_in s.work.snap) has.worker ∙ ap (λ (w : Work). seen_in w.snap) work ∙ is.seen
 
-    were : WereRead new.worker.work
-    were = subst (λ (j : Option Job). IfSome j (λ (j : Job). IfSome (seen_in new.worker.work.snap)
-        (λ (s : Seen). WereAskedOnce s.geometry j.call s.objects))) (sym job)
-        (subst (λ (o : Option Seen). IfSome old.worker.work.job (λ (j : Job). IfSome o
-        (λ (s : Seen). WereAskedOnce s.geometry j.call s.objects))) (sym seen) is.were)
+    log : new.core.log ≡ old.core.log
+    log = ap (λ (c : CoreState). c.log) has.only ∙ ap (λ (c : CoreState). c.log) is.fetched.only
 
     blocks : new.core.log.blocks ≡ old.core.log.blocks
-    blocks = ap (λ (c : CoreState). c.log.blocks) has.only ∙ ap (λ (c : CoreState). c.log.blocks) is.fetched.only
+    blocks = ap (λ (l : Log). l.blocks) log
 
-    begun_same : new.core.begun ≡ old.core.begun
-    begun_same = ap (λ (c : CoreState). c.begun) has.only ∙ ap (λ (c : CoreState). c.begun) is.fetched.only
-
-    count : Option Job → Option Seen → ℕ → ℕ → ℕ
-    count j s begun blocks = (2 ^ 64 - begun) * whole_round j blocks
-        + (3 + ((most_of j - count_of s) * (blocks + 1) + away new.core))
+    count : Option Job → Option Seen → Log → ℕ
+    count j s l = (if has_room l then 0 else whole_round j l.blocks)
+        + (3 + ((most_of j - count_of s) * (l.blocks + 1) + away new.core))
 
     now : left_in Planning new.worker.work new.core
-        ≡ count old.worker.work.job (seen_in old.worker.work.snap) old.core.begun old.core.log.blocks
-    now = ap (λ j. count j (seen_in new.worker.work.snap) new.core.begun new.core.log.blocks) job
-        ∙ ap (λ s. count old.worker.work.job s new.core.begun new.core.log.blocks) seen
-        ∙ ap (λ n. count old.worker.work.job (seen_in old.worker.work.snap) n new.core.log.blocks) begun_same
-        ∙ ap (λ n. count old.worker.work.job (seen_in old.worker.work.snap) old.core.begun n) blocks
+        ≡ count old.worker.work.job (seen_in old.worker.work.snap) old.core.log
+    now = ap (λ j. count j (seen_in new.worker.work.snap) new.core.log) job
+        ∙ ap (λ s. count old.worker.work.job s new.core.log) seen
+        ∙ ap (λ l. count old.worker.work.job (seen_in old.worker.work.snap) l) log
 
     less : left_in Planning new.worker.work new.core < left
     less =
@@ -620,7 +569,7 @@ no_read most state core at (inl heard) = absurd (idle_reading (sym heard.idle �
   where
     idle_reading : Idle ≡ Reading → ⊥
     idle_reading e = cc
-no_read most state core at (inr on) = subst (λ p. IsUnder p state.work core) at on.under_way
+no_read most state core at (inr on) = subst (λ p. IsUnder p core) at on.under_way
 
 not_both : (b : Bool) → b ≡ true → b ≡ false → ⊥
 not_both b so_it_is unkept = true≢false (sym so_it_is ∙ unkept)
@@ -633,29 +582,29 @@ settled_or core (Err e) settled broken = inr broken
 
 -- what the log has after that, where the step waited for it and where not
 pub record AfterLog (waited : Bool) (mid core : CoreState) : Type 0 where
-  pub begun : core.begun ≡ mid.begun
   pub blocks : core.log.blocks ≡ mid.log.blocks
   pub places : core.log.places ≡ mid.log.places
+  pub fetches : KeepsFetches mid core
   pub same : waited ≡ false → core ≡ mid
   pub done : waited ≡ true → (settled_place core.log ≡ core.log.places) ⊎ (core.log.broken ≡ true)
 
 pub after_settling : (waited : Bool) (mid core new : CoreState) (result : Result Unit Failed) → waited ≡ true
-    → core ≡ new → SameFrame mid new → SameNumbers mid new → OnOk result (IsSettled new)
+    → core ≡ new → SameFrame mid new → SameNumbers mid new → KeepsFetches mid new → OnOk result (IsSettled new)
     → OnErr result (new.log.broken ≡ true) → AfterLog waited mid core
-after_settling waited mid core new result was is frame numbers settled broken =
+after_settling waited mid core new result was is frame numbers fetches settled broken =
     subst (λ c. AfterLog waited mid c) (sym is) (record {
-      begun = numbers.begun;
       blocks = frame.blocks;
       places = numbers.places;
+      fetches = fetches;
       same = λ other. absurd (not_both waited was other);
       done = λ _. settled_or new result settled broken;
     })
 
 pub after_none : (waited : Bool) (mid core : CoreState) → waited ≡ false → core ≡ mid → AfterLog waited mid core
 after_none waited mid core was is = subst (λ c. AfterLog waited mid c) (sym is) (record {
-  begun = refl;
   blocks = refl;
   places = refl;
+  fetches = λ block. refl;
   same = λ _. refl;
   done = λ other. absurd (not_both waited other was);
 })
@@ -665,7 +614,7 @@ module _ (phase : Phase) (old : Side) (made : Option Step) (mid : Side) (at : ol
   abbrev most : ℕ
   most = left_in phase old.worker.work old.core
 
-  pub rests : is_kept_off made ≡ false → waits_for_log made ≡ false → (mid.worker.phase ≡ Reading → ⊥)
+  pub rests : is_full made ≡ false → waits_for_log made ≡ false → (mid.worker.phase ≡ Reading → ⊥)
       → HasGoneOn most mid.worker mid.core
   rests off log idle = by came
     where
@@ -673,10 +622,10 @@ module _ (phase : Phase) (old : Side) (made : Option Step) (mid : Side) (at : ol
       by (gone on unkept none) = on
       by (told is unkept) = inl is
       by (reads is planning unkept none) = absurd (idle is.phase)
-      by (kept is so_it_is) = absurd (not_both (is_kept_off made) so_it_is off)
+      by (full is so_it_is log_is) = absurd (not_both (is_full made) so_it_is off)
       by (waits place is so unkept so_it_is) = absurd (not_both (waits_for_log made) so_it_is log)
 
-  pub reads_on : is_kept_off made ≡ false → mid.worker.phase ≡ Reading → (core : CoreState)
+  pub reads_on : is_full made ≡ false → mid.worker.phase ≡ Reading → (core : CoreState)
       → (waits_for_log made ≡ false → core ≡ mid.core) → (keeps : Type 0) (before after : Device) (step : Step)
       (read : State) (last : Option Step) (new : Side) → HasReadBlock keeps before mid.worker step after read
       → GoesOn read.phase (side read core) last new → HasGoneOn most new.worker new.core
@@ -689,33 +638,76 @@ module _ (phase : Phase) (old : Side) (made : Option Step) (mid : Side) (at : ol
           subst (λ p. HasGoneOn (left_in p old.worker.work old.core) new.worker new.core) (sym planning)
           (read_on old mid is keeps before after step read last new has
           (subst (λ c. GoesOn read.phase (side read c) last new) (same none) later))
-      by (kept is so_it_is) = absurd (not_both (is_kept_off made) so_it_is off)
+      by (full is so_it_is log_is) = absurd (not_both (is_full made) so_it_is off)
       by (waits place is so unkept so_it_is) =
           absurd (waiting (sym is ∙ sym at ∙ sym (ap (λ (s : State). s.phase) so.same) ∙ reading))
         where
           waiting : Waiting place ≡ Reading → ⊥
           waiting e = cc
 
-  pub begins_again : is_kept_off made ≡ true → (state : State) (core : CoreState)
+  pub begins_again : is_full made ≡ true → (state : State) (core : CoreState)
       → (mid.worker.phase ≡ Planning → state ≡ record mid.worker { phase = Again })
-      → core.begun ≡ mid.core.begun → core.log.blocks ≡ mid.core.log.blocks → HasGoneOn most state core
-  begins_again off state core set begun_same blocks = by came
+      → has_room core.log ≡ true → core.log.blocks ≡ mid.core.log.blocks → HasGoneOn most state core
+  begins_again off state core set room blocks = by came
     where
       by : Came phase old made mid → HasGoneOn most state core
-      by (gone on unkept none) = absurd (not_both (is_kept_off made) off unkept)
-      by (told is unkept) = absurd (not_both (is_kept_off made) off unkept)
-      by (reads is planning unkept none) = absurd (not_both (is_kept_off made) off unkept)
-      by (waits place is so unkept so_it_is) = absurd (not_both (is_kept_off made) off unkept)
-      by (kept is so_it_is) =
+      by (gone on unkept none) = absurd (not_both (is_full made) off unkept)
+      by (told is unkept) = absurd (not_both (is_full made) off unkept)
+      by (reads is planning unkept none) = absurd (not_both (is_full made) off unkept)
+      by (waits place is so unkept so_it_is) = absurd (not_both (is_full made) off unkept)
+      by (full is so_it_is log_is) =
           nearer most state core Again (ap (λ (s : State). s.phase) (set is.phase)) tt
-          (subst (λ r. r + 2 < most) (sym rounds) is.less)
+          (subst (λ n. n < most) (sym now) is.less)
         where
-          rounds : rounds_left state.work core ≡ rounds_left mid.worker.work mid.core
-          rounds = ap (λ (s : State). (2 ^ 64 - core.begun) * whole_round s.work.job core.log.blocks) (set is.phase)
-              ∙ ap (λ n. (2 ^ 64 - n) * whole_round mid.worker.work.job core.log.blocks) begun_same
-              ∙ ap (λ n. (2 ^ 64 - mid.core.begun) * whole_round mid.worker.work.job n) blocks
+          whole : whole_round state.work.job core.log.blocks
+              ≡ whole_round mid.worker.work.job mid.core.log.blocks
+          whole = ap (λ (s : State). whole_round s.work.job core.log.blocks) (set is.phase)
+              ∙ ap (λ n. whole_round mid.worker.work.job n) blocks
 
-  pub settles : is_kept_off made ≡ false → waits_for_log made ≡ true → (core : CoreState)
+          now : left_in Again state.work core ≡ whole_round mid.worker.work.job mid.core.log.blocks + 1
+          now = ap (λ b. (if b then 0 else whole_round state.work.job core.log.blocks)
+              + (whole_round state.work.job core.log.blocks + 1)) room
+              ∙ none_more (whole_round state.work.job core.log.blocks)
+              (whole_round mid.worker.work.job mid.core.log.blocks) whole
+            where
+              none_more : (a b : ℕ) → a ≡ b → 0 + (a + 1) ≡ b + 1
+              none_more a b same = grind (arith)
+
+  -- it waits for the log and plans, once it was refused for want of room
+  pub full_waits : is_full made ≡ true → waits_for_log made ≡ true
+  full_waits off = by came
+    where
+      by : Came phase old made mid → waits_for_log made ≡ true
+      by (gone on unkept none) = absurd (not_both (is_full made) off unkept)
+      by (told is unkept) = absurd (not_both (is_full made) off unkept)
+      by (reads is planning unkept none) = absurd (not_both (is_full made) off unkept)
+      by (waits place is so unkept so_it_is) = absurd (not_both (is_full made) off unkept)
+      by (full is so_it_is log_is) = log_is
+
+  pub full_plans : is_full made ≡ true → mid.worker.phase ≡ Planning
+  full_plans off = by came
+    where
+      by : Came phase old made mid → mid.worker.phase ≡ Planning
+      by (gone on unkept none) = absurd (not_both (is_full made) off unkept)
+      by (told is unkept) = absurd (not_both (is_full made) off unkept)
+      by (reads is planning unkept none) = absurd (not_both (is_full made) off unkept)
+      by (waits place is so unkept so_it_is) = absurd (not_both (is_full made) off unkept)
+      by (full is so_it_is log_is) = is.phase
+
+  -- and nothing where it waits for its place
+  pub waits_unplanned : is_full made ≡ false → waits_for_log made ≡ true → (worker : State) (core : CoreState)
+      → PlansAlone mid.worker.phase worker core
+  waits_unplanned off log worker core = by came
+    where
+      by : Came phase old made mid → PlansAlone mid.worker.phase worker core
+      by (gone on unkept none) = absurd (not_both (waits_for_log made) log none)
+      by (told is unkept) = subst (λ p. PlansAlone p worker core) (sym is.idle) tt
+      by (reads is planning unkept none) = absurd (not_both (waits_for_log made) log none)
+      by (full is so_it_is log_is) = absurd (not_both (is_full made) so_it_is off)
+      by (waits place is so unkept so_it_is) =
+          subst (λ p. PlansAlone p worker core) (sym (ap (λ (s : State). s.phase) so.same ∙ at ∙ is)) tt
+
+  pub settles : is_full made ≡ false → waits_for_log made ≡ true → (core : CoreState)
       → core.log.places ≡ mid.core.log.places
       → (settled_place core.log ≡ core.log.places) ⊎ (core.log.broken ≡ true) → HasGoneOn most mid.worker core
   settles off log core places done = by came
@@ -724,7 +716,7 @@ module _ (phase : Phase) (old : Side) (made : Option Step) (mid : Side) (at : ol
       by (gone on unkept none) = absurd (not_both (waits_for_log made) log none)
       by (told is unkept) = inl is
       by (reads is planning unkept none) = absurd (not_both (waits_for_log made) log none)
-      by (kept is so_it_is) = absurd (not_both (is_kept_off made) so_it_is off)
+      by (full is so_it_is log_is) = absurd (not_both (is_full made) so_it_is off)
       by (waits place is so unkept so_it_is) =
           nearer most mid.worker core (Waiting place) (ap (λ (s : State). s.phase) so.same ∙ at ∙ is)
           (subst (λ n. place.0 ≤ n) (sym places) so.within) less
@@ -755,7 +747,7 @@ module _ (phase : Phase) (old : Side) (made : Option Step) (mid : Side) (at : ol
               (sym (ap (λ p. left_in p old.worker.work old.core) is ∙ two))
               (subst (λ n. n < 2) (sym (ap (λ b. if b then 1 else 2) one)) (grind (arith)))
 
-  pub ends_round : is_kept_off made ≡ false → (mid.worker.phase ≡ Reading → ⊥) → (core : CoreState)
+  pub ends_round : is_full made ≡ false → (mid.worker.phase ≡ Reading → ⊥) → (core : CoreState)
       → AfterLog (waits_for_log made) mid.core core → HasGoneOn most mid.worker core
   ends_round off idle core log = by (waits_for_log made) refl
     where
@@ -773,18 +765,6 @@ pub none_made : (o : Option Step) (none : Type 0) (some : Step → Type 0) → i
     → none
 none_made None none some is has = has
 none_made (Some made) none some is has = absurd (true≢false is)
-
--- a call that isn't answered yet is under way still, once its answer was looked for
-under_same : (phase : Phase) (work : Work) (core : CoreState) → IsUnder phase work core
-    → IsUnder phase (record work { answer = None }) core
-under_same Idle work core under = absurd under
-under_same Called work core under = tt
-under_same Planning work core under = under
-under_same Reading work core under = absurd under
-under_same (Read ok) work core under = absurd under
-under_same (Refused why) work core under = tt
-under_same Again work core under = tt
-under_same (Waiting place) work core under = under
 
 left_same : (phase : Phase) (work : Work) (core : CoreState)
     → left_in phase (record work { answer = None }) core ≡ left_in phase work core
@@ -804,7 +784,7 @@ goes_round bound mid new core result (inl heard) is none same =
     absurd (true≢false (sym heard.there ∙ ap (λ (o : Option CallAnswer). is_some o) (sym is ∙ none)))
 goes_round bound mid new core result (inr on) is none same =
     subst (λ (s : State). IsNearer bound s core) (sym same) (record {
-      under_way = under_same mid.phase mid.work core on.under_way;
+      under_way = on.under_way;
       less = subst (λ n. n < bound) (sym (left_same mid.phase mid.work core)) on.less;
     })
 

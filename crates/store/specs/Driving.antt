@@ -1,10 +1,10 @@
 -- What is left to do for a call that one thread drives: a number that each round makes smaller.
-use Rattle.std.specs.Prelude.{◌≡◌, ℕ, ◌+◌, ◌-◌, ◌*◌, ◌^◌, ◌<◌, ◌≤◌, ◌⊎◌, Bool, true, false, ◌&&◌, ◌||◌}
+use Rattle.std.specs.Prelude.{◌≡◌, ℕ, ◌+◌, ◌-◌, ◌*◌, ◌<◌, ◌≤◌, ◌⊎◌, Bool, true, false, ◌&&◌, ◌||◌}
 use Rattle.std.specs.Prelude.{nat_le}
-use Rattle.std.specs.Prelude.{if◌then◌else◌, Option, Some, None, Ok, is_some, IfSome, length, zero, suc}
+use Rattle.std.specs.Prelude.{if◌then◌else◌, Option, Some, None, is_some, length, zero, suc}
+use Rattle.limits.specs.declared.TheConstants.{CHANGED_BLOCKS, LOG_SLOTS}
 use Rattle.disk.specs.declared.block.BlockNo.{BlockNo}
-use Rattle.wal_law.specs.Log.{settled_place}
-use Rattle.procs.specs.Asks.{WereAskedOnce}
+use Rattle.wal_law.specs.Log.{Log, settled_place, tail_count}
 use Rattle.procs.specs.MostAsked.{most_asked}
 use Rattle.txn.specs.Core.{CoreState}
 use Rattle.txn.specs.Leaves.{in_memory}
@@ -12,7 +12,6 @@ use Rattle.txn_law.specs.Holds.{is_taken}
 use Rattle.store_promise.specs.declared.events.Committing.TheVariants as committing
 use Rattle.store_promise.specs.declared.events.Step.{Step}
 use Rattle.store_promise.specs.declared.events.Step.TheVariants as step
-use Rattle.store_promise.specs.declared.events.Wish.TheVariants as wish
 use Rattle.store.specs.Seen.{Seen, seen_in}
 use Rattle.store.specs.declared.workers.parts.Job.{Job}
 use Rattle.store.specs.declared.workers.parts.Phase.{Phase}
@@ -54,26 +53,25 @@ unread work = most_of work.job - count_of (seen_in work.snap)
 abbrev pub reads_left : Work → CoreState → ℕ
 reads_left work core = unread work * (core.log.blocks + 1) + away core
 
--- what was read for the call was asked for, each object once
-abbrev pub WereRead : Work → Type 0
-WereRead work = IfSome work.job (λ job. IfSome (seen_in work.snap) (λ seen.
-    WereAskedOnce seen.geometry job.call seen.objects))
-
 -- ---- what is left of a call
 
 -- more than a transaction takes, in an image of so many blocks
 abbrev pub whole_round : Option Job → ℕ → ℕ
 whole_round job blocks = most_of job * (blocks + 1) + blocks + 4
 
--- The transactions that may be begun before their numbers are spent. A call takes more than one only where its
--- wish is kept off or its commit is refused as foreign or full.
+-- The tail has room for what any call changes, or nothing is committed any more: no commit is refused for want of
+-- room then.
+abbrev pub has_room : Log → Bool
+has_room log = log.broken || nat_le (tail_count log + CHANGED_BLOCKS) LOG_SLOTS
+
+-- what comes behind this transaction: another one, where its commit may be refused for want of room
 abbrev pub rounds_left : Work → CoreState → ℕ
-rounds_left work core = (2 ^ 64 - core.begun) * whole_round work.job core.log.blocks
+rounds_left work core = if has_room core.log then 0 else whole_round work.job core.log.blocks
 
 abbrev pub left_in : Phase → Work → CoreState → ℕ
 left_in Idle work core = 0
-left_in Called work core = rounds_left work core + 1
-left_in Again work core = rounds_left work core + 2
+left_in Called work core = rounds_left work core + whole_round work.job core.log.blocks
+left_in Again work core = rounds_left work core + (whole_round work.job core.log.blocks + 1)
 left_in Planning work core = rounds_left work core + (3 + reads_left work core)
 left_in Reading work core = 0
 left_in (Read ok) work core = 0
@@ -87,18 +85,18 @@ steps_left state core = left_in state.phase state.work core
 -- ---- where a round begins and ends
 
 -- the worker has a call, and neither is its answer there nor is a read due
-abbrev pub IsUnder : Phase → Work → CoreState → Type 0
-IsUnder Idle work core = ⊥
-IsUnder Called work core = Unit {0}
-IsUnder Again work core = Unit {0}
-IsUnder Planning work core = WereRead work
-IsUnder Reading work core = ⊥
-IsUnder (Read ok) work core = ⊥
-IsUnder (Refused why) work core = Unit {0}
-IsUnder (Waiting place) work core = place.0 ≤ core.log.places
+abbrev pub IsUnder : Phase → CoreState → Type 0
+IsUnder Idle core = ⊥
+IsUnder Called core = Unit {0}
+IsUnder Again core = Unit {0}
+IsUnder Planning core = Unit {0}
+IsUnder Reading core = ⊥
+IsUnder (Read ok) core = ⊥
+IsUnder (Refused why) core = Unit {0}
+IsUnder (Waiting place) core = place.0 ≤ core.log.places
 
 abbrev pub IsUnderWay : State → CoreState → Type 0
-IsUnderWay state core = IsUnder state.phase state.work core
+IsUnderWay state core = IsUnder state.phase core
 
 -- the call is answered
 pub record IsAnswered (state : State) : Type 0 where
@@ -116,20 +114,8 @@ HasGoneOn most state core = IsAnswered state ⊎ IsNearer most state core
 
 -- ---- one step of it
 
--- a wish was kept off, or a commit was refused for want of room: the call begins again
-abbrev pub is_kept_off : Option Step → Bool
-is_kept_off (Some (step.Wanted addr mode wish.Busy)) = true
-is_kept_off (Some (step.Wanted addr mode wish.Loading)) = true
-is_kept_off (Some (step.Commit added committing.Full)) = true
-is_kept_off _ = false
-
 -- it waits for the log: for room, or for its place to be settled
 abbrev pub waits_for_log : Option Step → Bool
 waits_for_log (Some (step.Commit added committing.Full)) = true
 waits_for_log (Some (step.Stable place false)) = true
 waits_for_log _ = false
-
--- a transaction that was begun has a number of 64 bits
-abbrev pub IsCounted : Option Step → Type 0
-IsCounted (Some (step.Begun (Ok number))) = number < 2 ^ 64
-IsCounted _ = Unit {0}

@@ -1,18 +1,20 @@
 -- What settling a store does, and how many device calls it makes at most.
-use Rattle.std.specs.Prelude.{◌≡◌, ℕ, ◌+◌, ◌-◌, ◌*◌, ◌<◌, ◌≤◌, ◌⊎◌, true, false, if◌then◌else◌, nat_eq, [], length}
+use Rattle.std.specs.Prelude.{◌≡◌, ℕ, ◌+◌, ◌-◌, ◌*◌, ◌<◌, ◌≤◌, ◌⊎◌, true, false, if◌then◌else◌, nat_eq, None, [], length}
 use Rattle.disk.specs.Device.{Device}
 use Rattle.wal.specs.Log.{Log}
 use Rattle.txn.specs.Core.{CoreState}
+use Rattle.store.specs.Fetches.{FetchesOnly}
 
 -- no device call of the log or of the installer is out
 pub record IsQuiet (log : Log) : Type 0 where
   pub logging : log.log_out ≡ false
   pub installing : log.inst_out ≡ false
 
--- nothing is out: no transaction, and no device call
+-- nothing is out: no transaction, no device call of the log or of the installer, and no fetch
 pub record IsIdle (core : CoreState) : Type 0 where
   pub out : core.out ≡ []
   pub quiet : IsQuiet core.log
+  pub fetches : FetchesOnly None core
 
 -- no transaction was begun, and no place was taken
 pub record SameNumbers (old new : CoreState) : Type 0 where

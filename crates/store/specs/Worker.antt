@@ -90,4 +90,5 @@ at_rest boot = record {
   phase = Idle;
   work = record { job = None; snap = None; reply = None; broken_reply = None; entry = None; answer = None };
   begun = record { tx = None; io = None };
+  asked = record { wish = None; fetched = []; waiting = None };
 }

@@ -20,6 +20,7 @@ use Rattle.store_promise.specs.declared.events.Committing.{Committing}
 use Rattle.store_promise.specs.declared.events.Committing.TheVariants as committing
 use Rattle.store_promise.specs.declared.events.Wish.{Wish}
 use Rattle.store_promise.specs.declared.events.Wish.TheVariants as wish
+use Rattle.store.specs.Asked.{Asking}
 use Rattle.store.specs.declared.workers.parts.Begun.{Begun}
 use Rattle.store.specs.declared.workers.parts.Job.{Job}
 use Rattle.store.specs.declared.workers.parts.Phase.{Phase}
@@ -63,6 +64,15 @@ seen_wanted addr (want.Fetch back io) seen = seen
 seen_wanted addr (want.Loading back) seen = seen
 seen_wanted addr (want.Outside back) seen = seen
 seen_wanted addr (want.NoMemory back) seen = seen
+
+-- its block is to be fetched then
+abbrev pub asked_wanted : Addr → Want → Asking → Asking
+asked_wanted addr (want.Fetch back io) asked = record asked { wish = Some addr }
+asked_wanted addr (want.Held back bytes) asked = asked
+asked_wanted addr (want.Busy back) asked = asked
+asked_wanted addr (want.Loading back) asked = asked
+asked_wanted addr (want.Outside back) asked = asked
+asked_wanted addr (want.NoMemory back) asked = asked
 
 -- ---- a wish to claim
 
@@ -108,6 +118,7 @@ abbrev pub with_replies : Job → Reply → Seq → State → State
 with_replies job reply place state = record state {
   phase = Waiting place;
   work = record state.work { reply = Some reply; broken_reply = Some (refused status.Io job.call) };
+  asked = record state.asked { waiting = Some job };
 }
 
 -- ---- commits

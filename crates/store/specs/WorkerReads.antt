@@ -1,5 +1,5 @@
 -- What a read leaves of a worker.
-use Rattle.std.specs.Prelude.{◌≡◌, true, false, Some, Result, is_ok}
+use Rattle.std.specs.Prelude.{◌≡◌, Bool, true, false, Some, Result, is_ok}
 use Rattle.disk.specs.Device.{Content, CountsFailure, Device, HasRead, current, newest}
 use Rattle.disk.specs.declared.device.Failed.{Failed}
 use Rattle.txn.specs.Fetch.{Fetch}
@@ -7,6 +7,13 @@ use Rattle.store_promise.specs.declared.events.Step.{Step}
 use Rattle.store_promise.specs.declared.events.Step.TheVariants as step
 use Rattle.store.specs.declared.workers.parts.Phase.TheVariants.{Read}
 use Rattle.store.specs.declared.workers.parts.State.{State}
+
+-- a worker whose block was read, well or not, with what its buffer has then
+abbrev pub with_read : Bool → Fetch → Content → State → State
+with_read ok io content state = record state {
+  phase = Read ok;
+  begun = record state.begun { io = Some (record { block = io.block; content = content }) };
+}
 
 -- The block that was due was read, or not: the phase tells which, and where it was, the fetch has the newest content,
 -- while the device keeps its model and no write of the block has failed.
@@ -17,10 +24,7 @@ pub record HasReadBlock (keeps_model : Type 0) (before : Device) (old : State) (
   pub answer : Result Unit Failed
   pub made_is : made ≡ step.Read io.block (is_ok answer)
   pub content : Content
-  pub worker : new ≡ record old {
-    phase = Read (is_ok answer);
-    begun = record old.begun { io = Some (record { block = io.block; content = content }) };
-  }
+  pub worker : new ≡ with_read (is_ok answer) io content old
   pub call : HasRead before after
   pub failure : CountsFailure before after answer
   pub brings : keeps_model → before.spoiled io.block.0 ≡ false → is_ok answer ≡ true

@@ -34,8 +34,9 @@ use Rattle.store_promise.specs.declared.events.Cause.TheVariants as cause
 use Rattle.store_promise.specs.declared.events.Ending.TheVariants as ending
 use Rattle.store_promise.specs.declared.events.Step.{Step}
 use Rattle.store_promise.specs.declared.events.Step.TheVariants as step
+use Rattle.store.specs.Asked.{with_fetched}
 use Rattle.store.specs.Seen.{Seen, seen_in}
-use Rattle.store.specs.WorkerAnswers.{after_commit, begun_claimed, begun_wanted, claim_wish, committing_of}
+use Rattle.store.specs.WorkerAnswers.{after_commit, asked_wanted, begun_claimed, begun_wanted, claim_wish, committing_of}
 use Rattle.store.specs.WorkerAnswers.{phase_claimed, phase_wanted, seen_claimed, seen_wanted, wish_of}
 use Rattle.store.specs.WorkerAnswers.{with_answer}
 use Rattle.store.specs.declared.workers.parts.Begun.{Begun}
@@ -90,6 +91,7 @@ pub record HasBegun (job : Job) (old : Side) (number : ℕ) (new : Side) : Type 
     phase = Planning;
     begun = record { tx = Some number; io = None };
     work = record old.worker.work { job = Some (numbered number job); snap = new.worker.work.snap };
+    asked = record old.worker.asked { fetched = [] };
   }
   pub seen : IsSomeAnd (seen_in new.worker.work.snap) (SawNothing old.core)
 
@@ -115,6 +117,7 @@ pub record HasWanted (tx : ℕ) (addr : Addr) (old : Side) (made : Step) (new : 
   pub worker : new.worker ≡ record (with_snap new.worker old.worker) {
     phase = phase_wanted answer;
     begun = begun_wanted answer;
+    asked = asked_wanted addr answer old.worker.asked;
   }
   pub seen : seen_in new.worker.work.snap ≡ seen_wanted addr answer (seen_in old.worker.work.snap)
 
@@ -146,6 +149,7 @@ pub record HasCommitted (job : Job) (tx : ℕ) (done : Outcome) (old : Side) (ma
     pub made_is : made ≡ step.Commit (added_blocks old.core.log (blocks_of done.written)) (committing_of answer)
     pub core : IsCommit old.core tx (planned_of done) done answer new.core
     pub sets : IsSetBy old.core (planned_of done) answer new.core
+    pub seen : seen_in new.worker.work.snap ≡ seen_in old.worker.work.snap
     pub worker : new.worker ≡ after_commit job done.reply answer
         (record (with_snap new.worker old.worker) { begun = none_begun })
 
@@ -218,6 +222,7 @@ pub record HasGivenBack (ok : Bool) (io : Fetch) (old : Side) (made : Step) (new
   pub worker : new.worker ≡ record old.worker {
     phase = phase_given ok;
     begun = record old.worker.begun { io = None };
+    asked = with_fetched old.worker.asked;
   }
 
 abbrev pub GivesBack : Bool → Side → Step → Side → Type 0

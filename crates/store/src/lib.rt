@@ -2,6 +2,8 @@
 //! promises is `store_promise`'s.
 #![tactic(auto)]
 
+mod alone;
+mod at_work;
 mod formatting;
 mod one_call;
 mod opened;

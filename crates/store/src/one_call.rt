@@ -1,6 +1,8 @@
 //! One call to its answer, by one thread.
 ghost use Rattle.std.specs.Prelude.{◌≡◌};
-ghost use Rattle.store.specs.Driving.{HasGoneOn, IsCounted, IsUnderWay, is_kept_off, steps_left, waits_for_log};
+ghost use Rattle.store.specs.Alone.{IsAlone, is_full};
+ghost use Rattle.store.specs.Driving.{HasGoneOn, IsUnderWay, steps_left, waits_for_log};
+ghost use Rattle.store.specs.Fetches.{FetchesOnly};
 ghost use Rattle.store.specs.Settling.{IsIdle, IsQuiet};
 ghost use Rattle.store.specs.Worker.{Fits};
 
@@ -9,12 +11,12 @@ use crate::workers::Worker;
 use disk::CrashDisk;
 use nfs_types::{Call, Credential, Moment};
 use std::alloc::Global;
-use store_promise::{Committing, Step, Verdict, Wish};
+use store_promise::{Committing, Step, Verdict};
 
 /// Runs a call to its answer. Where the answer waits for its place everything is settled before; where the
 /// log is full, too, and so it is where more than MOST_KEPT_COMMITS commits are kept then, since that brings
 /// home what is logged. A call that isn't served is NOTSUPP and begins no transaction.
-#[tactic(auto, using(crate::proofs::Driven::starts))]
+#[tactic(auto, using(crate::proofs::Driven::starts, crate::proofs::DrivenAlone::starts_alone))]
 pub fn procedure<D: CrashDisk>(
     alloc: Global,
     store: &mut Store<D>,
@@ -41,9 +43,11 @@ pub fn procedure<D: CrashDisk>(
 fn answer<D: CrashDisk>(alloc: Global, store: &mut Store<D>, worker: &mut Worker) -> Verdict
     requires fits { Fits worker.old store.old.core }
     requires quiet { IsQuiet store.old.core.log }
+    requires alone { IsAlone worker.old.state store.old.core }
     requires under_way { IsUnderWay worker.old.state store.old.core }
     ensures fits { Fits worker.new store.new.core }
     ensures quiet { IsQuiet store.new.core.log }
+    ensures fetches { FetchesOnly worker.new.state.begun.io store.new.core }
     ensures model { D.keeps_model store.new.disk → D.keeps_model store.old.disk }
 {
     'steps: loop {
@@ -55,34 +59,28 @@ fn answer<D: CrashDisk>(alloc: Global, store: &mut Store<D>, worker: &mut Worker
 }
 
 // Makes the next step, and what it waits for: the read that is due then, or, where it waits for the log, that
-// everything is settled. Nobody else lets go of what keeps a wish off: so its call begins again.
+// everything is settled. A commit that found no room begins again then: once more at most, as there is room.
 fn go_on<D: CrashDisk>(alloc: Global, store: &mut Store<D>, worker: &mut Worker)
     requires fits { Fits worker.old store.old.core }
     requires quiet { IsQuiet store.old.core.log }
+    requires alone { IsAlone worker.old.state store.old.core }
     requires under_way { IsUnderWay worker.old.state store.old.core }
     ensures fits { Fits worker.new store.new.core }
     ensures quiet { IsQuiet store.new.core.log }
+    ensures alone { IsAlone worker.new.state store.new.core }
     ensures nearer { HasGoneOn (steps_left worker.old.state store.old.core) worker.new.state store.new.core }
     ensures model { D.keeps_model store.new.disk → D.keeps_model store.old.disk }
 {
+    store.core.lawful();
     let made = worker.step(alloc, &mut store.core);
-    counted(&made);
     if waits_for_log(&made) {
         let _ = settle(store);
     }
-    if is_kept_off(&made) {
+    store.core.lawful();
+    if is_full(&made) {
         worker.begin_again();
     } else if worker.read(&mut store.disk).is_some() {
         worker.step(alloc, &mut store.core);
-    }
-}
-
-// A transaction has a number that can be counted.
-fn counted(made: &Option<Step>)
-    ensures { IsCounted made.now }
-{
-    if let Some(Step::Begun(Ok(number))) = made {
-        let _number = *number;
     }
 }
 
@@ -96,13 +94,9 @@ fn waits_for_log(made: &Option<Step>) -> bool
     )
 }
 
-// Whether a wish was kept off, or a commit refused for want of room.
-fn is_kept_off(made: &Option<Step>) -> bool
-    ensures { result ≡ is_kept_off made.now }
+// Whether a commit was refused for want of room.
+fn is_full(made: &Option<Step>) -> bool
+    ensures { result ≡ is_full made.now }
 {
-    matches!(
-        made,
-        Some(Step::Wanted(_, _, Wish::Busy | Wish::Loading))
-            | Some(Step::Commit(_, Committing::Full))
-    )
+    matches!(made, Some(Step::Commit(_, Committing::Full)))
 }

@@ -3,6 +3,7 @@ ghost use Rattle.std.specs.Prelude.{◌≡◌, ◌<◌, ◌↔◌, IsTrue, IsFal
 ghost use Rattle.limits.specs.declared.TheConstants.{MOST_KEPT_COMMITS};
 ghost use Rattle.layout.specs.Geometry.{IsLawful};
 ghost use Rattle.store.specs.Counts.{SameFrame};
+ghost use Rattle.store.specs.Fetches.{KeepsFetches};
 ghost use Rattle.store.specs.Opening.{IsSettled};
 ghost use Rattle.store.specs.Settling.{HasCalled, HasFailed, IsQuiet, SameNumbers};
 ghost use Rattle.wal_law.specs.Installer.{may_install};
@@ -59,6 +60,7 @@ pub fn settle<D: CrashDisk>(store: &mut Store<D>) -> Result<(), Failed>
     ensures out { store.new.core.out ≡ store.old.core.out }
     ensures counts { SameFrame store.old.core store.new.core }
     ensures numbers { SameNumbers store.old.core store.new.core }
+    ensures fetches { KeepsFetches store.old.core store.new.core }
     ensures settled { OnOk result (IsSettled store.new.core) }
     ensures failed { OnErr result (HasFailed store.old.core.log (D.device store.old.disk) (D.device store.new.disk)) }
     ensures broken { OnErr result (store.new.core.log.broken ≡ true) }
@@ -92,6 +94,7 @@ fn log_one<D: CrashDisk>(store: &mut Store<D>) -> bool
     ensures out { store.new.core.out ≡ store.old.core.out }
     ensures counts { SameFrame store.old.core store.new.core }
     ensures numbers { SameNumbers store.old.core store.new.core }
+    ensures fetches { KeepsFetches store.old.core store.new.core }
     ensures may { result ≡ may_log store.old.core.log }
     ensures called { IsTrue result
         → HasCalled store.old.core.log (D.device store.old.disk) store.new.core.log (D.device store.new.disk) }
@@ -116,6 +119,7 @@ fn install_one<D: CrashDisk>(store: &mut Store<D>) -> bool
     ensures out { store.new.core.out ≡ store.old.core.out }
     ensures counts { SameFrame store.old.core store.new.core }
     ensures numbers { SameNumbers store.old.core store.new.core }
+    ensures fetches { KeepsFetches store.old.core store.new.core }
     ensures may { result ≡ may_install store.old.core.log }
     ensures called { IsTrue result
         → HasCalled store.old.core.log (D.device store.old.disk) store.new.core.log (D.device store.new.disk) }

@@ -1,19 +1,27 @@
 //! One procedure at a time, as steps of the core.
 
+mod asked;
 mod committing;
+mod fitting;
 mod parts;
 mod planning;
 mod steps;
+mod telling;
 
 ghost use Rattle.std.specs.Prelude.{◌≡◌, true, is_some};
 ghost use Rattle.store.specs.Phases.{has_fetch, has_transaction, is_ready};
 
+use asked::Asked;
 use disk::{BlockNo, CrashDisk};
+use fitting::{are_lawful, is_out, reads_within};
 use nfs_types::{Call, Credential, Ctx, Moment};
 use parts::{Begun, Job, Phase, State, Work};
 use procs::Done;
 use std::alloc::Global;
 use store_promise::{CallAnswer, Entry, Step};
+pub(crate) use telling::{
+    a_run_notes_its_workers_steps, a_worker_tells_its_call, a_worker_tells_its_read,
+};
 use txn::Core;
 
 /// A worker: the state of one procedure. What its steps commit and answer lies ready to be taken. Its type keeps
@@ -30,6 +38,7 @@ impl Worker {
     ghost use Rattle.txn.specs.Core.{CoreState};
     ghost use Rattle.store.specs.declared.workers.parts.Phase.TheVariants.{Again, Idle, Planning, Reading};
     ghost use Rattle.store.specs.Counts.{SameFrame};
+    ghost use Rattle.store.specs.Fetches.{FetchesOnly};
     ghost use Rattle.layout.specs.Geometry.{IsLawful};
     ghost use Rattle.store.specs.Phases.{block_due};
     ghost use Rattle.store.specs.Worker.{Fits, at_rest, ctx_of, with_call};
@@ -56,6 +65,7 @@ impl Worker {
                     answer: None,
                 },
                 begun: Begun { tx: None, io: None },
+                asked: Asked::new(),
             },
         }
     }
@@ -171,6 +181,7 @@ impl Worker {
         requires { Fits self core.old }
         ensures frame { SameFrame core.old core.new }
         ensures ended { core.new.out ≡ [] }
+        ensures fetches { FetchesOnly self.state.begun.io core.old → FetchesOnly None core.new }
     {
         let Worker { state } = self;
         let State {
@@ -178,8 +189,20 @@ impl Worker {
             phase: _,
             work,
             begun,
+            asked: _,
         } = state;
         drop(work);
         begun.end(core);
+    }
+
+    /// Whether the core fits the worker, as a step needs it: the transaction that is out of the core is the worker's,
+    /// by its number, or none is out where the worker has none; the block that it has to read is one of the image's;
+    /// and an image may have the core's counts. What the worker does with this core keeps it so.
+    pub fn fits(&self, core: &Core<Done>) -> bool
+        ensures { IsTrue result ↔ Fits self.now core.now }
+    {
+        let (blocks, inodes) = core.counts();
+        let begun = &self.state.begun;
+        is_out(core, &begun.tx) && reads_within(blocks, &begun.io) && are_lawful(blocks, inodes)
     }
 }

@@ -3,3 +3,4 @@ pub mod Mapped
 pub mod Filled
 pub mod Answered
 pub mod FetchedWish
+pub mod LoneTransaction

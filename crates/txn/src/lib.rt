@@ -16,7 +16,7 @@ mod tx;
 mod want;
 
 pub use change::Change;
-pub use laws::a_wish_is_met_after_its_fetch;
+pub use laws::{a_lone_transaction_is_not_kept_off, a_wish_is_met_after_its_fetch};
 pub use object::Object;
 pub use outcomes::{BeginFault, Claim, Commit, Want};
 pub use transactions::Core;

@@ -109,6 +109,13 @@ impl<C: Change> State<C> {
         (self.log.blocks(), self.inodes)
     }
 
+    /// The number of the transaction that is out, if one is.
+    pub(crate) fn transaction_out(&self) -> Option<u64>
+        ensures { self.now.out ≡ listed result }
+    {
+        self.out
+    }
+
     /// Begins a transaction. Transactions are numbered from 1. Broken is tested first.
     pub(crate) fn begin(&mut self) -> Result<Tx, BeginFault>
         requires { self.old.out ≡ [] }

@@ -20,6 +20,7 @@ ghost use Rattle.txn_law.specs.HomeRead.{IsReadable, HasContents};
 ghost use Rattle.txn_law.specs.Leaves.{Leaves, HasFetched, taken_by, is_fetching, in_memory, but_by};
 ghost use Rattle.txn_law.specs.Leaves.{without_fetch};
 ghost use Rattle.txn_law.specs.Wishes.{IsWhole};
+ghost use Rattle.txn.specs.Out.{listed};
 ghost use Rattle.txn.specs.Outcomes.{IsWanted, IsWithin, IsClaimed, IsCommit, IsSetBy};
 
 use crate::state::State;
@@ -82,6 +83,13 @@ impl<C: Change> Core<C> {
         ensures { result ≡ (self.now.log.blocks, self.now.inodes) }
     {
         self.state.counts()
+    }
+
+    /// The number of the transaction that is out, if one is.
+    pub fn transaction_out(&self) -> Option<u64>
+        ensures { self.now.out ≡ listed result }
+    {
+        self.state.transaction_out()
     }
 
     /// Begins a transaction. Transactions are numbered from 1. Broken is tested first.

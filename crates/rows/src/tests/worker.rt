@@ -122,3 +122,32 @@ fn a_worker_driven_by_hand_answers(rt: HostRuntime) -> Result<(), Fail> {
     assert!(rt; is_plain?);
     Ok(())
 }
+
+// What `fits` answers: of a new worker and of each of two cores; of both once its call began a transaction of the
+// first; and of another new worker and the first then.
+fn fitted<D: CrashDisk>(alloc: Global, disk: &mut D) -> Result<[bool; 5], Fail> {
+    let mut core = core_of(alloc, disk)?;
+    let other = core_of(alloc, disk)?;
+    let (credential, call) = asked(alloc, &GETATTR)?;
+    let mut worker = Worker::new(1);
+    let new = worker.fits(&core);
+    let new_other = worker.fits(&other);
+    worker.hand(credential, NOW, call);
+    let _ = worker.step(alloc, &mut core);
+    let begun = worker.fits(&core);
+    let begun_other = worker.fits(&other);
+    let idle = Worker::new(1);
+    let idle_there = idle.fits(&core);
+    worker.end(&mut core);
+    idle.end(&mut core);
+    Ok([new, new_other, begun, begun_other, idle_there])
+}
+
+#[test]
+fn a_worker_tells_which_core_it_fits(rt: HostRuntime) -> Result<(), Fail> {
+    let alloc = rt.alloc();
+    let mut disk = formatted(alloc)?;
+    let fitted = fitted(alloc, &mut disk)?;
+    assert_eq!(rt; fitted, [true, true, true, false, false]);
+    Ok(())
+}

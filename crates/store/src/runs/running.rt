@@ -1,20 +1,28 @@
 //! The events of a run.
-ghost use Rattle.std.specs.Prelude.{◌≡◌, ◌<◌, ◌++◌, None, MatchOption, length, vec_len, vec_capacity};
+ghost use Rattle.std.specs.Prelude.{◌≡◌, ℕ, ◌<◌, ◌++◌, List, [], None, MatchOption, length, vec_len, vec_capacity};
+ghost use Rattle.model.specs.After.{Entry as ToldEntry};
+ghost use Rattle.model.specs.Sound.{SoundTime};
 ghost use Rattle.txn.specs.Core.{CoreState};
 ghost use Rattle.store_promise.specs.Room.{HasRoom};
 ghost use Rattle.store_promise.specs.Running.{IsLogStep};
+ghost use Rattle.store_promise.specs.Transcript.{entries_of, transcript_of};
 ghost use Rattle.store.specs.LogSide.{MayInstIo, MayInstall, MayLog, MayLogIo, side_of};
+ghost use Rattle.store.specs.Noting.{NotesWork};
 ghost use Rattle.store.specs.Running.{RunsWell, counted, one_more};
 ghost use Rattle.store.specs.Settling.{IsIdle};
 ghost use Rattle.store.specs.Telling.{HasWorked, TakesCall, TellsWork, answers_told, entries_told, told};
-ghost use Rattle.store.specs.Worker.{Fits, ctx_of};
+ghost use Rattle.store.specs.Stages.{IsWorkerAt};
+ghost use Rattle.store.specs.WorkTells.{TellsCall, TellsRead};
+ghost use Rattle.store.specs.Worker.{Fits, at_rest, ctx_of};
 ghost use Rattle.store.specs.WorkerReads.{HasReadBlock};
 ghost use Rattle.store.specs.WorkerSteps.{side};
 ghost use Rattle.store.specs.declared.workers.parts.Phase.TheVariants.{Reading};
 
 use crate::opened::Store;
 use crate::options::put;
-use crate::workers::Worker;
+use crate::workers::{
+    Worker, a_run_notes_its_workers_steps, a_worker_tells_its_call, a_worker_tells_its_read,
+};
 use disk::CrashDisk;
 use nfs_types::{Call, Credential, Moment};
 use procs::Done;
@@ -49,6 +57,8 @@ impl<D: CrashDisk> Running<D> {
         requires { IsIdle store.core }
         ensures well { RunsWell result.worker result.store.core result.calls }
         ensures store { result.store ≡ store }
+        ensures worker { result.worker.state ≡ at_rest store.boot }
+        ensures stands { IsWorkerAt store.boot [] result.worker.state }
     {
         let boot = store.boot();
         Running {
@@ -101,7 +111,12 @@ impl<D: CrashDisk> Running<D> {
         ensures rest { self.new ≡ record self.old { worker = self.new.worker } }
         ensures step { TakesCall worker (ctx_of credential moment self.old.worker.state.boot) call
             self.old.worker.state result self.new.worker.state }
+        ensures told { worker ≡ 0 → (boot : ℕ) (entries : List ToldEntry) → SoundTime moment
+            → IsWorkerAt boot entries self.old.worker.state
+            → TellsCall boot entries (record { credential = credential; moment = moment; call = call })
+            self.old.worker.state result self.new.worker.state }
     {
+        a_worker_tells_its_call();
         if worker == 0 && self.worker.hand(credential, moment, call) {
             Some(Step::Called)
         } else {
@@ -121,7 +136,13 @@ impl<D: CrashDisk> Running<D> {
             (side self.old.worker.state self.old.store.core) result
             (side self.new.worker.state self.new.store.core) run.old run.new }
         ensures none { (worker ≡ 0 → ⊥) → (result ≡ None) × (self.new ≡ self.old) × (run.new ≡ run.old) }
+        ensures noted { worker ≡ 0 → (boot : ℕ)
+            → IsWorkerAt boot (entries_of (transcript_of run.old)) self.old.worker.state
+            → self.old.store.core.log.places ≡ length run.old.history.items
+            → NotesWork boot self.old.clock (side self.old.worker.state self.old.store.core) result
+            (side self.new.worker.state self.new.store.core) run.old run.new }
     {
+        a_run_notes_its_workers_steps();
         if worker != 0 {
             return None;
         }
@@ -157,7 +178,11 @@ impl<D: CrashDisk> Running<D> {
             (λ made. (worker ≡ 0) × HasReadBlock (D.keeps_model self.new.store.disk)
             (D.device self.old.store.disk) self.old.worker.state made (D.device self.new.store.disk)
             self.new.worker.state) }
+        ensures told { worker ≡ 0 → (boot : ℕ) (entries : List ToldEntry)
+            → IsWorkerAt boot entries self.old.worker.state
+            → TellsRead boot entries self.old.worker.state result self.new.worker.state }
     {
+        a_worker_tells_its_read();
         if worker != 0 {
             return None;
         }

@@ -109,6 +109,7 @@ impl State {
         let broken = refused_reply(&job.call, Status::Io);
         drop(self.work.reply.replace(told));
         drop(self.work.broken_reply.replace(broken));
+        self.asked.wait_with(job);
         self.phase = Phase::Waiting(place);
     }
 

@@ -1,8 +1,10 @@
 //! What a worker is made of.
-ghost use Rattle.std.specs.Prelude.{◌≡◌, []};
+ghost use Rattle.std.specs.Prelude.{◌≡◌, None, []};
 ghost use Rattle.txn.specs.Out.{listed};
 ghost use Rattle.store.specs.Counts.{SameFrame};
+ghost use Rattle.store.specs.Fetches.{FetchesOnly, KeepsFetches};
 
+use super::asked::Asked;
 use nfs_types::{Call, Ctx, Reply};
 use procs::{Done, Snap};
 use store_promise::{CallAnswer, Cause, Entry};
@@ -42,6 +44,7 @@ pub(crate) struct State {
     pub(crate) phase: Phase,
     pub(crate) work: Work,
     pub(crate) begun: Begun,
+    pub(crate) asked: Asked,
 }
 
 // What a worker has of its call and of what came of it.
@@ -67,6 +70,7 @@ impl Begun {
     ghost use Rattle.std.specs.Prelude.{◌≡◌, Some, None, true, is_some, []};
     ghost use Rattle.txn.specs.Out.{listed};
     ghost use Rattle.store.specs.Counts.{SameFrame};
+    ghost use Rattle.store.specs.Fetches.{FetchesOnly};
 
     // Takes the transaction that is out.
     pub(crate) fn take_tx(&mut self) -> Tx
@@ -97,6 +101,7 @@ impl Begun {
         requires { core.old.out ≡ listed self.tx }
         ensures frame { SameFrame core.old core.new }
         ensures ended { core.new.out ≡ [] }
+        ensures fetches { FetchesOnly self.io core.old → FetchesOnly None core.new }
     {
         let Begun { tx, io } = self;
         give_up(io, core);
@@ -108,6 +113,7 @@ impl Begun {
 fn give_up(io: Option<FetchIo>, core: &mut Core<Done>)
     ensures frame { SameFrame core.old core.new }
     ensures out { core.new.out ≡ core.old.out }
+    ensures fetches { FetchesOnly io core.old → FetchesOnly None core.new }
 {
     if let Some(io) = io {
         core.fetch_failed(io);
@@ -119,6 +125,7 @@ fn leave(tx: Option<Tx>, core: &mut Core<Done>)
     requires { core.old.out ≡ listed tx }
     ensures frame { SameFrame core.old core.new }
     ensures ended { core.new.out ≡ [] }
+    ensures fetches { KeepsFetches core.old core.new }
 {
     if let Some(tx) = tx {
         core.abort(tx);

@@ -17,7 +17,7 @@ impl State {
     ghost use Rattle.store.specs.Phases.{is_planned};
     ghost use Rattle.store.specs.Seen.{seen_in, with_claim, with_object};
     ghost use Rattle.store.specs.Worker.{GoesWith, HasBytes, HasRoom, HasRoomFor, IsHeld};
-    ghost use Rattle.store.specs.WorkerAnswers.{begun_claimed, begun_wanted, claim_wish, phase_claimed};
+    ghost use Rattle.store.specs.WorkerAnswers.{asked_wanted, begun_claimed, begun_wanted, claim_wish, phase_claimed};
     ghost use Rattle.store.specs.WorkerAnswers.{phase_wanted, seen_claimed, seen_wanted, wish_of};
     ghost use Rattle.store.specs.WorkerSteps.{GoesByPlan, HasClaimed, HasLacked, HasWanted, IsNext, KeepsReadsOf};
     ghost use Rattle.store.specs.WorkerSteps.{side, with_snap};
@@ -100,6 +100,7 @@ impl State {
         ensures rest { self.new ≡ record (with_snap self.new self.old) {
           phase = phase_wanted answer;
           begun = begun_wanted answer;
+          asked = asked_wanted addr answer self.old.asked;
         } }
         ensures seen { seen_in self.new.work.snap ≡ seen_wanted addr answer (seen_in self.old.work.snap) }
         ensures planned { is_planned self.new.work ≡ true }
@@ -112,6 +113,7 @@ impl State {
             }
             Want::Fetch(tx, io) => {
                 put(&mut self.begun.io, io);
+                self.asked.wish_for(addr);
                 self.go_on(tx, Phase::Reading);
                 Wish::Fetch
             }

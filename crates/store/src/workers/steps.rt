@@ -97,6 +97,7 @@ impl State {
                     inodes,
                 };
                 self.work.snap = Some(Snap::new(alloc, geometry));
+                self.asked.begin();
                 self.go_on(tx, Phase::Planning);
                 Step::Begun(Ok(number))
             }
@@ -120,6 +121,7 @@ impl State {
     {
         let io = self.begun.take_fetch();
         let block = io.block();
+        self.asked.was_fetched();
         if ok {
             core.fetched(io);
             self.phase = Phase::Planning;

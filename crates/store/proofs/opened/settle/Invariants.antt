@@ -1,7 +1,8 @@
--- no transaction begins or ends, the image's counts stay, no device call is out, what has failed was counted, and
+-- no transaction begins or ends, the image's counts and the pending fetches stay, no device call is out, what has failed was counted, and
 -- the device has kept its model so far where it does
 use Rattle.std.proofs.Common.{◌≡◌, ◌≤◌, ◌+◌, true, if◌then◌else◌}
 use Rattle.store.specs.Counts.{SameFrame}
+use Rattle.store.specs.Fetches.{KeepsFetches}
 use Rattle.store.specs.Settling.{HasFailed, SameNumbers, calls_left}
 use Rattle.store.proofs.opened.settle.Given as goal
 
@@ -9,6 +10,7 @@ abbrev pub invariant-calls : goal.invariant-calls
 invariant-calls g l = (l.store.core.out ≡ l.fn.store.core.out)
     × SameFrame l.fn.store.core l.store.core
     × SameNumbers l.fn.store.core l.store.core
+    × KeepsFetches l.fn.store.core l.store.core
     × ((g.D.CrashDisk.device l.fn.store.disk).failures ≤ (g.D.CrashDisk.device l.store.disk).failures)
     × (l.store.core.log.broken ≡ true
     → HasFailed l.fn.store.core.log (g.D.CrashDisk.device l.fn.store.disk) (g.D.CrashDisk.device l.store.disk))

@@ -1,0 +1,95 @@
+-- When a commit may be refused for want of room: not once everything is settled.
+use Rattle.std.proofs.Common.{arith, ◌≡◌, ◌∙◌, refl, ap, ℕ, ◌+◌, ◌<◌, ◌≤◌, ◌⊎◌, inl, inr, Bool, true, false}
+use Rattle.std.proofs.Common.{◌||◌, nat_le, List, [], ◌∷◌, length, drop, All}
+use Rattle.std.proofs.lemmas.Bool.Decides.{nat_tests}
+use Rattle.std.proofs.lemmas.List.{length-drop}
+use Rattle.std.proofs.lemmas.List.Elements.{All-head}
+use Rattle.limits.specs.declared.TheConstants.{CHANGED_BLOCKS, LOG_SLOTS}
+use Rattle.nfs_types.specs.declared.call.Call.{Call}
+use Rattle.nfs_types.specs.declared.call.Call.TheVariants as call
+use Rattle.wal_law.specs.Log.{IsCommitted, IsLawful, IsRising, Log, first_place, place_before, settled_place, tail_count}
+use Rattle.wal_law.specs.declared.change.LogChange.{LogChange}
+use Rattle.wal_law.specs.declared.outcomes.Room.TheVariants as room
+use Rattle.wal_law.proofs.Places.{rising-drop}
+use Rattle.procs.specs.MostChanged.{most_changed}
+use Rattle.txn.specs.Commit.{Planned}
+use Rattle.txn.specs.Core.{CoreState}
+use Rattle.txn.specs.Group.{blocks_of}
+use Rattle.txn.specs.Outcomes.{IsTried}
+use Rattle.store.specs.Driving.{has_room}
+
+-- ---- a settled log
+
+first_within : (changes : List LogChange) (places : ℕ) → IsRising changes places → first_place changes places ≤ places
+first_within [] places rising = omega arith
+first_within (change ∷ later) places rising =
+    let next = first_within later places rising.1 in
+    let here = rising.0 in
+    omega (arith, next, here)
+
+-- where no change that a commit made is left, none is
+none_left : (changes : List LogChange) (places : ℕ) → IsRising changes places → All IsCommitted changes
+    → place_before changes places ≡ places → length changes ≡ 0
+none_left [] places rising made settled = refl
+none_left (change ∷ later) places rising made settled =
+    let some = All-head IsCommitted change later made in
+    let within = first_within (change ∷ later) places rising in
+    absurd (omega (arith, some, within, settled))
+
+emptied : (log : Log) → IsLawful log → settled_place log ≡ log.places → tail_count log ≡ 0
+emptied log lawful settled =
+    let none = none_left (drop log.logged log.changes) log.places
+    (rising-drop log.changes log.places log.logged lawful.rising) lawful.committed settled in
+    let count = length-drop log.logged log.changes in
+    omega (arith, none, count)
+
+-- ---- room
+
+or_true : (a b : Bool) → b ≡ true → (a || b) ≡ true
+or_true true b is = refl
+or_true false b is = is
+
+fits_in : (tail : ℕ) → tail ≡ 0 → nat_le (tail + CHANGED_BLOCKS) LOG_SLOTS ≡ true
+fits_in tail none = ap (λ n. nat_le (n + CHANGED_BLOCKS) LOG_SLOTS) none
+
+pub room_after : (log : Log) → IsLawful log → (settled_place log ≡ log.places) ⊎ (log.broken ≡ true)
+    → has_room log ≡ true
+room_after log lawful (inr broken) = ap (λ b. b || nat_le (tail_count log + CHANGED_BLOCKS) LOG_SLOTS) broken
+room_after log lawful (inl settled) =
+    or_true log.broken (nat_le (tail_count log + CHANGED_BLOCKS) LOG_SLOTS)
+    (fits_in (tail_count log) (emptied log lawful settled))
+
+-- a change of a call that is refused for want of room found none
+pub no_room : (core : CoreState) (tx : ℕ) (plan : Planned) → IsTried core tx plan room.Full
+    → length (blocks_of plan.written) ≤ CHANGED_BLOCKS → has_room core.log ≡ false
+no_room core tx plan tried few =
+    ap (λ b. b || nat_le (tail_count core.log + CHANGED_BLOCKS) LOG_SLOTS) tried.sound
+    ∙ too_many (tail_count core.log) (length (blocks_of plan.written)) few tried.room.1
+  where
+    too_many : (tail more : ℕ) → more ≤ CHANGED_BLOCKS → LOG_SLOTS < tail + more
+        → nat_le (tail + CHANGED_BLOCKS) LOG_SLOTS ≡ false
+    too_many tail more few past = grind (arith, nat_tests)
+
+pub few_changed : (asked : Call) → most_changed asked ≤ CHANGED_BLOCKS
+few_changed (call.GetAttr file) = omega arith
+few_changed (call.SetAttr file attributes guard) = omega arith
+few_changed call.Null = omega arith
+few_changed (call.Lookup name) = omega arith
+few_changed (call.Access file bits) = omega arith
+few_changed (call.ReadLink link) = omega arith
+few_changed (call.Read file offset count) = omega arith
+few_changed (call.Write file offset count stability bytes) = omega arith
+few_changed (call.Create name how) = omega arith
+few_changed (call.MkDir name attributes) = omega arith
+few_changed (call.SymLink name attributes target) = omega arith
+few_changed (call.MkNod name special) = omega arith
+few_changed (call.Remove name) = omega arith
+few_changed (call.RmDir name) = omega arith
+few_changed (call.Rename source target) = omega arith
+few_changed (call.Link file name) = omega arith
+few_changed (call.ReadDir directory cookie verifier count) = omega arith
+few_changed (call.ReadDirPlus directory cookie verifier directory_count greatest_count) = omega arith
+few_changed (call.FsStat file) = omega arith
+few_changed (call.FsInfo file) = omega arith
+few_changed (call.PathConf file) = omega arith
+few_changed (call.Commit file offset count) = omega arith

@@ -1,0 +1,142 @@
+-- A transaction that is out alone is kept off by nobody but itself, and its own change is never foreign.
+use Rattle.std.proofs.Common.{◌≡◌, ◌∙◌, refl, sym, ap, subst, true≢false, ℕ, ◌⊎◌, inl, inr, Bool, true, false, ◌||◌}
+use Rattle.std.proofs.Common.{◌++◌}
+use Rattle.std.proofs.Common.{◌&&◌, cond, nat_eq, Option, Some, None, List, [], ◌∷◌, All, get_or, arith}
+use Rattle.std.specs.Prelude.{Contains}
+use Rattle.std.specs.List.{find, list_any}
+use Rattle.std.proofs.lemmas.Bool.{eqb-true}
+use Rattle.std.proofs.lemmas.List.Elements.{All-contains, All-contains_itself, All-nil, All-push}
+use Rattle.disk.specs.declared.block.BlockNo.{BlockNo}
+use Rattle.objects.specs.Addr.{Overlap}
+use Rattle.objects.specs.Mode.{is_exclusive}
+use Rattle.objects.specs.declared.addr.Addr.{Addr}
+use Rattle.objects.specs.declared.mode.Mode.{Mode}
+use Rattle.objects.specs.declared.mode.Mode.TheVariants as modes
+use Rattle.wal_law.specs.Log.{IsHomeOn}
+use Rattle.txn_law.specs.Commit.{IsOwn, IsReadBy, IsWrittenBy, Planned}
+use Rattle.txn_law.specs.Core.{CoreState}
+use Rattle.txn_law.specs.Group.{blocks_after, is_among}
+use Rattle.txn_law.specs.Holds.{IsHoldOf, hold_of, is_hold_of, is_read, is_written}
+use Rattle.txn_law.specs.Leaves.{is_fetching, taken_by}
+use Rattle.txn_law.specs.Object.{ObjectBytes}
+use Rattle.txn_law.specs.Tidy.{AreTidy, IsOfOne}
+use Rattle.txn_law.specs.Wishes.{IsBusy, IsLoading}
+use Rattle.txn_law.specs.declared.hold.Hold.{Hold}
+use Rattle.txn_law.proofs.Alone.{alone_is_out}
+use Rattle.txn_law.proofs.Claims.{all_four, found_by}
+use Rattle.txn_law.proofs.Entries.{same_block}
+use Rattle.txn_law.proofs.Swept.{in_cons, in_first, in_more}
+use Rattle.txn_law.proofs.TakenBy.{is_hold_by}
+
+-- where one passes a test, one is found
+found_some : {X : Type 0} (test : X → Bool) (xs : List X) (x : X) → Contains xs x → test x ≡ true
+    → (y : X) × (find test xs ≡ Some y)
+found_some test [] x (k, lt, e) passes = absurd (omega (arith, lt))
+found_some test (y ∷ ys) x there passes = go (found_some test ys x) (test y) refl (in_cons y x ys there)
+  where
+    go : (Contains ys x → test x ≡ true → (z : _) × (find test ys ≡ Some z)) → (t : Bool) → test y ≡ t
+        → (y ≡ x) ⊎ Contains ys x → (z : _) × (cond t (Some y) (find test ys) ≡ Some z)
+    go rest true is at = (y, refl)
+    go rest false is (inl same) = absurd (true≢false (sym passes ∙ ap test (sym same) ∙ is))
+    go rest false is (inr later) = rest later passes
+
+-- what holds of the blocks of all objects holds of the group's
+blocks_all : (P : BlockNo → Type 0) (blocks : List BlockNo) (objects : List ObjectBytes) → All P blocks
+    → ((object : ObjectBytes) → Contains objects object → P object.addr.block) → All P (blocks_after blocks objects)
+blocks_all P blocks [] all each = all
+blocks_all P blocks (o ∷ os) all each =
+    blocks_all P (cond (is_among o.addr.block blocks) blocks (blocks ++ o.addr.block ∷ [])) os
+    (by (is_among o.addr.block blocks)) (λ object there. each object (in_more o object os there))
+  where
+    by : (known : Bool) → All P (cond known blocks (blocks ++ o.addr.block ∷ []))
+    by true = all
+    by false = All-push P blocks o.addr.block all (each o (in_first o o os refl))
+
+module _ (core : CoreState) (tx : ℕ) (tidy : AreTidy core) (alone : core.out ≡ tx ∷ []) where
+  -- whatever is taken is its own
+  mine : (x : Hold) → Contains core.holds x → x.transaction ≡ tx
+  mine x there = sym (eqb-true tx x.transaction (first (nat_eq tx x.transaction)
+      (sym (ap (λ (out : List ℕ). list_any (λ other. nat_eq other x.transaction) out) alone)
+      ∙ (All-contains (IsOfOne core) core.holds x tidy.owned there).0)))
+    where
+      first : (b : Bool) → (b || false) ≡ true → b ≡ true
+      first true is = refl
+      first false is = is
+
+  taken_there : (x : Hold) → Contains core.holds x → (hold : Hold) × (taken_by core tx x.addr ≡ Some hold)
+  taken_there x there = found_some (is_hold_of tx x.addr) core.holds x there
+      (is_hold_by tx x.addr x (mine x there) refl refl refl)
+
+  -- what it has taken lies where a change may write
+  taken_home : (addr : Addr) (hold : Hold) → taken_by core tx addr ≡ Some hold → IsHomeOn core.log.blocks addr.block
+  taken_home addr hold taken =
+      let found = found_by (is_hold_of tx addr) core.holds hold taken in
+      let four = all_four (nat_eq hold.transaction tx) (nat_eq hold.addr.block.0 addr.block.0)
+      (nat_eq hold.addr.offset addr.offset) (nat_eq hold.addr.len addr.len) found.0 in
+      subst (λ (b : BlockNo). IsHomeOn core.log.blocks b)
+      (same_block hold.addr.block addr.block (eqb-true hold.addr.block.0 addr.block.0 four.1))
+      (All-contains (IsOfOne core) core.holds hold tidy.owned found.1).1
+
+  pub never_busy : (addr : Addr) (mode : Mode)
+      → ((other : Addr) (hold : Hold) → taken_by core tx other ≡ Some hold → Overlap other addr → other ≡ addr)
+      → IsBusy core tx addr mode → ⊥
+  never_busy addr mode apart busy = busy.1 (record {
+    others = λ k d lt over off. each (get_or core.holds k d) (All-contains_itself core.holds k d lt) over;
+  })
+    where
+      each : (x : Hold) → Contains core.holds x → Overlap x.addr addr → IsHoldOf tx addr x
+      each x there over =
+          let found = taken_there x there in (mine x there, apart x.addr found.0 found.1 over)
+
+  -- Its change is its own: it was planned for this core and by what the transaction holds, and writes only what it read
+  -- and holds alone, while no fetch is pending of what it writes.
+  module _ (plan : Planned) (blocks : plan.blocks ≡ core.log.blocks) (inodes : plan.inodes ≡ core.inodes)
+      (read : All (IsReadBy core tx) plan.read)
+      (written : (object : ObjectBytes) → Contains plan.written object
+      → (before : ObjectBytes) × Contains plan.read before × (before.addr ≡ object.addr))
+      (exclusive : (addr : Addr) (hold : Hold) → taken_by core tx addr ≡ Some hold → hold.mode ≡ modes.Exclusive)
+      (loaded : (object : ObjectBytes) → Contains plan.written object
+      → is_fetching core object.addr.block ≡ false) where
+    held_by : (object : ObjectBytes) → Contains plan.written object
+        → (hold : Hold) × (taken_by core tx object.addr ≡ Some hold) × (hold.is_read ≡ true)
+    held_by object there =
+        let before = written object there in
+        let held = (All-contains (IsReadBy core tx) plan.read before.0 read before.1).held in
+        from (taken_by core tx object.addr) refl
+        (subst (λ (a : Addr). is_read (hold_of core.holds tx a) ≡ true) before.2 held)
+      where
+        from : (found : Option Hold) → taken_by core tx object.addr ≡ found → is_read found ≡ true
+            → (hold : Hold) × (taken_by core tx object.addr ≡ Some hold) × (hold.is_read ≡ true)
+        from None is none = absurd (true≢false (sym none))
+        from (Some hold) is reads = (hold, is, reads)
+
+    is_written_so : (mode : Mode) (reads claims : Bool) → mode ≡ modes.Exclusive → reads ≡ true
+        → (is_exclusive mode && (reads || claims)) ≡ true
+    is_written_so mode reads claims at by = ap (λ m. is_exclusive m && (reads || claims)) at
+        ∙ ap (λ b. b || claims) by
+
+    written_by : (object : ObjectBytes) → Contains plan.written object → IsWrittenBy core tx object.addr
+    written_by object there =
+        let by = held_by object there in
+        record {
+          held = ap (λ (o : Option Hold). is_written o) by.1
+              ∙ is_written_so by.0.mode by.0.is_read by.0.is_claimed (exclusive object.addr by.0 by.1) by.2;
+          loaded = loaded object there;
+        }
+
+    home_of : (object : ObjectBytes) → Contains plan.written object → IsHomeOn core.log.blocks object.addr.block
+    home_of object there = let by = held_by object there in taken_home object.addr by.0 by.1
+
+    pub is_own : IsOwn core tx plan
+    is_own = record {
+      out = alone_is_out core tx alone;
+      blocks = blocks;
+      inodes = inodes;
+      read = read;
+      written = λ k d lt. written_by (get_or plan.written k d) (All-contains_itself plan.written k d lt);
+      homes = blocks_all (IsHomeOn core.log.blocks) [] plan.written (All-nil (IsHomeOn core.log.blocks)) home_of;
+    }
+
+pub never_loading : (core : CoreState) (tx : ℕ) (addr : Addr) (mode : Mode) → is_fetching core addr.block ≡ false
+    → IsLoading core tx addr mode → ⊥
+never_loading core tx addr mode none loading = true≢false (sym loading.2 ∙ none)
