@@ -116,7 +116,7 @@ taken_at (x ∷ holds) block taken = by (nat_eq x.addr.block.0 block.0) refl tak
         let there = rest some in
         record { tx = there.tx; addr = there.addr; held = later x holds there.tx there.addr there.held; at = there.at }
 
-held_taken : (holds : List Hold) (tx : ℕ) (addr : Addr) (block : BlockNo) → addr.block.0 ≡ block.0
+pub held_taken : (holds : List Hold) (tx : ℕ) (addr : Addr) (block : BlockNo) → addr.block.0 ≡ block.0
     → is_some (hold_of holds tx addr) ≡ true → is_taken holds block ≡ true
 held_taken holds tx addr block at some = by (hold_of holds tx addr) refl some
   where

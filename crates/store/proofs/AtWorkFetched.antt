@@ -30,7 +30,7 @@ hold_at tx addr hold is =
     (eqb-true hold.addr.offset addr.offset four.2) (eqb-true hold.addr.len addr.len four.3)
 
 -- what is taken is a part of its block, and so the block is needed
-pub is_needed : (core : CoreState) (tx : ℕ) (addr : Addr) → has_taken core tx addr ≡ true
+is_needed : (core : CoreState) (tx : ℕ) (addr : Addr) → has_taken core tx addr ≡ true
     → (is_taken core.holds addr.block || is_kept core.records addr.block) ≡ true
 is_needed core tx addr some = ap (λ (b : Bool). b || is_kept core.records addr.block)
     (by (taken_by core tx addr) refl some)

@@ -26,7 +26,7 @@ use Rattle.store_promise.specs.declared.events.Event.TheVariants as event
 use Rattle.store_promise.specs.declared.events.Step.{Step}
 use Rattle.store_promise.specs.declared.events.Step.TheVariants as step
 use Rattle.store_promise.proofs.ToldOf.{commit_told}
-use Rattle.store.proofs.AtWorkRuns.{few_blocks, longer}
+use Rattle.store.proofs.CommitTold.{few_blocks, longer}
 use Rattle.store.proofs.WorkCases.{Cases, by_cases}
 use Rattle.store.specs.AtWork.{has_committed, with_core}
 use Rattle.store.specs.WorkerAnswers.{committing_of, wish_of}

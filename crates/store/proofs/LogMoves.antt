@@ -190,6 +190,14 @@ home_out_of : (d : Device) (base : Image) (log : Log) (io : Io) (ok : Bool)
 home_out_of d base log io true at = (at.0, at.1)
 home_out_of d base log io false at = (at.0, at.1)
 
+-- what the installer's call leaves of the log once it is given back
+pub inst_back_is : (d : Device) (base : Image) (log new : Log) (logging : Pending) (io : Io) (ok : Bool)
+    → AgreesBeside d base log logging (pending_of (Some io) (Some ok))
+    → new ≡ (if is_inst_out log io then with_inst_back log ok else log) → new ≡ with_inst_back log ok
+inst_back_is d base log new logging io ok agrees is =
+    let its = home_out_of d base log io ok agrees.installer in
+    is ∙ (λ i. if its_home_is_out log io its.0 its.1 i then with_inst_back log ok else log)
+
 behind_installed : (o : Setting) (log : Log) (ok : Bool) → IsLawful log → IsBehind o log
     → IsBehind o (with_inst_back log ok)
 behind_installed o log false lawful behind = record { position = behind.position; blocks = behind.blocks }

@@ -1,8 +1,8 @@
 -- Each step of the log's side keeps a run going.
 use Rattle.std.proofs.Common.{◌≡◌, ◌∙◌, ap, sym, refl, subst, ℕ, Bool, true, false, not, Option, Some, None, List, All}
-use Rattle.std.proofs.Common.{Result, Ok, Err, is_ok, is_err}
+use Rattle.std.proofs.Common.{Result, Ok, Err, is_ok, is_err, is_some, ◌||◌}
 use Rattle.disk.specs.Crash.{Image}
-use Rattle.disk.specs.Device.{Device}
+use Rattle.disk.specs.Device.{Content, Device}
 use Rattle.disk.specs.declared.block.BlockNo.{BlockNo}
 use Rattle.model.specs.After.{Entry}
 use Rattle.model.specs.Tree.{Tree}
@@ -12,17 +12,20 @@ use Rattle.wal_law.specs.Io.{Io}
 use Rattle.txn_law.specs.Core.{CoreState}
 use Rattle.txn_law.specs.CoreWindow.{IsPending, KeepsReads}
 use Rattle.txn_law.specs.Fetch.{Fetch}
-use Rattle.txn_law.specs.Leaves.{is_fetching, taken_by}
+use Rattle.txn_law.specs.Leaves.{Leaves, in_memory, is_fetching, taken_by}
+use Rattle.txn_law.specs.Records.{is_kept}
+use Rattle.store.proofs.AtHand.{held_taken}
+use Rattle.objects.specs.declared.addr.Addr.{Addr}
 use Rattle.store_promise.specs.declared.events.Step.{Step}
 use Rattle.store_promise.specs.LogTold.{LogTold}
 use Rattle.store_promise.specs.OpenSince.{IsOpenSince}
-use Rattle.store_promise.specs.Running.{IsFetchOver, IsLogStep, IsMovedBy, KeepsTransactions, StoreSide, home_next}
+use Rattle.store_promise.specs.Running.{IsFetchOver, IsLogStep, IsMovedBy, KeepsPlaces, KeepsTransactions, StoreSide}
+use Rattle.store_promise.specs.Running.{home_next, side}
 use Rattle.store_promise.specs.Schedule.{Setting}
+use Rattle.store_promise.proofs.OpenSteps.{HasSameChanges, same_changes}
+use Rattle.store_promise.proofs.Places.{same_places, stay_placed}
 use Rattle.store.proofs.LogMoves.{LogSide, Tells}
 use Rattle.store.specs.LogSide.{pending_of}
-
-abbrev pub side : Device → CoreState → Pending → Pending → StoreSide
-side d core logging installing = record { device = d; core = core; logging = logging; installing = installing }
 
 abbrev pub log_side : StoreSide → LogSide
 log_side s = record { device = s.device; log = s.core.log; logging = s.logging; installing = s.installing }
@@ -42,11 +45,17 @@ KeepsFetches old made new = (base : Image) (boot : ℕ) (first last : Tree) (ent
     → All (IsFetchOver base old.core) fetches
     → All (IsFetchOver (home_next base old.core.log made) new.core) fetches
 
+-- and each place keeps its blocks
+abbrev pub StaysPlaced : StoreSide → Option Step → StoreSide → Type 0
+StaysPlaced old made new = (base : Image) (boot : ℕ) (first last : Tree) (entries : List Entry)
+    → IsOpenSince base old.device old.core old.logging old.installing boot first entries last
+    → KeepsPlaces base old.core (home_next base old.core.log made) new.core
+
 pub goes_on : (May : Setting → LogTold → Option Step → Type 0) (old new : StoreSide) (made : Option Step)
     → IsMovedBy old.device made new.device → KeepsTransactions old.core new.core
     → Tells May (log_side old) made (log_side new) → StaysOpen old made new → KeepsFetches old made new
-    → IsLogStep May old made new
-goes_on May old new made moved kept tells opened fetched = record {
+    → StaysPlaced old made new → IsLogStep May old made new
+goes_on May old new made moved kept tells opened fetched placed = record {
   device = moved;
   core = kept;
   runs = λ o base fetches boot first last entries run.
@@ -62,7 +71,10 @@ goes_on May old new made moved kept tells opened fetched = record {
           position = told.2.behind.position;
           blocks = told.2.behind.blocks;
           stands = told.2.stands;
+          inodes = run.inodes ∙ sym kept.inodes;
           fetched = fetched base boot first last entries fetches run.since run.fetched;
+          placed = stay_placed o base (home_next base old.core.log made) old.core new.core
+              (placed base boot first last entries run.since) run.placed;
         };
       };
 }
@@ -71,26 +83,53 @@ goes_on May old new made moved kept tells opened fetched = record {
 
 pub same_transactions : (core : CoreState) → KeepsTransactions core core
 same_transactions core = record {
+  inodes = refl;
   begun = refl;
   out = refl;
   taken = λ tx addr. refl;
   fetches = λ block. refl;
   reads = λ tx object is. is;
+  loaded = λ tx addr content some there. there;
 }
 
 pub log_alone : (old new : CoreState) → new ≡ record old { log = new.log }
     → ((tx : ℕ) → KeepsReads old new tx) → KeepsTransactions old new
 log_alone old new is stays = record {
+  inodes = ap (λ (c : CoreState). c.inodes) is;
   begun = ap (λ (c : CoreState). c.begun) is;
   out = ap (λ (c : CoreState). c.out) is;
   taken = λ tx addr. ap (λ (c : CoreState). taken_by c tx addr) is;
   fetches = λ block. ap (λ (c : CoreState). is_fetching c block) is;
   reads = stays;
+  loaded = λ tx addr content some there. ap (λ (c : CoreState). in_memory c addr.block) is ∙ there;
 }
+
+-- what is taken stays in memory, where only what nobody needs goes
+pub still_loaded : (old new : CoreState) → Leaves new (taken_by old) (is_fetching old) (in_memory old) → (tx : ℕ)
+    (addr : Addr) (content : Content) → is_some (taken_by old tx addr) ≡ true
+    → in_memory old addr.block ≡ Some content → in_memory new addr.block ≡ Some content
+still_loaded old new leaves tx addr content some there = leaves.stays addr.block content there
+    (ap (λ (t : Bool). t || is_kept new.records addr.block)
+    (held_taken new.holds tx addr addr.block refl (ap is_some (leaves.holds tx addr) ∙ some)))
 
 pub fewer : (old new : CoreState) → KeepsTransactions old new → (block : BlockNo) → IsPending new block
     → IsPending old block
 fewer old new kept block pending = sym (kept.fetches block) ∙ pending
+
+-- ---- what the places have
+
+pub same_core_places : (base : Image) (core : CoreState) → KeepsPlaces base core base core
+same_core_places base core = same_places base core core
+    (record { log = same_changes core.log core.log refl; inodes = refl; records = refl })
+
+-- a step that changes nothing of the log but what it has out keeps the places
+pub log_places : (base : Image) (old new : CoreState) → new ≡ record old { log = new.log }
+    → HasSameChanges old.log new.log → KeepsPlaces base old base new
+log_places base old new is log = same_places base old new (record {
+  log = log;
+  inodes = ap (λ (c : CoreState). c.inodes) is;
+  records = ap (λ (c : CoreState). c.records) is;
+})
 
 -- ---- no step
 
@@ -98,6 +137,7 @@ pub no_step : (May : Setting → LogTold → Option Step → Type 0) (s : StoreS
     → IsMovedBy s.device None s.device → Tells May (log_side s) None (log_side s) → IsLogStep May s None s
 no_step May s moved tells = goes_on May s s None moved (same_transactions s.core) tells
     (λ base boot first last entries since. since) (λ base boot first last entries fetches since all. all)
+    (λ base boot first last entries since. same_core_places base s.core)
 
 -- ---- as the code has them
 

@@ -1,35 +1,29 @@
 -- What the steps of a worker that is alone rest on: the blocks that were fetched for its transaction, and those that
 -- stand for the files after each place.
-use Rattle.std.specs.Prelude.{◌≡◌, ℕ, ◌+◌, ◌≤◌, ◌++◌, ◌∷◌, Bool, true, false, Option, Some, is_some, IsSomeAnd}
+use Rattle.std.specs.Prelude.{◌≡◌, ℕ, ◌+◌, ◌++◌, ◌∷◌, Bool, true, false, Option, Some, is_some, IsSomeAnd}
 use Rattle.std.specs.Prelude.{List, [], All, length, option_to_list}
 use Rattle.disk.specs.Crash.{Image}
 use Rattle.disk.specs.Device.{Content}
-use Rattle.disk.specs.declared.block.BlockNo.{BlockNo}
 use Rattle.objects.specs.declared.addr.Addr.{Addr}
 use Rattle.model.specs.After.{Entry as Committed}
 use Rattle.model.specs.Step as model
 use Rattle.model.specs.Tree.{Tree}
-use Rattle.wal_law.specs.Log.{IsLawful, installed_place}
 use Rattle.txn.specs.Outcomes.{TakesPlace}
 use Rattle.txn_law.specs.Commit.{Planned}
 use Rattle.txn_law.specs.Core.{CoreState}
 use Rattle.txn_law.specs.Fetch.{Fetch}
-use Rattle.txn_law.specs.Leaves.{IsNeeded, in_memory, taken_by}
-use Rattle.txn_law.specs.Tidy.{AreTidy}
-use Rattle.store_promise.specs.OpenSince.{TellsOf, blocks_after, file_blocks}
-use Rattle.store_promise.specs.Running.{IsRunningOver, IsTold, StoreSide}
-use Rattle.store_promise.specs.Schedule.{IsStepOfWork, Setting, Told, told_after}
+use Rattle.txn_law.specs.Leaves.{in_memory, taken_by}
+use Rattle.store_promise.specs.OpenSince.{TellsOf, file_blocks}
+use Rattle.store_promise.specs.Running.{IsRunningOver, StoreSide, with_blocks}
+use Rattle.store_promise.specs.Schedule.{Setting}
 use Rattle.store_promise.specs.declared.answers.Entry.{Entry}
 use Rattle.store_promise.specs.declared.events.Committing.TheVariants as committing
-use Rattle.store_promise.specs.declared.events.Event.TheVariants as event
 use Rattle.store_promise.specs.declared.events.Step.{Step}
 use Rattle.store_promise.specs.declared.events.Step.TheVariants as step
 use Rattle.store.specs.Alone.{IsAlone}
 use Rattle.store.specs.Asked.{Asking}
-use Rattle.store.specs.Stages.{progress_of}
-use Rattle.store.specs.Telling as telling
 use Rattle.store.specs.Worker.{GoesWith}
-use Rattle.store.specs.WorkerSteps.{GoesOn, KeepsHomeOf, KeepsReadsOf, Side}
+use Rattle.store.specs.WorkerSteps.{Side}
 use Rattle.store.specs.declared.workers.parts.Phase.{Phase}
 use Rattle.store.specs.declared.workers.parts.Phase.TheVariants.{Idle, Called, Planning, Reading, Read}
 use Rattle.store.specs.declared.workers.parts.Phase.TheVariants.{Refused, Again, Waiting}
@@ -51,19 +45,7 @@ pub record IsLoadedFor (core : CoreState) (tx : ℕ) (addr : Addr) : Type 0 wher
 abbrev pub AreLoadedFor : CoreState → ℕ → List Addr → Type 0
 AreLoadedFor core tx addrs = All (IsLoadedFor core tx) addrs
 
--- ---- places
-
--- The blocks of each place that isn't home are those after so many of the commits that are kept.
-abbrev pub HasBlocksOfPlaces : Setting → Image → CoreState → Type 0
-HasBlocksOfPlaces o base core = (count : ℕ) → count ≤ length core.records
-    → o.blocks (installed_place core.log + count) ≡ blocks_after base core count
-
--- the setting, with the blocks of a place more, that are these
-pub record HasPlaceMore (o : Setting) (places : ℕ) (blocks : Image) (more : Setting) : Type 0 where
-  pub geometry : more.geometry ≡ o.geometry
-  pub position : more.position ≡ o.position
-  pub earlier : (place : ℕ) → place ≤ places → more.blocks place ≡ o.blocks place
-  pub next : more.blocks (places + 1) ≡ blocks
+-- ---- the run
 
 -- the run with this core
 abbrev pub with_core : StoreSide → CoreState → StoreSide
@@ -127,48 +109,13 @@ pub record HasTakenPlace (boot number : ℕ) (old new : Side) : Type 0 where
   pub ready : new.worker.work.entry ≡ Some entry
   pub tells : TellsOf boot plan (entry_by number entry)
 
--- A place was taken, the next one. In whatever setting has the blocks that stand for the files then, the run goes on
--- with the place's entry, a step of the sequential server from the files as they were.
+-- A place was taken, the next one. In the setting that has from it on the blocks that stand for the files then, the
+-- run goes on with the place's entry, a step of the sequential server from the files as they were.
 pub record GoesOnWith (o : Setting) (base : Image) (store : StoreSide) (new : Side) (boot number : ℕ) (first : Tree)
     (entries : List Committed) (last : Tree) (old : Side) : Type 0 where
   pub taken : HasTakenPlace boot number old new
   pub next : taken.place ≡ length entries + 1
   pub left : Tree
   pub goes : model.step last taken.entry.ctx taken.entry.call taken.entry.reply left
-  pub runs : (more : Setting) → HasPlaceMore o (length entries) (file_blocks base new.core) more
-      → IsRunningOver more base (with_core store new.core) (fetches_of new.worker) boot first
-      (entries ++ entry_by number taken.entry ∷ []) left
-  pub places : (more : Setting) → HasPlaceMore o (length entries) (file_blocks base new.core) more
-      → HasBlocksOfPlaces o base old.core → HasBlocksOfPlaces more base new.core
-
--- ---- beside the worker
-
--- The counts stay, and what is needed of memory: so it is of each step of the log and of the installer.
-pub record StaysLoaded (old new : CoreState) : Type 0 where
-  pub blocks : new.log.blocks ≡ old.log.blocks
-  pub inodes : new.inodes ≡ old.inodes
-  pub memory : (block : BlockNo) (content : Content) → in_memory old block ≡ Some content → IsNeeded new block
-      → in_memory new block ≡ Some content
-
--- ---- an event of the worker
-
--- what is known of a worker's step beside the step itself: by its contract, and by the types of the worker and the core
-pub record IsStepWell (old : Side) (made : Option Step) (new : Side) : Type 0 where
-  pub goes : GoesOn old.worker.phase old made new
-  pub home : KeepsHomeOf old new
-  pub stays : KeepsReadsOf old new
-  pub with : GoesWith (telling.told new.worker) new.core
-  pub lawful : IsLawful new.core.log
-  pub tidy : AreTidy new.core
-
--- What the step leaves of a run, all together: it may be made; what is told then is what the store has; the core is at
--- work for the worker, once all that it gave is told; and the run goes on, with its entry where it took a place.
-pub record WorksOn (o : Setting) (told : Told) (number : ℕ) (base : Image) (store : StoreSide) (boot : ℕ) (first : Tree)
-    (entries : List Committed) (last : Tree) (old : Side) (made : Option Step) (new : Side) : Type 0 where
-  pub may : IsStepOfWork o told number (progress_of old.worker) made
-  pub tells : IsTold o (told_after told (event.Work number) made) (with_core store new.core)
-  pub at_work : IsCoreAtWork (telling.told new.worker) new.core
-  pub beside : has_committed made ≡ false
-      → IsRunningOver o base (with_core store new.core) (fetches_of new.worker) boot first entries last
-      × HasBlocksOfPlaces o base new.core
-  pub committed : has_committed made ≡ true → GoesOnWith o base store new boot number first entries last old
+  pub runs : IsRunningOver (with_blocks o (length entries) (file_blocks base new.core)) base (with_core store new.core)
+      (fetches_of new.worker) boot first (entries ++ entry_by number taken.entry ∷ []) left

@@ -6,6 +6,7 @@ pub mod Counts
 pub mod Driving
 pub mod Fetches
 pub mod Formatting
+pub mod Going
 pub mod LogSide
 pub mod Noting
 pub mod Opening

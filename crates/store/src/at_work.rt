@@ -16,11 +16,10 @@ ghost use Rattle.objects.specs.declared.mode.Mode.TheVariants as modes;
 ghost use Rattle.txn.specs.Outcomes.{TakesPlace};
 ghost use Rattle.txn_law.specs.Commit.{Planned};
 ghost use Rattle.txn_law.specs.Core.{CoreState};
-ghost use Rattle.txn_law.specs.CoreWindow.{IsHomeOf};
 ghost use Rattle.txn_law.specs.Fetch.{Fetch};
 ghost use Rattle.txn_law.specs.Group.{blocks_of};
 ghost use Rattle.txn_law.specs.HomeRead.{HasContents};
-ghost use Rattle.txn_law.specs.Leaves.{Leaves, in_memory, is_fetching, taken_by, without_fetch};
+ghost use Rattle.txn_law.specs.Leaves.{Leaves, is_fetching, taken_by, without_fetch};
 ghost use Rattle.txn_law.specs.Tidy.{AreTidy};
 ghost use Rattle.txn_law.specs.Wishes.{IsFetched, IsHeld};
 ghost use Rattle.wal_law.specs.Calls.{Pending};
@@ -30,15 +29,14 @@ ghost use Rattle.store_promise.specs.OpenSince.{IsOpenSince, IsSoundCore, Stands
 ghost use Rattle.store_promise.specs.declared.events.Event.TheVariants as event;
 ghost use Rattle.store_promise.specs.declared.events.Step.{Step};
 ghost use Rattle.store_promise.specs.declared.events.Step.TheVariants as made;
-ghost use Rattle.store_promise.specs.Running.{IsRunningOver, IsTold, KeepsTransactions, StoreSide};
+ghost use Rattle.store_promise.specs.Running.{IsRunningOver, IsTold, StoreSide};
 ghost use Rattle.store_promise.specs.Schedule.{IsStepOfWork, Setting, Told, told_after};
 ghost use Rattle.store_promise.specs.ToldOf.{log_told};
-ghost use Rattle.store.specs.AtWork.{AreLoadedFor, GoesOnWith, HasBlocksOfPlaces, HasPlaceMore, IsCoreAtWork};
-ghost use Rattle.store.specs.AtWork.{IsStepWell, StaysLoaded, WorksOn};
+ghost use Rattle.store.specs.AtWork.{AreLoadedFor, GoesOnWith, IsCoreAtWork};
 ghost use Rattle.store.specs.AtWork.{fetches_of, has_committed, has_taken, with_core};
 ghost use Rattle.store.specs.Stages.{IsWorkerAt, progress_of};
 ghost use Rattle.store.specs.Telling.{TakesCall, told};
-ghost use Rattle.store.specs.Worker.{GoesWith, at_rest};
+ghost use Rattle.store.specs.Worker.{GoesWith};
 ghost use Rattle.store.specs.WorkerReads.{with_read};
 ghost use Rattle.store.specs.WorkerSteps.{GoesOn, KeepsHomeOf, KeepsReadsOf, Side, side, there_given};
 ghost use Rattle.store.specs.declared.workers.parts.Phase.TheVariants.{Reading};
@@ -58,44 +56,14 @@ pub(crate) fn what_was_fetched_stays()
         → AreLoadedFor old tx fetched → AreLoadedFor new tx (fetched ++ addr ∷ []) }
 {}
 
-// A step that leaves the log and the commits as they are leaves the run going, with no read that isn't given back. The
-// blocks of its places stay, and the last place has those that stand for the files.
-pub(crate) fn a_transaction_leaves_the_run_going()
-    ensures runs { (o : Setting) (base : Image) (side : StoreSide) (new : CoreState) (fetches : List Fetch) (boot : ℕ)
-        (first last : Tree) (entries : List Entry) → IsRunningOver o base side fetches boot first entries last
-        → StandsBeside side.core new → IsSoundCore base new
-        → IsRunningOver o base (with_core side new) [] boot first entries last }
-    ensures places { (o : Setting) (base : Image) (old new : CoreState) → StandsBeside old new
-        → HasBlocksOfPlaces o base old → HasBlocksOfPlaces o base new }
-    ensures last { (o : Setting) (base : Image) (core : CoreState) → IsHomeOf base core
-        → HasBlocksOfPlaces o base core → o.blocks core.log.places ≡ file_blocks base core }
-{
-    store_promise::a_transaction_leaves_the_store_open();
-}
-
-// A commit is told by the blocks that it adds, and leaves the run going with its entry: a step of the sequential
-// server from the files as they were, whose place has the blocks that stand for the files then.
-pub(crate) fn a_commit_leaves_the_run_going()
-    ensures told { (position : ℕ) (old new : CoreState) (logging installing : Pending) (tx place : ℕ) (plan : Planned)
+// A commit is told by the blocks that it adds.
+pub(crate) fn a_commit_is_told_by_its_blocks()
+    ensures { (position : ℕ) (old new : CoreState) (logging installing : Pending) (tx place : ℕ) (plan : Planned)
         → TakesPlace old tx plan place new → IsLawful old.log → IsLawful new.log
         → position ≤ old.log.start + length old.log.changes
         → log_told position new.log logging installing ≡ with_commit (log_told position old.log logging installing)
         (added_blocks old.log (blocks_of plan.written)) }
-    ensures runs { (o : Setting) (base : Image) (side : StoreSide) (new : CoreState) (fetches : List Fetch)
-        (boot : ℕ) (first last : Tree) (entries : List Entry) (tx place : ℕ) (plan : Planned) (entry : Entry)
-        → IsRunningOver o base side fetches boot first entries last → TakesPlace side.core tx plan place new
-        → IsSoundCore base new → TellsOf boot plan entry
-        → (next : Tree) × step last entry.ctx entry.call entry.reply next
-        × ((more : Setting) → HasPlaceMore o (length entries) (file_blocks base new) more
-        → IsRunningOver more base (with_core side new) [] boot first (entries ++ entry ∷ []) next) }
-    ensures places { (o more : Setting) (base : Image) (d : Device) (old new : CoreState)
-        (logging installing : Pending) (boot : ℕ) (first last : Tree) (entries : List Entry) (tx place : ℕ)
-        (plan : Planned) → IsOpenSince base d old logging installing boot first entries last
-        → TakesPlace old tx plan place new → IsSoundCore base new
-        → HasPlaceMore o (length entries) (file_blocks base new) more
-        → HasBlocksOfPlaces o base old → HasBlocksOfPlaces more base new }
 {
-    store_promise::a_commit_leaves_the_store_open();
     store_promise::a_commit_is_told();
 }
 
@@ -147,8 +115,7 @@ pub(crate) fn a_worker_leaves_the_run_going()
         → IsLawful new.core.log → AreTidy new.core → IsWorkerAt boot entries worker → has_committed made ≡ true
         → GoesOnWith o base store new boot number first entries last (side worker store.core) }
 {
-    a_transaction_leaves_the_run_going();
-    a_commit_leaves_the_run_going();
+    store_promise::a_worker_keeps_the_run_going();
 }
 
 // A call that is handed over, and one that isn't taken, leave the core, what is told of it and the run as they are.
@@ -181,34 +148,4 @@ pub(crate) fn a_read_leaves_the_run_going()
         entries last }
 {
     store_promise::a_read_leaves_the_store_open();
-}
-
-// A new worker has a core at work for it where nothing is in memory, and steps of the log and of the installer leave it
-// so.
-pub(crate) fn a_log_step_leaves_a_core_at_work()
-    ensures first { (boot : ℕ) (core : CoreState) → core.present ≡ [] → GoesWith (at_rest boot) core
-        → IsCoreAtWork (at_rest boot) core }
-    ensures stays { (worker : State) (old new : CoreState) → KeepsTransactions old new → StaysLoaded old new
-        → IsCoreAtWork worker old → IsCoreAtWork worker new }
-    ensures logger { (old new : CoreState) → new ≡ record old { log = new.log } → new.log.blocks ≡ old.log.blocks
-        → StaysLoaded old new }
-    ensures installer { (old new : CoreState) → new.log.blocks ≡ old.log.blocks → new.inodes ≡ old.inodes
-        → Leaves new (taken_by old) (is_fetching old) (in_memory old) → StaysLoaded old new }
-{}
-
-// All that an event of the worker leaves of a run.
-pub(crate) fn a_run_goes_on_with_its_worker()
-    ensures { (o : Setting) (told : Told) (number : ℕ) (base : Image) (store : StoreSide) (boot : ℕ)
-        (first last : Tree) (entries : List Entry) (worker : State) (made : Option Step) (new : Side)
-        → IsRunningOver o base store (fetches_of worker) boot first entries last → IsTold o told store
-        → o.geometry.inodes ≡ store.core.inodes → HasBlocksOfPlaces o base store.core
-        → IsCoreAtWork worker store.core → IsWorkerAt boot entries worker
-        → IsStepWell (side worker store.core) made new
-        → WorksOn o told number base store boot first entries last (side worker store.core) made new }
-{
-    a_transaction_leaves_the_run_going();
-    a_core_at_work_stays_so();
-    a_workers_step_may_be_made();
-    a_workers_step_is_told();
-    a_worker_leaves_the_run_going();
 }

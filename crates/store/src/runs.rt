@@ -1,6 +1,7 @@
 //! A whole run: an opening, and then events one by one.
 ghost use Rattle.std.specs.Prelude.{◌≡◌};
 
+mod going;
 mod running;
 
 use crate::opened::close;

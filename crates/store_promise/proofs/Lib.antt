@@ -11,7 +11,9 @@ pub mod Opened
 pub mod HomesAfter
 pub mod Chains
 pub mod OpenSteps
+pub mod Places
 pub mod OpenCommits
 pub mod OpenInstalls
 pub mod Shown
 pub mod FileBlocks
+pub mod StableAnswers

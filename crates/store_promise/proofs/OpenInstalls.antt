@@ -131,7 +131,7 @@ module _ (base : Image) (d : Device) (old new : CoreState) (logging installing :
   abbrev n : ℕ
   n = installed_place new.log - installed_place old.log
 
-  gone : HasGoneOn old.log new.log
+  pub gone : HasGoneOn old.log new.log
   gone = subst (λ (log : Log). HasGoneOn old.log log) (sym back) (seen_inst_done old.log true ok since.over.lawful)
 
   records_are : new.records ≡ drop n old.records

@@ -72,7 +72,7 @@ pub record HasSame (old new : CoreState) : Type 0 where
   pub records : new.records ≡ old.records
 
 module _ (base : Image) (old new : CoreState) (same : HasSame old new) where
-  homes_same : homes_of old.log.blocks (opening base old.log) ≡ homes_of new.log.blocks (opening base new.log)
+  pub homes_same : homes_of old.log.blocks (opening base old.log) ≡ homes_of new.log.blocks (opening base new.log)
   homes_same = sym (ap (λ (n : ℕ). homes_of n (opening base new.log)) same.log.blocks
       ∙ ap (λ (changes : List LogChange). homes_of old.log.blocks (with_changes base (recovered changes)))
       same.log.changes)
@@ -98,7 +98,7 @@ module _ (base : Image) (old new : CoreState) (same : HasSame old new) where
   blocks_same = ap (λ (image : Image). after_commits image new.records) (sym homes_same)
       ∙ ap (λ (rs : List Footprint). after_commits (homes_of old.log.blocks (opening base old.log)) rs) same.records
 
-  installed_same : installed_place new.log ≡ installed_place old.log
+  pub installed_same : installed_place new.log ≡ installed_place old.log
   installed_same = ap (λ (changes : List LogChange). place_before changes new.log.places) same.log.changes
       ∙ ap (λ (n : ℕ). place_before old.log.changes n) same.log.places
 

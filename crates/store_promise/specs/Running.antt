@@ -1,23 +1,23 @@
 -- What holds of a run that goes on, and what a step of it does to the device and to what transactions have.
-use Rattle.std.specs.Prelude.{◌≡◌, ℕ, ◌+◌, ◌≤◌, Bool, if◌then◌else◌, List, Option, Some, None, length, All}
-use Rattle.std.specs.Prelude.{count_by}
+use Rattle.std.specs.Prelude.{◌≡◌, ℕ, ◌+◌, ◌-◌, ◌≤◌, Bool, if◌then◌else◌, List, Option, Some, None, length, All}
+use Rattle.std.specs.Prelude.{count_by, is_some, nat_le, true}
 use Rattle.disk.specs.Crash.{Image}
-use Rattle.disk.specs.Device.{Device}
+use Rattle.disk.specs.Device.{Content, Device}
 use Rattle.disk.specs.declared.block.BlockNo.{BlockNo}
 use Rattle.objects.specs.declared.addr.Addr.{Addr}
 use Rattle.model.specs.After.{Entry}
 use Rattle.model.specs.Tree.{Tree}
 use Rattle.wal_law.specs.Calls.{Pending, home_after, idle}
-use Rattle.wal_law.specs.Log.{Log}
+use Rattle.wal_law.specs.Log.{Log, installed_place}
 use Rattle.txn_law.specs.Core.{CoreState}
 use Rattle.txn_law.specs.CoreWindow.{IsPending, KeepsReads}
 use Rattle.txn_law.specs.Fetch.{Fetch}
-use Rattle.txn_law.specs.Leaves.{is_fetching, taken_by}
+use Rattle.txn_law.specs.Leaves.{in_memory, is_fetching, taken_by}
 use Rattle.store_promise.specs.declared.events.Step.{Step}
 use Rattle.store_promise.specs.declared.events.Step.TheVariants as step
 use Rattle.store_promise.specs.LogTold.{LogTold, log_moved}
 use Rattle.store_promise.specs.Openings.{IsLater}
-use Rattle.store_promise.specs.OpenSince.{IsOpenSince}
+use Rattle.store_promise.specs.OpenSince.{IsOpenSince, blocks_after}
 use Rattle.store_promise.specs.Schedule.{Setting, Told}
 use Rattle.store_promise.specs.ToldOf.{StandsAtHome, log_told}
 use Rattle.store_promise.specs.Transcript.{calls_device, fails}
@@ -29,6 +29,9 @@ pub record StoreSide : Type 0 where
   pub logging : Pending
   pub installing : Pending
 
+abbrev pub side : Device → CoreState → Pending → Pending → StoreSide
+side d core logging installing = record { device = d; core = core; logging = logging; installing = installing }
+
 -- no call is out
 abbrev pub at_rest : Device → CoreState → StoreSide
 at_rest d core = record { device = d; core = core; logging = idle; installing = idle }
@@ -38,15 +41,29 @@ abbrev pub IsFetchOver : Image → CoreState → Fetch → Type 0
 IsFetchOver base core fetch = IsPending core fetch.block → fetch.content ≡ base fetch.block.0
 
 -- A run goes on over what is at home: its store is open since its opening, with these entries; the log has gone on
--- from where the opening left it, and its installer stands at a home; and each fetch that was made well, and isn't
--- given back yet, has brought what is at home.
+-- from where the opening left it, and its installer stands at a home; each fetch that was made well, and isn't
+-- given back yet, has brought what is at home; and the blocks of each place, from those that are home on, are those
+-- after its commit, and beyond the last commit those after it.
 pub record IsRunningOver (o : Setting) (base : Image) (side : StoreSide) (fetches : List Fetch) (boot : ℕ)
     (first : Tree) (entries : List Entry) (last : Tree) : Type 0 where
   pub since : IsOpenSince base side.device side.core side.logging side.installing boot first entries last
   pub position : o.position ≤ side.core.log.start + length side.core.log.changes
   pub blocks : o.geometry.blocks ≡ side.core.log.blocks
+  pub inodes : o.geometry.inodes ≡ side.core.inodes
   pub stands : StandsAtHome side.core.log
   pub fetched : All (IsFetchOver base side.core) fetches
+  pub placed : (count : ℕ) → o.blocks (installed_place side.core.log + count) ≡ blocks_after base side.core count
+
+-- the blocks after each commit are what they were, where some more commits may have come home
+pub record KeepsPlaces (base : Image) (old : CoreState) (home : Image) (new : CoreState) : Type 0 where
+  pub further : installed_place old.log ≤ installed_place new.log
+  pub blocks : (count : ℕ) → blocks_after home new count
+      ≡ blocks_after base old (installed_place new.log - installed_place old.log + count)
+
+-- the same setting, with these blocks for the files after so many procedures and later
+abbrev pub with_blocks : Setting → ℕ → Image → Setting
+with_blocks o places now =
+    record o { blocks = λ place. if nat_le place places then o.blocks place else now }
 
 -- ---- a step
 
@@ -66,13 +83,16 @@ pub record IsMovedAlong (old : Device) (steps : List (Option Step)) (new : Devic
   pub calls : new.clock ≡ old.clock + count_by calls_device steps
   pub failures : new.failures ≡ old.failures + count_by fails steps
 
--- what transactions have taken, read and are fetching is what it was
+-- what transactions have taken, read and are fetching is what it was, and what they have taken stays in memory
 pub record KeepsTransactions (old new : CoreState) : Type 0 where
+  pub inodes : new.inodes ≡ old.inodes
   pub begun : new.begun ≡ old.begun
   pub out : new.out ≡ old.out
   pub taken : (tx : ℕ) (addr : Addr) → taken_by new tx addr ≡ taken_by old tx addr
   pub fetches : (block : BlockNo) → is_fetching new block ≡ is_fetching old block
   pub reads : (tx : ℕ) → KeepsReads old new tx
+  pub loaded : (tx : ℕ) (addr : Addr) (content : Content) → is_some (taken_by old tx addr) ≡ true
+      → in_memory old addr.block ≡ Some content → in_memory new addr.block ≡ Some content
 
 -- what is told of a log, where an opening left it at a position
 abbrev pub told_of : ℕ → StoreSide → LogTold

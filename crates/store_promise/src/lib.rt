@@ -54,7 +54,8 @@ pub use refusals::{
     what_shows_a_cause_is_not_opened,
 };
 pub use running::{
-    a_device_counts_the_calls_of_its_steps, an_opening_begins_a_run, what_was_read_is_at_home,
+    a_device_counts_the_calls_of_its_steps, a_worker_keeps_the_run_going, an_opening_begins_a_run,
+    what_was_read_is_at_home,
 };
 pub use steps_made::{
     a_call_changes_no_more_than_it_may, a_call_that_is_out_is_made, a_full_log_is_full,

@@ -1,12 +1,15 @@
 //! Laws on a run that goes on: what its device has counted, and what its reads have brought.
 ghost use Rattle.std.specs.Prelude.{◌≡◌, ◌+◌, ◌++◌, ◌∷◌, [], All, Contains, List, Option, Result};
-ghost use Rattle.std.specs.Prelude.{is_err, ℕ, Bool, false, true};
+ghost use Rattle.std.specs.Prelude.{is_err, length, ℕ, Bool, false, true};
 ghost use Rattle.disk.specs.Crash.{Image};
-ghost use Rattle.disk.specs.Device.{CountsFailure, Device, OneLater, current, newest};
+ghost use Rattle.disk.specs.Device.{CountsFailure, Device, HasRead, OneLater, current, newest};
 ghost use Rattle.disk.specs.declared.block.BlockNo.{BlockNo};
 ghost use Rattle.disk.specs.declared.device.Failed.{Failed};
 ghost use Rattle.model.specs.After.{Entry};
+ghost use Rattle.model.specs.Step.{step};
 ghost use Rattle.model.specs.Tree.{Tree};
+ghost use Rattle.txn.specs.Outcomes.{TakesPlace};
+ghost use Rattle.txn_law.specs.Commit.{Planned};
 ghost use Rattle.wal_law.specs.Calls.{Pending, home_after};
 ghost use Rattle.txn_law.specs.Core.{CoreState};
 ghost use Rattle.txn_law.specs.CoreWindow.{IsPending};
@@ -14,11 +17,12 @@ ghost use Rattle.txn_law.specs.Fetch.{Fetch};
 ghost use Rattle.txn_law.specs.HomeRead.{HasContents};
 ghost use Rattle.txn_law.specs.Leaves.{is_fetching, with_fetch};
 ghost use Rattle.store_promise.specs.declared.events.Step.{Step};
-ghost use Rattle.store_promise.specs.OpenSince.{IsOpenSince};
+ghost use Rattle.store_promise.specs.OpenSince.{IsOpenSince, IsSoundCore, StandsBeside, TellsOf, file_blocks};
 ghost use Rattle.store_promise.specs.OpenStore.{IsNewOver};
 ghost use Rattle.store_promise.specs.Openings.{IsOpened};
 ghost use Rattle.store_promise.specs.Schedule.{Setting, at_first};
 ghost use Rattle.store_promise.specs.Running.{IsFetchOver, IsMovedAlong, IsMovedBy, IsRunningOver, IsTold, at_rest};
+ghost use Rattle.store_promise.specs.Running.{side, with_blocks};
 ghost use Rattle.store_promise.specs.Transcript.{calls_device, fails};
 
 /// What an opening leaves begins a run, over what is at home: with the files that were found, no entry, no read
@@ -26,7 +30,8 @@ ghost use Rattle.store_promise.specs.Transcript.{calls_device, fails};
 pub fn an_opening_begins_a_run()
     ensures runs { (before opened : Device) (base : Image) (core : CoreState) (tree : Tree) (first : ℕ) (o : Setting)
         → IsOpened before opened tree first o.position → IsNewOver base opened core
-        → o.geometry.blocks ≡ opened.size
+        → o.geometry.blocks ≡ opened.size → o.geometry.inodes ≡ core.inodes
+        → ((place : ℕ) → o.blocks place ≡ file_blocks base core)
         → IsRunningOver o base (at_rest opened core) [] (first + 1) tree [] tree }
     ensures told { (before opened : Device) (base : Image) (core : CoreState) (tree : Tree) (first : ℕ) (o : Setting)
         → IsOpened before opened tree first o.position → IsNewOver base opened core
@@ -68,4 +73,33 @@ pub fn what_was_read_is_at_home()
         → All (IsFetchOver base old) fetches → All (IsFetchOver (home_after base old.log ok) new) fetches }
 {
     txn_law::a_fetch_keeps_the_window_of_the_core();
+}
+
+/// What a worker does leaves a run going: what its transaction takes, reads and lets go of; a read that is made; and
+/// a commit, with one entry more, which is a step of the sequential server, in the setting that has the blocks after
+/// it.
+pub fn a_worker_keeps_the_run_going()
+    ensures beside { (o : Setting) (base : Image) (d : Device) (old new : CoreState) (logging installing : Pending)
+        (fetches left : List Fetch) (boot : ℕ) (first last : Tree) (entries : List Entry)
+        → IsRunningOver o base (side d old logging installing) fetches boot first entries last
+        → StandsBeside old new → IsSoundCore base new → All (IsFetchOver base new) left
+        → IsRunningOver o base (side d new logging installing) left boot first entries last }
+    ensures read { (o : Setting) (base : Image) (d later : Device) (core : CoreState) (logging installing : Pending)
+        (fetches read : List Fetch) (boot : ℕ) (first last : Tree) (entries : List Entry)
+        → IsRunningOver o base (side d core logging installing) fetches boot first entries last
+        → HasRead d later → All (IsFetchOver base core) read
+        → IsRunningOver o base (side later core logging installing) read boot first entries last }
+    ensures commit { (o : Setting) (base : Image) (d : Device) (old new : CoreState) (logging installing : Pending)
+        (fetches left : List Fetch) (boot : ℕ) (first last : Tree) (entries : List Entry) (tx place : ℕ)
+        (plan : Planned) (entry : Entry)
+        → IsRunningOver o base (side d old logging installing) fetches boot first entries last
+        → TakesPlace old tx plan place new → IsSoundCore base new → TellsOf boot plan entry
+        → All (IsFetchOver base new) left
+        → (next : Tree) × step last entry.ctx entry.call entry.reply next
+        × IsRunningOver (with_blocks o (length entries) (file_blocks base new)) base (side d new logging installing)
+        left boot first (entries ++ entry ∷ []) next }
+{
+    crate::a_commit_leaves_the_store_open();
+    crate::a_transaction_leaves_the_store_open();
+    crate::a_read_leaves_the_store_open();
 }

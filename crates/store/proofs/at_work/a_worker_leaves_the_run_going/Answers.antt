@@ -1,6 +1,8 @@
-use Rattle.std.proofs.Common.{◌∙◌, ℕ, ◌+◌, ◌++◌, ◌∷◌, List, [], ap, subst, sym}
+use Rattle.std.proofs.Common.{◌∙◌, ℕ, ◌+◌, ◌++◌, ◌∷◌, List, [], ap, length, subst, sym}
 use Rattle.txn_law.specs.Fetch.{Fetch}
-use Rattle.store_promise.specs.Running.{IsRunningOver}
+use Rattle.store_promise.specs.OpenSince.{file_blocks}
+use Rattle.store_promise.specs.Running.{IsFetchOver, IsRunningOver, with_blocks}
+use Rattle.std.proofs.lemmas.List.Elements.{All-nil}
 use Rattle.store.proofs.AtWorkGoes.{none_left, sound_core, takes_place}
 use Rattle.store.proofs.AtWorkTold.{stands_beside}
 use Rattle.store.specs.AtWork.{entry_by, fetches_of, with_core}
@@ -14,8 +16,9 @@ returns-clause-beside c = λ o base store worker new boot first last entries mad
     let sound = sound_core base old new keeps run.fetched run.since.over.files.home lawful tidy in (
       subst (λ (fetches : List Fetch). IsRunningOver o base (with_core store new.core) fetches boot first entries last)
           (sym (none_left old new made goes))
-          (c.a_transaction_leaves_the_run_going.ensures.runs o base store new.core (fetches_of worker) boot first last
-          entries run beside sound),
+          (c.a_worker_keeps_the_run_going.ensures.beside o base store.device store.core new.core store.logging
+          store.installing (fetches_of worker) [] boot first last entries run beside sound
+          (All-nil (IsFetchOver base new.core))),
       beside,
     )
 
@@ -26,18 +29,15 @@ returns-clause-committed c = λ o base store worker new boot number first last e
     let sound = sound_core base old new keeps run.fetched run.since.over.files.home lawful tidy in
     let taken = takes_place old new boot number entries made goes worker_at has in
     let entry = entry_by number taken.entry in
-    let left = c.a_commit_leaves_the_run_going.ensures.runs o base store new.core (fetches_of worker) boot first last
-    entries taken.tx taken.place taken.plan entry run taken.took sound taken.tells in
+    let left = c.a_worker_keeps_the_run_going.ensures.commit o base store.device store.core new.core store.logging
+    store.installing (fetches_of worker) [] boot first last entries taken.tx taken.place taken.plan entry run taken.took
+    sound taken.tells (All-nil (IsFetchOver base new.core)) in
     record {
       taken = taken;
       next = taken.took.next ∙ ap (λ (n : ℕ). n + 1) (sym run.since.counted);
       left = left.0;
       goes = left.1;
-      runs = λ more with_place.
-          subst (λ (fetches : List Fetch). IsRunningOver more base (with_core store new.core) fetches boot first
-          (entries ++ entry ∷ []) left.0) (sym (none_left old new made goes)) (left.2 more with_place);
-      places = λ more with_place had.
-          c.a_commit_leaves_the_run_going.ensures.places o more base store.device store.core new.core store.logging
-          store.installing boot first last entries taken.tx taken.place taken.plan run.since taken.took sound with_place
-          had;
+      runs = subst (λ (fetches : List Fetch). IsRunningOver (with_blocks o (length entries) (file_blocks base new.core)) base
+          (with_core store new.core) fetches boot first (entries ++ entry ∷ []) left.0)
+          (sym (none_left old new made goes)) left.2;
     }

@@ -8,8 +8,11 @@ use Rattle.model.specs.Tree.{Tree}
 use Rattle.txn_law.specs.Core.{CoreState}
 use Rattle.wal_law.specs.declared.change.LogChange.{LogChange}
 use Rattle.wal_law.specs.Installer.{next_home, passed_over}
-use Rattle.wal_law.specs.Log.{Log, tail_count}
+use Rattle.wal_law.specs.Log.{Log, installed_place, tail_count}
 use Rattle.store_promise.specs.LogTold.{empty_log, idle}
+use Rattle.layout.specs.Homes.{homes_of}
+use Rattle.txn_law.specs.Window.{Footprint, after_commits, opening}
+use Rattle.store_promise.specs.OpenSince.{blocks_after, file_blocks}
 use Rattle.store_promise.specs.OpenStore.{IsNewOver}
 use Rattle.store_promise.specs.Openings.{IsOpened}
 use Rattle.store_promise.specs.Running.{at_rest, told_of}
@@ -117,11 +120,26 @@ module _ (before opened : Device) (base : Image) (core : CoreState) (tree : Tree
     inst_call = idle;
   }
 
+take_nothing : (count : ℕ) → take {A = Footprint} count [] ≡ []
+take_nothing zero = refl
+take_nothing (suc count) = refl
+
+-- before the first commit each place has the files' blocks
+no_commit : (base : Image) (core : CoreState) → core.records ≡ [] → (count : ℕ)
+    → blocks_after base core count ≡ file_blocks base core
+no_commit base core none count =
+    let homes = homes_of core.log.blocks (opening base core.log) in
+    ap (λ (rs : List Footprint). after_commits homes (take count rs)) none
+    ∙ ap (λ (rs : List Footprint). after_commits homes rs) (take_nothing count)
+    ∙ sym (ap (λ (rs : List Footprint). after_commits homes rs) none)
+
 pub returns-clause-runs : goal.returns-clause-runs
-returns-clause-runs c = λ before opened base core tree first o opens new blocks. record {
+returns-clause-runs c = λ before opened base core tree first o opens new blocks inodes files. record {
   since = c.an_opening_leaves_an_open_store.ensures before opened base core tree first o.position opens new;
   position = (let at = position_is before opened base core tree first o.position opens new in omega (arith, at));
   blocks = blocks ∙ new.agrees.agrees.size;
+  inodes = inodes;
+  placed = λ count. files (installed_place core.log + count) ∙ sym (no_commit base core new.records count);
   stands = stands before opened base core tree first o.position opens new;
   fetched = λ k fetch less. absurd (omega (arith, less));
 }

@@ -1,10 +1,10 @@
 use Rattle.std.proofs.Common.{rules, ◌≡◌, ◌∙◌, ap, refl, sym, subst, is_ok, Some, None}
 use Rattle.store_promise.specs.OpenSince.{IsOpenSince}
-use Rattle.store_promise.specs.Running.{IsLogStep}
+use Rattle.store_promise.specs.Running.{IsLogStep, side}
 use Rattle.store_promise.specs.declared.events.Step.TheVariants as step
 use Rattle.wal_law.specs.Calls.{Pending, out, was_made}
 use Rattle.store.proofs.LogMoves.{answer_is, inst_made}
-use Rattle.store.proofs.LogSteps.{failed_is, goes_on, of_installer, same_transactions, side, some_made, some_out}
+use Rattle.store.proofs.LogSteps.{failed_is, goes_on, of_installer, same_core_places, same_transactions, some_made, some_out}
 use Rattle.store.proofs.Made.{made_later}
 use Rattle.store.specs.LogSide.{MayInstIo, pending_of, side_of}
 use Rattle.store.proofs.runs.running.Running.inst_io.Goals as goal
@@ -37,4 +37,5 @@ returns-clause-step g c =
     (λ base boot first last entries since.
     subst (λ (p : Pending). IsOpenSince base e core beside p boot first entries last) (sym same)
     (law base d e core io answer beside boot first last entries since c.perform.ensures.call))
-    (λ base boot first last entries fetches since all. all)))
+    (λ base boot first last entries fetches since all. all)
+    (λ base boot first last entries since. same_core_places base core)))

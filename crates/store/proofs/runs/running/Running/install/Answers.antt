@@ -1,13 +1,16 @@
 use Rattle.std.proofs.Common.{rules, ◌≡◌, ◌∙◌, ap, refl, sym, subst, true, Some}
 use Rattle.store_promise.specs.OpenSince.{IsOpenSince}
-use Rattle.store_promise.specs.Running.{IsLogStep, KeepsTransactions}
+use Rattle.store_promise.specs.Running.{IsLogStep, KeepsTransactions, side}
 use Rattle.store_promise.specs.declared.events.Step.TheVariants as step
 use Rattle.txn_law.specs.Core.{CoreState}
 use Rattle.wal_law.specs.Calls.{Pending, idle, out}
 use Rattle.wal_law.specs.Installer.{may_install, with_inst_out}
 use Rattle.wal_law.specs.declared.calls.IoCall.{IoCall}
-use Rattle.store.proofs.LogMoves.{inst_given, inst_taken}
-use Rattle.store.proofs.LogSteps.{answered, fewer, goes_on, log_alone, none_out, of_installer, side, some_made}
+use Rattle.store_promise.proofs.OpenSteps.{HasSameChanges, inst_out_same}
+use Rattle.store_promise.proofs.Places.{places_home}
+use Rattle.store.proofs.LogMoves.{inst_back_is, inst_given, inst_taken}
+use Rattle.store.proofs.LogSteps.{answered, fewer, goes_on, log_alone, log_places, none_out, of_installer, some_made}
+use Rattle.store.proofs.LogSteps.{still_loaded}
 use Rattle.store.proofs.LogSteps.{some_out}
 use Rattle.store.specs.LogSide.{MayInstall, pending_of}
 use Rattle.store.proofs.runs.running.Running.install.Goals as goal
@@ -41,7 +44,10 @@ returns-in_default-clause-step g c =
       home = c.inst_next.ensures.keeps base since.over.files.home;
     }))
     (λ base boot first last entries fetches since all.
-    c.what_was_read_is_at_home.ensures.kept base core new fetches (fewer core new kept) all)))
+    c.what_was_read_is_at_home.ensures.kept base core new fetches (fewer core new kept) all)
+    (λ base boot first last entries since. log_places base core new
+    (is ∙ ap (λ l. record core { log = l }) (sym log_is))
+    (subst (HasSameChanges core.log) (sym log_is) (inst_out_same core.log)))))
 
 pub returns-in-Some-take-clause-step : goal.returns-in-Some-take-clause-step
 returns-in-Some-take-clause-step g c =
@@ -55,11 +61,13 @@ returns-in-Some-take-clause-step g c =
     let beside = pending_of calls.log calls.log_made in
     let law = c.the_installer_leaves_the_store_open.ensures.given_back in
     let kept : KeepsTransactions core new = record {
+      inodes = ap (λ (core : CoreState). core.inodes) c.inst_done.ensures.only;
       begun = ap (λ (core : CoreState). core.begun) c.inst_done.ensures.only;
       out = ap (λ (core : CoreState). core.out) c.inst_done.ensures.only;
       taken = c.inst_done.ensures.leaves.holds;
       fetches = c.inst_done.ensures.leaves.fetches;
       reads = c.inst_done.ensures.stays;
+      loaded = still_loaded core new c.inst_done.ensures.leaves;
     } in
     let was = answered io ok in
     of_installer MayInstall (Some (step.InstDone ok)) d d core new beside made idle _ _
@@ -81,4 +89,8 @@ returns-in-Some-take-clause-step g c =
     }))
     (λ base boot first last entries fetches since all.
     c.what_was_read_is_at_home.ensures.installed base d core new beside made ok boot first last entries fetches since
-    (fewer core new kept) all))
+    (fewer core new kept) all)
+    (λ base boot first last entries since.
+    places_home base d core new beside made ok boot first last entries since
+    (inst_back_is d base core.log new.log beside io ok since.over.agrees c.inst_done.ensures.log)
+    (ap (λ (core : CoreState). core.records) c.inst_done.ensures.only)))

@@ -1,13 +1,14 @@
 use Rattle.std.proofs.Common.{rules, ◌≡◌, ◌∙◌, ap, refl, sym, subst, true, Some}
 use Rattle.store_promise.specs.OpenSince.{IsOpenSince}
-use Rattle.store_promise.specs.Running.{IsLogStep, KeepsTransactions}
+use Rattle.store_promise.specs.Running.{IsLogStep, KeepsTransactions, side}
 use Rattle.store_promise.specs.declared.events.Step.TheVariants as step
 use Rattle.txn_law.specs.Core.{CoreState}
 use Rattle.wal_law.specs.Calls.{Pending, idle, out}
-use Rattle.wal_law.specs.Logger.{may_log, with_log_out}
+use Rattle.wal_law.specs.Logger.{is_log_out, may_log, with_log_out}
 use Rattle.wal_law.specs.declared.calls.IoCall.{IoCall}
+use Rattle.store_promise.proofs.OpenSteps.{HasSameChanges, log_given_same, log_out_same}
 use Rattle.store.proofs.LogMoves.{log_given, log_taken}
-use Rattle.store.proofs.LogSteps.{answered, fewer, goes_on, log_alone, none_out, of_logger, side, some_made}
+use Rattle.store.proofs.LogSteps.{answered, fewer, goes_on, log_alone, log_places, none_out, of_logger, some_made}
 use Rattle.store.proofs.LogSteps.{some_out}
 use Rattle.store.specs.LogSide.{MayLog, pending_of}
 use Rattle.store.proofs.runs.running.Running.log.Goals as goal
@@ -41,7 +42,10 @@ returns-in_default-clause-step g c =
       home = c.log_next.ensures.keeps base since.over.files.home;
     }))
     (λ base boot first last entries fetches since all.
-    c.what_was_read_is_at_home.ensures.kept base core new fetches (fewer core new kept) all)))
+    c.what_was_read_is_at_home.ensures.kept base core new fetches (fewer core new kept) all)
+    (λ base boot first last entries since. log_places base core new
+    (is ∙ ap (λ l. record core { log = l }) (sym log_is))
+    (subst (HasSameChanges core.log) (sym log_is) (log_out_same core.log)))))
 
 pub returns-in-Some-take-clause-step : goal.returns-in-Some-take-clause-step
 returns-in-Some-take-clause-step g c =
@@ -74,4 +78,7 @@ returns-in-Some-take-clause-step g c =
       home = c.log_done.ensures.keeps base since.over.files.home;
     }))
     (λ base boot first last entries fetches since all.
-    c.what_was_read_is_at_home.ensures.kept base core new fetches (fewer core new kept) all))
+    c.what_was_read_is_at_home.ensures.kept base core new fetches (fewer core new kept) all)
+    (λ base boot first last entries since. log_places base core new c.log_done.ensures.others
+    (subst (HasSameChanges core.log) (sym c.log_done.ensures.log)
+    (log_given_same core.log (is_log_out core.log io) ok))))

@@ -1,0 +1,16 @@
+pub mod ToldGrows
+pub mod ToldPlaces
+pub mod ToldTaken
+pub mod ToldMoves
+pub mod ToldStages
+pub mod ToldNumbers
+pub mod ToldNothing
+pub mod EntriesCommits
+pub mod EntriesGrow
+pub mod AnswersPlaces
+pub mod AnswersGrow
+pub mod Before
+pub mod Settled
+pub mod Stops
+pub mod Waited
+pub mod Promised

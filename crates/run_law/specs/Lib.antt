@@ -1,0 +1,4 @@
+pub mod Noting
+pub mod Ledger
+pub mod Past
+pub mod Run

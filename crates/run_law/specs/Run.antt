@@ -1,0 +1,68 @@
+-- What holds of a run between two events, from its opening on.
+use Rattle.std.specs.Prelude.{◌≡◌, ℕ, ◌+◌, ◌≤◌, List, length, slice_get, Some, take}
+use Rattle.disk.specs.Crash.{Image}
+use Rattle.disk.specs.Device.{Device}
+use Rattle.model.specs.After.{after}
+use Rattle.model.specs.Tree.{Tree}
+use Rattle.txn_law.specs.Fetch.{Fetch}
+use Rattle.store_promise.specs.declared.events.Event.{Event}
+use Rattle.store_promise.specs.Headline.{IsGeometryOf, StandsAfter}
+use Rattle.store_promise.specs.History.{IsHistory}
+use Rattle.store_promise.specs.Openings.{IsOpened}
+use Rattle.store_promise.specs.Running.{IsMovedAlong, IsMovedBy, IsRunningOver, IsTold, StoreSide}
+use Rattle.store_promise.specs.Schedule.{AreTaken, IsTaken, Schedule, Setting, told_after}
+use Rattle.store_promise.specs.Transcript.{Transcript, entries_of}
+use Rattle.store_promise.specs.Verdicts.{AreAnswers}
+use Rattle.run_law.specs.Ledger.{HasLedger}
+use Rattle.run_law.specs.Noting.{Noted, TellsOfEvent, told_now, with_noted}
+use Rattle.run_law.specs.Past.{HasLeft}
+
+-- what a run began with: its device before the opening and after it, the tree, the boot number before, how many
+-- workers it has, and its events
+pub record Beginning : Type 0 where
+  pub before : Device
+  pub opened : Device
+  pub tree : Tree
+  pub first : ℕ
+  pub workers : ℕ
+  pub events : Schedule
+
+-- What is told is so: each event was taken, each procedure and each answer is that of its worker's call.
+pub record IsToldWell (b : Beginning) (o : Setting) (t : Transcript) : Type 0 where
+  pub taken : AreTaken o b.workers b.events t.steps
+  pub history : IsHistory b.events t
+  pub answers : AreAnswers b.events t
+  pub ledger : HasLedger b.events t
+
+-- The run so far: its store is open, over what is at home, with the entries that were told; what is told is what the
+-- store has; and at each stop so far a prefix of the entries was left.
+pub record IsRun (b : Beginning) (o : Setting) (t : Transcript) (base : Image) (side : StoreSide)
+    (fetches : List Fetch) (last : Tree) : Type 0 where
+  pub opens : IsOpened b.before b.opened b.tree b.first o.position
+  pub geometry : IsGeometryOf b.opened.size b.tree o.geometry
+  pub running : IsRunningOver o base side fetches (b.first + 1) b.tree (entries_of t) last
+  pub told : IsTold o (told_now b.events t) side
+  pub moved : IsMovedAlong b.opened t.steps side.device
+  pub boot : t.boot ≡ b.first + 1
+  pub leads : after b.tree (entries_of t) last
+  pub files : (place : ℕ) → StandsAfter o.geometry b.tree (take place (entries_of t)) (o.blocks place)
+  pub well : IsToldWell b o t
+  pub past : HasLeft b.before b.opened.size b.first b.tree b.events b.opened.clock t o.blocks side.device
+
+-- An event was taken: its step is one that may be made, moved the device so far, left the run going, with one entry
+-- more where it committed one, in a setting with the same blocks up to the places so far; and what is told with it
+-- tells of it.
+pub record GoesOn (b : Beginning) (o : Setting) (t : Transcript) (side : StoreSide) (noted : Noted) (later : Setting)
+    (base : Image) (new : StoreSide) (fetches : List Fetch) (last : Tree) : Type 0 where
+  pub event : Event
+  pub next : slice_get b.events (length t.steps) ≡ Some event
+  pub taken : IsTaken o b.workers (told_now b.events t) event noted.made
+  pub notes : TellsOfEvent b.events t event noted
+  pub device : IsMovedBy side.device noted.made new.device
+  pub same : later ≡ record o { blocks = later.blocks }
+  pub blocks : (place : ℕ) → place ≤ length t.history → later.blocks place ≡ o.blocks place
+  pub running : IsRunningOver later base new fetches (b.first + 1) b.tree (entries_of (with_noted t noted)) last
+  pub told : IsTold later (told_after (told_now b.events t) event noted.made) new
+  pub leads : after b.tree (entries_of (with_noted t noted)) last
+  pub files : (place : ℕ) → StandsAfter later.geometry b.tree (take place (entries_of (with_noted t noted)))
+      (later.blocks place)

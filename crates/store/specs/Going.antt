@@ -1,0 +1,64 @@
+-- What holds of a run between two events, as the code has it.
+use Rattle.std.specs.Prelude.{◌≡◌, ℕ, ◌+◌, ◌++◌, ◌∷◌, [], Option, Some, None, length, slice_get}
+use Rattle.disk.specs.Crash.{Image}
+use Rattle.model.specs.Tree.{Tree}
+use Rattle.store_promise.specs.declared.events.Event.{Event}
+use Rattle.store_promise.specs.declared.events.Event.TheVariants as event
+use Rattle.store_promise.specs.declared.events.Step.{Step}
+use Rattle.store_promise.specs.declared.transcript.Run.{Run}
+use Rattle.store_promise.specs.LogTold.{LogTold}
+use Rattle.store_promise.specs.Running.{StoreSide}
+use Rattle.store_promise.specs.Schedule.{IsTimely, Setting}
+use Rattle.store_promise.specs.Transcript.{entries_of, transcript_of}
+use Rattle.run_law.specs.Noting.{progress_now}
+use Rattle.run_law.specs.Run.{Beginning, IsRun}
+use Rattle.store.specs.AtWork.{IsCoreAtWork, fetches_of}
+use Rattle.store.specs.LogSide.{MayInstIo, MayInstall, MayLog, MayLogIo}
+use Rattle.store.specs.Stages.{IsWorkerAt, progress_of}
+use Rattle.store.specs.Worker.{GoesWith}
+use Rattle.store.specs.WorkerSteps.{KeepsHomeOf, KeepsReadsOf, Side}
+use Rattle.wal_law.specs.Log.{IsLawful}
+use Rattle.txn_law.specs.Tidy.{AreTidy}
+use Rattle.store.specs.declared.workers.parts.State.{State}
+
+-- A run goes on, of one worker: it is one so far, and the worker stands where its steps have told, at work on the
+-- core.
+pub record IsGoing (b : Beginning) (store : StoreSide) (worker : State) (told : Run) : Type 0 where
+  pub setting : Setting
+  pub base : Image
+  pub last : Tree
+  pub run : IsRun b setting (transcript_of told) base store (fetches_of worker) last
+  pub stands : IsWorkerAt (b.first + 1) (entries_of (transcript_of told)) worker
+  pub at_work : IsCoreAtWork worker store.core
+  pub progress : progress_now b.events (transcript_of told) 0 ≡ progress_of worker
+
+-- this event is next, and is handed over at a sound time
+pub record IsNextEvent (b : Beginning) (now : Event) (told : Run) : Type 0 where
+  pub alone : b.workers ≡ 1
+  pub next : slice_get b.events (length told.steps.items) ≡ Some now
+  pub timely : IsTimely now
+
+-- what an event notes beside its step, which is told last
+pub record NotesStep (made : Option Step) (before after : Run) : Type 0 where
+  pub steps : after.steps.items ≡ before.steps.items ++ made ∷ []
+  pub boot : after.boot ≡ before.boot
+  pub history : after.history.items ≡ before.history.items
+  pub answers : after.answers.items ≡ before.answers.items
+
+-- the steps of the log's events and of the installer's
+abbrev pub may_make : Event → Setting → LogTold → Option Step → Type 0
+may_make event.Log o log made = MayLog o log made
+may_make event.LogIo o log made = MayLogIo o log made
+may_make event.Install o log made = MayInstall o log made
+may_make event.InstIo o log made = MayInstIo o log made
+may_make (event.Call worker credential moment call) o log made = ⊥
+may_make (event.Work worker) o log made = ⊥
+may_make (event.Read worker) o log made = ⊥
+
+-- what a worker's step keeps of its core, beside what it says
+pub record KeepsCore (old new : Side) : Type 0 where
+  pub home : KeepsHomeOf old new
+  pub reads : KeepsReadsOf old new
+  pub lawful : IsLawful new.core.log
+  pub tidy : AreTidy new.core
+  pub with : GoesWith new.worker new.core

@@ -1,0 +1,62 @@
+use Rattle.std.proofs.Common.{◌≡◌, ℕ, ◌+◌, ◌≤◌, ap, sym, ◌∙◌, refl, subst, arith, List, length}
+use Rattle.txn_law.specs.Core.{CoreState}
+use Rattle.store_promise.specs.ToldOf.{StandsAtHome}
+use Rattle.store_promise.proofs.OpenSteps.{same_changes}
+use Rattle.store_promise.proofs.Places.{placed_on, same_places, stay_placed}
+use Rattle.store_promise.proofs.ToldLog.{stands_after_commit}
+use Rattle.store_promise.proofs.running.a_worker_keeps_the_run_going.Goals as goal
+
+pub returns-clause-beside : goal.returns-clause-beside
+returns-clause-beside c = λ o base d old new logging installing fetches left boot first last entries run beside sound brought.
+    record {
+      since = c.a_transaction_leaves_the_store_open.ensures base d old new logging installing boot first last entries
+          run.since beside sound;
+      position = subst (λ log. o.position ≤ log.start + length log.changes) (sym beside.log) run.position;
+      blocks = run.blocks ∙ sym (ap (λ log. log.blocks) beside.log);
+      inodes = run.inodes ∙ sym beside.inodes;
+      stands = subst StandsAtHome (sym beside.log) run.stands;
+      fetched = brought;
+      placed = stay_placed o base base old new (same_places base old new
+          (record { log = same_changes old.log new.log beside.log; inodes = beside.inodes; records = beside.records }))
+          run.placed;
+    }
+
+pub returns-clause-read : goal.returns-clause-read
+returns-clause-read c = λ o base d later core logging installing fetches read boot first last entries run has brought.
+    record {
+      since = c.a_read_leaves_the_store_open.ensures base d later core logging installing boot first last entries
+          run.since has;
+      position = run.position;
+      blocks = run.blocks;
+      inodes = run.inodes;
+      stands = run.stands;
+      fetched = brought;
+      placed = run.placed;
+    }
+
+pub returns-clause-commit : goal.returns-clause-commit
+returns-clause-commit c = λ o base d old new logging installing fetches left boot first last entries tx place plan entry
+    run took sound tells brought.
+    let led = c.a_commit_leaves_the_store_open.ensures base d old new logging installing boot first last entries tx
+    place plan entry run.since took sound tells in
+    let grown = took.group.grown in (
+      led.0,
+      led.1,
+      record {
+        since = led.2;
+        position =
+            let before = run.position in
+            let logged = grown.logged in
+            let taken = grown.taken in
+            let starts = took.still.start in
+            let tail = took.group.seen.tail in
+            let within = run.since.over.lawful.taken_within in
+            omega (arith, before, logged, taken, starts, tail, within);
+        blocks = run.blocks ∙ sym took.still.blocks;
+        inodes = run.inodes ∙ sym (ap (λ (core : CoreState). core.inodes) took.only);
+        stands = stands_after_commit old.log new.log took.group.group run.since.over.lawful grown took.still run.stands;
+        fetched = brought;
+        placed = placed_on o base d old new logging installing boot first last entries tx place plan run.since took
+            run.placed;
+      },
+    )
