@@ -13,7 +13,7 @@ use Rattle.nfs_types.specs.declared.program.ProgramReply.{ProgramReply}
 use Rattle.nfs_types.specs.declared.program.ProgramReply.TheVariants as replies
 use Rattle.nfs_types.specs.declared.reply.Reply.{Reply}
 use Rattle.nfs_types.specs.declared.status.Status.TheVariants as status
-use Rattle.model.specs.Mount.{mount_unsupported}
+use Rattle.model.specs.Mount.{mount_reply}
 use Rattle.model.specs.Refused.{refused}
 
 abbrev pub is_unchanged : SetTime → Bool
@@ -85,7 +85,7 @@ unsupported c = refused status.NotSupp c
 -- The reply to a call that begins no transaction: a function of the call alone.
 abbrev pub plain_reply : ProgramCall → ProgramReply
 plain_reply (programs.Nfs asked) = replies.Nfs (unsupported asked)
-plain_reply (programs.Mount asked) = replies.Mount (mount_unsupported asked)
+plain_reply (programs.Mount asked) = replies.Mount (mount_reply asked)
 
 abbrev pub is_unstable : Stability → Bool
 is_unstable Unstable = true

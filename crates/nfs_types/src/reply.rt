@@ -1,7 +1,8 @@
 //! The replies of NFS version 3 (RFC 1813, section 3.3). Each has an outcome, and the parts that come with a
 //! refusal too.
 
-ghost use Rattle.std.specs.Prelude.{◌≡◌};
+ghost use Rattle.std.specs.Prelude.{◌≡◌, IfOk};
+ghost use Rattle.nfs_types.specs.declared.reply.Reply.TheVariants as replies;
 
 use crate::{
     Attributes, Handle, ListedEntries, ListedEntriesPlus, Moment, Octets, Stability, Status,
@@ -189,99 +190,140 @@ impl Clone for Reply {
     ghost is_clone = { λ reply copy. copy ≡ reply };
 
     fn clone(&self) -> Result<Reply, AllocError> {
-        match self {
+        match *self {
             Reply::Null => Ok(Reply::Null),
-            Reply::GetAttr { outcome } => Ok(Reply::GetAttr { outcome: *outcome }),
-            Reply::SetAttr { outcome, object } => Ok(Reply::SetAttr {
-                outcome: *outcome,
-                object: *object,
-            }),
-            Reply::Lookup { outcome, directory } => Ok(Reply::Lookup {
-                outcome: outcome.clone()?,
-                directory: *directory,
-            }),
-            Reply::Access { outcome, object } => Ok(Reply::Access {
-                outcome: *outcome,
-                object: *object,
-            }),
-            Reply::ReadLink { outcome, link } => Ok(Reply::ReadLink {
-                outcome: outcome.clone()?,
-                link: *link,
-            }),
-            Reply::Read { outcome, file } => Ok(Reply::Read {
-                outcome: outcome.clone()?,
-                file: *file,
-            }),
-            Reply::Write { outcome, file } => Ok(Reply::Write {
-                outcome: *outcome,
-                file: *file,
-            }),
-            Reply::Create { outcome, directory } => Ok(Reply::Create {
-                outcome: outcome.clone()?,
-                directory: *directory,
-            }),
-            Reply::MkDir { outcome, directory } => Ok(Reply::MkDir {
-                outcome: outcome.clone()?,
-                directory: *directory,
-            }),
-            Reply::SymLink { outcome, directory } => Ok(Reply::SymLink {
-                outcome: outcome.clone()?,
-                directory: *directory,
-            }),
-            Reply::MkNod { outcome, directory } => Ok(Reply::MkNod {
-                outcome: outcome.clone()?,
-                directory: *directory,
-            }),
-            Reply::Remove { outcome, directory } => Ok(Reply::Remove {
-                outcome: *outcome,
-                directory: *directory,
-            }),
-            Reply::RmDir { outcome, directory } => Ok(Reply::RmDir {
-                outcome: *outcome,
-                directory: *directory,
-            }),
+            Reply::GetAttr { outcome } => Ok(Reply::GetAttr { outcome }),
+            Reply::SetAttr { outcome, object } => Ok(Reply::SetAttr { outcome, object }),
+            Reply::Lookup {
+                ref outcome,
+                directory,
+            } => copied_lookup(outcome, directory),
+            Reply::Access { outcome, object } => Ok(Reply::Access { outcome, object }),
+            Reply::ReadLink { ref outcome, link } => copied_read_link(outcome, link),
+            Reply::Read { ref outcome, file } => copied_read(outcome, file),
+            Reply::Write { outcome, file } => Ok(Reply::Write { outcome, file }),
+            Reply::Create {
+                ref outcome,
+                directory,
+            } => {
+                let outcome = copied_creation(outcome)?;
+                Ok(Reply::Create { outcome, directory })
+            }
+            Reply::MkDir {
+                ref outcome,
+                directory,
+            } => {
+                let outcome = copied_creation(outcome)?;
+                Ok(Reply::MkDir { outcome, directory })
+            }
+            Reply::SymLink {
+                ref outcome,
+                directory,
+            } => {
+                let outcome = copied_creation(outcome)?;
+                Ok(Reply::SymLink { outcome, directory })
+            }
+            Reply::MkNod {
+                ref outcome,
+                directory,
+            } => {
+                let outcome = copied_creation(outcome)?;
+                Ok(Reply::MkNod { outcome, directory })
+            }
+            Reply::Remove { outcome, directory } => Ok(Reply::Remove { outcome, directory }),
+            Reply::RmDir { outcome, directory } => Ok(Reply::RmDir { outcome, directory }),
             Reply::Rename {
                 outcome,
                 source,
                 target,
             } => Ok(Reply::Rename {
-                outcome: *outcome,
-                source: *source,
-                target: *target,
+                outcome,
+                source,
+                target,
             }),
             Reply::Link {
                 outcome,
                 file,
                 directory,
             } => Ok(Reply::Link {
-                outcome: *outcome,
-                file: *file,
-                directory: *directory,
+                outcome,
+                file,
+                directory,
             }),
-            Reply::ReadDir { outcome, directory } => Ok(Reply::ReadDir {
-                outcome: outcome.clone()?,
-                directory: *directory,
-            }),
-            Reply::ReadDirPlus { outcome, directory } => Ok(Reply::ReadDirPlus {
-                outcome: outcome.clone()?,
-                directory: *directory,
-            }),
-            Reply::FsStat { outcome, object } => Ok(Reply::FsStat {
-                outcome: *outcome,
-                object: *object,
-            }),
-            Reply::FsInfo { outcome, object } => Ok(Reply::FsInfo {
-                outcome: *outcome,
-                object: *object,
-            }),
-            Reply::PathConf { outcome, object } => Ok(Reply::PathConf {
-                outcome: *outcome,
-                object: *object,
-            }),
-            Reply::Commit { outcome, file } => Ok(Reply::Commit {
-                outcome: *outcome,
-                file: *file,
-            }),
+            Reply::ReadDir {
+                ref outcome,
+                directory,
+            } => copied_read_dir(outcome, directory),
+            Reply::ReadDirPlus {
+                ref outcome,
+                directory,
+            } => copied_read_dir_plus(outcome, directory),
+            Reply::FsStat { outcome, object } => Ok(Reply::FsStat { outcome, object }),
+            Reply::FsInfo { outcome, object } => Ok(Reply::FsInfo { outcome, object }),
+            Reply::PathConf { outcome, object } => Ok(Reply::PathConf { outcome, object }),
+            Reply::Commit { outcome, file } => Ok(Reply::Commit { outcome, file }),
         }
     }
+}
+
+// A copy of what LOOKUP found.
+fn copied_lookup(
+    outcome: &Result<Looked, Status>,
+    directory: Option<Attributes>,
+) -> Result<Reply, AllocError>
+    ensures { IfOk result (λ copy. copy ≡ replies.Lookup outcome.now directory) }
+{
+    let outcome = outcome.clone()?;
+    Ok(Reply::Lookup { outcome, directory })
+}
+
+// A copy of what READLINK gives.
+fn copied_read_link(
+    outcome: &Result<Octets, Status>,
+    link: Option<Attributes>,
+) -> Result<Reply, AllocError>
+    ensures { IfOk result (λ copy. copy ≡ replies.ReadLink outcome.now link) }
+{
+    let outcome = outcome.clone()?;
+    Ok(Reply::ReadLink { outcome, link })
+}
+
+// A copy of what READ gives.
+fn copied_read(
+    outcome: &Result<ReadBytes, Status>,
+    file: Option<Attributes>,
+) -> Result<Reply, AllocError>
+    ensures { IfOk result (λ copy. copy ≡ replies.Read outcome.now file) }
+{
+    let outcome = outcome.clone()?;
+    Ok(Reply::Read { outcome, file })
+}
+
+// A copy of what CREATE, MKDIR, SYMLINK or MKNOD made.
+fn copied_creation(outcome: &Result<Created, Status>) -> Result<Result<Created, Status>, AllocError>
+    ensures { IfOk result (λ copy. copy ≡ outcome.now) }
+{
+    outcome.clone()
+}
+
+// A copy of what READDIR lists.
+fn copied_read_dir(
+    outcome: &Result<Listed, Status>,
+    directory: Option<Attributes>,
+) -> Result<Reply, AllocError>
+    ensures { IfOk result (λ copy. copy ≡ replies.ReadDir outcome.now directory) }
+{
+    let outcome = outcome.clone()?;
+    Ok(Reply::ReadDir { outcome, directory })
+}
+
+// A copy of what READDIRPLUS lists.
+fn copied_read_dir_plus(
+    outcome: &Result<ListedPlus, Status>,
+    directory: Option<Attributes>,
+) -> Result<Reply, AllocError>
+    ensures { IfOk result (λ copy. copy ≡ replies.ReadDirPlus outcome.now directory) }
+{
+    let outcome = outcome.clone()?;
+    Ok(Reply::ReadDirPlus { outcome, directory })
 }

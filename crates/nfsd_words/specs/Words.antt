@@ -27,13 +27,15 @@ default_rule name default = record (number_rule name) { defaults = default ∷ [
 abbrev pub required_rule : Text → Rule
 required_rule name = record (number_rule name) { required = true }
 
--- `format IMAGE --blocks N --inodes I --time S`, with the defaults 16384, 4096 and 0
+-- `format IMAGE --blocks N`, with the default 16384
+abbrev pub first_of_format : App
+first_of_format = with_rule (with_rule (new_app (codes "format")) image_rule)
+    (default_rule (codes "blocks") (codes "16384"))
+
+-- `format IMAGE --blocks N --inodes I --time S`, the last two with the defaults 4096 and 0
 abbrev pub format_command : App
 format_command = with_rule
-    (with_rule
-    (with_rule (with_rule (new_app (codes "format")) image_rule)
-    (default_rule (codes "blocks") (codes "16384")))
-    (default_rule (codes "inodes") (codes "4096")))
+    (with_rule first_of_format (default_rule (codes "inodes") (codes "4096")))
     (default_rule (codes "time") (codes "0"))
 
 -- `once IMAGE --time S`

@@ -6,7 +6,8 @@ ghost use Rattle.clap.specs.Words.{HasKind, app_of, fault_of, found_of, kind_of,
 ghost use Rattle.clap.specs.Words.{rule_of, subcommand_rows_of};
 ghost use Rattle.clap.specs.declared.Command.TheViews.{out-Command};
 ghost use Rattle.nfsd_words.specs.declared.Args.{Args as Asked};
-ghost use Rattle.nfsd_words.specs.Words.{Asks, HasMeaning, IsAsked, WordsAsk, default_rule, format_command};
+ghost use Rattle.nfsd_words.specs.Words.{Asks, HasMeaning, IsAsked, WordsAsk, default_rule, first_of_format};
+ghost use Rattle.nfsd_words.specs.Words.{format_command};
 ghost use Rattle.nfsd_words.specs.Words.{image_rule, number_rule, once_command, required_rule, whole_program};
 
 use clap::error::ErrorKind;
@@ -107,14 +108,21 @@ fn format_words<'a>(alloc: Global) -> Result<Command<'a>, AllocError>
     ensures app { IfOk result (λ command. app_of command ≡ format_command) }
     ensures local { IfOk result (λ command. (out-Command command).has_globals ≡ false) }
 {
+    format_up_to_blocks(alloc)?
+        .arg(number_or(alloc, "inodes", "4096", INODES))?
+        .arg(number_or(alloc, "time", "0", TIME_MADE))
+}
+
+fn format_up_to_blocks<'a>(alloc: Global) -> Result<Command<'a>, AllocError>
+    ensures app { IfOk result (λ command. app_of command ≡ first_of_format) }
+    ensures local { IfOk result (λ command. (out-Command command).has_globals ≡ false) }
+{
     Command::new(alloc, "format")
         .about(
             "Makes an image. It destroys what the file held, and sets its length even where it refuses",
         )
         .arg(image(alloc, NEW_FILE))?
-        .arg(number_or(alloc, "blocks", "16384", BLOCKS))?
-        .arg(number_or(alloc, "inodes", "4096", INODES))?
-        .arg(number_or(alloc, "time", "0", TIME_MADE))
+        .arg(number_or(alloc, "blocks", "16384", BLOCKS))
 }
 
 fn once_words<'a>(alloc: Global) -> Result<Command<'a>, AllocError>

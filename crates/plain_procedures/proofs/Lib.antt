@@ -1,5 +1,9 @@
-pub mod Entries
+pub mod Acted
+pub mod LinkSteps
+pub mod Linked
 pub mod Listed
+pub mod OneChange
+pub mod Ranges
 pub mod Tell
 pub mod Touched
 pub mod Writes

@@ -17,7 +17,7 @@ use Rattle.procedures.proofs.Sums.{sum_insert_new}
 use Rattle.plain_server.proofs.Found.{find_at, find_none}
 use Rattle.plain_server.specs.Plain.{body_of, node_of, numbered}
 use Rattle.plain_server.specs.declared.tree.NumberedNode.{NumberedNode}
-use Rattle.plain_procedures.specs.Listed.{blocks_of, files_of}
+use Rattle.plain_procedures.specs.Listed.{blocks_of, files_of, weight_at, weight_of}
 
 same_number : (a b : ℕ) → nat_eq a b ≡ true → a ≡ b
 same_number a b e = search rules
@@ -41,36 +41,59 @@ got_some xs q index file is here =
     ∙ find_at xs index file at.0 (sym here)
     (λ k below. ap (λ p. nat_eq p (get_or xs k file).number) (sym number_is) ∙ at.2 k below)
 
--- a file before others: one of its number among those is hidden by it
-with_known : (x : NumberedNode) (xs : List NumberedNode) (at : Option Node)
-    → map.get (files_of xs) x.number ≡ at
-    → blocks_of (x ∷ xs) + cost_at at ≡ blocks_of xs + cost (body_of x.node.body)
-with_known x xs None is =
-    let sum = sum_insert_new (λ e. cost e.1.body) x.number (node_of x.node) (files_of xs) is in
-    omega (arith, sum)
-with_known x xs (Some old) is = sum_insert (λ e. cost e.1.body) x.number old (node_of x.node) (files_of xs) is
+-- it has that number
+pub number_at : (xs : List NumberedNode) (q index : ℕ) (file : NumberedNode)
+    → position (λ n. nat_eq q n.number) xs ≡ Some index → file ≡ get_or xs index file → q ≡ file.number
+number_at xs q index file is here =
+    same_number q _ (position-Some (λ n. nat_eq q n.number) xs index file is).1 ∙ ap (λ n. n.number) (sym here)
 
-pub with_one : (x : NumberedNode) (xs : List NumberedNode)
-    → blocks_of (x ∷ xs) + cost_at (map.get (files_of xs) x.number) ≡ blocks_of xs + cost
-    (body_of x.node.body)
-with_one x xs = with_known x xs (map.get (files_of xs) x.number) refl
+module _ (weight : ℕ × Node → ℕ) where
+  -- a file before others: one of its number among those is hidden by it
+  with_known : (x : NumberedNode) (xs : List NumberedNode) (at : Option Node)
+      → map.get (files_of xs) x.number ≡ at
+      → weight_of weight (x ∷ xs) + weight_at weight x.number at ≡ weight_of weight xs + weight (numbered x)
+  with_known x xs None is =
+      let sum = sum_insert_new weight x.number (node_of x.node) (files_of xs) is in
+      omega (arith, sum)
+  with_known x xs (Some old) is = sum_insert weight x.number old (node_of x.node) (files_of xs) is
+
+  pub weight_first : (xs : List NumberedNode) (index : ℕ) (file : NumberedNode) → index < length xs
+      → file ≡ get_or xs index file
+      → weight_of weight (drop index xs)
+      + weight_at weight file.number (map.get (files_of (drop (index + 1) xs)) file.number)
+      ≡ weight_of weight (drop (index + 1) xs) + weight (numbered file)
+  weight_first xs index file inside here =
+      let rest = drop (index + 1) xs in
+      let is : drop index xs ≡ file ∷ rest =
+      drop_more xs index file inside ∙ ap (λ x. x ∷ rest) (sym here) in
+      ap (λ ys. weight_of weight ys + weight_at weight file.number (map.get (files_of rest) file.number)) is
+      ∙ with_known file rest (map.get (files_of rest) file.number) refl
+
+  nothing : weight_of weight [] ≡ 0
+  nothing = ap (sum_by weight) (entries-empty nat_cmp)
+
+  pub no_weight_left : (xs : List NumberedNode) → weight_of weight (drop (length xs) xs) ≡ 0
+  no_weight_left [] = nothing
+  no_weight_left (x ∷ xs) = no_weight_left xs
+
+abbrev blocks : ℕ × Node → ℕ
+blocks entry = cost entry.1.body
+
+blocks_at : (number : ℕ) (at : Option Node) → cost_at at ≡ weight_at blocks number at
+blocks_at number None = refl
+blocks_at number (Some node) = refl
 
 pub with_first : (xs : List NumberedNode) (index : ℕ) (file : NumberedNode) → index < length xs
     → file ≡ get_or xs index file
     → blocks_of (drop index xs) + cost_at (map.get (files_of (drop (index + 1) xs)) file.number)
     ≡ blocks_of (drop (index + 1) xs) + cost (body_of file.node.body)
 with_first xs index file inside here =
-    let is : drop index xs ≡ file ∷ drop (index + 1) xs =
-    drop_more xs index file inside ∙ ap (λ x. x ∷ drop (index + 1) xs) (sym here) in
-    ap (λ ys. blocks_of ys + cost_at (map.get (files_of (drop (index + 1) xs)) file.number)) is
-    ∙ with_one file (drop (index + 1) xs)
-
-no_blocks : blocks_of [] ≡ 0
-no_blocks = ap (sum_by (λ e. cost e.1.body)) (entries-empty nat_cmp)
+    ap (λ n. blocks_of (drop index xs) + n)
+    (blocks_at file.number (map.get (files_of (drop (index + 1) xs)) file.number))
+    ∙ weight_first blocks xs index file inside here
 
 pub none_left : (xs : List NumberedNode) → blocks_of (drop (length xs) xs) ≡ 0
-none_left [] = no_blocks
-none_left (x ∷ xs) = none_left xs
+none_left = no_weight_left blocks
 
 -- a number that stands somewhere is some file's
 pub is_got : (xs : List NumberedNode) (q index : ℕ) → position (λ n. nat_eq q n.number) xs ≡ Some index

@@ -1,2 +1,5 @@
+pub mod Computed
+pub mod Effects
 pub mod Listed
+pub mod Tests
 pub mod Writing

@@ -14,13 +14,6 @@ pub struct Told<A> {
     pub object: Option<Attributes>,
 }
 
-/// What a call answers that may change a file.
-#[derive(Drop)]
-pub struct Changed<A> {
-    pub outcome: Result<A, Status>,
-    pub file: WeakCacheData,
-}
-
 /// The file that a handle names.
 pub fn found<'t>(tree: &'t PlainTree, handle: &Handle) -> Result<&'t NumberedNode, Status>
     ensures ok { IfOk result (λ file. find_file (tree_of tree.now) handle.now.bytes ≡ Ok

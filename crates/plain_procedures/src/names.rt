@@ -1,15 +1,16 @@
 //! Names in directories, and the tests on them (RFC 1813, section 3.2).
-ghost use Rattle.std.specs.Prelude.{◌≡◌, ◌||◌, IfSome, IfNone, nat_eq, position, Some, None};
-ghost use Rattle.std.specs.Cmp.Lexicographic.{slice_cmp};
+ghost use Rattle.std.specs.Prelude.{◌≡◌, ◌||◌, IfSome, IfNone, nat_eq, Some, None};
 ghost use Rattle.std.specs.List.{list_all, list_any};
-ghost use Rattle.std.specs.Ordering.{eq_by_cmp, nat_cmp};
+ghost use Rattle.std.specs.Option.{option_map};
 ghost use Rattle.model.specs.SetAttr.{first_of_tests};
 ghost use Rattle.model.specs.Sound.{DOT, SLASH};
-ghost use Rattle.procedures.specs.FirstTests.{is_no_name, may_search, place_tests};
-ghost use Rattle.procedures.specs.Places.{entry_at, file_at, is_dots, named_file};
-ghost use Rattle.plain_server.specs.Plain.{body_of, entry_of, node_of, numbered, tree_of};
+ghost use Rattle.procedures.specs.FirstTests.{is_no_name, may_change, may_search, place_tests};
+ghost use Rattle.procedures.specs.Places.{entry_at, file_at, is_dots, is_own_name, named_file};
+ghost use Rattle.plain_procedures.specs.Tests.{first_of};
+ghost use Rattle.plain_server.specs.Named.{place_of};
+ghost use Rattle.plain_server.specs.Plain.{body_of, node_of, numbered, tree_of};
 
-use limits::{EXECUTE_RIGHT, NAME_BYTES};
+use limits::{EXECUTE_RIGHT, NAME_BYTES, WRITE_RIGHT};
 use nfs_types::{Credential, Status};
 use plain_server::{NumberedNode, PlainBody, PlainEntry, PlainNode, PlainTree, has_right};
 
@@ -43,6 +44,29 @@ pub(crate) fn may_search(caller: &Credential, directory: &PlainNode) -> bool
     has_right(EXECUTE_RIGHT, caller, directory)
 }
 
+pub(crate) fn may_change(caller: &Credential, directory: &PlainNode) -> bool
+    ensures { result ≡ may_change caller.now (node_of directory.now) }
+{
+    has_right(WRITE_RIGHT, caller, directory) && may_search(caller, directory)
+}
+
+/// Whether each directory has the name of its own.
+pub(crate) fn is_own_name(name: &[u8]) -> bool
+    ensures { result ≡ is_own_name name.now }
+{
+    is_dots(1, name) || is_dots(2, name)
+}
+
+/// The status of the first part of the tests, or else that of the second.
+pub(crate) fn first_of(one: Option<Status>, later: Option<Status>) -> Option<Status>
+    ensures { result ≡ first_of one later }
+{
+    match one {
+        Some(status) => Some(status),
+        None => later,
+    }
+}
+
 /// Why a name in a directory isn't looked at.
 pub(crate) fn place_refusal(allowed: bool, directory: &PlainNode, name: &[u8]) -> Option<Status>
     ensures { result ≡ first_of_tests (place_tests allowed (node_of directory.now) name.now) }
@@ -69,33 +93,16 @@ pub(crate) fn file_at(tree: &PlainTree, number: u32) -> Option<&NumberedNode>
     Some(&tree.nodes[index])
 }
 
-// Whether two names are one.
-fn same_name(one: &[u8], other: &[u8]) -> bool
-    ensures { result ≡ eq_by_cmp (slice_cmp nat_cmp) one.now other.now }
-{
-    one.cmp(other).is_eq()
-}
-
-// Where the first entry of a name stands.
-fn position_of_name(entries: &[PlainEntry], name: &[u8]) -> Option<usize>
-    ensures { result ≡ position (λ entry. eq_by_cmp (slice_cmp nat_cmp) name.now entry.name) entries.now }
-{
-    entries
-        .iter()
-        .position(|entry| same_name(name, entry.name.as_slice()))
-}
-
 /// What a name in a directory leads to.
 pub(crate) fn entry_at<'t>(body: &'t PlainBody, name: &[u8]) -> Option<&'t PlainEntry>
     ensures some { IfSome result (λ entry. entry_at (body_of body.now) name.now ≡ Some
-        (entry_of entry.now).1) }
+        (place_of entry.now)) }
     ensures none { IfNone result (entry_at (body_of body.now) name.now ≡ None) }
 {
     let PlainBody::Directory { entries, .. } = body else {
         return None;
     };
-    let index = position_of_name(entries, name)?;
-    Some(&entries[index])
+    entries.get(name)
 }
 
 /// The file that a name in a directory leads to.
@@ -104,12 +111,17 @@ pub(crate) fn named_file<'t>(
     directory: &PlainNode,
     name: &[u8],
 ) -> Option<&'t NumberedNode>
+    ensures is { option_map (λ file. numbered file.now) result
+        ≡ named_file (tree_of tree.now) (node_of directory.now) name.now }
     ensures some { IfSome result (λ file. named_file (tree_of tree.now) (node_of directory.now) name.now
         ≡ Some (numbered file.now)) }
     ensures none { IfNone result (named_file (tree_of tree.now) (node_of directory.now) name.now ≡ None) }
 {
     match entry_at(&directory.body, name) {
-        Some(entry) => file_at(tree, entry.number),
+        Some(entry) => match file_at(tree, entry.number) {
+            Some(file) => Some(file),
+            None => None,
+        },
         None => None,
     }
 }

@@ -14,14 +14,14 @@ use nfs_types::{FileSystemSpace, Handle};
 use plain_server::{NumberedNode, PlainTree};
 
 // Where the first file of a number stands.
-fn position_of(files: &[NumberedNode], number: u32) -> Option<usize>
+pub(crate) fn position_of(files: &[NumberedNode], number: u32) -> Option<usize>
     ensures { result ≡ position (λ file. nat_eq number file.number) files.now }
 {
     files.iter().position(|file| number == file.number)
 }
 
 // The blocks that the first file of a number uses.
-fn cost_at(files: &[NumberedNode], number: u32) -> u64
+pub(crate) fn cost_at(files: &[NumberedNode], number: u32) -> u64
     ensures is { result ≡ cost_at (map.get (files_of files.now) number) }
     ensures small { result ≤ 2 ^ 32 }
 {
@@ -31,7 +31,7 @@ fn cost_at(files: &[NumberedNode], number: u32) -> u64
     }
 }
 
-fn behind(files: &[NumberedNode], index: usize) -> &[NumberedNode]
+pub(crate) fn behind(files: &[NumberedNode], index: usize) -> &[NumberedNode]
     requires { index ≤ length files.now }
     ensures { result.now ≡ drop index files.now }
 {

@@ -4,7 +4,7 @@ use Rattle.std.proofs.Common.{List, [], ◌∷◌, length, get_or, set, map, pos
 use Rattle.std.proofs.Common.{Result, arith}
 use Rattle.nfs_types.specs.declared.status.Status.{Status}
 use Rattle.std.proofs.lemmas.List.{get_or_default}
-use Rattle.std.specs.List.{position_from}
+use Rattle.std.specs.List.{AllZip, position_from}
 use Rattle.std.proofs.lemmas.List.Quantifiers.{position-Some}
 use Rattle.std.proofs.lemmas.Iterator.Adapters.{position_from-zero}
 use Rattle.std.specs.Ordering.{nat_cmp, eq_by_cmp}
@@ -172,3 +172,11 @@ module _ (tree : PlainTree) (index : ℕ) (found : Result (ℕ × Node) Status)
       ∙ insert_same files at.file.number (node_of at.file.node)
       (map.get-from_entries nat_cmp_total (map numbered tree.nodes.items) at.file.number
       ∙ find_at tree.nodes.items index at.file at.inside at.here at.first)
+
+-- copies of files stand for the same files
+pub same_files : (xs ys : List NumberedNode) → AllZip (λ x y. numbered y ≡ numbered x) xs ys
+    → map numbered ys ≡ map numbered xs
+same_files [] [] same = refl
+same_files [] (y ∷ ys) same = absurd same
+same_files (x ∷ xs) [] same = absurd same
+same_files (x ∷ xs) (y ∷ ys) same = λ i. same.0 i ∷ same_files xs ys same.1 i

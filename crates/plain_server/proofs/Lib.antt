@@ -1,3 +1,4 @@
 pub mod Few
 pub mod Found
+pub mod Placed
 pub mod Steps

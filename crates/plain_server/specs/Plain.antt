@@ -3,22 +3,17 @@ use Rattle.std.specs.Prelude.{◌≡◌, ℕ, ◌<◌, false, nat_eq, List, map,
 use Rattle.std.specs.Prelude.{Err}
 use Rattle.std.specs.FinMap.{from_entries}
 use Rattle.nfs_types.specs.declared.status.Status.{Status}
-use Rattle.model.specs.Node.{Node, Body, Regular, Directory, Link, DirectoryEntry}
+use Rattle.model.specs.Node.{Node, Body, Regular, Directory, Link}
 use Rattle.model.specs.Tree.{Tree}
 use Rattle.plain_server.specs.declared.node.PlainBody.{PlainBody}
 use Rattle.plain_server.specs.declared.node.PlainBody.TheVariants as plain
-use Rattle.plain_server.specs.declared.node.PlainEntry.{PlainEntry}
 use Rattle.plain_server.specs.declared.node.PlainNode.{PlainNode}
 use Rattle.plain_server.specs.declared.tree.NumberedNode.{NumberedNode}
 use Rattle.plain_server.specs.declared.tree.PlainTree.{PlainTree}
 
-abbrev pub entry_of : PlainEntry → List ℕ × DirectoryEntry
-entry_of entry = (entry.name, record { number = entry.number; slot = entry.slot })
-
 abbrev pub body_of : PlainBody → Body
 body_of (plain.Regular bytes mapped) = Regular bytes.items mapped
-body_of (plain.Directory entries span parent) =
-    Directory (from_entries (map entry_of entries.items)) span parent
+body_of (plain.Directory entries span parent) = Directory entries span parent
 body_of (plain.Link target) = Link target
 
 abbrev pub node_of : PlainNode → Node

@@ -57,7 +57,7 @@ fn set_length(body: &mut PlainBody, size: &Option<u64>) -> Result<(), AllocError
 }
 
 /// Sets the attributes that are given, and the time of change.
-pub(crate) fn set_attributes(
+pub fn set_attributes(
     node: &mut PlainNode,
     moment: &Moment,
     wanted: &NewAttributes,

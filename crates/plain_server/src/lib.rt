@@ -4,16 +4,20 @@
 
 mod attributes;
 mod mapped;
+mod names;
 mod node;
 mod permissions;
-mod refusal;
+mod refusals;
 mod server;
 mod tree;
 
+pub use attributes::set_attributes;
 pub use mapped::MappedIndexes;
-pub use node::{PlainBody, PlainEntry, PlainNode};
+pub use names::{PlainEntry, PlainNames};
+pub use node::{PlainBody, PlainNode};
 pub use permissions::{
     acts_as_owner, class_of, has_right, has_write, is_own_group, is_superuser, may_write_file,
 };
-pub use server::{PlainFault, serve};
+pub use refusals::refusal;
+pub use server::{PlainFault, SetReply, get_attributes, serve, set_found};
 pub use tree::{NumberedNode, PlainTree};

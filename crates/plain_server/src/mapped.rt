@@ -32,6 +32,14 @@ impl Model for MappedIndexes {
         × AreIndexes (set.from_list k.indexes.items) };
 }
 
+impl Clone for MappedIndexes {
+    ghost is_clone = { λ mapped copy. copy ≡ mapped };
+
+    fn clone(&self) -> Result<MappedIndexes, AllocError> {
+        self.copied()
+    }
+}
+
 impl MappedIndexes {
     pub fn new(alloc: Global) -> MappedIndexes
         ensures { result ≡ set.empty }

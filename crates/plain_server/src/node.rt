@@ -4,19 +4,12 @@ ghost use Rattle.model.specs.Attributes.{attributes_of, before_change, kind_of, 
 ghost use Rattle.model.specs.Cost.{cost};
 ghost use Rattle.plain_server.specs.Plain.{body_of, node_of};
 
-use crate::MappedIndexes;
+use crate::{MappedIndexes, PlainNames};
 use limits::{BLOCK_BYTES, DIRECT_INDEXES, FILE_SYSTEM};
 use nfs_types::{
     Attributes, DeviceNumber, FileKind, Moment, Octets, Stamp, Verifier, WeakCacheAttributes,
 };
-
-/// A name in a directory, with the file that it leads to and the slot in which it lies.
-#[derive(Drop)]
-pub struct PlainEntry {
-    pub name: Octets,
-    pub number: u32,
-    pub slot: u32,
-}
+use std::alloc::AllocError;
 
 /// What is in a file.
 #[derive(Drop)]
@@ -26,7 +19,7 @@ pub enum PlainBody {
         mapped: MappedIndexes,
     },
     Directory {
-        entries: Vec<PlainEntry>,
+        entries: PlainNames,
         span: u32,
         parent: u32,
     },
@@ -48,6 +41,50 @@ pub struct PlainNode {
     pub stamp: Stamp,
     pub verifier: Option<Verifier>,
     pub body: PlainBody,
+}
+
+impl Clone for PlainBody {
+    ghost is_clone = { λ body copy. body_of copy ≡ body_of body };
+
+    fn clone(&self) -> Result<PlainBody, AllocError> {
+        match self {
+            PlainBody::Regular { bytes, mapped } => Ok(PlainBody::Regular {
+                bytes: bytes.clone()?,
+                mapped: mapped.clone()?,
+            }),
+            PlainBody::Directory {
+                entries,
+                span,
+                parent,
+            } => Ok(PlainBody::Directory {
+                entries: entries.clone()?,
+                span: *span,
+                parent: *parent,
+            }),
+            PlainBody::Link { target } => Ok(PlainBody::Link {
+                target: target.clone()?,
+            }),
+        }
+    }
+}
+
+impl Clone for PlainNode {
+    ghost is_clone = { λ node copy. node_of copy ≡ node_of node };
+
+    fn clone(&self) -> Result<PlainNode, AllocError> {
+        Ok(PlainNode {
+            mode: self.mode,
+            uid: self.uid,
+            gid: self.gid,
+            nlink: self.nlink,
+            atime: self.atime,
+            mtime: self.mtime,
+            ctime: self.ctime,
+            stamp: self.stamp,
+            verifier: self.verifier,
+            body: self.body.clone()?,
+        })
+    }
 }
 
 impl PlainBody {

@@ -9,7 +9,7 @@ ghost use Rattle.plain_server.specs.Plain.{tree_of};
 
 use crate::PlainTree;
 use crate::attributes::set_attributes;
-use crate::refusal::refusal;
+use crate::refusals::refusal;
 use nfs_types::{
     Attributes, Call, Ctx, Handle, Moment, NewAttributes, Reply, Status, WeakCacheData,
 };
@@ -27,9 +27,9 @@ pub enum PlainFault {
 
 /// What SETATTR answers.
 #[derive(Drop)]
-struct SetReply {
-    outcome: Result<(), Status>,
-    object: WeakCacheData,
+pub struct SetReply {
+    pub outcome: Result<(), Status>,
+    pub object: WeakCacheData,
 }
 
 /// One step of the sequential server. An error leaves the tree as it was.
@@ -76,7 +76,8 @@ pub fn serve(tree: &mut PlainTree, ctx: &Ctx, call: &Call) -> Result<Reply, Plai
     }
 }
 
-fn get_attributes(tree: &PlainTree, object: &Handle) -> Result<Attributes, Status>
+/// What GETATTR answers.
+pub fn get_attributes(tree: &PlainTree, object: &Handle) -> Result<Attributes, Status>
     ensures { result ≡ attributes_found (find_file (tree_of tree.now) object.now.bytes) }
 {
     let index = tree.find(object)?;
@@ -84,7 +85,8 @@ fn get_attributes(tree: &PlainTree, object: &Handle) -> Result<Attributes, Statu
     Ok(file.node.attributes(file.number))
 }
 
-fn set_found(
+/// Sets the attributes of the file that a handle names. An error leaves the tree as it was.
+pub fn set_found(
     tree: &mut PlainTree,
     ctx: &Ctx,
     object: &Handle,

@@ -3,9 +3,9 @@ ghost use Rattle.std.specs.Prelude.{◌≡◌, ◌<◌, IfOk, nat_eq, position};
 ghost use Rattle.nfs_types.specs.Handle.{handle_bytes};
 ghost use Rattle.model.specs.Find.{find_file};
 ghost use Rattle.model.specs.Format.{format_tree};
-ghost use Rattle.plain_server.specs.Plain.{Locates, tree_of};
+ghost use Rattle.plain_server.specs.Plain.{Locates, numbered, tree_of};
 
-use crate::{PlainBody, PlainNode};
+use crate::{PlainBody, PlainNames, PlainNode};
 use limits::{ROOT, ROOT_MODE};
 use nfs_types::{Handle, Moment, Stamp, Status};
 use std::alloc::{AllocError, Global};
@@ -23,6 +23,29 @@ pub struct PlainTree {
     pub data_blocks: u32,
     pub inodes: u32,
     pub nodes: Vec<NumberedNode>,
+}
+
+impl Clone for NumberedNode {
+    ghost is_clone = { λ file copy. numbered copy ≡ numbered file };
+
+    fn clone(&self) -> Result<NumberedNode, AllocError> {
+        Ok(NumberedNode {
+            number: self.number,
+            node: self.node.clone()?,
+        })
+    }
+}
+
+impl Clone for PlainTree {
+    ghost is_clone = { λ tree copy. tree_of copy ≡ tree_of tree };
+
+    fn clone(&self) -> Result<PlainTree, AllocError> {
+        Ok(PlainTree {
+            data_blocks: self.data_blocks,
+            inodes: self.inodes,
+            nodes: self.nodes.clone()?,
+        })
+    }
 }
 
 impl PlainTree {
@@ -50,7 +73,7 @@ impl PlainTree {
             },
             verifier: None,
             body: PlainBody::Directory {
-                entries: Vec::new(alloc),
+                entries: PlainNames::new(alloc),
                 span: 0,
                 parent: ROOT,
             },

@@ -1,38 +1,41 @@
 -- What is read spells the message, and a message that is spelled is read.
 use Rattle.std.proofs.Common.{◌≡◌, ℕ, ◌⊎◌, inl, inr, List, ◌++◌, length, Option, Some, None, Result, Ok, Err}
-use Rattle.std.proofs.Common.{refl, sym, ap, subst, ◌∙◌, true}
-use Rattle.std.specs.Prelude.{◌==◌, IfSome, IfNone}
-use Rattle.std.specs.Result.{result_ok}
+use Rattle.std.proofs.Common.{refl, sym, ap, subst, ◌∙◌, Bool, true, false, cond}
+use Rattle.std.specs.Prelude.{◌==◌}
 use Rattle.std.proofs.lemmas.Bool.{eqb-true}
 use Rattle.std.proofs.lemmas.List.{nil_from_length}
 use Rattle.nfs_types.specs.declared.program.ProgramProcedure.{ProgramProcedure}
-use Rattle.session_wire.specs.declared.rpc.constants.TheConstants.{CALL, RPC_VERSION, NFS_VERSION}
-use Rattle.session_wire.specs.declared.rpc.constants.TheConstants.{AUTH_NONE, AUTH_SYS}
+use Rattle.rpc.specs.declared.constants.TheConstants.{CALL, RPC_VERSION, NFS_VERSION}
+use Rattle.rpc.specs.declared.constants.TheConstants.{AUTH_NONE, AUTH_SYS}
 use Rattle.session_wire.specs.declared.message.MessageCredential.{MessageCredential}
 use Rattle.session_wire.specs.declared.message.MessageCredential.TheVariants.{Nobody, Caller}
 use Rattle.session_wire.specs.declared.message.CallMessage.{CallMessage}
-use Rattle.session_wire.specs.declared.xdr.fault.XdrFault.{XdrFault}
-use Rattle.session_wire.specs.declared.xdr.fault.XdrFault.TheVariants.{Value, NoMemory}
+use Rattle.xdr.specs.declared.fault.XdrFault.{XdrFault}
+use Rattle.xdr.specs.declared.fault.XdrFault.TheVariants.{Value, NoMemory}
 use Rattle.session_wire.specs.declared.message.ReplyMessage.{ReplyMessage}
 use Rattle.session_wire.specs.Replies.{SpellsReply}
 use Rattle.session_wire.specs.ReadingReplies.{reply_of}
-use Rattle.session_wire.specs.Reading.{◌>>=◌, Reads}
-use Rattle.session_wire.specs.Headers.{opening_at, header_at}
-use Rattle.session_wire.specs.Credentials.{System, caller_at}
-use Rattle.session_wire.specs.Procedures.{program_number, program_of, procedure_number, program_with}
-use Rattle.session_wire.specs.Procedures.{procedure_of, is_decoded, called}
-use Rattle.session_wire.specs.Calls.{arguments, CredentialFits, call_bytes, SpellsCall}
-use Rattle.session_wire.specs.ReadingCalls.{call_of}
-use Rattle.session_wire.proofs.Coded.{IsBytes, bind_ok, holds_ok}
-use Rattle.session_wire.proofs.CodedCalls.{call_takes, call_again}
+use Rattle.xdr.specs.Reading.{◌>>=◌}
+use Rattle.rpc.specs.Headers.{opening_at, header_at}
+use Rattle.rpc.specs.Credentials.{System, caller_at}
+use Rattle.nfs_codec.specs.Procedures.{procedure_number, procedure_of, called}
+use Rattle.session_wire.specs.Programs.{program_number, program_of, program_with}
+use Rattle.session_wire.specs.Calls.{CredentialFits, call_bytes, SpellsCall}
+use Rattle.nfs_codec.specs.Arguments.{arguments, call_of}
+use Rattle.xdr.proofs.Coded.{IsBytes, bind_ok, holds_ok}
+use Rattle.nfs_codec.proofs.CallLaws.{taken_whole, read_again}
 use Rattle.session_wire.proofs.Numbered.{program_again, program_takes, procedure_again, procedure_takes}
 use Rattle.session_wire.proofs.CodedHeaders.{openings, headings, opening_bytes, heading_bytes, caller_takes}
 use Rattle.session_wire.proofs.CodedHeaders.{caller_again, flavor_of, body_of}
 use Rattle.session_wire.proofs.CallLaws.{opening_of, heading_of, parted, opens, heads, body_bytes}
 use Rattle.session_wire.proofs.CallLaws.{same_opening, same_heading, joined_parts}
-use Rattle.session_wire.proofs.CodedReplies.{chosen}
 use Rattle.session_wire.proofs.ReplyLaws.{read_reply, reply_takes, reply_again}
-use Rattle.plain_wire.specs.Messages.{wanted, numbered, known, credential_of, message_of}
+use Rattle.plain_wire.specs.Messages.{wanted, numbered, credential_of, message_of}
+
+chosen : {A : Type 0} (b : Bool) (x y z : Result A XdrFault) → cond b x y ≡ z → ((b ≡ true) × (x ≡ z))
+    ⊎ ((b ≡ false) × (y ≡ z))
+chosen true x y z e = inl (refl, e)
+chosen false x y z e = inr (refl, e)
 
 pub record IsCredential (flavor : ℕ) (body : List ℕ) (m : MessageCredential) : Type 0 where
   pub flavor_is : flavor ≡ flavor_of m
@@ -88,11 +91,6 @@ numbered_is : {A : Type 0} (o : Option A) (p : A) → numbered o ≡ Ok p → o 
 numbered_is (Some q) p e = ap (λ x. Some x) (just_is q p e)
 numbered_is None p e = absurd cc
 
-known_is : (p q : ProgramProcedure) → known p ≡ Ok q → (is_decoded p ≡ true) × (p ≡ q)
-known_is p q e =
-    let h = holds_ok (is_decoded p) Value (Ok p) q e in
-    (h.0, just_is p q h.1)
-
 abbrev read_message : CallMessage → Result CallMessage XdrFault
 read_message m = Ok m
 
@@ -110,12 +108,11 @@ message_takes bytes m fits e =
     let g = bind_ok (numbered (program_of h.0.0.program)) _ m h.2 in
     let n = bind_ok (wanted h.0.0.version NFS_VERSION) _ m g.2 in
     let p = bind_ok (numbered (procedure_of g.0 h.0.0.procedure)) _ m n.2 in
-    let d = bind_ok (known p.0) _ m p.2 in
-    let c = bind_ok (credential_of h.0.0.flavor h.0.0.body) _ m d.2 in
-    let a = bind_ok (call_of d.0 h.0.1) _ m c.2 in
+    let c = bind_ok (credential_of h.0.0.flavor h.0.0.body) _ m p.2 in
+    let a = bind_ok (call_of p.0 h.0.1) _ m c.2 in
     let t = openings.takes bytes o.0.0 o.0.1 fits o.1 in
     let u = headings.takes o.0.1 h.0.0 h.0.1 t.0.rest_fits h.1 in
-    let v = call_takes d.0 h.0.1 a.0 u.0.rest_fits a.1 in
+    let v = taken_whole p.0 h.0.1 a.0 u.0.rest_fits a.1 in
     let body_fits : IsBytes h.0.0.body = body_bytes h.0.0 h.0.1 (subst IsBytes u.0.parts t.0.rest_fits) in
     let w = credential_takes h.0.0.flavor h.0.0.body c.0 body_fits c.1 in
     let made : CallMessage =
@@ -125,8 +122,7 @@ message_takes bytes m fits e =
       verifier = record { flavor = h.0.0.verifier_flavor; body = h.0.0.verifier };
       call = a.0;
     } in
-    let k = known_is p.0 d.0 d.1 in
-    let procedure_is : p.0 ≡ called a.0 = k.1 ∙ sym v.procedure in
+    let procedure_is : p.0 ≡ called a.0 = sym v.0 in
     let numbers = procedure_takes g.0 h.0.0.procedure p.0
     (numbered_is (procedure_of g.0 h.0.0.procedure) p.0 p.1) in
     let program : h.0.0.program ≡ program_number (program_with (called a.0)) =
@@ -143,7 +139,7 @@ message_takes bytes m fits e =
     (wanted_is h.0.0.version NFS_VERSION n.0 n.1) number w.flavor_is w.body_is in
     let spelled : bytes ≡ call_bytes made = t.0.parts
     ∙ ap (λ (x : List ℕ). opening_bytes o.0.0 ++ x) (u.0.parts
-    ∙ ap (λ (x : List ℕ). heading_bytes h.0.0 ++ x) v.spelled)
+    ∙ ap (λ (x : List ℕ). heading_bytes h.0.0 ++ x) v.2)
     ∙ joined_parts (opening_bytes o.0.0) (opening_bytes (opening_of made)) (heading_bytes h.0.0)
     (heading_bytes (heading_of made)) (arguments a.0) opening_same heading_same ∙ sym (parted made) in
     subst (λ (x : CallMessage). SpellsCall bytes x) (message_is made m a.2)
@@ -152,8 +148,7 @@ message_takes bytes m fits e =
       credential_fits = w.fits;
       verifier_flavor = u.1.verifier_flavor;
       verifier_body = u.1.verifier;
-      decoded = ap is_decoded (sym procedure_is) ∙ k.0;
-      call_fits = v.fits;
+      call_fits = v.1;
       spelled = spelled;
     })
 
@@ -165,9 +160,8 @@ message_again bytes m s =
       heads bytes m s,
       program_again (program_with (called m.call)),
       procedure_again (called m.call),
-      s.decoded,
       credential_again m.credential s.credential_fits,
-      call_again m.call s.decoded s.call_fits,
+      read_again (called m.call) (arguments m.call) m.call refl s.call_fits refl,
     ) refl
 
 apart : (m : CallMessage) (e : XdrFault) → read_message m ≡ Err e → ⊥
@@ -181,13 +175,7 @@ pub none_spelled : (bytes : List ℕ) (e : XdrFault) → (message_of bytes ≡ E
 none_spelled bytes e (inl refused) not_memory m s = apart m e (sym (message_again bytes m s) ∙ refused)
 none_spelled bytes e (inr memory) not_memory m s = not_memory memory
 
-pub reply_found : (p : ProgramProcedure) (bytes : List ℕ) (r : Result ReplyMessage XdrFault) → IsBytes bytes
-    → Reads (λ m. m) r (reply_of p bytes) → IfSome (result_ok r) (λ m. SpellsReply p bytes m)
-reply_found p bytes (Ok m) fits e = reply_takes p bytes m fits e
-reply_found p bytes (Err d) fits e = tt
-
-pub reply_none : (p : ProgramProcedure) (bytes : List ℕ) (r : Result ReplyMessage XdrFault)
-    → Reads (λ m. m) r (reply_of p bytes)
-    → IfNone (result_ok r) ((m : ReplyMessage) → SpellsReply p bytes m → ⊥)
-reply_none p bytes (Ok m) e = tt
-reply_none p bytes (Err d) e = λ m s. reply_apart m d (sym (reply_again p bytes m s) ∙ e)
+pub none_replied : (p : ProgramProcedure) (bytes : List ℕ) (e : XdrFault) → (reply_of p bytes ≡ Err e) ⊎ (e ≡ NoMemory)
+    → (e ≡ NoMemory → ⊥) → (m : ReplyMessage) → SpellsReply p bytes m → ⊥
+none_replied p bytes e (inl refused) not_memory m s = reply_apart m e (sym (reply_again p bytes m s) ∙ refused)
+none_replied p bytes e (inr memory) not_memory m s = not_memory memory

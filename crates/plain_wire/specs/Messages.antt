@@ -1,18 +1,18 @@
 -- Reading a call message from left to right (RFC 5531, section 9).
 use Rattle.std.specs.Prelude.{ℕ, List, Option, Some, None, Result, Ok, Err, length, ◌==◌, if◌then◌else◌}
-use Rattle.nfs_types.specs.declared.program.ProgramProcedure.{ProgramProcedure}
-use Rattle.session_wire.specs.declared.rpc.constants.TheConstants.{CALL, RPC_VERSION, NFS_VERSION}
-use Rattle.session_wire.specs.declared.rpc.constants.TheConstants.{AUTH_NONE, AUTH_SYS}
+use Rattle.rpc.specs.declared.constants.TheConstants.{CALL, RPC_VERSION, NFS_VERSION}
+use Rattle.rpc.specs.declared.constants.TheConstants.{AUTH_NONE, AUTH_SYS}
 use Rattle.session_wire.specs.declared.message.MessageCredential.{MessageCredential}
 use Rattle.session_wire.specs.declared.message.MessageCredential.TheVariants.{Nobody, Caller}
 use Rattle.session_wire.specs.declared.message.CallMessage.{CallMessage}
-use Rattle.session_wire.specs.declared.xdr.fault.XdrFault.{XdrFault}
-use Rattle.session_wire.specs.declared.xdr.fault.XdrFault.TheVariants.{Value}
-use Rattle.session_wire.specs.Reading.{◌>>=◌}
-use Rattle.session_wire.specs.Headers.{opening_at, header_at}
-use Rattle.session_wire.specs.Credentials.{caller_at}
-use Rattle.session_wire.specs.Procedures.{program_of, procedure_of, is_decoded}
-use Rattle.session_wire.specs.ReadingCalls.{call_of}
+use Rattle.xdr.specs.declared.fault.XdrFault.{XdrFault}
+use Rattle.xdr.specs.declared.fault.XdrFault.TheVariants.{Value}
+use Rattle.xdr.specs.Reading.{◌>>=◌}
+use Rattle.rpc.specs.Headers.{opening_at, header_at}
+use Rattle.rpc.specs.Credentials.{caller_at}
+use Rattle.nfs_codec.specs.Procedures.{procedure_of}
+use Rattle.session_wire.specs.Programs.{program_of}
+use Rattle.nfs_codec.specs.Arguments.{call_of}
 
 -- this very number
 abbrev pub wanted : ℕ → ℕ → Result (Unit {0}) XdrFault
@@ -21,10 +21,6 @@ wanted n m = if n == m then Ok tt else Err Value
 abbrev pub numbered : {A : Type 0} → Option A → Result A XdrFault
 numbered (Some p) = Ok p
 numbered None = Err Value
-
--- this very procedure, where it is decoded
-abbrev pub known : ProgramProcedure → Result ProgramProcedure XdrFault
-known p = if is_decoded p then Ok p else Err Value
 
 -- the caller that a body of AUTH_SYS names
 abbrev pub named_in : List ℕ → Result MessageCredential XdrFault
@@ -46,9 +42,8 @@ message_of bytes = do
   program ← numbered (program_of header.0.program)
   version ← wanted header.0.version NFS_VERSION
   procedure ← numbered (procedure_of program header.0.procedure)
-  decoded ← known procedure
   credential ← credential_of header.0.flavor header.0.body
-  call ← call_of decoded header.1
+  call ← call_of procedure header.1
   Ok (record {
     xid = opening.0.xid;
     credential = credential;

@@ -1,19 +1,21 @@
 //! Reading call messages (RFC 5531, section 9).
-ghost use Rattle.std.specs.Prelude.{◌≡◌, true, IfOk, IfSome, IfNone};
+ghost use Rattle.std.specs.Prelude.{◌≡◌, IfOk, IfSome, IfNone};
 ghost use Rattle.session_wire.specs.declared.message.CallMessage.{CallMessage};
-ghost use Rattle.session_wire.specs.Reading.{Reads, Gives};
+ghost use Rattle.xdr.specs.Reading.{Reads, Gives};
 ghost use Rattle.session_wire.specs.Calls.{SpellsCall};
-ghost use Rattle.session_wire.specs.Procedures as numbers;
-ghost use Rattle.plain_wire.specs.Messages.{wanted as is_wanted, numbered, known, named_in, credential_of, message_of};
+ghost use Rattle.nfs_codec.specs.Procedures as procedures;
+ghost use Rattle.session_wire.specs.Programs as programs;
+ghost use Rattle.plain_wire.specs.Messages.{wanted as is_wanted, numbered, named_in, credential_of, message_of};
 
+use nfs_codec::{decode_call, procedure_of};
 use nfs_types::{Octets, Program, ProgramProcedure};
-use session_wire::nfs_codec::{decode_call, is_decoded, procedure_of, program_of};
-use session_wire::rpc::{
-    AUTH_NONE, AUTH_SYS, CALL, NFS_VERSION, RPC_VERSION, read_caller, read_header, read_opening,
+use rpc::{
+    AUTH_NONE, AUTH_SYS, CALL, MOUNT_PROGRAM, NFS_PROGRAM, NFS_VERSION, RPC_VERSION, read_caller,
+    read_header, read_opening,
 };
-use session_wire::xdr::{Reader, XdrFault};
 use session_wire::{CallMessage, MessageCredential, MessageVerifier};
 use std::alloc::{AllocError, Global};
+use xdr::{Reader, XdrFault};
 
 /// The call that the bytes spell, or None where they spell none.
 pub fn read_call(alloc: Global, bytes: &[u8]) -> Result<Option<CallMessage>, AllocError>
@@ -40,7 +42,7 @@ fn read_message(alloc: Global, bytes: &[u8]) -> Result<CallMessage, XdrFault>
     let header = read_header(&mut reader)?;
     let program = program(header.program)?;
     expect(header.version, NFS_VERSION)?;
-    let procedure = known(procedure(program, header.procedure)?)?;
+    let procedure = procedure(program, header.procedure)?;
     let credential = read_credential(alloc, header.flavor, header.body)?;
     let call = decode_call(alloc, procedure, reader.rest())?;
     Ok(CallMessage {
@@ -66,32 +68,21 @@ fn expect(number: u32, wanted: u32) -> Result<(), XdrFault>
 }
 
 fn program(number: u32) -> Result<Program, XdrFault>
-    ensures { Reads (λ p. p) result (numbered (numbers.program_of number)) }
+    ensures { Reads (λ p. p) result (numbered (programs.program_of number)) }
 {
-    match program_of(number) {
-        Some(program) => Ok(program),
-        None => Err(XdrFault::Value),
+    match number {
+        NFS_PROGRAM => Ok(Program::Nfs),
+        MOUNT_PROGRAM => Ok(Program::Mount),
+        _ => Err(XdrFault::Value),
     }
 }
 
 fn procedure(program: Program, number: u32) -> Result<ProgramProcedure, XdrFault>
-    ensures { Reads (λ p. p) result (numbered (numbers.procedure_of program number)) }
+    ensures { Reads (λ p. p) result (numbered (procedures.procedure_of program number)) }
 {
     match procedure_of(program, number) {
         Some(procedure) => Ok(procedure),
         None => Err(XdrFault::Value),
-    }
-}
-
-// The procedure, where it is decoded.
-fn known(procedure: ProgramProcedure) -> Result<ProgramProcedure, XdrFault>
-    ensures read { Reads (λ p. p) result (known procedure) }
-    ensures decoded { IfOk result (λ p. numbers.is_decoded p ≡ true) }
-{
-    if is_decoded(procedure) {
-        Ok(procedure)
-    } else {
-        Err(XdrFault::Value)
     }
 }
 

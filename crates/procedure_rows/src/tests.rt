@@ -10,7 +10,7 @@ use plain_procedures::{
     write,
 };
 use plain_server::{
-    MappedIndexes, NumberedNode, PlainBody, PlainEntry, PlainNode, PlainTree, serve,
+    MappedIndexes, NumberedNode, PlainBody, PlainNames, PlainNode, PlainTree, serve,
 };
 use std::alloc::{AllocError, Global};
 
@@ -24,7 +24,7 @@ const NOW: Moment = Moment {
     nanoseconds: 5,
 };
 
-const NOTHING_WANTED: NewAttributes = NewAttributes {
+pub(crate) const NOTHING_WANTED: NewAttributes = NewAttributes {
     mode: None,
     uid: None,
     gid: None,
@@ -33,7 +33,7 @@ const NOTHING_WANTED: NewAttributes = NewAttributes {
     mtime: SetTime::Unchanged,
 };
 
-fn called_by(alloc: Global, uid: u32) -> Ctx {
+pub(crate) fn called_by(alloc: Global, uid: u32) -> Ctx {
     Ctx {
         credential: Credential {
             uid,
@@ -47,7 +47,7 @@ fn called_by(alloc: Global, uid: u32) -> Ctx {
 }
 
 // The handle of the file 2 where its boot number is 1.
-fn handle_of(alloc: Global, number: u32, boot: u64) -> Result<Handle, AllocError> {
+pub(crate) fn handle_of(alloc: Global, number: u32, boot: u64) -> Result<Handle, AllocError> {
     let stamp = Stamp {
         boot,
         transaction: 0,
@@ -78,14 +78,10 @@ fn empty_file(alloc: Global) -> PlainNode {
 }
 
 // The tree of so many data blocks, of which the root's entry takes one.
-fn tree(alloc: Global, data_blocks: u32) -> Result<PlainTree, AllocError> {
+pub(crate) fn tree(alloc: Global, data_blocks: u32) -> Result<PlainTree, AllocError> {
     let mut tree = PlainTree::formatted(alloc, data_blocks, 64, MADE)?;
-    let mut entries = Vec::new(alloc);
-    entries.push(PlainEntry {
-        name: Octets::copied(alloc, b"a")?,
-        number: 2,
-        slot: 0,
-    })?;
+    let mut entries = PlainNames::new(alloc);
+    entries.insert(Octets::copied(alloc, b"a")?, 2, 0)?;
     if let Some(root) = tree.nodes.first_mut() {
         root.node.body = PlainBody::Directory {
             entries,

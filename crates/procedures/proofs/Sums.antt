@@ -1,51 +1,32 @@
 -- On sums over the entries of a map of files, and what a change of one file needs.
-use Rattle.std.proofs.Common.{◌≡◌, ℕ, zero, suc, ◌+◌, ◌-◌, ◌<◌, sym, ap, ◌∙◌, refl, Bool, true, false, cond}
+use Rattle.std.proofs.Common.{◌≡◌, ℕ, zero, suc, ◌+◌, ◌-◌, ◌<◌, ap, ◌∙◌, refl, Bool, true, false, cond}
 use Rattle.std.proofs.Common.{◌&&◌}
 use Rattle.std.proofs.Common.{T, List, [], ◌∷◌, length, get_or, Option, Some, None, sum_by, arith, subst}
 use Rattle.std.proofs.lemmas.List.Sums.{sum_by-cons}
 use Rattle.std.specs.Cmp.{nat_cmp_total}
-use Rattle.std.specs.FinMap.{FinMap, entries, entries-insert, entries_sorted, find, get, get-entries, insert}
-use Rattle.std.specs.FinMap.{put}
-use Rattle.std.specs.FinMap.{is_sorted}
-use Rattle.std.specs.FinMap.Entries.{below_all, by_order}
+use Rattle.std.specs.FinMap.{FinMap, entries, entries_sorted, find, get, get-entries, insert}
+use Rattle.std.specs.FinMap.{is_sorted, nat_cmp-IsAntisymmetric}
+use Rattle.std.specs.FinMap.Entries.{below_all}
 use Rattle.std.specs.Ordering.{eq_by_cmp, is_eq, is_lt, nat_cmp}
 use Rattle.std.specs.declared.cmp.Ordering.{Ordering}
 use Rattle.std.specs.declared.cmp.Ordering.TheVariants.{Less, Equal, Greater}
 use Rattle.model.proofs.Maps.{sum_insert}
+use Rattle.procedures.proofs.Parts.{insert_new}
 use Rattle.model.proofs.Sets.{eq_by_cmp-is, itself}
 use Rattle.model.specs.Cost.{cost}
 use Rattle.model.specs.Node.{Node}
 use Rattle.model.specs.Tree.{Tree, cost_at, need, node_at, with_node}
 
-module _ {X : Type 0} (f : ℕ × X → ℕ) (k : ℕ) (v : X) where
-  placed : (r : Ordering) (e : ℕ × X) (es : List (ℕ × X))
-      → (find nat_cmp k es ≡ None → sum_by f (put nat_cmp k v es) ≡ sum_by f es + f (k, v))
-      → cond (is_eq r) (Some e.1) (find nat_cmp k es) ≡ None
-      → sum_by f (by_order r ((k, v) ∷ e ∷ es) ((e.0, v) ∷ es) (e ∷ put nat_cmp k v es))
-      ≡ sum_by f (e ∷ es) + f (k, v)
-  placed Less e es more none = let all = sum_by-cons f (k, v) (e ∷ es) in omega (arith, all)
-  placed Equal e es more none = cc
-  placed Greater e es more none =
-      let rest = more none in
-      omega (arith, rest, sum_by-cons f e (put nat_cmp k v es), sum_by-cons f e es)
+-- a new entry adds to a sum
+pub sum_insert_new : {X : Type 0} (f : ℕ × X → ℕ) (k : ℕ) (v : X) (m : FinMap nat_cmp X) → get m k ≡ None
+    → sum_by f (entries (insert m k v)) ≡ sum_by f (entries m) + f (k, v)
+sum_insert_new f k v m none = insert_new nat_cmp_total nat_cmp-IsAntisymmetric f m k v none
 
-  sum_put_new : (es : List (ℕ × X)) → find nat_cmp k es ≡ None
-      → sum_by f (put nat_cmp k v es) ≡ sum_by f es + f (k, v)
-  sum_put_new [] none = let one = sum_by-cons f (k, v) [] in omega (arith, one)
-  sum_put_new (e ∷ es) none = placed (nat_cmp k e.0) e es (sum_put_new es) none
-
-  -- a new entry adds to a sum
-  pub sum_insert_new : (m : FinMap nat_cmp X) → get m k ≡ None
-      → sum_by f (entries (insert m k v)) ≡ sum_by f (entries m) + f (k, v)
-  sum_insert_new m none =
-      ap (sum_by f) (entries-insert nat_cmp_total m k v)
-      ∙ sum_put_new (entries m) (sym (get-entries m k) ∙ none)
-
-and_first : (a b : Bool) → T (a && b) → T a
+pub and_first : (a b : Bool) → T (a && b) → T a
 and_first true b t = tt
 and_first false b t = absurd t
 
-and_second : (a b : Bool) → T (a && b) → T b
+pub and_second : (a b : Bool) → T (a && b) → T b
 and_second true b t = t
 and_second false b t = absurd t
 
@@ -55,7 +36,7 @@ equal_of Equal e = refl
 equal_of Greater e = cc
 
 -- a key above another isn't it
-apart : (k q : ℕ) → T (is_lt (nat_cmp k q)) → (b : Bool) → eq_by_cmp nat_cmp q k ≡ b → b ≡ false
+pub apart : (k q : ℕ) → T (is_lt (nat_cmp k q)) → (b : Bool) → eq_by_cmp nat_cmp q k ≡ b → b ≡ false
 apart k q less false e = refl
 apart k q less true e =
     let same : q ≡ k = eq_by_cmp-is q k e in
@@ -63,14 +44,14 @@ apart k q less true e =
     absurd (subst (λ r. T (is_lt r)) (ap (nat_cmp k) same ∙ tied) less)
 
 module _ {X : Type 0} where
-  below_at : (k : ℕ) (es : List (ℕ × X)) (d : ℕ × X) (index : ℕ) → index < length es
+  pub below_at : (k : ℕ) (es : List (ℕ × X)) (d : ℕ × X) (index : ℕ) → index < length es
       → T (below_all nat_cmp k es) → T (is_lt (nat_cmp k (get_or es index d).0))
   below_at k [] d index inside below = absurd (omega arith)
   below_at k (e ∷ es) d zero inside below = and_first _ _ below
   below_at k (e ∷ es) d (suc index) inside below =
       below_at k es d index (omega arith) (and_second _ _ below)
 
-  skipped : (b : Bool) (v : X) (o : Option X) → b ≡ false → cond b (Some v) o ≡ o
+  pub skipped : (b : Bool) (v : X) (o : Option X) → b ≡ false → cond b (Some v) o ≡ o
   skipped true v o e = cc
   skipped false v o e = refl
 

@@ -6,6 +6,7 @@ pub mod FirstTests
 pub mod Fresh
 pub mod FsInfo
 pub mod FsStat
+pub mod Histories
 pub mod Kinds
 pub mod Link
 pub mod Listing

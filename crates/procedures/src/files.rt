@@ -1,15 +1,22 @@
 //! Laws on what READ and WRITE do with the bytes of a file, and on what WRITE takes of the blocks.
-ghost use Rattle.std.specs.Prelude.{◌≡◌, ◌≤◌, ◌<◌, ◌+◌, ◌-◌, ℕ, List, length, get_or, Some, Ok};
+ghost use Rattle.std.specs.Prelude.{◌≡◌, ◌≤◌, ◌<◌, ◌+◌, ◌-◌, ◌⊎◌, ℕ, List, [], length, get_or, Option};
+ghost use Rattle.std.specs.Prelude.{Some, None, Ok};
 ghost use Rattle.limits.specs.declared.TheConstants.{TRANSFER_BYTES};
 ghost use Rattle.model.specs.Cost.{cost};
+ghost use Rattle.model.specs.Find.{find_file};
 ghost use Rattle.model.specs.Node.{Node};
-ghost use Rattle.model.specs.Tree.{Tree, need, node_at, with_node};
-ghost use Rattle.procedures.specs.Read.{piece};
+ghost use Rattle.model.specs.Sound.{Sound};
+ghost use Rattle.model.specs.Tree.{Tree, free, need, node_at, used, with_node};
+ghost use Rattle.procedures.specs.Places.{named_file};
+ghost use Rattle.procedures.specs.Read.{ReadStep, bytes_of, piece};
+ghost use Rattle.procedures.specs.Remove.{RemoveStep};
 ghost use Rattle.procedures.specs.Commit.{CommitStep};
 ghost use Rattle.procedures.specs.Write.{WriteStep, overwritten};
+ghost use Rattle.nfs_types.specs.declared.attributes.Attributes.{Attributes};
 ghost use Rattle.nfs_types.specs.declared.attributes.WeakCacheData.{WeakCacheData};
 ghost use Rattle.nfs_types.specs.declared.call.Stability.{Stability};
 ghost use Rattle.nfs_types.specs.declared.ctx.Ctx.{Ctx};
+ghost use Rattle.nfs_types.specs.declared.reply.ReadBytes.{ReadBytes};
 ghost use Rattle.nfs_types.specs.declared.reply.Written.{Written};
 ghost use Rattle.nfs_types.specs.declared.verifier.Verifier.{Verifier};
 
@@ -50,4 +57,47 @@ pub fn a_commit_bears_the_verifier_of_what_was_written()
         (told tells : WeakCacheData) → ctx.boot ≡ later.boot
         → WriteStep tree ctx file offset count stability text (Ok reply) told next
         → CommitStep other later another (Ok verifier) tells last → verifier ≡ reply.verifier }
+{}
+
+/// A READ of as many bytes from where a WRITE wrote gives what was written.
+pub fn a_read_gives_what_was_written()
+    ensures { (tree middle last : Tree) (ctx later : Ctx) (file : List ℕ) (offset count : ℕ)
+        (stability : Stability) (text : List ℕ) (reply : Written) (given : ReadBytes) (told : WeakCacheData)
+        (tells : Option Attributes) → WriteStep tree ctx file offset count stability text (Ok reply) told middle
+        → ReadStep middle later file offset (length text) (Ok given) tells last → given.bytes ≡ text }
+{}
+
+/// A READ of any other bytes gives what was there before the WRITE, and zeros where the file had ended.
+pub fn a_read_beside_it_gives_what_was_there()
+    ensures { (tree middle last : Tree) (ctx later : Ctx) (file : List ℕ) (offset count at asked index : ℕ)
+        (stability : Stability) (text : List ℕ) (reply : Written) (given : ReadBytes) (told : WeakCacheData)
+        (tells : Option Attributes) (found : ℕ × Node) → find_file tree file ≡ Ok found
+        → WriteStep tree ctx file offset count stability text (Ok reply) told middle
+        → ReadStep middle later file at asked (Ok given) tells last → index < length given.bytes
+        → (at + index < offset) ⊎ (offset + length text ≤ at + index)
+        → get_or given.bytes index 0 ≡ get_or (bytes_of found.1.body) (at + index) 0 }
+{}
+
+/// A WRITE takes just the blocks that it was found to need, when its space was tested.
+pub fn a_write_takes_what_it_needs()
+    ensures { (tree next : Tree) (ctx : Ctx) (file : List ℕ) (offset count : ℕ) (stability : Stability)
+        (text : List ℕ) (reply : Written) (told : WeakCacheData)
+        → WriteStep tree ctx file offset count stability text (Ok reply) told next
+        → used next ≡ used tree + need tree next }
+{}
+
+/// A WRITE of no bytes changes nothing.
+pub fn a_write_of_no_bytes_leaves_the_tree()
+    ensures { (tree next : Tree) (ctx : Ctx) (file : List ℕ) (offset count : ℕ) (stability : Stability)
+        (reply : Written) (told : WeakCacheData)
+        → WriteStep tree ctx file offset count stability [] (Ok reply) told next → next ≡ tree }
+{}
+
+/// After a REMOVE of the last name of a file the file is gone, and its blocks are free.
+pub fn the_last_name_takes_the_file_with_it()
+    ensures { (tree next : Tree) (ctx : Ctx) (directory name : List ℕ) (told : WeakCacheData)
+        (place file : ℕ × Node) → Sound tree → find_file tree directory ≡ Ok place
+        → named_file tree place.1 name ≡ Some file → file.1.nlink ≡ 1
+        → RemoveStep tree ctx directory name (Ok tt) told next
+        → (node_at next file.0 ≡ None) × (free next ≡ free tree + cost file.1.body) }
 {}

@@ -7,7 +7,9 @@
 mod bits;
 mod cookies;
 mod files;
+mod handles;
 mod steps;
+mod trees;
 
 pub use bits::{
     ACCESS_DELETE, ACCESS_EXECUTE, ACCESS_EXTEND, ACCESS_LOOKUP, ACCESS_MODIFY, ACCESS_READ,
@@ -15,10 +17,19 @@ pub use bits::{
 };
 pub use cookies::{FIRST_SLOT_COOKIE, ITSELF_COOKIE, PARENT_COOKIE};
 pub use files::{
-    a_commit_bears_the_verifier_of_what_was_written, a_hole_is_zeros, one_file_needs_what_it_adds,
-    what_is_written_is_read, what_lies_before_stays, what_lies_behind_stays,
+    a_commit_bears_the_verifier_of_what_was_written, a_hole_is_zeros,
+    a_read_beside_it_gives_what_was_there, a_read_gives_what_was_written,
+    a_write_of_no_bytes_leaves_the_tree, a_write_takes_what_it_needs, one_file_needs_what_it_adds,
+    the_last_name_takes_the_file_with_it, what_is_written_is_read, what_lies_before_stays,
+    what_lies_behind_stays,
+};
+pub use handles::{
+    a_handle_once_stale_names_no_file_again, a_stale_handle_stays_stale, steps_give_their_own_stamp,
 };
 pub use steps::{
     a_numbered_step_is_determined, a_refusal_leaves_the_tree, each_call_has_a_step,
     no_step_makes_a_later_stamp, no_step_tells_a_failure, what_only_tells_leaves_the_tree,
+};
+pub use trees::{
+    histories_keep_trees_sound, no_step_makes_a_file_its_own_ancestor, steps_keep_trees_sound,
 };

@@ -2,10 +2,12 @@
 //! thread, and its reply is written. The bytes of messages are `session_wire`'s.
 #![tactic(auto)]
 
+mod mounting;
 mod serving;
 
+pub use mounting::mount_reply;
 pub use serving::{SessionFault, reply_to, serve};
 pub use session_wire::{
     CallMessage, Judged, MessageCredential, MessageVerifier, ReplyBody, ReplyMessage, RpcReply,
-    judge, nfs_codec, reply_bytes, rpc, xdr,
+    judge, reply_bytes,
 };

@@ -1,23 +1,23 @@
 //! Serving a stream: the calls of its records, one after the other, and their replies.
-ghost use Rattle.std.specs.Prelude.{◌≡◌, ◌<◌, ◌≤◌, ◌↔◌, IsTrue, IsSome, IfOk, IfSome, OnOk, None, length};
+ghost use Rattle.std.specs.Prelude.{◌≡◌, ◌<◌, ◌≤◌, IsSome, IfOk, IfSome, OnOk, None, length};
 ghost use Rattle.std.specs.Io.KnownBytes.{IsAtEnd};
-ghost use Rattle.nfs_types.specs.declared.program.ProgramReply.TheVariants as replies;
 ghost use Rattle.store.specs.Opening.{store_of};
 ghost use Rattle.store.specs.Settling.{IsIdle};
 ghost use Rattle.session.specs.Serving.{HasServed, client_of, reply_for};
-ghost use Rattle.session_wire.specs.Replies.{IsSpellable, body_of};
-ghost use Rattle.session_wire.specs.Results.{HasSpelling};
+ghost use Rattle.session_wire.specs.Replies.{body_of};
 
+use crate::mounting::mount_reply;
 use bytes::Bytes;
 use disk::CrashDisk;
 use limits::{MOST_READS, PIECE_BYTES};
-use nfs_types::{Credential, Moment, ProgramCall, Reply};
-use session_wire::rpc::{Records, Refusal, RpcFault};
+use nfs_types::{Credential, Moment, MountCall, ProgramCall};
+use rpc::{Records, Refusal, RpcFault};
 use session_wire::{Judged, RpcReply, judge, reply_bytes};
 use std::alloc::Global;
 use std::io::{ErrorKind, Read, Write};
 use store::{Store, Verdict, procedure, settle};
 use thiserror::Error;
+use xdr::XdrFault;
 
 /// Why a stream isn't served to its end.
 #[derive(Clone, Copy, Debug, PartialEq, Eq, Error)]
@@ -179,7 +179,7 @@ fn serve_record<D: CrashDisk, W: Write>(
     }
 }
 
-// Answers one call. MOUNT isn't served yet, and no record is taken for a call of it.
+// Answers one call.
 fn serve_call<D: CrashDisk, W: Write>(
     alloc: Global,
     store: &mut Store<D>,
@@ -197,66 +197,49 @@ fn serve_call<D: CrashDisk, W: Write>(
             let verdict = procedure(alloc, store, credential, moment, call);
             put(alloc, writer, xid, reply_to(&verdict))
         }
-        ProgramCall::Mount(_) => put(
-            alloc,
-            writer,
-            xid,
-            RpcReply::Refused(Refusal::ProgramUnavailable),
-        ),
+        ProgramCall::Mount(call) => serve_mount(alloc, xid, &call, writer),
     }
 }
 
-/// What a call is answered by what came of its procedure: its reply, or a system error where that has no spelling
-/// yet or where an allocation failed in the procedure.
+// Answers one call of MOUNT.
+fn serve_mount<W: Write>(
+    alloc: Global,
+    xid: u32,
+    call: &MountCall,
+    writer: &mut W,
+) -> Result<(), SessionFault> {
+    match mount_reply(alloc, call) {
+        Ok(reply) => put(alloc, writer, xid, RpcReply::Mount(&reply)),
+        Err(_) => put(alloc, writer, xid, RpcReply::Refused(Refusal::SystemError)),
+    }
+}
+
+/// What a call is answered by what came of its procedure: its reply, or a system error where an allocation failed in
+/// the procedure.
 pub fn reply_to(verdict: &Verdict) -> RpcReply<'_>
-    ensures reply { body_of result ≡ reply_for verdict.now }
-    ensures spellable { IsSpellable (body_of result) }
+    ensures { body_of result ≡ reply_for verdict.now }
 {
     match verdict {
-        Verdict::Reply(reply) if has_spelling(reply) => RpcReply::Nfs(reply),
-        Verdict::Reply(_) | Verdict::NoMemory => RpcReply::Refused(Refusal::SystemError),
+        Verdict::Reply(reply) => RpcReply::Nfs(reply),
+        Verdict::NoMemory => RpcReply::Refused(Refusal::SystemError),
     }
 }
 
-// Writes a reply.
+// Writes a reply, or a system error in place of one that is too long for a record.
 fn put<W: Write>(
     alloc: Global,
     writer: &mut W,
     xid: u32,
     reply: RpcReply<'_>,
-) -> Result<(), SessionFault>
-    requires { IsSpellable (body_of reply) }
-{
+) -> Result<(), SessionFault> {
     let mut bytes = Vec::new(alloc);
-    reply_bytes(alloc, &mut bytes, xid, reply).map_err(|_| SessionFault::NoMemory)?;
+    if let Err(fault) = reply_bytes(alloc, &mut bytes, xid, reply) {
+        if fault == XdrFault::NoMemory {
+            return Err(SessionFault::NoMemory);
+        }
+        let refused = RpcReply::Refused(Refusal::SystemError);
+        reply_bytes(alloc, &mut bytes, xid, refused).map_err(|_| SessionFault::NoMemory)?;
+    }
     writer.write_all(&bytes).map_err(|_| SessionFault::Output)?;
     writer.flush().map_err(|_| SessionFault::Output)
-}
-
-// Whether the reply is one of NFS that can be spelled so far.
-fn has_spelling(reply: &Reply) -> bool
-    ensures { IsTrue result ↔ HasSpelling (replies.Nfs reply.now) }
-{
-    match reply {
-        Reply::Null | Reply::GetAttr { .. } | Reply::SetAttr { .. } => true,
-        Reply::Lookup { .. }
-        | Reply::Access { .. }
-        | Reply::ReadLink { .. }
-        | Reply::Read { .. }
-        | Reply::Write { .. }
-        | Reply::Create { .. }
-        | Reply::MkDir { .. }
-        | Reply::SymLink { .. }
-        | Reply::MkNod { .. }
-        | Reply::Remove { .. }
-        | Reply::RmDir { .. }
-        | Reply::Rename { .. }
-        | Reply::Link { .. }
-        | Reply::ReadDir { .. }
-        | Reply::ReadDirPlus { .. }
-        | Reply::FsStat { .. }
-        | Reply::FsInfo { .. }
-        | Reply::PathConf { .. }
-        | Reply::Commit { .. } => false,
-    }
 }

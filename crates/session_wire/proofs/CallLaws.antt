@@ -9,33 +9,34 @@ use Rattle.nfs_types.specs.declared.program.Program.{Program}
 use Rattle.nfs_types.specs.declared.program.ProgramCall.{ProgramCall}
 use Rattle.nfs_types.specs.declared.program.ProgramProcedure.{ProgramProcedure}
 use Rattle.nfs_types.specs.Fits.{ProgramCallFits}
-use Rattle.session_wire.specs.declared.rpc.constants.TheConstants.{CALL, RPC_VERSION}
-use Rattle.session_wire.specs.declared.rpc.constants.TheConstants.{NFS_VERSION}
-use Rattle.session_wire.specs.declared.rpc.header.Opening.{Opening}
-use Rattle.session_wire.specs.declared.rpc.refusal.Refusal.{Refusal}
-use Rattle.session_wire.specs.declared.rpc.refusal.Refusal.TheVariants.{RpcMismatch, ProgramUnavailable}
-use Rattle.session_wire.specs.declared.rpc.refusal.Refusal.TheVariants.{ProgramMismatch, ProcedureUnavailable}
+use Rattle.rpc.specs.declared.constants.TheConstants.{CALL, RPC_VERSION}
+use Rattle.rpc.specs.declared.constants.TheConstants.{NFS_VERSION}
+use Rattle.rpc.specs.declared.header.Opening.{Opening}
+use Rattle.rpc.specs.declared.refusal.Refusal.{Refusal}
+use Rattle.rpc.specs.declared.refusal.Refusal.TheVariants.{RpcMismatch}
+use Rattle.rpc.specs.declared.refusal.Refusal.TheVariants.{ProgramMismatch}
 use Rattle.session_wire.specs.declared.message.Judged.{Judged}
 use Rattle.session_wire.specs.declared.message.Judged.TheVariants.{Closed, Refused, Call}
 use Rattle.session_wire.specs.declared.message.MessageCredential.{MessageCredential}
 use Rattle.session_wire.specs.declared.message.MessageCredential.TheVariants.{Nobody, Caller}
 use Rattle.session_wire.specs.declared.message.MessageVerifier.{MessageVerifier}
 use Rattle.session_wire.specs.declared.message.CallMessage.{CallMessage}
-use Rattle.session_wire.specs.declared.xdr.fault.XdrFault.{XdrFault}
-use Rattle.session_wire.specs.Items.{word, opaque, padding}
-use Rattle.session_wire.specs.Headers.{opening_at, Heading, header_at}
-use Rattle.session_wire.specs.Credentials.{System, caller_at, credential_of}
-use Rattle.session_wire.specs.Procedures.{program_number, program_of, is_available, procedure_number}
-use Rattle.session_wire.specs.Procedures.{program_with, procedure_of, is_decoded, called}
-use Rattle.session_wire.specs.Calls.{arguments, CredentialFits, caller_of, call_bytes, SpellsCall}
-use Rattle.session_wire.specs.ReadingCalls.{call_of}
+use Rattle.xdr.specs.declared.fault.XdrFault.{XdrFault}
+use Rattle.xdr.specs.Items.{word, opaque, padding}
+use Rattle.rpc.specs.Headers.{opening_at, Heading, header_at}
+use Rattle.rpc.specs.Credentials.{System, caller_at, credential_of}
+use Rattle.nfs_codec.specs.Procedures.{procedure_number, procedure_of, called}
+use Rattle.session_wire.specs.Programs.{program_number, program_of, program_with}
+use Rattle.session_wire.specs.Calls.{CredentialFits, caller_of, call_bytes, SpellsCall}
+use Rattle.nfs_codec.specs.Arguments.{arguments, call_of}
 use Rattle.session_wire.specs.Judging.{on_arguments, on_procedure, on_program, on_credential}
 use Rattle.session_wire.specs.Judging.{on_header}
 use Rattle.session_wire.specs.Judging.{on_opening, judged}
-use Rattle.session_wire.proofs.Coded.{IsBytes}
-use Rattle.session_wire.proofs.CodedCalls.{answer_is, call_takes, call_again, front_bytes, back_bytes}
+use Rattle.xdr.proofs.Coded.{IsBytes}
+use Rattle.xdr.proofs.Coded.{front_bytes, back_bytes}
+use Rattle.nfs_codec.proofs.CallLaws.{taken_whole, read_again}
 use Rattle.session_wire.proofs.Numbered.{program_again, program_takes, program_fits, procedure_again}
-use Rattle.session_wire.proofs.Numbered.{procedure_takes, number_fits, decoded_available}
+use Rattle.session_wire.proofs.Numbered.{procedure_takes, number_fits}
 use Rattle.session_wire.proofs.CodedHeaders.{opening_bytes, OpeningFits, openings, heading_bytes, HeadingFits}
 use Rattle.session_wire.proofs.CodedHeaders.{headings, system_is, caller_again, flavor_of, body_of}
 use Rattle.session_wire.proofs.CodedHeaders.{credential_is, credential_again, body-length, credential_takes}
@@ -98,10 +99,8 @@ judged_again bytes m s =
       heads bytes m s,
       credential_again m.credential s.credential_fits,
       program_again (program_with (called m.call)),
-      decoded_available (called m.call) s.decoded,
       procedure_again (called m.call),
-      s.decoded,
-      call_again m.call s.decoded s.call_fits,
+      read_again (called m.call) (arguments m.call) m.call refl s.call_fits refl,
     ) refl
 
 -- ---- what is judged to be a call is spelled so
@@ -132,12 +131,10 @@ of_arguments xid c (Err d) xid' c' call e = absurd cc
 
 of_procedure : (xid : ℕ) (c : Credential) (args : List ℕ) (o : Option ProgramProcedure) (xid' : ℕ)
     (c' : Credential) (call : ProgramCall) → on_procedure xid c args o ≡ Call xid' c' call
-    → (p : ProgramProcedure) × (o ≡ Some p) × (is_decoded p ≡ true)
-    × (call_of p args ≡ Ok call) × (xid ≡ xid') × (c ≡ c')
+    → (p : ProgramProcedure) × (o ≡ Some p) × (call_of p args ≡ Ok call) × (xid ≡ xid') × (c ≡ c')
 of_procedure xid c args (Some p) xid' c' call e =
-    let d = first_chosen (is_decoded p) _ (Refused xid ProcedureUnavailable) (Call xid' c' call) (λ f. cc) e in
-    let a = of_arguments xid c (call_of p args) xid' c' call d.1 in
-    (p, refl, d.0, a.0, a.1, a.2)
+    let a = of_arguments xid c (call_of p args) xid' c' call e in
+    (p, refl, a.0, a.1, a.2)
 of_procedure xid c args None xid' c' call e = absurd cc
 
 record IsRequest (h : Heading) (args : List ℕ) (xid : ℕ) (c : Credential) (xid' : ℕ) (c' : Credential)
@@ -146,7 +143,6 @@ record IsRequest (h : Heading) (args : List ℕ) (xid : ℕ) (c : Credential) (x
   program : h.program ≡ program_number (program_with p)
   version : h.version ≡ NFS_VERSION
   procedure : h.procedure ≡ procedure_number p
-  known : is_decoded p ≡ true
   decoded : call_of p args ≡ Ok call
   same : xid ≡ xid'
   caller : c ≡ c'
@@ -155,10 +151,8 @@ of_program : (xid : ℕ) (c : Credential) (h : Heading) (args : List ℕ) (o : O
     (c' : Credential) (call : ProgramCall) → program_of h.program ≡ o
     → on_program xid c h args o ≡ Call xid' c' call → IsRequest h args xid c xid' c' call
 of_program xid c h args (Some program) xid' c' call is e =
-    let a = first_chosen (is_available program) _ (Refused xid ProgramUnavailable) (Call xid' c' call)
-    (λ f. cc) e in
     let b = first_chosen (h.version == NFS_VERSION) _ (Refused xid ProgramMismatch) (Call xid' c' call)
-    (λ f. cc) a.1 in
+    (λ f. cc) e in
     let d = of_procedure xid c args (procedure_of program h.procedure) xid' c' call b.1 in
     let n = procedure_takes program h.procedure d.0 d.1 in
     record {
@@ -166,10 +160,9 @@ of_program xid c h args (Some program) xid' c' call is e =
       program = program_takes h.program program is ∙ ap program_number n.program_is;
       version = eqb-true _ _ b.0;
       procedure = n.number_is;
-      known = d.2;
-      decoded = d.3;
-      same = d.4;
-      caller = d.5;
+      decoded = d.2;
+      same = d.3;
+      caller = d.4;
     }
 of_program xid c h args None xid' c' call is e = absurd cc
 
@@ -184,7 +177,6 @@ of_credential xid h args (Ok c) xid' c' call e =
         program = q.program;
         version = q.version;
         procedure = q.procedure;
-        known = q.known;
         decoded = q.decoded;
         same = q.same;
         caller = refl;
@@ -247,7 +239,7 @@ judged_takes bytes xid c call fits e =
     let h = of_header o.0.0.xid (header_at o.0.1) xid c call o.4 in
     let u = headings.takes o.0.1 h.0.0 h.0.1 t.0.rest_fits h.1 in
     let q = h.3 in
-    let v = call_takes q.p h.0.1 call u.0.rest_fits q.decoded in
+    let v = taken_whole q.p h.0.1 call u.0.rest_fits q.decoded in
     let body_fits : IsBytes h.0.0.body = body_bytes h.0.0 h.0.1 (subst IsBytes u.0.parts t.0.rest_fits) in
     let w = credential_takes h.0.0.flavor h.0.0.body c body_fits h.2 in
     let m : CallMessage =
@@ -258,9 +250,9 @@ judged_takes bytes xid c call fits e =
       call = call;
     } in
     let program : h.0.0.program ≡ program_number (program_with (called call)) =
-    q.program ∙ ap (λ p. program_number (program_with p)) (sym v.procedure) in
+    q.program ∙ ap (λ p. program_number (program_with p)) (sym v.0) in
     let number : h.0.0.procedure ≡ procedure_number (called call) =
-    q.procedure ∙ ap procedure_number (sym v.procedure) in
+    q.procedure ∙ ap procedure_number (sym v.0) in
     let opening_same : opening_bytes o.0.0 ≡ opening_bytes (opening_of m) =
     same_opening o.0.0 CALL RPC_VERSION o.2 o.3 in
     let heading_same : heading_bytes h.0.0 ≡ heading_bytes (heading_of m) =
@@ -268,7 +260,7 @@ judged_takes bytes xid c call fits e =
     (procedure_number (called call)) (flavor_of w.0) (body_of w.0) program q.version number w.1.flavor_is w.1.body_is in
     let spelled : bytes ≡ call_bytes m = t.0.parts
     ∙ ap (λ (x : List ℕ). opening_bytes o.0.0 ++ x) (u.0.parts
-    ∙ ap (λ (x : List ℕ). heading_bytes h.0.0 ++ x) v.spelled)
+    ∙ ap (λ (x : List ℕ). heading_bytes h.0.0 ++ x) v.2)
     ∙ joined_parts (opening_bytes o.0.0) (opening_bytes (opening_of m)) (heading_bytes h.0.0)
     (heading_bytes (heading_of m)) (arguments call) opening_same heading_same ∙ sym (parted m) in (
       m,
@@ -278,8 +270,7 @@ judged_takes bytes xid c call fits e =
           credential_fits = w.1.fits;
           verifier_flavor = u.1.verifier_flavor;
           verifier_body = u.1.verifier;
-          decoded = ap is_decoded v.procedure ∙ q.known;
-          call_fits = v.fits;
+          call_fits = v.1;
           spelled = spelled;
         };
         xid_is = q.same;
@@ -340,11 +331,16 @@ found p = Some p
 found_is : (p q : Program) → found p ≡ found q → p ≡ q
 found_is p q e = cc
 
-same_call : (a b : ProgramCall) → is_decoded (called a) ≡ true → is_decoded (called b) ≡ true
-    → ProgramCallFits a → ProgramCallFits b
+abbrev answer : ProgramCall → Result ProgramCall XdrFault
+answer c = Ok c
+
+answer_is : (a b : ProgramCall) → answer a ≡ answer b → a ≡ b
+answer_is a b e = cc
+
+same_call : (a b : ProgramCall) → ProgramCallFits a → ProgramCallFits b
     → program_number (program_with (called a)) ≡ program_number (program_with (called b))
     → procedure_number (called a) ≡ procedure_number (called b) → arguments a ≡ arguments b → a ≡ b
-same_call a b k l p q same_program f g =
+same_call a b p q same_program f g =
     let programs : program_with (called a) ≡ program_with (called b) =
     found_is (program_with (called a)) (program_with (called b))
     (sym (program_again (program_with (called a))) ∙ ap program_of same_program
@@ -354,9 +350,10 @@ same_call a b k l p q same_program f g =
     let procedures : called a ≡ called b =
     some_is (called a) (called b) (sym (procedure_again (called a)) ∙ numbered
     ∙ procedure_again (called b)) in
-    answer_is a b (sym (call_again a k p)
+    answer_is a b (sym (read_again (called a) (arguments a) a refl p refl)
     ∙ (let both : call_of (called a) (arguments a)
-    ≡ call_of (called b) (arguments b) = cc (procedures, g) in both) ∙ call_again b l q)
+    ≡ call_of (called b) (arguments b) = cc (procedures, g) in both)
+    ∙ read_again (called b) (arguments b) b refl q refl)
 
 pub same_message : (bytes : List ℕ) (m n : CallMessage) → SpellsCall bytes m → SpellsCall bytes n → m ≡ n
 same_message bytes m n s t =
@@ -383,5 +380,5 @@ same_message bytes m n s t =
     let args : arguments m.call ≡ arguments n.call = ap (λ (x : Heading × List ℕ). x.1) headed in
     let credentials =
     same_credential m.credential n.credential s.credential_fits t.credential_fits flavors bodies in
-    let calls = same_call m.call n.call s.decoded t.decoded s.call_fits t.call_fits programs numbers args in
+    let calls = same_call m.call n.call s.call_fits t.call_fits programs numbers args in
     made_same m n xids credentials verifiers calls

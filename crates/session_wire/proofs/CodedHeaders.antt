@@ -10,24 +10,29 @@ use Rattle.std.proofs.lemmas.List.{append-nil, nil_from_length, length-replicate
 use Rattle.std.proofs.lemmas.List.Concat.{flat_map-cons}
 use Rattle.limits.specs.declared.TheConstants.{MOST_AUTH_BYTES, MACHINE_NAME_BYTES, MOST_GIDS}
 use Rattle.nfs_types.specs.declared.ctx.Credential.{Credential}
-use Rattle.session_wire.specs.declared.rpc.constants.TheConstants.{AUTH_NONE, AUTH_SYS}
-use Rattle.session_wire.specs.declared.rpc.header.Opening.{Opening}
-use Rattle.session_wire.specs.declared.rpc.refusal.Refusal.{Refusal}
-use Rattle.session_wire.specs.declared.rpc.refusal.Refusal.TheVariants.{BadCredential, RejectedCredential}
+use Rattle.rpc.specs.declared.constants.TheConstants.{AUTH_NONE, AUTH_SYS}
+use Rattle.rpc.specs.declared.header.Opening.{Opening}
+use Rattle.rpc.specs.declared.refusal.Refusal.{Refusal}
+use Rattle.rpc.specs.declared.refusal.Refusal.TheVariants.{BadCredential, RejectedCredential}
 use Rattle.session_wire.specs.declared.message.MessageCredential.{MessageCredential}
 use Rattle.session_wire.specs.declared.message.MessageCredential.TheVariants.{Nobody, Caller}
-use Rattle.session_wire.specs.declared.xdr.fault.XdrFault.{XdrFault}
-use Rattle.session_wire.specs.declared.xdr.fault.XdrFault.TheVariants.{Length}
-use Rattle.session_wire.specs.Items.{word, opaque, padding}
-use Rattle.session_wire.specs.Reading.{number_at, opaque_at, end_at}
-use Rattle.session_wire.specs.Headers.{opening_at, Heading, header_at}
-use Rattle.session_wire.specs.Credentials.{numbers_at, gids_at, System, caller_at, caller_or_bad}
-use Rattle.session_wire.specs.Credentials.{credential_of, no_caller}
+use Rattle.xdr.specs.declared.fault.XdrFault.{XdrFault}
+use Rattle.xdr.specs.declared.fault.XdrFault.TheVariants.{Length}
+use Rattle.xdr.specs.Items.{word, opaque, padding}
+use Rattle.xdr.specs.Reading.{number_at, opaque_at, end_at}
+use Rattle.rpc.specs.Headers.{opening_at, Heading, header_at}
+use Rattle.rpc.specs.Credentials.{numbers_at, gids_at, System, caller_at, caller_or_bad}
+use Rattle.rpc.specs.Credentials.{credential_of, no_caller}
 use Rattle.session_wire.specs.Calls.{caller_bytes, CallerFits, credential, CredentialFits, caller_of}
-use Rattle.session_wire.proofs.Coded.{IsBytes, bind_ok, guard_ok, ok_is, Takes, Takes-then, Coded, words}
-use Rattle.session_wire.proofs.Coded.{strings, numbers_take, numbers_again}
-use Rattle.session_wire.proofs.CodedCalls.{end_is, whole}
-use Rattle.session_wire.proofs.Lengths.{word-length}
+use Rattle.xdr.proofs.Coded.{IsBytes, bind_ok, guard_ok, ok_is, Takes, Takes-then, Coded, words}
+use Rattle.xdr.proofs.Coded.{strings}
+use Rattle.xdr.proofs.Lawful.{end_is}
+use Rattle.rpc.proofs.Lengths.{word-length}
+use Rattle.rpc.proofs.Numbers.{numbers_take, numbers_again}
+
+-- a text with nothing behind it
+pub whole : (bytes text rest : List ℕ) → Takes bytes text rest → rest ≡ [] → bytes ≡ text
+whole bytes text rest t e = t.parts ∙ ap (λ (r : List ℕ). text ++ r) e ∙ append-nil text
 
 -- ---- the two parts of a header
 

@@ -1,16 +1,5 @@
-pub mod Memory
-pub mod Marks
-pub mod Loops
-pub mod Lengths
-pub mod Endian
-pub mod Coded
 pub mod Numbered
-pub mod CodedCalls
 pub mod CodedHeaders
 pub mod CallLaws
-pub mod CodedAttributes
-pub mod CodedReplies
 pub mod ReplyLaws
-pub mod RecordLaws
-pub mod Cutting
 pub mod ServedStreams

@@ -12,9 +12,9 @@ use Rattle.nfs_types.specs.declared.program.Program.{Program}
 use Rattle.nfs_types.specs.declared.program.Program.TheVariants.{Nfs, Mount}
 use Rattle.nfs_types.specs.declared.program.ProgramProcedure.{ProgramProcedure}
 use Rattle.nfs_types.specs.declared.program.ProgramProcedure.TheVariants as procedures
-use Rattle.session_wire.specs.Procedures.{program_number, program_of, is_available, nfs_number, nfs_procedures}
-use Rattle.session_wire.specs.Procedures.{nfs_procedure, mount_number, mount_procedures, mount_procedure}
-use Rattle.session_wire.specs.Procedures.{procedure_number, program_with, procedure_of, is_decoded}
+use Rattle.nfs_codec.specs.Procedures.{nfs_number, nfs_procedures, nfs_procedure, mount_number}
+use Rattle.nfs_codec.specs.Procedures.{mount_procedures, mount_procedure, procedure_number, procedure_of}
+use Rattle.session_wire.specs.Programs.{program_number, program_of, program_with}
 
 abbrev some : {A : Type 0} → A → Option A
 some x = Some x
@@ -133,10 +133,3 @@ number_fits (procedures.Nfs nfs.Commit) = omega arith
 number_fits (procedures.Mount mount.Null) = omega arith
 number_fits (procedures.Mount mount.Mount) = omega arith
 number_fits (procedures.Mount mount.Unmount) = omega arith
-
--- what is decoded is of a program that the server has
-pub decoded_available : (p : ProgramProcedure) → is_decoded p ≡ true → is_available (program_with p) ≡ true
-decoded_available (procedures.Nfs procedure) e = refl
-decoded_available (procedures.Mount mount.Null) e = e
-decoded_available (procedures.Mount mount.Mount) e = e
-decoded_available (procedures.Mount mount.Unmount) e = e

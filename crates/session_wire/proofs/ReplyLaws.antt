@@ -1,34 +1,40 @@
 -- A reply has one spelling, and no two replies to one procedure share it.
-use Rattle.std.proofs.Common.{◌≡◌, ℕ, ◌^◌, ◌<◌, inl, inr, true, cond, List, [], ◌++◌, Result, Ok, Err, refl}
+use Rattle.std.proofs.Common.{◌≡◌, ℕ, ◌^◌, ◌<◌, ◌⊎◌, inl, inr, Bool, true, false, cond, List, [], ◌++◌, Result, Ok, Err, refl}
 use Rattle.std.proofs.Common.{sym, ap, subst, ◌∙◌, append_assoc, arith}
 use Rattle.std.specs.Prelude.{◌==◌}
 use Rattle.std.specs.Int.{w32}
 use Rattle.std.proofs.lemmas.Bool.{eqb-true}
 use Rattle.std.proofs.lemmas.List.{append-nil}
 use Rattle.nfs_types.specs.declared.program.ProgramProcedure.{ProgramProcedure}
-use Rattle.session_wire.specs.declared.rpc.constants.TheConstants.{REPLY, RPC_VERSION, NFS_VERSION}
-use Rattle.session_wire.specs.declared.rpc.refusal.Refusal.{Refusal}
-use Rattle.session_wire.specs.declared.rpc.refusal.Refusal.TheVariants.{RpcMismatch, BadCredential}
-use Rattle.session_wire.specs.declared.rpc.refusal.Refusal.TheVariants.{RejectedCredential}
-use Rattle.session_wire.specs.declared.rpc.refusal.Refusal.TheVariants.{ProgramUnavailable, ProgramMismatch}
-use Rattle.session_wire.specs.declared.rpc.refusal.Refusal.TheVariants.{ProcedureUnavailable}
-use Rattle.session_wire.specs.declared.rpc.refusal.Refusal.TheVariants.{GarbageArguments, SystemError}
+use Rattle.rpc.specs.declared.constants.TheConstants.{REPLY, RPC_VERSION, NFS_VERSION}
+use Rattle.rpc.specs.declared.refusal.Refusal.{Refusal}
+use Rattle.rpc.specs.declared.refusal.Refusal.TheVariants.{RpcMismatch, BadCredential}
+use Rattle.rpc.specs.declared.refusal.Refusal.TheVariants.{RejectedCredential}
+use Rattle.rpc.specs.declared.refusal.Refusal.TheVariants.{ProgramUnavailable, ProgramMismatch}
+use Rattle.rpc.specs.declared.refusal.Refusal.TheVariants.{ProcedureUnavailable}
+use Rattle.rpc.specs.declared.refusal.Refusal.TheVariants.{GarbageArguments, SystemError}
 use Rattle.session_wire.specs.declared.message.ReplyBody.{ReplyBody}
 use Rattle.session_wire.specs.declared.message.ReplyBody.TheVariants as bodies
 use Rattle.session_wire.specs.declared.message.ReplyMessage.{ReplyMessage}
-use Rattle.session_wire.specs.declared.xdr.fault.XdrFault.{XdrFault}
-use Rattle.session_wire.specs.declared.xdr.fault.XdrFault.TheVariants.{Value}
-use Rattle.session_wire.specs.Items.{word}
-use Rattle.session_wire.specs.Reading.{◌>>=◌, number_at, end_at}
-use Rattle.session_wire.specs.Procedures.{replied_to}
-use Rattle.session_wire.specs.Results.{result_bytes}
+use Rattle.xdr.specs.declared.fault.XdrFault.{XdrFault}
+use Rattle.xdr.specs.declared.fault.XdrFault.TheVariants.{Value}
+use Rattle.xdr.specs.Items.{word}
+use Rattle.xdr.specs.Reading.{◌>>=◌, number_at, end_at}
+use Rattle.nfs_codec.specs.Procedures.{replied_to}
+use Rattle.nfs_codec.specs.Results.{result_bytes, reply_at}
+use Rattle.nfs_codec.proofs.ReplyLaws.{replies_are}
+use Rattle.xdr.proofs.Lawful.{end_is}
 use Rattle.session_wire.specs.Replies.{reply_bytes, BodyFits, RepliesTo, SpellsReply}
-use Rattle.session_wire.specs.ReadingReplies.{result_at, this_at, versions_at, refusing, accepted_of}
+use Rattle.session_wire.specs.ReadingReplies.{this_at, versions_at, refusing, accepted_of}
 use Rattle.session_wire.specs.ReadingReplies.{bad_credential_of, denied_of, accepted_at, denied_at, state_of}
 use Rattle.session_wire.specs.ReadingReplies.{reply_of}
-use Rattle.session_wire.proofs.Coded.{IsBytes, bind_ok, holds_ok, ok_is, Takes, Takes-then, words}
-use Rattle.session_wire.proofs.CodedCalls.{end_is, whole}
-use Rattle.session_wire.proofs.CodedReplies.{chosen, result_takes, result_again}
+use Rattle.xdr.proofs.Coded.{IsBytes, bind_ok, holds_ok, ok_is, Takes, Takes-then, words}
+use Rattle.session_wire.proofs.CodedHeaders.{whole}
+
+chosen : {A : Type 0} (b : Bool) (x y z : Result A XdrFault) → cond b x y ≡ z → ((b ≡ true) × (x ≡ z))
+    ⊎ ((b ≡ false) × (y ≡ z))
+chosen true x y z e = inl (refl, e)
+chosen false x y z e = inr (refl, e)
 
 -- ---- this very number
 
@@ -131,13 +137,13 @@ accepted_is : (p : ProgramProcedure) (bytes : List ℕ) (s : ℕ) (r : List ℕ)
 accepted_is p bytes s r y t e =
     elim (chosen (s == 0) _ _ (Ok y) e) [
       | inl done ↦
-          let a = bind_ok (result_at p r) (λ x. Ok (bodies.Done x.0, x.1)) y done.1 in
-          let u = result_takes p r a.0 t.rest_fits a.1 in
+          let a = bind_ok (reply_at p r) (λ x. Ok (bodies.Done x.0, x.1)) y done.1 in
+          let u = (replies_are p).takes r a.0.0 a.0.1 t.rest_fits a.1 in
           let both = Takes-then bytes (verified 0) r (result_bytes a.0.0) a.0.1
-          (moved bytes r verified s 0 (eqb-true s 0 done.0) t) u.took in
+          (moved bytes r verified s 0 (eqb-true s 0 done.0) t) u.0 in
           let made : ReplyBody × List ℕ = (bodies.Done a.0.0, a.0.1) in
           subst (λ (z : ReplyBody × List ℕ). IsBody p 0 bytes z) (ok_is made y a.2)
-          (record { of_state = refl; took = both; fits = u.fits; answers = u.answers })
+          (record { of_state = refl; took = both; fits = u.1.1; answers = u.1.0 })
       | inr not0 ↦ elim (chosen (s == 1) _ _ (Ok y) not0.1) [
         | inl unavailable ↦ plain p 0 bytes r ProgramUnavailable y
             (record {
@@ -330,10 +336,10 @@ denied_again reason fits tail = rw (words.again reason tail fits) refl
 state_again : (p : ProgramProcedure) (b : ReplyBody) → BodyFits b → RepliesTo p b
     → state_of p (state b) (text b) ≡ Ok (b, [])
 state_again p (bodies.Done reply) fits answers =
-    let decoded : result_at p (result_bytes reply) ≡ Ok (reply, []) =
-    subst (λ (q : ProgramProcedure). result_at q (result_bytes reply) ≡ Ok (reply, [])) answers
-    (ap (result_at (replied_to reply)) (sym (append-nil (result_bytes reply)))
-    ∙ result_again reply [] fits) in
+    let decoded : reply_at p (result_bytes reply) ≡ Ok (reply, []) =
+    subst (λ (q : ProgramProcedure). reply_at q (result_bytes reply) ≡ Ok (reply, [])) answers
+    (ap (reply_at (replied_to reply)) (sym (append-nil (result_bytes reply)))
+    ∙ (replies_are (replied_to reply)).again reply [] (refl, fits)) in
     status_again p 0 (omega arith) (result_bytes reply) ∙ rw decoded refl
 state_again p (bodies.Refused RpcMismatch) fits answers =
     denied_again 0 (omega arith) (word RPC_VERSION ++ word RPC_VERSION)

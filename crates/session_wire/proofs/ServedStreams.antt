@@ -14,10 +14,10 @@ use Rattle.session_wire.specs.declared.message.Judged.{Judged}
 use Rattle.session_wire.specs.declared.message.Judged.TheVariants.{Closed, Refused, Call}
 use Rattle.session_wire.specs.declared.message.MessageCredential.{MessageCredential}
 use Rattle.session_wire.specs.declared.message.MessageCredential.TheVariants.{Nobody, Caller}
-use Rattle.session_wire.specs.declared.rpc.refusal.Refusal.{Refusal}
+use Rattle.rpc.specs.declared.refusal.Refusal.{Refusal}
 use Rattle.session_wire.specs.Calls.{CredentialFits, caller_of}
 use Rattle.session_wire.specs.Judging.{judged}
-use Rattle.session_wire.specs.Replies.{refused}
+use Rattle.rpc.specs.Refused.{refused}
 use Rattle.session_wire.specs.Served.{Serving, Standing, IsLater, IsReplyWithRules, IsNfsReply, IsCallReply}
 use Rattle.session_wire.specs.Served.{IsReplyTo, IsServable, served, done, nfs_done}
 use Rattle.session_wire.proofs.CallLaws.{judged_takes}

@@ -4,19 +4,20 @@ use Rattle.nfs_types.specs.declared.ctx.Credential.{Credential}
 use Rattle.nfs_types.specs.declared.program.Program.{Program}
 use Rattle.nfs_types.specs.declared.program.ProgramCall.{ProgramCall}
 use Rattle.nfs_types.specs.declared.program.ProgramProcedure.{ProgramProcedure}
-use Rattle.session_wire.specs.declared.rpc.constants.TheConstants.{CALL, RPC_VERSION, NFS_VERSION}
-use Rattle.session_wire.specs.declared.rpc.header.Opening.{Opening}
-use Rattle.session_wire.specs.declared.rpc.refusal.Refusal.{Refusal}
-use Rattle.session_wire.specs.declared.rpc.refusal.Refusal.TheVariants.{RpcMismatch, ProgramUnavailable}
-use Rattle.session_wire.specs.declared.rpc.refusal.Refusal.TheVariants.{ProgramMismatch, ProcedureUnavailable}
-use Rattle.session_wire.specs.declared.rpc.refusal.Refusal.TheVariants.{GarbageArguments, SystemError}
+use Rattle.rpc.specs.declared.constants.TheConstants.{CALL, RPC_VERSION, NFS_VERSION}
+use Rattle.rpc.specs.declared.header.Opening.{Opening}
+use Rattle.rpc.specs.declared.refusal.Refusal.{Refusal}
+use Rattle.rpc.specs.declared.refusal.Refusal.TheVariants.{RpcMismatch, ProgramUnavailable}
+use Rattle.rpc.specs.declared.refusal.Refusal.TheVariants.{ProgramMismatch, ProcedureUnavailable}
+use Rattle.rpc.specs.declared.refusal.Refusal.TheVariants.{GarbageArguments, SystemError}
 use Rattle.session_wire.specs.declared.message.Judged.{Judged}
 use Rattle.session_wire.specs.declared.message.Judged.TheVariants.{Closed, Refused, Call}
-use Rattle.session_wire.specs.declared.xdr.fault.XdrFault.{XdrFault}
-use Rattle.session_wire.specs.Headers.{opening_at, Heading, header_at}
-use Rattle.session_wire.specs.Credentials.{credential_of}
-use Rattle.session_wire.specs.Procedures.{program_of, is_available, procedure_of, is_decoded}
-use Rattle.session_wire.specs.ReadingCalls.{call_of}
+use Rattle.xdr.specs.declared.fault.XdrFault.{XdrFault}
+use Rattle.rpc.specs.Headers.{opening_at, Heading, header_at}
+use Rattle.rpc.specs.Credentials.{credential_of}
+use Rattle.nfs_codec.specs.Procedures.{procedure_of}
+use Rattle.session_wire.specs.Programs.{program_of}
+use Rattle.nfs_codec.specs.Arguments.{call_of}
 
 abbrev pub on_arguments : ℕ → Credential → Result ProgramCall XdrFault → Judged
 on_arguments xid credential (Ok call) = Call xid credential call
@@ -25,17 +26,14 @@ on_arguments xid credential (Err e) = Refused xid GarbageArguments
 abbrev pub on_procedure : ℕ → Credential → List ℕ → Option ProgramProcedure → Judged
 on_procedure xid credential arguments None = Refused xid ProcedureUnavailable
 on_procedure xid credential arguments (Some procedure) =
-    if is_decoded procedure then on_arguments xid credential (call_of procedure arguments)
-    else Refused xid ProcedureUnavailable
+    on_arguments xid credential (call_of procedure arguments)
 
 -- both programs have the same version
 abbrev pub on_program : ℕ → Credential → Heading → List ℕ → Option Program → Judged
 on_program xid credential h arguments None = Refused xid ProgramUnavailable
 on_program xid credential h arguments (Some program) =
-    if is_available program then
-    (if h.version == NFS_VERSION then on_procedure xid credential arguments (procedure_of program h.procedure)
-    else Refused xid ProgramMismatch)
-    else Refused xid ProgramUnavailable
+    if h.version == NFS_VERSION then on_procedure xid credential arguments (procedure_of program h.procedure)
+    else Refused xid ProgramMismatch
 
 -- the program first, then its version, the procedure, and at last the arguments
 abbrev pub requested : ℕ → Credential → Heading → List ℕ → Judged

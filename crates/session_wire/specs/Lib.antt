@@ -1,13 +1,6 @@
-pub mod Items
-pub mod Reading
-pub mod Headers
-pub mod Credentials
-pub mod Procedures
+pub mod Programs
 pub mod Calls
-pub mod ReadingCalls
-pub mod Results
 pub mod Replies
 pub mod ReadingReplies
 pub mod Judging
-pub mod Records
 pub mod Served

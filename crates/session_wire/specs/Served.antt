@@ -19,10 +19,10 @@ use Rattle.model.specs.Step.{step}
 use Rattle.model.specs.Tree.{Tree}
 use Rattle.session_wire.specs.declared.message.Judged.{Judged}
 use Rattle.session_wire.specs.declared.message.Judged.TheVariants.{Closed, Refused, Call}
-use Rattle.session_wire.specs.declared.rpc.refusal.Refusal.TheVariants.{SystemError}
+use Rattle.rpc.specs.declared.refusal.Refusal.TheVariants.{SystemError}
 use Rattle.session_wire.specs.Judging.{judged}
-use Rattle.session_wire.specs.Replies.{accepted, refused}
-use Rattle.session_wire.specs.Results.{result_bytes}
+use Rattle.rpc.specs.Refused.{accepted, refused}
+use Rattle.nfs_codec.specs.Results.{result_bytes}
 
 -- the boot number and the moment of all calls of a stream
 pub record Serving : Type 0 where

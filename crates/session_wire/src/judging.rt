@@ -1,16 +1,17 @@
 //! What a record of bytes is taken for: the tests of its header in their order, then its arguments.
 ghost use Rattle.std.specs.Prelude.{◌≡◌, IfOk};
-ghost use Rattle.session_wire.specs.Headers.{header_at, heading};
+ghost use Rattle.rpc.specs.Headers.{header_at, heading};
 ghost use Rattle.session_wire.specs.Judging.{Judges, judged, on_header, requested};
 
 use crate::message::Judged;
-use crate::nfs_codec::{decode_call, is_available, is_decoded, procedure_of, program_of};
-use crate::rpc::{
+use crate::programs::program_of;
+use nfs_codec::{decode_call, procedure_of};
+use nfs_types::Credential;
+use rpc::{
     CALL, Header, NFS_VERSION, RPC_VERSION, Refusal, read_credential, read_header, read_opening,
 };
-use crate::xdr::{Reader, XdrFault};
-use nfs_types::Credential;
 use std::alloc::{AllocError, Global};
+use xdr::{Reader, XdrFault};
 
 /// What a record is taken for. Refused memory is answered by `Err` while the header is read, and by the
 /// refusal `SystemError` afterwards.
@@ -51,7 +52,7 @@ fn judge_header(alloc: Global, xid: u32, reader: &mut Reader) -> Result<Judged, 
 }
 
 // What a call with a lawful credential is taken for.
-#[tactic(auto, using(crate::proofs::Memory::call_never))]
+#[tactic(auto, using(nfs_codec::proofs::CallLaws::never_memory))]
 fn judge_request(
     alloc: Global,
     xid: u32,
@@ -64,18 +65,12 @@ fn judge_request(
     let Some(program) = program_of(header.program) else {
         return refused(xid, Refusal::ProgramUnavailable);
     };
-    if !is_available(program) {
-        return refused(xid, Refusal::ProgramUnavailable);
-    }
     if header.version != NFS_VERSION {
         return refused(xid, Refusal::ProgramMismatch);
     }
     let Some(procedure) = procedure_of(program, header.procedure) else {
         return refused(xid, Refusal::ProcedureUnavailable);
     };
-    if !is_decoded(procedure) {
-        return refused(xid, Refusal::ProcedureUnavailable);
-    }
     match decode_call(alloc, procedure, arguments) {
         Ok(call) => Judged::Call {
             xid,

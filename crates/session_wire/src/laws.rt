@@ -11,10 +11,8 @@ ghost use Rattle.session_wire.specs.declared.message.ReplyMessage.{ReplyMessage}
 ghost use Rattle.session_wire.specs.Replies.{SpellsReply};
 ghost use Rattle.session_wire.specs.ReadingReplies.{reply_of};
 ghost use Rattle.session_wire.specs.Judging.{judged};
-ghost use Rattle.session_wire.specs.Records.{records, fragment, HasBegun, IsTooLong};
 
 use crate::message::Judged;
-use limits::RECORD_BYTES;
 
 /// A call has one spelling.
 pub fn calls_have_one_spelling()
@@ -22,7 +20,6 @@ pub fn calls_have_one_spelling()
 {}
 
 /// No two calls share a spelling.
-#[tactic(auto, using(crate::proofs::CallLaws::same_message))]
 pub fn calls_share_no_spelling()
     ensures { (bytes : List ℕ) (m n : CallMessage) → SpellsCall bytes m → SpellsCall bytes n → m ≡ n }
 {}
@@ -58,23 +55,4 @@ pub fn replies_share_no_spelling()
 pub fn spelled_replies_are_read()
     ensures { (p : ProgramProcedure) (bytes : List ℕ) (m : ReplyMessage) → ((i : ℕ) → slice_index bytes i < 256)
         → (SpellsReply p bytes m ↔ (reply_of p bytes ≡ Ok m)) }
-{}
-
-/// A stream is cut into records, and a rest, in one way.
-pub fn streams_have_one_cut()
-    ensures { (bytes : List ℕ) (list others : List (List ℕ)) (rest last : List ℕ) → records bytes list rest
-        → records bytes others last → (list ≡ others) × (rest ≡ last) }
-{}
-
-/// A record of one fragment stands before the records of what follows it.
-pub fn a_record_stands_first()
-    ensures { (content more rest : List ℕ) (list : List (List ℕ)) → length content ≤ RECORD_BYTES
-        → records more list rest
-        → records (fragment true content ++ more) (content ∷ list) rest }
-{}
-
-/// Where a record has only begun, or announces too much, no record stands.
-pub fn no_record_stands_there()
-    ensures begun { (bytes : List ℕ) → HasBegun bytes → records bytes [] bytes }
-    ensures too_long { (bytes : List ℕ) → IsTooLong bytes → records bytes [] bytes }
 {}

@@ -1,7 +1,7 @@
 //! What a record is taken for, and what is answered.
 
-use crate::rpc::Refusal;
 use nfs_types::{Credential, MountReply, Octets, ProgramCall, ProgramReply, Reply};
+use rpc::Refusal;
 
 /// What the bytes of a record are taken for.
 #[derive(Drop)]
@@ -13,7 +13,7 @@ pub enum Judged {
         xid: u32,
         refusal: Refusal,
     },
-    /// A call of a procedure that is decoded.
+    /// A call.
     Call {
         xid: u32,
         credential: Credential,

@@ -1,9 +1,9 @@
 //! Laws on the served stream. Nothing runs here: each contract is what the definitions entail.
 ghost use Rattle.std.specs.Prelude.{◌≡◌, ℕ, List, [], ◌∷◌, ◌++◌, length};
 ghost use Rattle.session_wire.specs.declared.message.Judged.TheVariants.{Closed, Refused};
-ghost use Rattle.session_wire.specs.declared.rpc.refusal.Refusal.{Refusal};
+ghost use Rattle.rpc.specs.declared.refusal.Refusal.{Refusal};
 ghost use Rattle.session_wire.specs.Judging.{judged};
-ghost use Rattle.session_wire.specs.Replies.{refused};
+ghost use Rattle.rpc.specs.Refused.{refused};
 ghost use Rattle.session_wire.specs.Served.{IsLater, IsServable, Serving, Standing, served};
 
 /// A stream without messages gets no reply, and nothing changes.

@@ -10,8 +10,25 @@ pub const NOTHING_RIGHT: [u32; 11] = [0x8000_0028, 1, 0, 3, 100_004, 2, 22, 6, 0
 /// Program 100004.
 pub const ANOTHER_PROGRAM: [u32; 11] = [0x8000_0028, 1, 0, 2, 100_004, 3, 0, 0, 0, 0, 0];
 
-/// MOUNT's program.
-pub const MOUNT_NULL: [u32; 11] = [0x8000_0028, 1, 0, 2, 100_005, 3, 0, 0, 0, 0, 0];
+/// Procedure 2 of MOUNT.
+pub const MOUNT_DUMP: [u32; 11] = [0x8000_0028, 1, 0, 2, 100_005, 3, 2, 0, 0, 0, 0];
+
+/// MNT of the path `/` with padding that isn't zero.
+pub const MOUNT_PADDED: [u32; 13] = [
+    0x8000_0030,
+    1,
+    0,
+    2,
+    100_005,
+    3,
+    1,
+    0,
+    0,
+    0,
+    0,
+    1,
+    0x2f00_0001,
+];
 
 /// Version 2 of NFS.
 pub const ANOTHER_VERSION: [u32; 11] = [0x8000_0028, 1, 0, 2, 100_003, 2, 0, 0, 0, 0, 0];
@@ -99,14 +116,15 @@ pub const NO_CALL: [u32; 11] = [0x8000_0028, 1, 1, 2, 100_003, 3, 0, 0, 0, 0, 0]
 pub const NO_VERSION: [u32; 3] = [0x8000_0008, 1, 0];
 
 /// The calls that are refused, each with its reply.
-pub const REFUSED: [(&[u32], &[u32]); 9] = [
+pub const REFUSED: [(&[u32], &[u32]); 10] = [
     (&ANOTHER_RPC_VERSION, &RPC_MISMATCH),
     (&NOTHING_RIGHT, &RPC_MISMATCH),
     (&SEVENTEEN_GIDS, &BAD_CREDENTIAL),
     (&ANOTHER_FLAVOR, &REJECTED_CREDENTIAL),
     (&ANOTHER_PROGRAM, &PROGRAM_UNAVAILABLE),
-    (&MOUNT_NULL, &PROGRAM_UNAVAILABLE),
     (&ANOTHER_VERSION, &PROGRAM_MISMATCH),
     (&ANOTHER_PROCEDURE, &PROCEDURE_UNAVAILABLE),
+    (&MOUNT_DUMP, &PROCEDURE_UNAVAILABLE),
+    (&MOUNT_PADDED, &GARBAGE_ARGUMENTS),
     (&ARGUMENTS_LEFT, &GARBAGE_ARGUMENTS),
 ];

@@ -59,8 +59,11 @@ fn is_body_of(file: &PlainFile, body: &PlainBody) -> bool {
         ) => {
             file.inode.size == 4096 * u64::from(*span)
                 && file.inode.parent == *parent
-                && names.len() == entries.len()
-                && entries.iter().all(|entry| has_entry(names, entry))
+                && names.len() == entries.as_slice().len()
+                && entries
+                    .as_slice()
+                    .iter()
+                    .all(|entry| has_entry(names, entry))
         }
         (PlainContent::Target(held), PlainBody::Link { target }) => {
             held.as_slice() == target.as_slice()

@@ -52,7 +52,7 @@ fn is_plain_output(
     procedure: Procedure,
     call: &[u32],
 ) -> Result<bool, Fail> {
-    let (xid, told) = reply_in(procedure, &served.output)?;
+    let (xid, told) = reply_in(alloc, procedure, &served.output)?;
     let is_same = is_plain_reply(alloc, tree, served.boot, call, &told);
     drop(told);
     Ok(is_same? && Some(&xid) == call.get(1))

@@ -81,9 +81,9 @@ pub fn changed_by(alloc: Global, message: &[u32]) -> Result<PlainTree, Fail> {
 }
 
 /// The number and the reply that these bytes spell behind their mark.
-pub fn reply_in(procedure: Procedure, output: &[u8]) -> Result<(u32, Reply), Fail> {
+pub fn reply_in(alloc: Global, procedure: Procedure, output: &[u8]) -> Result<(u32, Reply), Fail> {
     let content = output.get(4..).ok_or("a mark")?;
-    let message = read_reply(ProgramProcedure::Nfs(procedure), content).ok_or("a reply")?;
+    let message = read_reply(alloc, ProgramProcedure::Nfs(procedure), content)?.ok_or("a reply")?;
     let xid = message.xid;
     match message.body {
         ReplyBody::Done(ProgramReply::Nfs(reply)) => Ok((xid, reply)),

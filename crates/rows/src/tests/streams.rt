@@ -6,8 +6,9 @@ use std::alloc::{AllocError, Global};
 use std::test::Fail;
 use store::Verdict;
 use worked_messages::{
-    GETATTR, GETATTR_CHANGED, GETATTR_FRESH, NO_CALL, NO_LAST_FRAGMENT, NO_VERSION, NULL,
-    NULL_REPLY, REFUSED, SETATTR, SETATTR_DONE, SETATTR_NO_MEMORY, TOO_LONG, spelled, stream,
+    GETATTR, GETATTR_CHANGED, GETATTR_FRESH, LOOKUP, LOOKUP_UNSUPPORTED, MOUNT, MOUNT_ANOTHER,
+    MOUNT_DONE, MOUNT_NULL, MOUNT_REFUSED, NO_CALL, NO_LAST_FRAGMENT, NO_VERSION, NULL, NULL_REPLY,
+    REFUSED, SETATTR, SETATTR_DONE, SETATTR_NO_MEMORY, TOO_LONG, UNMOUNT, spelled, stream,
 };
 
 #[test]
@@ -73,6 +74,26 @@ fn records_that_end_the_session(rt: HostRuntime) -> Result<(), Fail> {
 fn calls_that_are_refused(rt: HostRuntime) -> Result<(), Fail> {
     let alloc = rt.alloc();
     for (call, reply) in REFUSED {
+        let served = serve(alloc, formatted(alloc)?, &[call])?;
+        assert!(rt; has_replies(alloc, &served, &[reply])?, "{call:?}");
+        assert_eq!(rt; served.result, Ok(1), "{call:?}");
+    }
+    Ok(())
+}
+
+// Calls of MOUNT, and one of NFS without rules, each with its reply.
+const PLAIN: [(&[u32], &[u32]); 5] = [
+    (&MOUNT_NULL, &NULL_REPLY),
+    (&MOUNT, &MOUNT_DONE),
+    (&MOUNT_ANOTHER, &MOUNT_REFUSED),
+    (&UNMOUNT, &NULL_REPLY),
+    (&LOOKUP, &LOOKUP_UNSUPPORTED),
+];
+
+#[test]
+fn calls_that_begin_no_transaction(rt: HostRuntime) -> Result<(), Fail> {
+    let alloc = rt.alloc();
+    for (call, reply) in PLAIN {
         let served = serve(alloc, formatted(alloc)?, &[call])?;
         assert!(rt; has_replies(alloc, &served, &[reply])?, "{call:?}");
         assert_eq!(rt; served.result, Ok(1), "{call:?}");

@@ -1,7 +1,8 @@
 //! What an opening finds in the log.
-ghost use Rattle.std.specs.Prelude.{◌≡◌, ◌≤◌, ◌<◌, ◌+◌, ◌*◌, ◌%◌, ◌^◌, ◌⊎◌, ℕ, length, IfOk, OnOk, OnErr};
+ghost use Rattle.std.specs.Prelude.{◌≡◌, ◌≤◌, ◌<◌, ◌+◌, ◌*◌, ◌%◌, ◌^◌, ◌-◌, ◌⊎◌, ℕ, length, IfOk, OnOk, OnErr};
 ghost use Rattle.std.specs.Prelude.{IsErrOf, All, true, false};
 ghost use Rattle.limits.specs.declared.TheConstants.{FIRST_HOME_BLOCK, LOG_SLOTS, LOG_HEADER_BLOCK};
+ghost use Rattle.wal_law.specs.EightBytes.{number_at};
 ghost use Rattle.wal_law.specs.Log.{IsHomeOn, blocks_of};
 ghost use Rattle.wal_law.specs.Overlay.{start_in, home_at, positions};
 ghost use Rattle.wal_law.specs.Recovery.{HasOnlyRead, CountsFault, IsUnspoiled, image_of, IsRecovered, IsLog};
@@ -43,17 +44,35 @@ pub fn recover<D: CrashDisk>(alloc: Global, disk: &mut D) -> Result<Recovered, L
     let mut header = zeros(alloc)?;
     read_block(disk, BlockNo(LOG_HEADER_BLOCK), &mut header)?;
     let start = read_start(alloc, disk)?;
-    let end = end_of(&header);
+    let blocks = disk.blocks();
+    let count = positions_told(&header, start, blocks)?;
+    let logged = read_slots(alloc, disk, blocks, &header, start, count)?;
+    Ok(Recovered { start, logged })
+}
+
+// How many positions the header tells from the start on.
+fn positions_told(header: &Block, start: u64, blocks: u32) -> Result<usize, LogFault>
+    ensures end { IfOk result (λ count. start + count ≡ number_at header.now 0) }
+    ensures fits { IfOk result (λ count. start + count < 2 ^ 64) }
+    ensures slots { IfOk result (λ count. count ≤ LOG_SLOTS) }
+    ensures homes { IfOk result (λ count. (k : ℕ) → k < count
+        → IsHomeOn blocks (home_at header.now (start + k))) }
+    ensures range { IsErrOf result LogFault.Range → start ≤ number_at header.now 0
+        → number_at header.now 0 ≤ start + LOG_SLOTS → ⊥ }
+    ensures address { IsErrOf result LogFault.Address → (start ≤ number_at header.now 0)
+        × (number_at header.now 0 ≤ start + LOG_SLOTS)
+        × (((k : ℕ) → k < number_at header.now 0 - start → IsHomeOn blocks (home_at header.now (start + k))) → ⊥) }
+    ensures other { OnErr result (IsErrOf result LogFault.Range ⊎ IsErrOf result LogFault.Address) }
+{
+    let end = end_of(header);
     if start > end || end - start > LOG_SLOTS {
         return Err(LogFault::Range);
     }
     let count = (end - start) as usize;
-    let blocks = disk.blocks();
-    if !has_homes(&header, start, count, blocks) {
+    if !has_homes(header, start, count, blocks) {
         return Err(LogFault::Address);
     }
-    let logged = read_slots(alloc, disk, blocks, &header, start, count)?;
-    Ok(Recovered { start, logged })
+    Ok(count)
 }
 
 // Reads where the log begins.

@@ -1,6 +1,6 @@
 //! Items of XDR that have no value.
 
-use session_wire::xdr::{Reader, XdrFault};
+use xdr::{Reader, XdrFault};
 
 // Three bytes with padding that isn't zero.
 const PADDED: [u8; 8] = [0, 0, 0, 3, 97, 98, 99, 1];

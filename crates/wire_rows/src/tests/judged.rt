@@ -2,7 +2,7 @@
 
 use crate::tests::setattr::is_worked_setattr;
 use nfs_types::{Call, ProgramCall};
-use session_wire::rpc::Refusal;
+use rpc::Refusal;
 use session_wire::{Judged, judge};
 use std::alloc::{AllocError, Global};
 use std::test::Fail;
@@ -58,15 +58,16 @@ fn setattr_of_the_roots_mode(rt: HostRuntime) -> Result<(), Fail> {
 }
 
 // The calls that are refused, each with its refusal.
-const REFUSALS: [(&[u32], Refusal); 9] = [
+const REFUSALS: [(&[u32], Refusal); 10] = [
     (&ANOTHER_RPC_VERSION, Refusal::RpcMismatch),
     (&NOTHING_RIGHT, Refusal::RpcMismatch),
     (&SEVENTEEN_GIDS, Refusal::BadCredential),
     (&ANOTHER_FLAVOR, Refusal::RejectedCredential),
     (&ANOTHER_PROGRAM, Refusal::ProgramUnavailable),
-    (&MOUNT_NULL, Refusal::ProgramUnavailable),
     (&ANOTHER_VERSION, Refusal::ProgramMismatch),
     (&ANOTHER_PROCEDURE, Refusal::ProcedureUnavailable),
+    (&MOUNT_DUMP, Refusal::ProcedureUnavailable),
+    (&MOUNT_PADDED, Refusal::GarbageArguments),
     (&ARGUMENTS_LEFT, Refusal::GarbageArguments),
 ];
 

@@ -3,7 +3,7 @@
 use crate::tests::setattr::is_worked_setattr;
 use nfs_types::{Procedure, ProgramCall, ProgramProcedure, ProgramReply, Reply};
 use plain_wire::{read_call, read_reply};
-use session_wire::rpc::Refusal;
+use rpc::Refusal;
 use session_wire::{CallMessage, MessageCredential, ReplyBody, ReplyMessage};
 use std::alloc::{AllocError, Global};
 use std::test::Fail;
@@ -75,34 +75,34 @@ fn tells_of_the_root(message: &ReplyMessage) -> bool {
 }
 
 // Whether these bytes are the attributes of a fresh root.
-fn is_read_as_attributes(bytes: &[u8]) -> bool {
-    let read = read_reply(ProgramProcedure::Nfs(Procedure::GetAttr), bytes);
+fn is_read_as_attributes(alloc: Global, bytes: &[u8]) -> Result<bool, AllocError> {
+    let read = read_reply(alloc, ProgramProcedure::Nfs(Procedure::GetAttr), bytes)?;
     let is_told = match &read {
         Some(message) => tells_of_the_root(message),
         None => false,
     };
     drop(read);
-    is_told
+    Ok(is_told)
 }
 
 #[test]
 fn attributes_of_the_root(rt: HostRuntime) -> Result<(), Fail> {
     let bytes = content(rt.alloc(), &GETATTR_FRESH)?;
-    assert!(rt; is_read_as_attributes(bytes.as_slice()));
+    assert!(rt; is_read_as_attributes(rt.alloc(), bytes.as_slice())?);
     Ok(())
 }
 
-fn is_no_reply(procedure: Procedure, bytes: &[u8]) -> bool {
-    let read = read_reply(ProgramProcedure::Nfs(procedure), bytes);
+fn is_no_reply(alloc: Global, procedure: Procedure, bytes: &[u8]) -> Result<bool, AllocError> {
+    let read = read_reply(alloc, ProgramProcedure::Nfs(procedure), bytes)?;
     let is_none = read.is_none();
     drop(read);
-    is_none
+    Ok(is_none)
 }
 
 #[test]
 fn a_reply_of_another_procedure(rt: HostRuntime) -> Result<(), Fail> {
     let bytes = content(rt.alloc(), &GETATTR_FRESH)?;
-    assert!(rt; is_no_reply(Procedure::SetAttr, bytes.as_slice()));
+    assert!(rt; is_no_reply(rt.alloc(), Procedure::SetAttr, bytes.as_slice())?);
     Ok(())
 }
 
@@ -114,19 +114,19 @@ fn is_refused_for(message: &ReplyMessage, wanted: Refusal) -> bool {
 }
 
 // Whether these bytes are the refusal of another version.
-fn is_read_as_mismatch(bytes: &[u8]) -> bool {
-    let read = read_reply(ProgramProcedure::Nfs(Procedure::Null), bytes);
+fn is_read_as_mismatch(alloc: Global, bytes: &[u8]) -> Result<bool, AllocError> {
+    let read = read_reply(alloc, ProgramProcedure::Nfs(Procedure::Null), bytes)?;
     let is_refused = match &read {
         Some(message) => is_refused_for(message, Refusal::ProgramMismatch),
         None => false,
     };
     drop(read);
-    is_refused
+    Ok(is_refused)
 }
 
 #[test]
 fn a_refusal(rt: HostRuntime) -> Result<(), Fail> {
     let bytes = content(rt.alloc(), &PROGRAM_MISMATCH)?;
-    assert!(rt; is_read_as_mismatch(bytes.as_slice()));
+    assert!(rt; is_read_as_mismatch(rt.alloc(), bytes.as_slice())?);
     Ok(())
 }

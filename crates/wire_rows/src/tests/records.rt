@@ -1,6 +1,6 @@
 //! Records cut out of a stream that comes in pieces.
 
-use session_wire::rpc::{Records, RpcFault};
+use rpc::{Records, RpcFault};
 use std::alloc::{AllocError, Global};
 use std::test::Fail;
 use worked_messages::{NO_LAST_FRAGMENT, NULL, content, spelled};

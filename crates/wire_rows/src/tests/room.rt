@@ -2,7 +2,7 @@
 
 use nfs_types::{Call, Credential, ProgramCall};
 use plain_wire::read_call;
-use session_wire::rpc::Records;
+use rpc::Records;
 use session_wire::{Judged, MessageCredential, judge};
 use std::alloc::{AllocError, Global};
 use std::test::Fail;

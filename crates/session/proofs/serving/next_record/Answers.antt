@@ -1,4 +1,4 @@
-use Rattle.session_wire.proofs.Cutting.{cut_shorter}
+use Rattle.rpc.proofs.Cutting.{cut_shorter}
 use Rattle.session.proofs.serving.next_record.Goals as goal
 
 pub returns-in-Ok : goal.returns-in-Ok

@@ -1,0 +1,10 @@
+use Rattle.std.proofs.Common.{length}
+use Rattle.nfs_codec.specs.Results.{entry, entries}
+use Rattle.xdr.proofs.Links.{Links}
+use Rattle.nfs_client_codec.proofs.entries.read_entries.Given as goal
+
+abbrev pub invariant-loop-entries : goal.invariant-loop-entries
+invariant-loop-entries l = Links entry l.entries.items l.reader (entries.read l.fn.reader)
+
+abbrev pub decreases-loop-entries : goal.decreases-loop-entries
+decreases-loop-entries l = length l.reader

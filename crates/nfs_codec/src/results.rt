@@ -1,0 +1,432 @@
+//! Writing the results of calls (RFC 1813, sections 3.3 and 5.2).
+ghost use Rattle.std.specs.Prelude.{◌≡◌, ◌++◌, OnOk};
+ghost use Rattle.xdr.specs.Items.{word};
+ghost use Rattle.nfs_codec.specs.Results as codes;
+ghost use Rattle.nfs_codec.specs.Results.{result_bytes, nfs_result_bytes, mount_result_bytes, status_number};
+ghost use Rattle.nfs_types.specs.declared.program.ProgramReply.TheVariants as program_replies;
+
+use crate::entries::{put_listed, put_listed_plus};
+use crate::outcomes::{
+    put_created, put_info, put_limits, put_looked, put_mounted, put_read_bytes, put_space,
+    put_text, put_written,
+};
+use crate::status::number_of_status;
+use crate::told::{put_attributes, put_optional_attributes, put_verifier, put_weak_cache};
+use nfs_types::{
+    Attributes, Created, FileSystemInfo, FileSystemSpace, Listed, ListedPlus, Looked, MountReply,
+    Mounted, Octets, PathLimits, ReadBytes, Reply, Status, Verifier, WeakCacheData, Written,
+};
+use xdr::{Writer, XdrFault};
+
+/// Writes the result of a procedure of NFS.
+pub fn encode_reply(out: &mut Writer, reply: &Reply) -> Result<(), XdrFault>
+    ensures { OnOk result (out.new ≡ out.old ++ result_bytes (program_replies.Nfs reply.now)) }
+{
+    match reply {
+        Reply::Null => Ok(()),
+        Reply::GetAttr { outcome } => put_get_attr(out, outcome),
+        Reply::SetAttr { outcome, object } => put_set_attr(out, outcome, object),
+        Reply::Lookup { outcome, directory } => put_lookup(out, outcome, directory),
+        Reply::Access { outcome, object } => put_access(out, outcome, object),
+        Reply::ReadLink { outcome, link } => put_read_link(out, outcome, link),
+        Reply::Read { outcome, file } => put_read(out, outcome, file),
+        Reply::Write { outcome, file } => put_write(out, outcome, file),
+        Reply::Create { outcome, directory } => put_create(out, outcome, directory),
+        Reply::MkDir { outcome, directory } => put_create(out, outcome, directory),
+        Reply::SymLink { outcome, directory } => put_create(out, outcome, directory),
+        Reply::MkNod { outcome, directory } => put_create(out, outcome, directory),
+        Reply::Remove { outcome, directory } => put_remove(out, outcome, directory),
+        Reply::RmDir { outcome, directory } => put_remove(out, outcome, directory),
+        Reply::Rename {
+            outcome,
+            source,
+            target,
+        } => put_rename(out, outcome, source, target),
+        Reply::Link {
+            outcome,
+            file,
+            directory,
+        } => put_link(out, outcome, file, directory),
+        Reply::ReadDir { outcome, directory } => put_read_dir(out, outcome, directory),
+        Reply::ReadDirPlus { outcome, directory } => put_read_dir_plus(out, outcome, directory),
+        Reply::FsStat { outcome, object } => put_fs_stat(out, outcome, object),
+        Reply::FsInfo { outcome, object } => put_fs_info(out, outcome, object),
+        Reply::PathConf { outcome, object } => put_path_conf(out, outcome, object),
+        Reply::Commit { outcome, file } => put_commit(out, outcome, file),
+    }
+}
+
+/// Writes the result of a procedure of MOUNT.
+pub fn encode_mount_reply(out: &mut Writer, reply: &MountReply) -> Result<(), XdrFault>
+    ensures { OnOk result (out.new ≡ out.old ++ result_bytes (program_replies.Mount reply.now)) }
+{
+    match reply {
+        MountReply::Null => Ok(()),
+        MountReply::Mount { outcome } => put_mount_root(out, outcome),
+        MountReply::Unmount => Ok(()),
+    }
+}
+
+#[tactic(auto, unfolding(crate::specs::Results::get_attr))]
+fn put_get_attr(out: &mut Writer, outcome: &Result<Attributes, Status>) -> Result<(), XdrFault>
+    ensures { OnOk result (out.new ≡ out.old ++ codes.get_attr.spell outcome.now) }
+{
+    match outcome {
+        Ok(done) => {
+            out.unsigned(0)?;
+            put_attributes(out, done)
+        }
+        Err(status) => out.unsigned(number_of_status(*status)),
+    }
+}
+
+#[tactic(auto, unfolding(crate::specs::Results::set_attr))]
+fn put_set_attr(
+    out: &mut Writer,
+    outcome: &Result<(), Status>,
+    object: &WeakCacheData,
+) -> Result<(), XdrFault>
+    ensures { OnOk result (out.new ≡ out.old ++ codes.set_attr.spell (outcome.now, object.now)) }
+{
+    match outcome {
+        Ok(()) => {
+            out.unsigned(0)?;
+            put_weak_cache(out, object)
+        }
+        Err(status) => {
+            out.unsigned(number_of_status(*status))?;
+            put_weak_cache(out, object)
+        }
+    }
+}
+
+#[tactic(auto, unfolding(crate::specs::Results::lookup))]
+fn put_lookup(
+    out: &mut Writer,
+    outcome: &Result<Looked, Status>,
+    directory: &Option<Attributes>,
+) -> Result<(), XdrFault>
+    ensures { OnOk result (out.new ≡ out.old ++ codes.lookup.spell (outcome.now, directory.now)) }
+{
+    match outcome {
+        Ok(done) => {
+            out.unsigned(0)?;
+            put_looked(out, done)?;
+            put_optional_attributes(out, directory)
+        }
+        Err(status) => {
+            out.unsigned(number_of_status(*status))?;
+            put_optional_attributes(out, directory)
+        }
+    }
+}
+
+#[tactic(auto, unfolding(crate::specs::Results::access))]
+fn put_access(
+    out: &mut Writer,
+    outcome: &Result<u32, Status>,
+    object: &Option<Attributes>,
+) -> Result<(), XdrFault>
+    ensures { OnOk result (out.new ≡ out.old ++ codes.access.spell (outcome.now, object.now)) }
+{
+    match outcome {
+        Ok(done) => {
+            out.unsigned(0)?;
+            put_optional_attributes(out, object)?;
+            out.unsigned(*done)
+        }
+        Err(status) => {
+            out.unsigned(number_of_status(*status))?;
+            put_optional_attributes(out, object)
+        }
+    }
+}
+
+#[tactic(auto, unfolding(crate::specs::Results::read_link))]
+fn put_read_link(
+    out: &mut Writer,
+    outcome: &Result<Octets, Status>,
+    link: &Option<Attributes>,
+) -> Result<(), XdrFault>
+    ensures { OnOk result (out.new ≡ out.old ++ codes.read_link.spell (outcome.now, link.now)) }
+{
+    match outcome {
+        Ok(done) => {
+            out.unsigned(0)?;
+            put_optional_attributes(out, link)?;
+            put_text(out, done)
+        }
+        Err(status) => {
+            out.unsigned(number_of_status(*status))?;
+            put_optional_attributes(out, link)
+        }
+    }
+}
+
+#[tactic(auto, unfolding(crate::specs::Results::read))]
+fn put_read(
+    out: &mut Writer,
+    outcome: &Result<ReadBytes, Status>,
+    file: &Option<Attributes>,
+) -> Result<(), XdrFault>
+    ensures { OnOk result (out.new ≡ out.old ++ codes.read.spell (outcome.now, file.now)) }
+{
+    match outcome {
+        Ok(done) => {
+            out.unsigned(0)?;
+            put_optional_attributes(out, file)?;
+            put_read_bytes(out, done)
+        }
+        Err(status) => {
+            out.unsigned(number_of_status(*status))?;
+            put_optional_attributes(out, file)
+        }
+    }
+}
+
+#[tactic(auto, unfolding(crate::specs::Results::write))]
+fn put_write(
+    out: &mut Writer,
+    outcome: &Result<Written, Status>,
+    file: &WeakCacheData,
+) -> Result<(), XdrFault>
+    ensures { OnOk result (out.new ≡ out.old ++ codes.write.spell (outcome.now, file.now)) }
+{
+    match outcome {
+        Ok(done) => {
+            out.unsigned(0)?;
+            put_weak_cache(out, file)?;
+            put_written(out, done)
+        }
+        Err(status) => {
+            out.unsigned(number_of_status(*status))?;
+            put_weak_cache(out, file)
+        }
+    }
+}
+
+#[tactic(auto, unfolding(crate::specs::Results::create))]
+fn put_create(
+    out: &mut Writer,
+    outcome: &Result<Created, Status>,
+    directory: &WeakCacheData,
+) -> Result<(), XdrFault>
+    ensures { OnOk result (out.new ≡ out.old ++ codes.create.spell (outcome.now, directory.now)) }
+{
+    match outcome {
+        Ok(done) => {
+            out.unsigned(0)?;
+            put_created(out, done)?;
+            put_weak_cache(out, directory)
+        }
+        Err(status) => {
+            out.unsigned(number_of_status(*status))?;
+            put_weak_cache(out, directory)
+        }
+    }
+}
+
+#[tactic(auto, unfolding(crate::specs::Results::remove))]
+fn put_remove(
+    out: &mut Writer,
+    outcome: &Result<(), Status>,
+    directory: &WeakCacheData,
+) -> Result<(), XdrFault>
+    ensures { OnOk result (out.new ≡ out.old ++ codes.remove.spell (outcome.now, directory.now)) }
+{
+    match outcome {
+        Ok(()) => {
+            out.unsigned(0)?;
+            put_weak_cache(out, directory)
+        }
+        Err(status) => {
+            out.unsigned(number_of_status(*status))?;
+            put_weak_cache(out, directory)
+        }
+    }
+}
+
+#[tactic(auto, unfolding(crate::specs::Results::rename))]
+fn put_rename(
+    out: &mut Writer,
+    outcome: &Result<(), Status>,
+    source: &WeakCacheData,
+    target: &WeakCacheData,
+) -> Result<(), XdrFault>
+    ensures { OnOk result (out.new ≡ out.old ++ codes.rename.spell (outcome.now, (source.now, target.now))) }
+{
+    match outcome {
+        Ok(()) => {
+            out.unsigned(0)?;
+            put_weak_cache(out, source)?;
+            put_weak_cache(out, target)
+        }
+        Err(status) => {
+            out.unsigned(number_of_status(*status))?;
+            put_weak_cache(out, source)?;
+            put_weak_cache(out, target)
+        }
+    }
+}
+
+#[tactic(auto, unfolding(crate::specs::Results::link))]
+fn put_link(
+    out: &mut Writer,
+    outcome: &Result<(), Status>,
+    file: &Option<Attributes>,
+    directory: &WeakCacheData,
+) -> Result<(), XdrFault>
+    ensures { OnOk result (out.new ≡ out.old ++ codes.link.spell (outcome.now, (file.now, directory.now))) }
+{
+    match outcome {
+        Ok(()) => {
+            out.unsigned(0)?;
+            put_optional_attributes(out, file)?;
+            put_weak_cache(out, directory)
+        }
+        Err(status) => {
+            out.unsigned(number_of_status(*status))?;
+            put_optional_attributes(out, file)?;
+            put_weak_cache(out, directory)
+        }
+    }
+}
+
+#[tactic(auto, unfolding(crate::specs::Results::read_dir))]
+fn put_read_dir(
+    out: &mut Writer,
+    outcome: &Result<Listed, Status>,
+    directory: &Option<Attributes>,
+) -> Result<(), XdrFault>
+    ensures { OnOk result (out.new ≡ out.old ++ codes.read_dir.spell (outcome.now, directory.now)) }
+{
+    match outcome {
+        Ok(done) => {
+            out.unsigned(0)?;
+            put_optional_attributes(out, directory)?;
+            put_listed(out, done)
+        }
+        Err(status) => {
+            out.unsigned(number_of_status(*status))?;
+            put_optional_attributes(out, directory)
+        }
+    }
+}
+
+#[tactic(auto, unfolding(crate::specs::Results::read_dir_plus))]
+fn put_read_dir_plus(
+    out: &mut Writer,
+    outcome: &Result<ListedPlus, Status>,
+    directory: &Option<Attributes>,
+) -> Result<(), XdrFault>
+    ensures { OnOk result (out.new ≡ out.old ++ codes.read_dir_plus.spell (outcome.now, directory.now)) }
+{
+    match outcome {
+        Ok(done) => {
+            out.unsigned(0)?;
+            put_optional_attributes(out, directory)?;
+            put_listed_plus(out, done)
+        }
+        Err(status) => {
+            out.unsigned(number_of_status(*status))?;
+            put_optional_attributes(out, directory)
+        }
+    }
+}
+
+#[tactic(auto, unfolding(crate::specs::Results::fs_stat))]
+fn put_fs_stat(
+    out: &mut Writer,
+    outcome: &Result<FileSystemSpace, Status>,
+    object: &Option<Attributes>,
+) -> Result<(), XdrFault>
+    ensures { OnOk result (out.new ≡ out.old ++ codes.fs_stat.spell (outcome.now, object.now)) }
+{
+    match outcome {
+        Ok(done) => {
+            out.unsigned(0)?;
+            put_optional_attributes(out, object)?;
+            put_space(out, done)
+        }
+        Err(status) => {
+            out.unsigned(number_of_status(*status))?;
+            put_optional_attributes(out, object)
+        }
+    }
+}
+
+#[tactic(auto, unfolding(crate::specs::Results::fs_info))]
+fn put_fs_info(
+    out: &mut Writer,
+    outcome: &Result<FileSystemInfo, Status>,
+    object: &Option<Attributes>,
+) -> Result<(), XdrFault>
+    ensures { OnOk result (out.new ≡ out.old ++ codes.fs_info.spell (outcome.now, object.now)) }
+{
+    match outcome {
+        Ok(done) => {
+            out.unsigned(0)?;
+            put_optional_attributes(out, object)?;
+            put_info(out, done)
+        }
+        Err(status) => {
+            out.unsigned(number_of_status(*status))?;
+            put_optional_attributes(out, object)
+        }
+    }
+}
+
+#[tactic(auto, unfolding(crate::specs::Results::path_conf))]
+fn put_path_conf(
+    out: &mut Writer,
+    outcome: &Result<PathLimits, Status>,
+    object: &Option<Attributes>,
+) -> Result<(), XdrFault>
+    ensures { OnOk result (out.new ≡ out.old ++ codes.path_conf.spell (outcome.now, object.now)) }
+{
+    match outcome {
+        Ok(done) => {
+            out.unsigned(0)?;
+            put_optional_attributes(out, object)?;
+            put_limits(out, done)
+        }
+        Err(status) => {
+            out.unsigned(number_of_status(*status))?;
+            put_optional_attributes(out, object)
+        }
+    }
+}
+
+#[tactic(auto, unfolding(crate::specs::Results::commit))]
+fn put_commit(
+    out: &mut Writer,
+    outcome: &Result<Verifier, Status>,
+    file: &WeakCacheData,
+) -> Result<(), XdrFault>
+    ensures { OnOk result (out.new ≡ out.old ++ codes.commit.spell (outcome.now, file.now)) }
+{
+    match outcome {
+        Ok(done) => {
+            out.unsigned(0)?;
+            put_weak_cache(out, file)?;
+            put_verifier(out, done)
+        }
+        Err(status) => {
+            out.unsigned(number_of_status(*status))?;
+            put_weak_cache(out, file)
+        }
+    }
+}
+
+#[tactic(auto, unfolding(crate::specs::Results::mount_root))]
+fn put_mount_root(out: &mut Writer, outcome: &Result<Mounted, Status>) -> Result<(), XdrFault>
+    ensures { OnOk result (out.new ≡ out.old ++ codes.mount_root.spell outcome.now) }
+{
+    match outcome {
+        Ok(done) => {
+            out.unsigned(0)?;
+            put_mounted(out, done)
+        }
+        Err(status) => out.unsigned(number_of_status(*status)),
+    }
+}

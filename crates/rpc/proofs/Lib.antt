@@ -1,0 +1,6 @@
+pub mod Lengths
+pub mod Numbers
+pub mod Loops
+pub mod Marks
+pub mod RecordLaws
+pub mod Cutting

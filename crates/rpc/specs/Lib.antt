@@ -1,0 +1,4 @@
+pub mod Headers
+pub mod Credentials
+pub mod Records
+pub mod Refused

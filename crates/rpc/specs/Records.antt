@@ -1,0 +1,57 @@
+-- How a stream of bytes is cut into records (RFC 5531, section 11).
+use Rattle.std.specs.Prelude.{◌≡◌, ℕ, ◌+◌, ◌<◌, ◌≤◌, ◌^◌, ◌⊎◌, Bool, true, false, List, [], ◌∷◌, ◌++◌, length}
+use Rattle.std.specs.Prelude.{flat_map}
+use Rattle.std.specs.List.{AllByRecursion}
+use Rattle.limits.specs.declared.TheConstants.{RECORD_BYTES}
+use Rattle.xdr.specs.Items.{word}
+
+-- the mark of a fragment: its length, with the highest bit set in the last fragment of a record
+abbrev pub mark : Bool → ℕ → List ℕ
+mark false n = word n
+mark true n = word (2 ^ 31 + n)
+
+abbrev pub fragment : Bool → List ℕ → List ℕ
+fragment last bytes = mark last (length bytes) ++ bytes
+
+-- the parts in a row
+abbrev pub joined : List (List ℕ) → List ℕ
+joined parts = flat_map (λ part. part) parts
+
+-- the bytes are one record of this content, in any fragments
+pub record IsRecord (bytes content : List ℕ) : Type 0 where
+  pub parts : List (List ℕ)
+  pub last : List ℕ
+  pub cut : bytes ≡ flat_map (fragment false) parts ++ fragment true last
+  pub content_is : content ≡ joined parts ++ last
+  pub bounded : length content ≤ RECORD_BYTES
+
+abbrev pub BeginsWithRecord : List ℕ → Type 0
+BeginsWithRecord bytes = (text : List ℕ) × (content : List ℕ) × (more : List ℕ) × (bytes ≡ text ++ more)
+    × IsRecord text content
+
+-- the bytes are whole records of these contents, and a rest that doesn't begin with one
+abbrev pub records : List ℕ → List (List ℕ) → List ℕ → Type 0
+records bytes [] rest = (bytes ≡ rest) × (BeginsWithRecord rest → ⊥)
+records bytes (first ∷ others) rest = (text : List ℕ) × (more : List ℕ) × (bytes ≡ text ++ more)
+    × IsRecord text first × records more others rest
+
+-- the marks of the first record announce more than a record may have
+pub record IsTooLong (rest : List ℕ) : Type 0 where
+  pub parts : List (List ℕ)
+  pub last : Bool
+  pub announced : ℕ
+  pub more : List ℕ
+  pub parts_marked : AllByRecursion (λ part. length part < 2 ^ 31) parts
+  pub marked : announced < 2 ^ 31
+  pub cut : rest ≡ flat_map (fragment false) parts ++ mark last announced ++ more
+  pub long : RECORD_BYTES < length (joined parts) + announced
+
+-- the bytes begin with the mark of a fragment that isn't the last of its record
+abbrev pub GoesOn : List ℕ → Type 0
+GoesOn bytes = (n : ℕ) × (more : List ℕ) × (n < 2 ^ 31) × (bytes ≡ mark false n ++ more)
+
+-- a record of one fragment has only begun: less than its mark is there, or fewer bytes than the mark
+-- announces
+abbrev pub HasBegun : List ℕ → Type 0
+HasBegun bytes = (length bytes < 4)
+    ⊎ ((n : ℕ) × (more : List ℕ) × (n ≤ RECORD_BYTES) × (length more < n) × (bytes ≡ mark true n ++ more))

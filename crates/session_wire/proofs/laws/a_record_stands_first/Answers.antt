@@ -1,5 +1,0 @@
-use Rattle.session_wire.proofs.RecordLaws.{record_ahead}
-use Rattle.session_wire.proofs.laws.a_record_stands_first.Goals as goal
-
-pub returns : goal.returns
-returns c = record_ahead

@@ -1,5 +1,0 @@
-use Rattle.session_wire.proofs.RecordLaws.{begun_is_rest, too_long_is_rest}
-use Rattle.session_wire.proofs.laws.no_record_stands_there.Goals as goal
-
-pub returns : goal.returns
-returns c = record { begun = begun_is_rest; too_long = too_long_is_rest }

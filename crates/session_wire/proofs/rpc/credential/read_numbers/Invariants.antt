@@ -1,8 +1,0 @@
-use Rattle.std.proofs.Common.{◌≡◌, ◌-◌}
-use Rattle.session_wire.specs.Credentials.{numbers_at}
-use Rattle.session_wire.proofs.Loops.{with_front}
-use Rattle.session_wire.proofs.rpc.credential.read_numbers.Given as goal
-
-abbrev pub invariant-loop : goal.invariant-loop
-invariant-loop l = with_front l.numbers.items (numbers_at (l.count - l.counter) l.reader)
-    ≡ numbers_at l.fn.count l.fn.reader

@@ -1,9 +1,0 @@
-//! External data representation (RFC 4506): items of four bytes each, the greatest byte first.
-
-mod fault;
-mod reader;
-mod writer;
-
-pub use fault::XdrFault;
-pub use reader::Reader;
-pub use writer::Writer;

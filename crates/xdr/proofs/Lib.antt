@@ -1,0 +1,5 @@
+pub mod Endian
+pub mod Never
+pub mod Coded
+pub mod Lawful
+pub mod Links

@@ -1,0 +1,40 @@
+//! Why bytes are no spelling of what was to be read.
+ghost use Rattle.std.specs.Prelude.{◌≡◌};
+ghost use Rattle.xdr.specs.declared.fault.XdrFault.TheVariants.{NoMemory};
+
+use std::alloc::{AllocError, AllocFailed};
+use thiserror::Error;
+
+/// The first item from the left that has no spelling, or no memory for it. Within an item `Length` comes
+/// before `Short`, and that before `Padding` or `Value`.
+#[derive(Clone, Copy, Debug, PartialEq, Eq, Error)]
+pub enum XdrFault {
+    #[error("the bytes end inside an item")]
+    Short,
+    #[error("padding that isn't zero")]
+    Padding,
+    #[error("a value that isn't listed")]
+    Value,
+    #[error("a length past its bound")]
+    Length,
+    #[error("bytes are left over")]
+    Left,
+    #[error("no memory")]
+    NoMemory,
+}
+
+impl From<AllocError> for XdrFault {
+    ghost from_gives = { λ _ e. e ≡ NoMemory };
+
+    fn from(_e: AllocError) -> XdrFault {
+        XdrFault::NoMemory
+    }
+}
+
+impl<T: Drop> From<AllocFailed<T>> for XdrFault {
+    ghost from_gives = { λ _ e. e ≡ NoMemory };
+
+    fn from(_e: AllocFailed<T>) -> XdrFault {
+        XdrFault::NoMemory
+    }
+}
