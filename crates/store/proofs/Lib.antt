@@ -32,6 +32,7 @@ pub mod Opens
 pub mod OutCalls
 pub mod Raising
 pub mod Refusing
+pub mod RunTaken
 pub mod SameNumbers
 pub mod StaysAlone
 pub mod StepKinds

@@ -1,5 +1,5 @@
 //! The events of a run.
-ghost use Rattle.std.specs.Prelude.{◌≡◌, ℕ, ◌<◌, ◌++◌, List, [], None, length, vec_len, vec_capacity};
+ghost use Rattle.std.specs.Prelude.{◌≡◌, ℕ, ◌+◌, ◌^◌, ◌<◌, ◌++◌, List, [], None, length, vec_len, vec_capacity};
 ghost use Rattle.model.specs.After.{Entry as ToldEntry};
 ghost use Rattle.model.specs.Sound.{SoundTime};
 ghost use Rattle.txn.specs.Core.{CoreState};
@@ -19,6 +19,7 @@ ghost use Rattle.store.specs.WorkerReads.{MakesRead};
 ghost use Rattle.store.specs.WorkerSteps.{side};
 
 use super::going::{a_log_event_leaves_a_run_going, a_work_event_leaves_a_run_going};
+use super::going_workers::{a_call_leaves_a_run_going, a_read_leaves_a_run_going};
 use crate::opened::Store;
 use crate::options::put;
 use crate::workers::{
@@ -88,22 +89,45 @@ impl<D: CrashDisk> Running<D> {
             self.new.clock) run.new }
     {
         a_log_event_leaves_a_run_going();
-        a_work_event_leaves_a_run_going();
-        let step = match event {
+        has_few_steps(run);
+        match event {
             Event::Call {
                 worker,
                 credential,
                 moment,
                 call,
-            } => self.hand(worker, credential, moment, call),
-            Event::Work(worker) => self.work(alloc, worker, run),
-            Event::Read(worker) => self.read(worker),
-            Event::Log => self.log(),
-            Event::LogIo => self.log_io(),
-            Event::Install => self.install(),
-            Event::InstIo => self.inst_io(),
-        };
-        run.note_step(step);
+            } => {
+                a_call_leaves_a_run_going();
+                let step = self.hand(worker, credential, moment, call);
+                run.note_step(step);
+            }
+            Event::Work(worker) => {
+                a_work_event_leaves_a_run_going();
+                let step = self.work(alloc, worker, run);
+                run.note_step(step);
+            }
+            Event::Read(worker) => {
+                a_read_leaves_a_run_going();
+                let step = self.read(worker);
+                run.note_step(step);
+            }
+            Event::Log => {
+                let step = self.log();
+                run.note_step(step);
+            }
+            Event::LogIo => {
+                let step = self.log_io();
+                run.note_step(step);
+            }
+            Event::Install => {
+                let step = self.install();
+                run.note_step(step);
+            }
+            Event::InstIo => {
+                let step = self.inst_io();
+                run.note_step(step);
+            }
+        }
     }
 
     // Hands the worker a call.
@@ -395,4 +419,13 @@ fn note_answer(run: &mut Run, worker: usize, clock: u64, answer: Option<CallAnsw
     if let Some(answer) = answer {
         run.note_answer(worker, clock, answer);
     }
+}
+
+// What is told, with one more step, is no more than a number can count: for proofs alone.
+fn has_few_steps(run: &Run)
+    requires { HasRoom run.now }
+    ensures { length run.now.steps.items + 1 < 2 ^ 64 }
+{
+    run.steps.len();
+    run.steps.capacity();
 }
