@@ -9,7 +9,8 @@ use Rattle.store_promise.specs.declared.events.Step.{Step}
 use Rattle.store_promise.specs.declared.transcript.Run.{Run}
 use Rattle.store_promise.specs.LogTold.{LogTold}
 use Rattle.store_promise.specs.Running.{StoreSide}
-use Rattle.store_promise.specs.Schedule.{IsTimely, Setting}
+use Rattle.store_promise.specs.Headline.{MayRun}
+use Rattle.store_promise.specs.Schedule.{IsTimely, Schedule, Setting}
 use Rattle.store_promise.specs.Transcript.{entries_of, transcript_of}
 use Rattle.run_law.specs.Noting.{progress_now}
 use Rattle.run_law.specs.Run.{Beginning, IsRun}
@@ -86,3 +87,25 @@ pub record IsRunAt (b : Beginning) (run : RunSide) (told : Run) : Type 0 where
 abbrev pub LeavesGoing : Type 0 → Event → RunSide → Run → RunSide → Run → Type 0
 LeavesGoing keeps_model now old before new after =
     (b : Beginning) → keeps_model → IsNextEvent b now before → IsRunAt b old before → IsRunAt b new after
+
+-- What a run stands on, of a device that was opened for it: one worker takes these events.
+abbrev pub begins : Device → Device → Tree → ℕ → Schedule → Beginning
+begins before opened tree first events = record {
+  before = before;
+  opened = opened;
+  tree = tree;
+  first = first;
+  workers = 1;
+  events = events;
+}
+
+-- a run is on its way, from a device that held this tree
+pub record HasGone (before : Device) (tree : Tree) (first : ℕ) (events : Schedule) (run : RunSide) (told : Run)
+    : Type 0 where
+  pub opened : Device
+  pub at : IsRunAt (begins before opened tree first events) run told
+
+-- so it is where the device held it, the events come at sound times, and the device keeps its model
+abbrev pub GoesOnWell : Type 0 → Device → Schedule → RunSide → Run → Type 0
+GoesOnWell keeps_model before events run told = (tree : Tree) (first : ℕ)
+    → MayRun keeps_model before tree first events → HasGone before tree first events run told

@@ -61,6 +61,8 @@ impl<D: CrashDisk> Running<D> {
         ensures store { result.store ≡ store }
         ensures worker { result.worker.state ≡ at_rest store.boot }
         ensures stands { IsWorkerAt store.boot [] result.worker.state }
+        ensures calls { result.calls ≡ record { log = None; log_made = None; inst = None; inst_made = None } }
+        ensures clock { result.clock ≡ 0 }
     {
         let boot = store.boot();
         Running {
@@ -87,6 +89,7 @@ impl<D: CrashDisk> Running<D> {
             self.old.clock) run.old
             (run_side (D.device self.new.store.disk) self.new.store.core self.new.calls self.new.worker.state
             self.new.clock) run.new }
+        ensures told { length run.new.steps.items ≡ length run.old.steps.items + 1 }
     {
         a_log_event_leaves_a_run_going();
         has_few_steps(run);
