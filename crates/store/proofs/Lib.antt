@@ -38,3 +38,4 @@ pub mod StaysAlone
 pub mod StepKinds
 pub mod StepTells
 pub mod WorkCases
+pub mod WholeRun

@@ -8,13 +8,25 @@ use Rattle.txn_law.specs.HomeRead.{HasContents}
 use Rattle.store_promise.specs.declared.events.Step.{Step}
 use Rattle.store_promise.specs.declared.transcript.Run.{Run}
 use Rattle.store_promise.specs.Running.{IsMovedBy, StoreSide, one_if}
-use Rattle.store_promise.specs.Transcript.{calls_device, transcript_of}
-use Rattle.run_law.specs.Noting.{clock_now}
-use Rattle.run_law.specs.Run.{Beginning}
+use Rattle.store_promise.specs.Transcript.{Transcript, calls_device, entries_of, transcript_of}
+use Rattle.run_law.specs.Noting.{clock_now, progress_now}
+use Rattle.run_law.specs.Run.{Beginning, IsRun}
 use Rattle.run_law.proofs.Stops.{clock_is}
-use Rattle.store.specs.Going.{IsGoing, IsRunAt}
+use Rattle.store.specs.AtWork.{fetches_of}
+use Rattle.store.specs.Going.{IsGoing, IsRunAt, RunSide}
+use Rattle.store.specs.Stages.{IsWorkerAt}
 use Rattle.store.specs.Running.{counted, one_more}
+use Rattle.store.specs.Worker.{Fits, GoesWith}
+use Rattle.store.specs.declared.workers.Worker.{Worker}
 use Rattle.store.specs.declared.workers.parts.State.{State}
+use Rattle.txn.specs.Core.{CoreState}
+
+-- the worker goes with the core that it fits
+pub goes_with : (worker : Worker) (core : CoreState) → Fits worker core → GoesWith worker.state core
+goes_with worker core fits = record {
+  sound = record { transaction = worker.transaction; fetch = worker.fetch; ready = worker.ready };
+  core_of = fits;
+}
 
 pub has_contents : (d : Device) → AreBlocks d → HasContents d
 has_contents d blocks block within = blocks.some d.clock block (omega arith) within
@@ -94,4 +106,21 @@ worked_on b old new worker later clock next before after at next_is same going =
       let was = at.clock in
       let clocks = ap (λ (d : Device). d.clock) same in
       omega (arith, was, clocks, next_is);
+}
+
+-- a run that told nothing more is as it was
+pub untold : (b : Beginning) (run : RunSide) (before after : Run) → transcript_of after ≡ transcript_of before
+    → IsRunAt b run before → IsRunAt b run after
+untold b run before after same at = record {
+  going = record {
+    setting = at.going.setting;
+    base = at.going.base;
+    last = at.going.last;
+    run = subst (λ (t : Transcript). IsRun b at.going.setting t at.going.base run.store (fetches_of run.worker)
+        at.going.last) (sym same) at.going.run;
+    stands = subst (λ (t : Transcript). IsWorkerAt (b.first + 1) (entries_of t) run.worker) (sym same) at.going.stands;
+    at_work = at.going.at_work;
+    progress = ap (λ (t : Transcript). progress_now b.events t 0) same ∙ at.going.progress;
+  };
+  clock = at.clock;
 }

@@ -42,10 +42,9 @@ pub fn run<D: CrashDisk>(
     let mut run = Run::new(alloc, store.boot());
     let mut running = Running::new(store);
     'events: for event in events {
-        if run.make_room().is_err() {
+        if !running.take(alloc, event, &mut run) {
             break;
         }
-        running.take(alloc, event, &mut run);
     }
     (close(running.end()), Ok(run))
 }

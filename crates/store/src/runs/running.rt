@@ -1,5 +1,5 @@
 //! The events of a run.
-ghost use Rattle.std.specs.Prelude.{◌≡◌, ℕ, ◌+◌, ◌^◌, ◌<◌, ◌++◌, List, [], None, length, vec_len, vec_capacity};
+ghost use Rattle.std.specs.Prelude.{◌≡◌, ℕ, ◌+◌, ◌^◌, ◌<◌, ◌++◌, IsTrue, List, [], None, length, vec_len, vec_capacity};
 ghost use Rattle.model.specs.After.{Entry as ToldEntry};
 ghost use Rattle.model.specs.Sound.{SoundTime};
 ghost use Rattle.txn.specs.Core.{CoreState};
@@ -78,8 +78,27 @@ impl<D: CrashDisk> Running<D> {
         }
     }
 
-    /// Makes the step of an event, if it applies, and tells of it.
-    pub(super) fn take(&mut self, alloc: Global, event: Event, run: &mut Run)
+    /// Takes an event, and answers whether it did: it doesn't where there is no memory to tell of it.
+    pub(super) fn take(&mut self, alloc: Global, event: Event, run: &mut Run) -> bool
+        requires { RunsWell self.old.worker self.old.store.core self.old.calls }
+        ensures well { RunsWell self.new.worker self.new.store.core self.new.calls }
+        ensures model { D.keeps_model self.new.store.disk → D.keeps_model self.old.store.disk }
+        ensures goes { LeavesGoing (D.keeps_model self.new.store.disk) event
+            (run_side (D.device self.old.store.disk) self.old.store.core self.old.calls self.old.worker.state
+            self.old.clock) run.old
+            (run_side (D.device self.new.store.disk) self.new.store.core self.new.calls self.new.worker.state
+            self.new.clock) run.new }
+        ensures told { IsTrue result → length run.new.steps.items ≡ length run.old.steps.items + 1 }
+    {
+        if run.make_room().is_err() {
+            return false;
+        }
+        self.make(alloc, event, run);
+        true
+    }
+
+    // Makes the step of an event, if it applies, and tells of it.
+    fn make(&mut self, alloc: Global, event: Event, run: &mut Run)
         requires well { RunsWell self.old.worker self.old.store.core self.old.calls }
         requires room { HasRoom run.old }
         ensures well { RunsWell self.new.worker self.new.store.core self.new.calls }
