@@ -29,8 +29,9 @@ use Rattle.store_promise.specs.Running.{IsFetchOver, IsRunningOver, IsTold, Stor
 use Rattle.store_promise.specs.Schedule.{Setting, Told, told_after}
 use Rattle.store_promise.specs.declared.events.Event.TheVariants as event
 use Rattle.store_promise.specs.declared.events.Step.{Step}
-use Rattle.store.specs.Alone.{FetchesOnly, PlansAlone}
+use Rattle.store.specs.Alone.{PlansAlone}
 use Rattle.store.specs.AtWork.{IsCoreAtWork, Loads, LoadsFor, fetches_in, fetches_of}
+use Rattle.store.specs.Fetches.{FetchesOnly}
 use Rattle.store.specs.Telling.{TakesCall}
 use Rattle.store.specs.Worker.{GoesWith}
 use Rattle.store.specs.WorkerReads.{with_read}

@@ -28,7 +28,8 @@ use Rattle.store_promise.specs.declared.events.Step.TheVariants as step
 use Rattle.store.proofs.AtWorkFetched.{after_given, after_held, after_wanted, wanted_taken}
 use Rattle.store.proofs.StaysAlone.{stays_alone}
 use Rattle.store.proofs.WorkCases.{Cases, by_cases}
-use Rattle.store.specs.Alone.{FetchesOnly, HasOfCall, HasTaken, PlansAlone, StaysAlone, is_full, is_fetch_of}
+use Rattle.store.specs.Alone.{HasOfCall, HasTaken, PlansAlone, StaysAlone, is_full}
+use Rattle.store.specs.Fetches.{FetchesOnly, is_fetch_of}
 use Rattle.store.specs.AtWork.{AreLoadedFor, FetchesFor, IsCoreAtWork, IsLoadedFor, Loads, LoadsFor, has_taken}
 use Rattle.store.specs.Asked.{Asking}
 use Rattle.store.specs.Seen.{Seen, seen_in}

@@ -15,7 +15,10 @@ pub mod DrivenAlone
 pub mod EventTells
 pub mod FormatStops
 pub mod Formatted
+pub mod GoingBeside
+pub mod GoingCall
 pub mod GoingOn
+pub mod GoingRead
 pub mod GoingWork
 pub mod HowFar
 pub mod Later
@@ -29,8 +32,10 @@ pub mod Opens
 pub mod OutCalls
 pub mod Raising
 pub mod Refusing
+pub mod RunTaken
 pub mod SameNumbers
 pub mod StaysAlone
 pub mod StepKinds
 pub mod StepTells
 pub mod WorkCases
+pub mod WholeRun

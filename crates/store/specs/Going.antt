@@ -1,6 +1,7 @@
 -- What holds of a run between two events, as the code has it.
 use Rattle.std.specs.Prelude.{◌≡◌, ℕ, ◌+◌, ◌++◌, ◌∷◌, [], Option, Some, None, length, slice_get}
 use Rattle.disk.specs.Crash.{Image}
+use Rattle.disk.specs.Device.{Device}
 use Rattle.model.specs.Tree.{Tree}
 use Rattle.store_promise.specs.declared.events.Event.{Event}
 use Rattle.store_promise.specs.declared.events.Event.TheVariants as event
@@ -8,17 +9,20 @@ use Rattle.store_promise.specs.declared.events.Step.{Step}
 use Rattle.store_promise.specs.declared.transcript.Run.{Run}
 use Rattle.store_promise.specs.LogTold.{LogTold}
 use Rattle.store_promise.specs.Running.{StoreSide}
-use Rattle.store_promise.specs.Schedule.{IsTimely, Setting}
+use Rattle.store_promise.specs.Headline.{MayRun}
+use Rattle.store_promise.specs.Schedule.{IsTimely, Schedule, Setting}
 use Rattle.store_promise.specs.Transcript.{entries_of, transcript_of}
 use Rattle.run_law.specs.Noting.{progress_now}
 use Rattle.run_law.specs.Run.{Beginning, IsRun}
 use Rattle.store.specs.AtWork.{IsCoreAtWork, fetches_of}
-use Rattle.store.specs.LogSide.{MayInstIo, MayInstall, MayLog, MayLogIo}
+use Rattle.store.specs.LogSide.{MayInstIo, MayInstall, MayLog, MayLogIo, side_of}
 use Rattle.store.specs.Stages.{IsWorkerAt, progress_of}
 use Rattle.store.specs.Worker.{GoesWith}
 use Rattle.store.specs.WorkerSteps.{KeepsHomeOf, KeepsReadsOf, Side}
 use Rattle.wal_law.specs.Log.{IsLawful}
+use Rattle.txn_law.specs.Core.{CoreState}
 use Rattle.txn_law.specs.Tidy.{AreTidy}
+use Rattle.store.specs.declared.runs.running.Calls.{Calls}
 use Rattle.store.specs.declared.workers.parts.State.{State}
 
 -- A run goes on, of one worker: it is one so far, and the worker stands where its steps have told, at work on the
@@ -62,3 +66,46 @@ pub record KeepsCore (old new : Side) : Type 0 where
   pub lawful : IsLawful new.core.log
   pub tidy : AreTidy new.core
   pub with : GoesWith new.worker new.core
+
+-- ---- with its clock
+
+-- the device and the core with the calls that are out, the worker, and how many device calls the events have made
+pub record RunSide : Type 0 where
+  pub store : StoreSide
+  pub worker : State
+  pub clock : ℕ
+
+abbrev pub run_side : Device → CoreState → Calls → State → ℕ → RunSide
+run_side device core calls worker clock = record { store = side_of device core calls; worker = worker; clock = clock }
+
+-- a run goes on, whose clock has counted the calls since its opening
+pub record IsRunAt (b : Beginning) (run : RunSide) (told : Run) : Type 0 where
+  pub going : IsGoing b run.store run.worker told
+  pub clock : run.store.device.clock ≡ b.opened.clock + run.clock
+
+-- with this event it goes on, where the device keeps its model
+abbrev pub LeavesGoing : Type 0 → Event → RunSide → Run → RunSide → Run → Type 0
+LeavesGoing keeps_model now old before new after =
+    (b : Beginning) → keeps_model → IsNextEvent b now before → IsRunAt b old before → IsRunAt b new after
+
+-- What a run stands on, of a device that was opened for it: one worker takes these events.
+abbrev pub begins : Device → Device → Tree → ℕ → Schedule → Beginning
+begins before opened tree first events = record {
+  before = before;
+  opened = opened;
+  tree = tree;
+  first = first;
+  workers = 1;
+  events = events;
+}
+
+-- a run is on its way, from a device that held this tree
+pub record HasGone (before : Device) (tree : Tree) (first : ℕ) (events : Schedule) (run : RunSide) (told : Run)
+    : Type 0 where
+  pub opened : Device
+  pub at : IsRunAt (begins before opened tree first events) run told
+
+-- so it is where the device held it, the events come at sound times, and the device keeps its model
+abbrev pub GoesOnWell : Type 0 → Device → Schedule → RunSide → Run → Type 0
+GoesOnWell keeps_model before events run told = (tree : Tree) (first : ℕ)
+    → MayRun keeps_model before tree first events → HasGone before tree first events run told

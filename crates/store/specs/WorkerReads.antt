@@ -1,11 +1,11 @@
 -- What a read leaves of a worker.
-use Rattle.std.specs.Prelude.{◌≡◌, Bool, true, false, Some, Result, is_ok}
+use Rattle.std.specs.Prelude.{◌≡◌, ℕ, Bool, true, false, Option, Some, None, Result, is_ok}
 use Rattle.disk.specs.Device.{Content, CountsFailure, Device, HasRead, current, newest}
 use Rattle.disk.specs.declared.device.Failed.{Failed}
 use Rattle.txn.specs.Fetch.{Fetch}
 use Rattle.store_promise.specs.declared.events.Step.{Step}
 use Rattle.store_promise.specs.declared.events.Step.TheVariants as step
-use Rattle.store.specs.declared.workers.parts.Phase.TheVariants.{Read}
+use Rattle.store.specs.declared.workers.parts.Phase.TheVariants.{Read, Reading}
 use Rattle.store.specs.declared.workers.parts.State.{State}
 
 -- a worker whose block was read, well or not, with what its buffer has then
@@ -29,3 +29,10 @@ pub record HasReadBlock (keeps_model : Type 0) (before : Device) (old : State) (
   pub failure : CountsFailure before after answer
   pub brings : keeps_model → before.spoiled io.block.0 ≡ false → is_ok answer ≡ true
       → content ≡ newest (current before io.block.0)
+
+-- the one worker makes the read that is due; else nothing happens
+abbrev pub MakesRead : ℕ → Type 0 → Device → State → Option Step → Device → State → Type 0
+MakesRead worker keeps_model before old None after new = (new ≡ old) × (after ≡ before)
+    × ((worker ≡ 0) × (old.phase ≡ Reading) → ⊥)
+MakesRead worker keeps_model before old (Some made) after new = (worker ≡ 0) × (old.phase ≡ Reading)
+    × HasReadBlock keeps_model before old made after new

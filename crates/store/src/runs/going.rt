@@ -1,5 +1,5 @@
 //! Laws on a run as the code has it: each event leaves it going.
-ghost use Rattle.std.specs.Prelude.{◌≡◌, ℕ, Option};
+ghost use Rattle.std.specs.Prelude.{◌≡◌, ℕ, None, Option};
 ghost use Rattle.txn_law.specs.Core.{CoreState};
 ghost use Rattle.store_promise.specs.declared.events.Event.{Event};
 ghost use Rattle.store_promise.specs.declared.events.Event.TheVariants as event;
@@ -28,7 +28,10 @@ pub(super) fn a_log_event_leaves_a_run_going()
 
 // So does a step of the worker's work, once what it tells was told.
 pub(super) fn a_work_event_leaves_a_run_going()
-    ensures { (b : Beginning) (clock : ℕ) (store : StoreSide) (worker new : State) (core : CoreState)
+    ensures absent { (b : Beginning) (number : ℕ) (store : StoreSide) (worker : State) (before after : Run)
+        → IsNextEvent b (event.Work number) before → (number ≡ 0 → ⊥) → NotesStep None before after
+        → IsGoing b store worker before → IsGoing b store worker after }
+    ensures goes { (b : Beginning) (clock : ℕ) (store : StoreSide) (worker new : State) (core : CoreState)
         (made : Option Step) (before mid after : Run) → IsNextEvent b (event.Work 0) before
         → IsGoing b store worker before → clock ≡ clock_now (transcript_of before)
         → HasWorked 0 clock (side worker store.core) made (side new core) before mid

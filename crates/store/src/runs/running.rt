@@ -1,5 +1,5 @@
 //! The events of a run.
-ghost use Rattle.std.specs.Prelude.{◌≡◌, ℕ, ◌<◌, ◌++◌, List, [], None, MatchOption, length, vec_len, vec_capacity};
+ghost use Rattle.std.specs.Prelude.{◌≡◌, ℕ, ◌+◌, ◌^◌, ◌<◌, ◌++◌, IsTrue, List, [], None, length, vec_len, vec_capacity};
 ghost use Rattle.model.specs.After.{Entry as ToldEntry};
 ghost use Rattle.model.specs.Sound.{SoundTime};
 ghost use Rattle.txn.specs.Core.{CoreState};
@@ -7,6 +7,7 @@ ghost use Rattle.store_promise.specs.Room.{HasRoom};
 ghost use Rattle.store_promise.specs.Running.{IsLogStep};
 ghost use Rattle.store_promise.specs.Transcript.{entries_of, transcript_of};
 ghost use Rattle.store.specs.LogSide.{MayInstIo, MayInstall, MayLog, MayLogIo, side_of};
+ghost use Rattle.store.specs.Going.{KeepsCore, LeavesGoing, run_side};
 ghost use Rattle.store.specs.Noting.{NotesWork};
 ghost use Rattle.store.specs.Running.{RunsWell, counted, one_more};
 ghost use Rattle.store.specs.Settling.{IsIdle};
@@ -14,10 +15,11 @@ ghost use Rattle.store.specs.Telling.{HasWorked, TakesCall, TellsWork, answers_t
 ghost use Rattle.store.specs.Stages.{IsWorkerAt};
 ghost use Rattle.store.specs.WorkTells.{TellsCall, TellsRead};
 ghost use Rattle.store.specs.Worker.{Fits, at_rest, ctx_of};
-ghost use Rattle.store.specs.WorkerReads.{HasReadBlock};
+ghost use Rattle.store.specs.WorkerReads.{MakesRead};
 ghost use Rattle.store.specs.WorkerSteps.{side};
-ghost use Rattle.store.specs.declared.workers.parts.Phase.TheVariants.{Reading};
 
+use super::going::{a_log_event_leaves_a_run_going, a_work_event_leaves_a_run_going};
+use super::going_workers::{a_call_leaves_a_run_going, a_read_leaves_a_run_going};
 use crate::opened::Store;
 use crate::options::put;
 use crate::workers::{
@@ -59,6 +61,8 @@ impl<D: CrashDisk> Running<D> {
         ensures store { result.store ≡ store }
         ensures worker { result.worker.state ≡ at_rest store.boot }
         ensures stands { IsWorkerAt store.boot [] result.worker.state }
+        ensures calls { result.calls ≡ record { log = None; log_made = None; inst = None; inst_made = None } }
+        ensures clock { result.clock ≡ 0 }
     {
         let boot = store.boot();
         Running {
@@ -74,28 +78,78 @@ impl<D: CrashDisk> Running<D> {
         }
     }
 
-    /// Makes the step of an event, if it applies, and tells of it.
-    pub(super) fn take(&mut self, alloc: Global, event: Event, run: &mut Run)
+    /// Takes an event, and answers whether it did: it doesn't where there is no memory to tell of it.
+    pub(super) fn take(&mut self, alloc: Global, event: Event, run: &mut Run) -> bool
+        requires { RunsWell self.old.worker self.old.store.core self.old.calls }
+        ensures well { RunsWell self.new.worker self.new.store.core self.new.calls }
+        ensures model { D.keeps_model self.new.store.disk → D.keeps_model self.old.store.disk }
+        ensures goes { LeavesGoing (D.keeps_model self.new.store.disk) event
+            (run_side (D.device self.old.store.disk) self.old.store.core self.old.calls self.old.worker.state
+            self.old.clock) run.old
+            (run_side (D.device self.new.store.disk) self.new.store.core self.new.calls self.new.worker.state
+            self.new.clock) run.new }
+        ensures told { IsTrue result → length run.new.steps.items ≡ length run.old.steps.items + 1 }
+    {
+        if run.make_room().is_err() {
+            return false;
+        }
+        self.make(alloc, event, run);
+        true
+    }
+
+    // Makes the step of an event, if it applies, and tells of it.
+    fn make(&mut self, alloc: Global, event: Event, run: &mut Run)
         requires well { RunsWell self.old.worker self.old.store.core self.old.calls }
         requires room { HasRoom run.old }
         ensures well { RunsWell self.new.worker self.new.store.core self.new.calls }
         ensures model { D.keeps_model self.new.store.disk → D.keeps_model self.old.store.disk }
+        ensures goes { LeavesGoing (D.keeps_model self.new.store.disk) event
+            (run_side (D.device self.old.store.disk) self.old.store.core self.old.calls self.old.worker.state
+            self.old.clock) run.old
+            (run_side (D.device self.new.store.disk) self.new.store.core self.new.calls self.new.worker.state
+            self.new.clock) run.new }
+        ensures told { length run.new.steps.items ≡ length run.old.steps.items + 1 }
     {
-        let step = match event {
+        a_log_event_leaves_a_run_going();
+        has_few_steps(run);
+        match event {
             Event::Call {
                 worker,
                 credential,
                 moment,
                 call,
-            } => self.hand(worker, credential, moment, call),
-            Event::Work(worker) => self.work(alloc, worker, run),
-            Event::Read(worker) => self.read(worker),
-            Event::Log => self.log(),
-            Event::LogIo => self.log_io(),
-            Event::Install => self.install(),
-            Event::InstIo => self.inst_io(),
-        };
-        run.note_step(step);
+            } => {
+                a_call_leaves_a_run_going();
+                let step = self.hand(worker, credential, moment, call);
+                run.note_step(step);
+            }
+            Event::Work(worker) => {
+                a_work_event_leaves_a_run_going();
+                let step = self.work(alloc, worker, run);
+                run.note_step(step);
+            }
+            Event::Read(worker) => {
+                a_read_leaves_a_run_going();
+                let step = self.read(worker);
+                run.note_step(step);
+            }
+            Event::Log => {
+                let step = self.log();
+                run.note_step(step);
+            }
+            Event::LogIo => {
+                let step = self.log_io();
+                run.note_step(step);
+            }
+            Event::Install => {
+                let step = self.install();
+                run.note_step(step);
+            }
+            Event::InstIo => {
+                let step = self.inst_io();
+                run.note_step(step);
+            }
+        }
     }
 
     // Hands the worker a call.
@@ -141,6 +195,8 @@ impl<D: CrashDisk> Running<D> {
             → self.old.store.core.log.places ≡ length run.old.history.items
             → NotesWork boot self.old.clock (side self.old.worker.state self.old.store.core) result
             (side self.new.worker.state self.new.store.core) run.old run.new }
+        ensures core { worker ≡ 0 → KeepsCore (side self.old.worker.state self.old.store.core)
+            (side self.new.worker.state self.new.store.core) }
     {
         a_run_notes_its_workers_steps();
         if worker != 0 {
@@ -148,6 +204,7 @@ impl<D: CrashDisk> Running<D> {
         }
         let step = self.worker.step(alloc, &mut self.store.core);
         self.tell(worker, run);
+        self.store.core.lawful();
         step
     }
 
@@ -172,12 +229,8 @@ impl<D: CrashDisk> Running<D> {
         ensures model { D.keeps_model self.new.store.disk → D.keeps_model self.old.store.disk }
         ensures rest { (self.new.calls ≡ self.old.calls) × (self.new.store.core ≡ self.old.store.core) }
         ensures clock { self.new.clock ≡ counted self.old.clock result }
-        ensures step { MatchOption result
-            ((self.new.worker ≡ self.old.worker) × (D.device self.new.store.disk ≡ D.device self.old.store.disk)
-            × ((worker ≡ 0) × (self.old.worker.state.phase ≡ Reading) → ⊥))
-            (λ made. (worker ≡ 0) × HasReadBlock (D.keeps_model self.new.store.disk)
-            (D.device self.old.store.disk) self.old.worker.state made (D.device self.new.store.disk)
-            self.new.worker.state) }
+        ensures step { MakesRead worker (D.keeps_model self.new.store.disk) (D.device self.old.store.disk)
+            self.old.worker.state result (D.device self.new.store.disk) self.new.worker.state }
         ensures told { worker ≡ 0 → (boot : ℕ) (entries : List ToldEntry)
             → IsWorkerAt boot entries self.old.worker.state
             → TellsRead boot entries self.old.worker.state result self.new.worker.state }
@@ -388,4 +441,13 @@ fn note_answer(run: &mut Run, worker: usize, clock: u64, answer: Option<CallAnsw
     if let Some(answer) = answer {
         run.note_answer(worker, clock, answer);
     }
+}
+
+// What is told, with one more step, is no more than a number can count: for proofs alone.
+fn has_few_steps(run: &Run)
+    requires { HasRoom run.now }
+    ensures { length run.now.steps.items + 1 < 2 ^ 64 }
+{
+    run.steps.len();
+    run.steps.capacity();
 }

@@ -1,4 +1,4 @@
-use Rattle.std.proofs.Common.{◌≡◌, ◌∙◌, ◌+◌, ap, sym, subst, ℕ, Bool, true, false, List, length, arith, Option, Some}
+use Rattle.std.proofs.Common.{◌≡◌, ◌∙◌, ◌+◌, ap, sym, subst, ℕ, Bool, true, false, List, length, arith, None, refl, not, ◌&&◌}
 use Rattle.std.proofs.lemmas.List.{length-map, take_all}
 use Rattle.disk.specs.Device.{Device}
 use Rattle.model.specs.After.{Entry}
@@ -6,7 +6,7 @@ use Rattle.txn_law.specs.Window.{Footprint, after_commits, opening}
 use Rattle.layout.specs.Homes.{homes_of}
 use Rattle.store_promise.specs.declared.events.Event.TheVariants as event
 use Rattle.store_promise.specs.declared.events.Step.{Step}
-use Rattle.store_promise.specs.Progress.{Progress}
+use Rattle.store_promise.specs.Progress.{is_idle}
 use Rattle.store_promise.specs.Transcript.{entries_of, transcript_of}
 use Rattle.run_law.specs.Noting.{told_now}
 use Rattle.wal_law.specs.Log.{installed_place}
@@ -16,11 +16,14 @@ use Rattle.store.specs.Telling.{told}
 use Rattle.store.specs.Worker.{GoesWith}
 use Rattle.store.specs.WorkerSteps.{KeepsHomeOf, KeepsReadsOf, side}
 use Rattle.store.specs.declared.workers.parts.State.{State}
+use Rattle.store.proofs.GoingBeside.{Leaves, left_alone}
+use Rattle.store.proofs.GoingBeside.{goes as goes_beside, goes_on as on_beside}
+use Rattle.store.proofs.GoingOn.{step_alone}
 use Rattle.store.proofs.GoingWork.{Left, goes, goes_on, left_by, noted, noting}
 use Rattle.store.proofs.runs.going.a_work_event_leaves_a_run_going.Goals as goal
 
-pub returns : goal.returns
-returns c = λ b clock store worker new core made before mid after is_next going clock_is worked kept last_note.
+pub returns-clause-goes : goal.returns-clause-goes
+returns-clause-goes c = λ b clock store worker new core made before mid after is_next going clock_is worked kept last_note.
     let t = transcript_of before in
     let o = going.setting in
     let entries = entries_of t in
@@ -71,3 +74,25 @@ returns c = λ b clock store worker new core made before mid after is_next going
     (c.a_run_goes_on.ensures b o left.later t going.base going.base store _ (fetches_of worker) (fetches_of new)
     going.last left.next many going.run step)
     (c.what_is_told_grows.ensures.told b t (event.Work 0) many is_next.next) at_work
+
+-- ---- a worker that isn't there
+
+no_end : (t : Bool) → (not t && t) ≡ false
+no_end true = refl
+no_end false = refl
+
+pub returns-clause-absent : goal.returns-clause-absent
+returns-clause-absent c = λ b number store worker before after is_next other notes going.
+    let t = transcript_of before in
+    let o = going.setting in
+    let now = event.Work number in
+    let left : Leaves b now o going.base going.last t store store None worker =
+        left_alone b now store worker before going
+        (λ there. other (let alone = is_next.alone in omega (arith, there, alone)))
+        (c.a_device_counts_the_calls_of_its_steps.ensures.none store.device None refl) in
+    let moved = goes_beside b now store store None worker worker before after is_next notes going left
+        (record { entry = refl; answer = no_end (is_idle ((told_now b.events t).workers number)) }) in
+    on_beside b now store store None worker worker before after is_next notes going left
+    (c.a_run_goes_on.ensures b o o t going.base going.base store store (fetches_of worker) (fetches_of worker)
+    going.last going.last (step_alone None) going.run moved)
+    (c.what_is_told_grows.ensures.told b t now (step_alone None) is_next.next)

@@ -1,4 +1,7 @@
-use Rattle.std.proofs.Common.{rules, subst}
+use Rattle.std.proofs.Common.{rules, ap, subst, sym, ◌∙◌}
+use Rattle.txn.specs.CoreWindow.{IsHomeOf, KeepsReads}
+use Rattle.store.specs.Worker.{Fits}
+use Rattle.store.specs.declared.workers.parts.State.{State}
 use Rattle.store.specs.Telling.{TellsWork}
 use Rattle.store.specs.WorkerSteps.{side}
 use Rattle.store.proofs.runs.running.Running.work.Goals as goal
@@ -16,3 +19,20 @@ returns-clause-noted g c = λ zero boot at places.
       taken = c.tell.ensures.worker;
       tells = tells;
     })
+
+pub returns-clause-core : goal.returns-clause-core
+returns-clause-core g c = λ zero.
+    let core_is = ap (λ r. r.store.core) c.tell.ensures.rest in
+    let begun_is = ap (λ (s : State). s.begun.tx) c.tell.ensures.worker in
+    let worker = c.tell.new.self.worker in
+    record {
+      home = λ base from home. subst (λ core. IsHomeOf base core) (sym core_is) (c.step-step.ensures.home base from home);
+      reads = λ tx stays. subst (λ core. KeepsReads c.args.self.now.store.core core tx) (sym core_is)
+          (c.step-step.ensures.stays tx (λ at. sym begun_is ∙ stays at));
+      lawful = c.lawful.ensures.log;
+      tidy = c.lawful.ensures.tidy;
+      with = record {
+        sound = record { transaction = worker.transaction; fetch = worker.fetch; ready = worker.ready };
+        core_of = subst (λ core. Fits worker core) (sym core_is) (c.tell.ensures.fits _ c.step-step.ensures.fits);
+      };
+    }
