@@ -105,9 +105,9 @@ module _ (old new : CoreState) (kept : KeepsTransactions old new) (blocks : new.
   same_taken : (worker : State) → HasTaken worker old → HasTaken worker new
   same_taken worker has =
       map_some (λ (job : Job). IsSomeAnd worker.begun.tx (λ tx.
-          IsSomeAnd (seen_in worker.work.snap) (λ seen. HasOfCall job tx old seen)))
+      IsSomeAnd (seen_in worker.work.snap) (λ seen. HasOfCall job tx old seen)))
       (λ (job : Job). IsSomeAnd worker.begun.tx (λ tx.
-          IsSomeAnd (seen_in worker.work.snap) (λ seen. HasOfCall job tx new seen)))
+      IsSomeAnd (seen_in worker.work.snap) (λ seen. HasOfCall job tx new seen)))
       worker.work.job (λ job.
       map_some (λ (tx : ℕ). IsSomeAnd (seen_in worker.work.snap) (λ seen. HasOfCall job tx old seen))
       (λ (tx : ℕ). IsSomeAnd (seen_in worker.work.snap) (λ seen. HasOfCall job tx new seen))
@@ -140,9 +140,9 @@ module _ (old new : CoreState) (kept : KeepsTransactions old new) (blocks : new.
   same_fetches : (tx : Option ℕ) (asked : Asking) → FetchesFor tx asked old → FetchesFor tx asked new
   same_fetches tx asked has =
       map_some (λ (number : ℕ). AreLoadedFor old number asked.fetched
-          × IsSomeAnd asked.wish (λ addr. has_taken old number addr ≡ true))
+      × IsSomeAnd asked.wish (λ addr. has_taken old number addr ≡ true))
       (λ (number : ℕ). AreLoadedFor new number asked.fetched
-          × IsSomeAnd asked.wish (λ addr. has_taken new number addr ≡ true)) tx (λ number both. (
+      × IsSomeAnd asked.wish (λ addr. has_taken new number addr ≡ true)) tx (λ number both. (
         all_loaded number asked.fetched both.0,
         map_some (λ (addr : Addr). has_taken old number addr ≡ true) (λ (addr : Addr). has_taken new number addr ≡ true)
             asked.wish (still_taken number) both.1,

@@ -91,7 +91,7 @@ read_on b old new worker later clock next made before after at few next_is steps
       let calls = going.run.moved.calls in
       let is = next_is ∙ counted_is clock made (few_calls b old worker clock before at few) in
       let count = ap (λ (xs : List (Option Step)). count_by calls_device xs) steps
-          ∙ sum_by_push (λ one. one_if (calls_device one)) before.steps.items made in
+      ∙ sum_by_push (λ one. one_if (calls_device one)) before.steps.items made in
       omega (arith, was, calls, is, count);
 }
 

@@ -93,7 +93,7 @@ module _ (before : Device) (tree : Tree) (first : ℕ) (events : Schedule) where
       → LeavesGoing keeps_model now old told new later → HasGone before tree first events new later
   gone_on keeps_model now old new told later yielded rest keeps may events_are steps_are gone leaves =
       let there : slice_get events (length yielded) ≡ Some now =
-          ap (λ (es : Schedule). slice_get es (length yielded)) events_are ∙ next_is yielded rest now in
+      ap (λ (es : Schedule). slice_get es (length yielded)) events_are ∙ next_is yielded rest now in
       record {
         opened = gone.opened;
         at = leaves (begins before gone.opened tree first events) keeps (record {
