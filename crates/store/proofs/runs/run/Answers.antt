@@ -1,14 +1,11 @@
-use Rattle.std.proofs.Common.{rules, ◌≡◌, ◌∙◌, ap, sym, subst, refl, ℕ, ◌+◌, ◌++◌, ◌∷◌, [], List, length, length-append, arith}
+use Rattle.std.proofs.Common.{rules, ◌∙◌, ap, sym, subst, ◌++◌, ◌∷◌, [], length, length-append, arith}
 use Rattle.std.proofs.lemmas.List.{append_assoc}
 use Rattle.std.specs.Vec.Iter.{into_iter_items}
-use Rattle.disk.specs.Device.{Device}
-use Rattle.store_promise.specs.Headline.{KeepsPromise, MayRun}
+use Rattle.store_promise.specs.Headline.{KeepsPromise}
 use Rattle.store_promise.specs.OpenSince.{file_blocks}
 use Rattle.store_promise.specs.Schedule.{Setting}
 use Rattle.store_promise.specs.Transcript.{transcript_of}
-use Rattle.store_promise.specs.declared.transcript.Run.{Run}
 use Rattle.store.specs.Going.{HasGone, begins, run_side}
-use Rattle.store.specs.LogSide.{side_of}
 use Rattle.store.specs.Worker.{Fits}
 use Rattle.store.proofs.RunTaken.{goes_with}
 use Rattle.store.proofs.WholeRun.{first_going, gone_on, promise_kept}

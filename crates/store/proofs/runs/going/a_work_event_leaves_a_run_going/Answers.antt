@@ -1,18 +1,13 @@
-use Rattle.std.proofs.Common.{◌≡◌, ◌∙◌, ◌+◌, ap, sym, subst, ℕ, Bool, true, false, List, length, arith, None, refl, not, ◌&&◌}
+use Rattle.std.proofs.Common.{◌≡◌, ◌∙◌, ◌+◌, ap, sym, subst, Bool, true, false, List, length, arith, None, refl, not, ◌&&◌}
 use Rattle.std.proofs.lemmas.List.{length-map, take_all}
-use Rattle.disk.specs.Device.{Device}
-use Rattle.model.specs.After.{Entry}
 use Rattle.txn_law.specs.Window.{Footprint, after_commits, opening}
 use Rattle.layout.specs.Homes.{homes_of}
 use Rattle.store_promise.specs.declared.events.Event.TheVariants as event
-use Rattle.store_promise.specs.declared.events.Step.{Step}
 use Rattle.store_promise.specs.Progress.{is_idle}
 use Rattle.store_promise.specs.Transcript.{entries_of, transcript_of}
 use Rattle.run_law.specs.Noting.{told_now}
-use Rattle.wal_law.specs.Log.{installed_place}
-use Rattle.store.specs.AtWork.{IsCoreAtWork, fetches_of, has_committed}
+use Rattle.store.specs.AtWork.{IsCoreAtWork, fetches_of}
 use Rattle.store.specs.Stages.{progress_of}
-use Rattle.store.specs.Telling.{told}
 use Rattle.store.specs.Worker.{GoesWith}
 use Rattle.store.specs.WorkerSteps.{KeepsHomeOf, KeepsReadsOf, side}
 use Rattle.store.specs.declared.workers.parts.State.{State}

@@ -3,12 +3,12 @@ use Rattle.store_promise.specs.declared.events.Event.{Event}
 use Rattle.store_promise.specs.declared.events.Event.TheVariants as event
 use Rattle.store_promise.specs.declared.events.Step.{Step}
 use Rattle.store_promise.specs.declared.transcript.Run.{Run}
-use Rattle.store_promise.specs.Running.{IsLogStep, StoreSide}
+use Rattle.store_promise.specs.Running.{StoreSide}
 use Rattle.run_law.specs.Run.{Beginning}
-use Rattle.store.specs.Going.{IsGoing, IsNextEvent, IsRunAt, NotesStep, may_make}
+use Rattle.store.specs.Going.{IsGoing, IsNextEvent, NotesStep}
 use Rattle.store.specs.LogSide.{side_of}
 use Rattle.txn.specs.Core.{CoreState}
-use Rattle.store.specs.Worker.{Fits, GoesWith}
+use Rattle.store.specs.Worker.{GoesWith}
 use Rattle.store.specs.declared.workers.Worker.{Worker}
 use Rattle.store.specs.declared.workers.parts.State.{State}
 use Rattle.store.specs.Telling.{HasWorked}
