@@ -1,5 +1,5 @@
 -- Each step of a worker that is alone is one that may be made.
-use Rattle.std.proofs.Common.{◌≡◌, ◌∙◌, ◌↔◌, refl, sym, ap, subst, true≢false, ℕ, ◌+◌, ◌^◌, ◌<◌, ◌≤◌, arith, Bool}
+use Rattle.std.proofs.Common.{◌≡◌, ◌∙◌, ◌↔◌, refl, sym, ap, subst, true≢false, ℕ, ◌+◌, ◌^◌, ◌≤◌, arith, Bool}
 use Rattle.std.proofs.Common.{true, false, ◌||◌, nat_eq, nat_le, IsTrue, Option, Some, None, List, [], ◌∷◌, length, map, All}
 use Rattle.std.proofs.Common.{Ok, Err}
 use Rattle.std.specs.Prelude.{IsSomeAnd}
@@ -11,7 +11,6 @@ use Rattle.disk.specs.Crash.{Image}
 use Rattle.disk.specs.Device.{Content}
 use Rattle.disk.specs.declared.block.BlockNo.{BlockNo}
 use Rattle.layout.specs.declared.geometry.Geometry.{Geometry}
-use Rattle.limits.specs.declared.TheConstants.{LOG_SLOTS}
 use Rattle.model.specs.After.{Entry}
 use Rattle.model.specs.Calls.{has_rules}
 use Rattle.model.specs.Tree.{Tree}
@@ -25,7 +24,7 @@ use Rattle.procs.specs.declared.next.Plan.TheVariants as plan
 use Rattle.procs.specs.declared.snap.Snap.{Snap}
 use Rattle.procs.specs.Snap.{is_seen, same_addr}
 use Rattle.procs.proofs.AskedFor.{is_home}
-use Rattle.txn.specs.Outcomes.{IsCommit, IsWanted, TakesPlace}
+use Rattle.txn.specs.Outcomes.{IsCommit, IsWanted}
 use Rattle.txn.specs.declared.outcomes.BeginFault.{BeginFault}
 use Rattle.txn.specs.declared.outcomes.BeginFault.TheVariants as fault
 use Rattle.txn.specs.declared.outcomes.Commit.{Commit}
@@ -39,7 +38,6 @@ use Rattle.txn_law.specs.Group.{blocks_of}
 use Rattle.txn_law.specs.Leaves.{in_memory}
 use Rattle.txn_law.specs.Object.{ObjectBytes}
 use Rattle.txn_law.specs.Window.{IsAsRead, object_at}
-use Rattle.txn_law.specs.Wishes.{IsFetched}
 use Rattle.txn_law.proofs.Entries.{same_block}
 use Rattle.wal_law.specs.Log.{IsHomeOn, added_blocks, settled_place}
 use Rattle.wal_law.specs.Room.{HasPlaces}
@@ -54,7 +52,6 @@ use Rattle.store_promise.specs.Schedule.{IsStepOfCalled, IsStepOfWork}
 use Rattle.store_promise.specs.Schedule.{IsStepOfWaiting, IsWish, Setting, Told, is_held, objects_at, read_of}
 use Rattle.store_promise.specs.Schedule as schedule
 use Rattle.store_promise.specs.ToldOf.{log_told}
-use Rattle.store_promise.specs.declared.events.Committing.TheVariants as committing
 use Rattle.store_promise.specs.declared.events.Ending.TheVariants as ending
 use Rattle.store_promise.specs.declared.events.Step.{Step}
 use Rattle.store_promise.specs.declared.events.Step.TheVariants as step

@@ -1,6 +1,6 @@
 -- A run goes on with each event: what was told, and what the worker and its core have then.
-use Rattle.std.proofs.Common.{◌≡◌, ◌∙◌, refl, sym, ap, subst, ℕ, ◌+◌, ◌++◌, ◌∷◌, [], Bool, true, false, List, All, map}
-use Rattle.std.proofs.Common.{Option, Some, None, length, nat_eq, is_some, take}
+use Rattle.std.proofs.Common.{◌≡◌, ◌∙◌, refl, sym, ap, subst, ℕ, ◌+◌, Bool, true, false, List, map}
+use Rattle.std.proofs.Common.{Option, Some, None, is_some, take}
 use Rattle.std.specs.Prelude.{IsSomeAnd}
 use Rattle.std.proofs.lemmas.List.{append-nil}
 use Rattle.std.proofs.lemmas.List.Elements.{All-weaker}
@@ -8,33 +8,27 @@ use Rattle.disk.specs.Crash.{Image}
 use Rattle.model.specs.After.{Entry, after as leads_to}
 use Rattle.model.specs.Tree.{Tree}
 use Rattle.objects.specs.declared.addr.Addr.{Addr}
-use Rattle.objects.specs.declared.mode.Mode.TheVariants as modes
-use Rattle.procs.specs.Asks.{Asks}
 use Rattle.txn_law.specs.Commit.{IsReadBy}
 use Rattle.txn_law.specs.Core.{CoreState}
-use Rattle.txn_law.specs.Leaves.{in_memory, taken_by}
-use Rattle.txn_law.specs.declared.hold.Hold.{Hold}
 use Rattle.store_promise.specs.declared.events.Event.{Event}
 use Rattle.store_promise.specs.declared.events.Event.TheVariants as event
 use Rattle.store_promise.specs.declared.events.Step.{Step}
 use Rattle.store_promise.specs.declared.events.Step.TheVariants as step
 use Rattle.store_promise.specs.declared.transcript.Run.{Run}
 use Rattle.store_promise.specs.Headline.{StandsAfter}
-use Rattle.store_promise.specs.LogTold.{CallTold, LogTold, idle, log_moved, may_install_told, may_log_told, out, was_made}
+use Rattle.store_promise.specs.LogTold.{CallTold, LogTold, idle, may_install_told, may_log_told, out, was_made}
 use Rattle.store_promise.specs.NextCall.{IsNextOfInstalling, next_log_call}
-use Rattle.store_promise.specs.Running.{GoesOnBy, IsLogStep, IsRunningOver, IsTold, KeepsTransactions, StoreSide, home_next, told_next}
-use Rattle.store_promise.specs.Running.{told_of}
-use Rattle.store_promise.specs.Schedule.{IsNextOfInstaller, IsNextOfLog, IsOfOne, IsStepOfInstIo, IsStepOfInstaller}
+use Rattle.store_promise.specs.Running.{GoesOnBy, IsLogStep, IsRunningOver, KeepsTransactions, StoreSide, home_next, told_next}
+use Rattle.store_promise.specs.Schedule.{IsNextOfInstaller, IsNextOfLog, IsStepOfInstIo, IsStepOfInstaller}
 use Rattle.store_promise.specs.Schedule.{IsStepOfLog, IsStepOfLogIo, IsTaken, Setting, Told, told_after, worker_of}
 use Rattle.store_promise.specs.Transcript.{Transcript, entries_of, entry_of, transcript_of}
 use Rattle.run_law.specs.Noting.{Noted, commits, ends_of, progress_now, told_now, with_noted}
 use Rattle.run_law.specs.Run.{Beginning, GoesOn, IsRun}
-use Rattle.store.specs.Alone.{HasOfCall, HasTaken, IsAlone, PlansAlone}
+use Rattle.store.specs.Alone.{HasOfCall, HasTaken, PlansAlone}
 use Rattle.store.specs.Asked.{Asking}
-use Rattle.store.specs.AtWork.{AreLoadedFor, FetchesFor, IsCoreAtWork, IsLoadedFor, Loads, LoadsFor, fetches_of}
+use Rattle.store.specs.AtWork.{AreLoadedFor, FetchesFor, IsCoreAtWork, IsLoadedFor, LoadsFor, fetches_of}
 use Rattle.store.specs.AtWork.{has_taken}
 use Rattle.store.specs.Going.{IsGoing, IsNextEvent, NotesStep, may_make}
-use Rattle.store.specs.LogSide.{MayInstIo, MayInstall, MayLog, MayLogIo}
 use Rattle.store.specs.Seen.{Seen, seen_in}
 use Rattle.store.specs.Stages.{IsWorkerAt, progress_of}
 use Rattle.store.specs.Worker.{GoesWith}
@@ -105,9 +99,9 @@ module _ (old new : CoreState) (kept : KeepsTransactions old new) (blocks : new.
   same_taken : (worker : State) → HasTaken worker old → HasTaken worker new
   same_taken worker has =
       map_some (λ (job : Job). IsSomeAnd worker.begun.tx (λ tx.
-          IsSomeAnd (seen_in worker.work.snap) (λ seen. HasOfCall job tx old seen)))
+      IsSomeAnd (seen_in worker.work.snap) (λ seen. HasOfCall job tx old seen)))
       (λ (job : Job). IsSomeAnd worker.begun.tx (λ tx.
-          IsSomeAnd (seen_in worker.work.snap) (λ seen. HasOfCall job tx new seen)))
+      IsSomeAnd (seen_in worker.work.snap) (λ seen. HasOfCall job tx new seen)))
       worker.work.job (λ job.
       map_some (λ (tx : ℕ). IsSomeAnd (seen_in worker.work.snap) (λ seen. HasOfCall job tx old seen))
       (λ (tx : ℕ). IsSomeAnd (seen_in worker.work.snap) (λ seen. HasOfCall job tx new seen))
@@ -140,9 +134,9 @@ module _ (old new : CoreState) (kept : KeepsTransactions old new) (blocks : new.
   same_fetches : (tx : Option ℕ) (asked : Asking) → FetchesFor tx asked old → FetchesFor tx asked new
   same_fetches tx asked has =
       map_some (λ (number : ℕ). AreLoadedFor old number asked.fetched
-          × IsSomeAnd asked.wish (λ addr. has_taken old number addr ≡ true))
+      × IsSomeAnd asked.wish (λ addr. has_taken old number addr ≡ true))
       (λ (number : ℕ). AreLoadedFor new number asked.fetched
-          × IsSomeAnd asked.wish (λ addr. has_taken new number addr ≡ true)) tx (λ number both. (
+      × IsSomeAnd asked.wish (λ addr. has_taken new number addr ≡ true)) tx (λ number both. (
         all_loaded number asked.fetched both.0,
         map_some (λ (addr : Addr). has_taken old number addr ≡ true) (λ (addr : Addr). has_taken new number addr ≡ true)
             asked.wish (still_taken number) both.1,

@@ -1,7 +1,7 @@
 -- A run goes on with a step of its worker's work.
 use Rattle.std.proofs.Common.{◌≡◌, ◌∙◌, refl, sym, ap, subst, ℕ, zero, suc, ◌+◌, ◌<◌, ◌≤◌, ◌++◌, ◌∷◌, [], arith}
-use Rattle.std.proofs.Common.{Bool, true, false, not, ◌&&◌, if◌then◌else◌, nat_eq, nat_le, List, map, length, take, slice_get}
-use Rattle.std.proofs.Common.{Option, Some, None, Ok, Err, length-append}
+use Rattle.std.proofs.Common.{Bool, true, false, not, ◌&&◌, if◌then◌else◌, nat_le, List, map, length, take, slice_get}
+use Rattle.std.proofs.Common.{Option, Some, None, length-append}
 use Rattle.std.proofs.lemmas.Bool.{le-leb, lt-leb, leb-true, leb-false}
 use Rattle.std.proofs.lemmas.List.{append-nil, length-map, map-append, take-append-le, take_all}
 use Rattle.disk.specs.Crash.{Image}
@@ -11,12 +11,8 @@ use Rattle.model.specs.After.{Entry, after as leads_to}
 use Rattle.model.specs.Tree.{Tree}
 use Rattle.model.proofs.Joined.{push}
 use Rattle.txn_law.specs.Core.{CoreState}
-use Rattle.txn_law.specs.Window.{Footprint, after_commits, opening}
-use Rattle.layout.specs.Homes.{homes_of}
-use Rattle.wal_law.specs.Log.{installed_place}
 use Rattle.wal_law.specs.declared.outcomes.Seq.{Seq}
 use Rattle.store_promise.specs.declared.events.Committing.TheVariants as committing
-use Rattle.store_promise.specs.declared.events.Event.{Event}
 use Rattle.store_promise.specs.declared.events.Event.TheVariants as event
 use Rattle.store_promise.specs.declared.events.Step.{Step}
 use Rattle.store_promise.specs.declared.events.Step.TheVariants as step
@@ -26,23 +22,23 @@ use Rattle.store_promise.specs.declared.transcript.Run.{Run}
 use Rattle.store_promise.specs.Headline.{StandsAfter}
 use Rattle.store_promise.specs.History.{ctx_of}
 use Rattle.store_promise.specs.OpenSince.{HasFileBlocks, file_blocks}
-use Rattle.store_promise.specs.Progress.{Again, At, Begun, Called, Idle, Job, Planning, Progress, Read, Reading}
+use Rattle.store_promise.specs.Progress.{Again, At, Called, Idle, Job, Planning, Progress, Read, Reading}
 use Rattle.store_promise.specs.Progress.{Refused, Stage, Waiting, is_idle, progressed}
 use Rattle.store_promise.specs.Running.{IsMovedBy, IsRunningOver, IsTold, StoreSide, with_blocks}
 use Rattle.model.specs.Calls.{has_rules}
-use Rattle.store_promise.specs.Schedule.{IsOfOne, IsStepOfCalled, IsStepOfWork, IsTaken, Setting, Told, told_after}
+use Rattle.store_promise.specs.Schedule.{IsStepOfCalled, IsStepOfWork, IsTaken, Setting, Told, told_after}
 use Rattle.store_promise.specs.ToldOf.{log_told}
-use Rattle.store_promise.specs.Transcript.{Transcript, calls_device, committed_at, entries_of, entry_of, transcript_of}
-use Rattle.run_law.specs.Noting.{IsAnswerOf, IsAnswerWith, IsCommitOf, IsEntryOf, Noted, TellsOfEvent, clock_now}
+use Rattle.store_promise.specs.Transcript.{Transcript, calls_device, entries_of, entry_of, transcript_of}
+use Rattle.run_law.specs.Noting.{IsAnswerOf, IsEntryOf, Noted, TellsOfEvent, clock_now}
 use Rattle.run_law.specs.Noting.{commits, ends, listed, progress_now, told_now, with_noted}
 use Rattle.run_law.specs.Run.{Beginning, GoesOn, IsRun}
 use Rattle.store.specs.AtWork.{GoesOnWith, IsCoreAtWork, entry_by, fetches_of, has_committed, with_core}
 use Rattle.store.specs.Going.{IsGoing, IsNextEvent, KeepsCore, NotesStep}
-use Rattle.store.specs.Noting.{NotesAnswer, NotesAnswers, NotesHistory, NotesProcedure, NotesWork}
-use Rattle.store.specs.Stages.{IsWorkerAt, entry_at, progress_of}
+use Rattle.store.specs.Noting.{NotesAnswers, NotesHistory, NotesProcedure, NotesWork}
+use Rattle.store.specs.Stages.{IsWorkerAt, progress_of}
 use Rattle.store.specs.Telling.{HasWorked, entries_told, told}
 use Rattle.store.specs.WorkTells.{HasReplies, progress_after}
-use Rattle.store.specs.WorkerSteps.{GoesOn as WorksOn, KeepsReadsOf, Side, side}
+use Rattle.store.specs.WorkerSteps.{Side, side}
 use Rattle.store.specs.declared.workers.parts.State.{State}
 use Rattle.store.proofs.GoingOn.{goes_on_with}
 

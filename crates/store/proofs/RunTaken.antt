@@ -1,6 +1,6 @@
 -- An event that was taken leaves a run going, with its clock.
-use Rattle.std.proofs.Common.{◌≡◌, ◌∙◌, refl, sym, ap, subst, ℕ, zero, suc, ◌+◌, ◌-◌, ◌^◌, ◌<◌, ◌≤◌, arith, min}
-use Rattle.std.proofs.Common.{Bool, true, false, if◌then◌else◌, List, [], ◌∷◌, ◌++◌, length, Option, Some, None, count_by}
+use Rattle.std.proofs.Common.{◌≡◌, ◌∙◌, sym, ap, subst, ℕ, ◌+◌, ◌-◌, ◌^◌, ◌<◌, ◌≤◌, arith, min}
+use Rattle.std.proofs.Common.{Bool, true, false, if◌then◌else◌, List, [], ◌∷◌, ◌++◌, length, Option, count_by}
 use Rattle.std.proofs.lemmas.List.Sums.{count_by-le-length, sum_by_push}
 use Rattle.disk.specs.Blocks.{AreBlocks}
 use Rattle.disk.specs.Device.{Device}
@@ -91,7 +91,7 @@ read_on b old new worker later clock next made before after at few next_is steps
       let calls = going.run.moved.calls in
       let is = next_is ∙ counted_is clock made (few_calls b old worker clock before at few) in
       let count = ap (λ (xs : List (Option Step)). count_by calls_device xs) steps
-          ∙ sum_by_push (λ one. one_if (calls_device one)) before.steps.items made in
+      ∙ sum_by_push (λ one. one_if (calls_device one)) before.steps.items made in
       omega (arith, was, calls, is, count);
 }
 

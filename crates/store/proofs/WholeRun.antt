@@ -1,10 +1,9 @@
 -- A whole run: what begins it, what an event that was taken leaves of it, and its promise at the end.
-use Rattle.std.proofs.Common.{◌≡◌, ◌∙◌, refl, sym, ap, subst, ℕ, zero, suc, ◌+◌, arith, List, [], ◌∷◌, ◌++◌, length, map}
-use Rattle.std.proofs.Common.{Bool, false, Option, Some, None, slice_get}
+use Rattle.std.proofs.Common.{◌≡◌, ◌∙◌, refl, sym, ap, subst, ℕ, ◌+◌, List, [], ◌∷◌, ◌++◌, length, map}
+use Rattle.std.proofs.Common.{Some, None, slice_get}
 use Rattle.disk.specs.Blocks.{AreBlocks}
 use Rattle.disk.specs.Crash.{Image}
 use Rattle.disk.specs.Device.{Device}
-use Rattle.disk.specs.declared.block.BlockNo.{BlockNo}
 use Rattle.model.specs.Tree.{Tree}
 use Rattle.txn_law.specs.Core.{CoreState}
 use Rattle.txn_law.specs.Fetch.{Fetch}
@@ -17,12 +16,12 @@ use Rattle.store_promise.specs.Headline.{KeepsPromise, MayRun}
 use Rattle.store_promise.specs.Openings.{LeavesImages}
 use Rattle.store_promise.specs.Running.{StoreSide, at_rest}
 use Rattle.store_promise.specs.Schedule.{Schedule, Setting}
-use Rattle.store_promise.specs.Transcript.{Transcript, entries_of, entry_of, transcript_of}
+use Rattle.store_promise.specs.Transcript.{Transcript, entry_of, transcript_of}
 use Rattle.run_law.specs.Noting.{progress_now}
 use Rattle.run_law.specs.Run.{Beginning, IsRun}
 use Rattle.store.specs.AtWork.{IsCoreAtWork, fetches_of}
 use Rattle.store.specs.Fetches.{FetchesOnly}
-use Rattle.store.specs.Going.{HasGone, IsGoing, IsNextEvent, IsRunAt, LeavesGoing, RunSide, begins, run_side}
+use Rattle.store.specs.Going.{HasGone, IsGoing, LeavesGoing, RunSide, begins}
 use Rattle.store.specs.LogSide.{side_of}
 use Rattle.store.specs.Stages.{IsWorkerAt, progress_of}
 use Rattle.store.specs.Worker as worker
@@ -93,7 +92,7 @@ module _ (before : Device) (tree : Tree) (first : ℕ) (events : Schedule) where
       → LeavesGoing keeps_model now old told new later → HasGone before tree first events new later
   gone_on keeps_model now old new told later yielded rest keeps may events_are steps_are gone leaves =
       let there : slice_get events (length yielded) ≡ Some now =
-          ap (λ (es : Schedule). slice_get es (length yielded)) events_are ∙ next_is yielded rest now in
+      ap (λ (es : Schedule). slice_get es (length yielded)) events_are ∙ next_is yielded rest now in
       record {
         opened = gone.opened;
         at = leaves (begins before gone.opened tree first events) keeps (record {

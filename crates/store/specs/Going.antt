@@ -1,5 +1,5 @@
 -- What holds of a run between two events, as the code has it.
-use Rattle.std.specs.Prelude.{◌≡◌, ℕ, ◌+◌, ◌++◌, ◌∷◌, [], Option, Some, None, length, slice_get}
+use Rattle.std.specs.Prelude.{◌≡◌, ℕ, ◌+◌, ◌++◌, ◌∷◌, [], Option, Some, length, slice_get}
 use Rattle.disk.specs.Crash.{Image}
 use Rattle.disk.specs.Device.{Device}
 use Rattle.model.specs.Tree.{Tree}

@@ -1,14 +1,11 @@
-use Rattle.std.proofs.Common.{rules, ◌≡◌, ◌∙◌, ap, sym, subst, refl, ℕ, ◌+◌, ◌++◌, ◌∷◌, [], List, length, length-append, arith}
+use Rattle.std.proofs.Common.{rules, ◌∙◌, ap, sym, subst, ◌++◌, ◌∷◌, [], length, length-append, arith}
 use Rattle.std.proofs.lemmas.List.{append_assoc}
 use Rattle.std.specs.Vec.Iter.{into_iter_items}
-use Rattle.disk.specs.Device.{Device}
-use Rattle.store_promise.specs.Headline.{KeepsPromise, MayRun}
+use Rattle.store_promise.specs.Headline.{KeepsPromise}
 use Rattle.store_promise.specs.OpenSince.{file_blocks}
 use Rattle.store_promise.specs.Schedule.{Setting}
 use Rattle.store_promise.specs.Transcript.{transcript_of}
-use Rattle.store_promise.specs.declared.transcript.Run.{Run}
 use Rattle.store.specs.Going.{HasGone, begins, run_side}
-use Rattle.store.specs.LogSide.{side_of}
 use Rattle.store.specs.Worker.{Fits}
 use Rattle.store.proofs.RunTaken.{goes_with}
 use Rattle.store.proofs.WholeRun.{first_going, gone_on, promise_kept}
@@ -25,8 +22,7 @@ events-init g c =
     let made = c.new-running.result in
     let same = c.new-running.ensures.store in
     let before = g.D.CrashDisk.device c.args.disk in
-    let opened = g.D.CrashDisk.device store.disk in
-    (
+    let opened = g.D.CrashDisk.device store.disk in (
       c.new-running.ensures.well,
       λ keeps. c.in-Ok.ensures.model (subst (λ s. g.D.CrashDisk.keeps_model s.disk) same keeps),
       search rules,
@@ -42,10 +38,10 @@ events-init g c =
             blocks = λ place. file_blocks opens.3 store.core;
           } in
           let with = goes_with made.worker store.core
-              (subst (λ s. Fits made.worker s.core) same c.new-running.ensures.well.fits) in
+          (subst (λ s. Fits made.worker s.core) same c.new-running.ensures.well.fits) in
           let going = first_going b o opens.3 store.core made.worker.state store.boot made.calls c.new-run.result begun.1
-              opens.4.present c.new-running.ensures.worker opens.0 c.new-running.ensures.calls
-              (c.new-run.ensures.boot ∙ c.boot.ensures) c.new-run.ensures.empty c.new-running.ensures.stands with in
+          opens.4.present c.new-running.ensures.worker opens.0 c.new-running.ensures.calls
+          (c.new-run.ensures.boot ∙ c.boot.ensures) c.new-run.ensures.empty c.new-running.ensures.stands with in
           let none = c.new-running.ensures.clock in
           subst (λ s. HasGone before tree first c.args.events.items
           (run_side (g.D.CrashDisk.device s.disk) s.core made.calls made.worker.state made.clock) c.new-run.result)
@@ -59,8 +55,7 @@ events-preserved g c =
     let before = g.D.CrashDisk.device c.args.disk in
     let old = c.events.running in
     let new = c.take.new.self in
-    let items = invariant.2 ∙ ap (λ rest. c.events.yielded ++ rest) c.in-Some.ensures.steps.0 in
-    (
+    let items = invariant.2 ∙ ap (λ rest. c.events.yielded ++ rest) c.in-Some.ensures.steps.0 in (
       c.take.ensures.well,
       λ keeps. invariant.1 (c.take.ensures.model keeps),
       items ∙ sym (append_assoc c.events.yielded (c.in-Some.event ∷ []) (into_iter_items c.next.new.self)),
@@ -94,34 +89,34 @@ returns-clause-promised g c = λ tree first may.
     let side = run_side (g.D.CrashDisk.device last.store.disk) last.store.core last.calls last.worker.state last.clock in
     let old = c.events.running in
     let so_far : g.D.CrashDisk.keeps_model old.store.disk → HasGone before tree first events
-        (run_side (g.D.CrashDisk.device old.store.disk) old.store.core old.calls old.worker.state old.clock) c.events.run =
-        λ kept. invariant.4 tree first
-        (record { model = kept; rest = may.rest; good = may.good; timely = may.timely }) in
+    (run_side (g.D.CrashDisk.device old.store.disk) old.store.core old.calls old.worker.state old.clock) c.events.run =
+    λ kept. invariant.4 tree first
+    (record { model = kept; rest = may.rest; good = may.good; timely = may.timely }) in
     let gone : HasGone before tree first events side told = elim c.match-next.branch [
       | in-None w ↦
           subst (λ r. HasGone before tree first events
-              (run_side (g.D.CrashDisk.device r.store.disk) r.store.core r.calls r.worker.state r.clock) told)
-              (sym w.running-is)
-              (subst (λ t. HasGone before tree first events
-              (run_side (g.D.CrashDisk.device old.store.disk) old.store.core old.calls old.worker.state old.clock) t)
-              (sym w.run-is)
-              (so_far (subst (λ r. g.D.CrashDisk.keeps_model r.store.disk) w.running-is keeps)))
+          (run_side (g.D.CrashDisk.device r.store.disk) r.store.core r.calls r.worker.state r.clock) told)
+          (sym w.running-is)
+          (subst (λ t. HasGone before tree first events
+          (run_side (g.D.CrashDisk.device old.store.disk) old.store.core old.calls old.worker.state old.clock) t)
+          (sym w.run-is)
+          (so_far (subst (λ r. g.D.CrashDisk.keeps_model r.store.disk) w.running-is keeps)))
       | in-Some+then-not-take w ↦
           let new = w.take.new.self in
           let kept = subst (λ r. g.D.CrashDisk.keeps_model r.store.disk) w.running-is keeps in
           let items = invariant.2 ∙ ap (λ rest. c.events.yielded ++ rest) w.in-Some.ensures.steps.0 in
           subst (λ r. HasGone before tree first events
-              (run_side (g.D.CrashDisk.device r.store.disk) r.store.core r.calls r.worker.state r.clock) told)
-              (sym w.running-is)
-              (subst (λ t. HasGone before tree first events
-              (run_side (g.D.CrashDisk.device new.store.disk) new.store.core new.calls new.worker.state new.clock) t)
-              (sym w.run-is)
-              (gone_on before tree first events (g.D.CrashDisk.keeps_model new.store.disk) w.in-Some.event
-              (run_side (g.D.CrashDisk.device old.store.disk) old.store.core old.calls old.worker.state old.clock)
-              (run_side (g.D.CrashDisk.device new.store.disk) new.store.core new.calls new.worker.state new.clock)
-              c.events.run w.take.new.run c.events.yielded _ kept
-              (record { model = kept; rest = may.rest; good = may.good; timely = may.timely }) items invariant.3
-              (so_far (w.take.ensures.model kept)) w.take.ensures.goes))
+          (run_side (g.D.CrashDisk.device r.store.disk) r.store.core r.calls r.worker.state r.clock) told)
+          (sym w.running-is)
+          (subst (λ t. HasGone before tree first events
+          (run_side (g.D.CrashDisk.device new.store.disk) new.store.core new.calls new.worker.state new.clock) t)
+          (sym w.run-is)
+          (gone_on before tree first events (g.D.CrashDisk.keeps_model new.store.disk) w.in-Some.event
+          (run_side (g.D.CrashDisk.device old.store.disk) old.store.core old.calls old.worker.state old.clock)
+          (run_side (g.D.CrashDisk.device new.store.disk) new.store.core new.calls new.worker.state new.clock)
+          c.events.run w.take.new.run c.events.yielded _ kept
+          (record { model = kept; rest = may.rest; good = may.good; timely = may.timely }) items invariant.3
+          (so_far (w.take.ensures.model kept)) w.take.ensures.goes))
     ] in
     subst (λ disk. KeepsPromise before (g.D.CrashDisk.device disk) tree first c.args.workers events (transcript_of told))
     (sym disk_is)

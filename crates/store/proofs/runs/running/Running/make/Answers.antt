@@ -3,12 +3,12 @@ use Rattle.store_promise.specs.declared.events.Event.{Event}
 use Rattle.store_promise.specs.declared.events.Event.TheVariants as event
 use Rattle.store_promise.specs.declared.events.Step.{Step}
 use Rattle.store_promise.specs.declared.transcript.Run.{Run}
-use Rattle.store_promise.specs.Running.{IsLogStep, StoreSide}
+use Rattle.store_promise.specs.Running.{StoreSide}
 use Rattle.run_law.specs.Run.{Beginning}
-use Rattle.store.specs.Going.{IsGoing, IsNextEvent, IsRunAt, NotesStep, may_make}
+use Rattle.store.specs.Going.{IsGoing, IsNextEvent, NotesStep}
 use Rattle.store.specs.LogSide.{side_of}
 use Rattle.txn.specs.Core.{CoreState}
-use Rattle.store.specs.Worker.{Fits, GoesWith}
+use Rattle.store.specs.Worker.{GoesWith}
 use Rattle.store.specs.declared.workers.Worker.{Worker}
 use Rattle.store.specs.declared.workers.parts.State.{State}
 use Rattle.store.specs.Telling.{HasWorked}
@@ -114,7 +114,7 @@ returns-in-Read-clause-goes g c = λ b keeps next at.
     let new = side_of e after.store.core after.calls in
     let with = goes_with after.worker after.store.core c.read-step.ensures.well.fits in
     let same : side_of e before.store.core before.calls ≡ new =
-        λ i. side_of e (sym c.read-step.ensures.rest.1 i) (sym c.read-step.ensures.rest.0 i) in
+    λ i. side_of e (sym c.read-step.ensures.rest.1 i) (sym c.read-step.ensures.rest.0 i) in
     let noted : NotesStep c.read-step.result told last = record {
       steps = notes.steps;
       boot = notes.boot;
@@ -122,12 +122,12 @@ returns-in-Read-clause-goes g c = λ b keeps next at.
       answers = ap (λ v. v.items) notes.answers;
     } in
     let going = subst (λ (s : StoreSide). IsGoing b s after.worker.state last) same
-        (c.a_read_leaves_a_run_going.ensures b number old e before.worker.state after.worker.state c.read-step.result told
-        last (subst (λ (e : Event). IsNextEvent b e told) c.in-Read.is next)
-        (has_contents d (g.met.D.CrashDisk.whole before.store.disk (c.read-step.ensures.model keeps)))
-        (with_model (g.D.CrashDisk.keeps_model after.store.disk) number d e before.worker.state after.worker.state
-        c.read-step.result keeps c.read-step.ensures.step)
-        (subst (λ (core : CoreState). GoesWith after.worker.state core) c.read-step.ensures.rest.1 with) noted at.going) in
+    (c.a_read_leaves_a_run_going.ensures b number old e before.worker.state after.worker.state c.read-step.result told
+    last (subst (λ (e : Event). IsNextEvent b e told) c.in-Read.is next)
+    (has_contents d (g.met.D.CrashDisk.whole before.store.disk (c.read-step.ensures.model keeps)))
+    (with_model (g.D.CrashDisk.keeps_model after.store.disk) number d e before.worker.state after.worker.state
+    c.read-step.result keeps c.read-step.ensures.step)
+    (subst (λ (core : CoreState). GoesWith after.worker.state core) c.read-step.ensures.rest.1 with) noted at.going) in
     read_on b old new before.worker.state after.worker.state before.clock after.clock c.read-step.result told last at
     c.has_few_steps.ensures c.read-step.ensures.clock notes.steps going
 
@@ -147,7 +147,7 @@ returns-in-Work-clause-goes g c = λ b keeps next at.
     let is_next = subst (λ (e : Event). IsNextEvent b e told) c.in-Work.is next in
     let same_device = ap g.D.CrashDisk.device c.work-step.ensures.disk in
     let same : (record old { core = after.store.core }) ≡ new =
-        λ i. side_of (sym same_device i) after.store.core (sym c.work-step.ensures.rest.0 i) in
+    λ i. side_of (sym same_device i) after.store.core (sym c.work-step.ensures.rest.0 i) in
     let noted : NotesStep made mid last = record {
       steps = notes.steps;
       boot = notes.boot;
@@ -168,6 +168,6 @@ returns-in-Work-clause-goes g c = λ b keeps next at.
     (λ other.
     let none = c.work-step.ensures.none other in
     let stays = c.a_work_event_leaves_a_run_going.ensures.absent b c.in-Work.worker old before.worker.state told last is_next
-        other (subst (λ (r : Run). NotesStep None r last) none.2 (subst (λ m. NotesStep m mid last) none.0 noted)) at.going in
+    other (subst (λ (r : Run). NotesStep None r last) none.2 (subst (λ m. NotesStep m mid last) none.0 noted)) at.going in
     subst (λ r. IsGoing b (side_of (g.D.CrashDisk.device r.store.disk) r.store.core r.calls) r.worker.state last)
     (sym none.1) stays))
