@@ -155,18 +155,21 @@ def test_a_call_is_answered_before_the_next_is_sent(place):
 
 
 def test_replies_that_are_read_slowly_come_whole(place):
-    # The pipe holds one page, so that the program waits for its reader and writes in parts.
+    # The pipe holds one page, so that the program waits for its reader and writes in parts. It is made small before the
+    # program has it: a pipe that holds more already can't be.
     image, count = place.image(), 500
     with open(place.path("calls"), "wb") as file:
         file.write(b"".join(wire.getattr_call(xid) for xid in range(count)))
-    with open(place.path("calls"), "rb") as calls:
-        ran = place.start(["once", image, "--time", "2000"], stdin=calls)
-    fcntl.fcntl(ran.stdout, fcntl.F_SETPIPE_SZ, 4096)
+    reads, writes = os.pipe()
+    fcntl.fcntl(writes, fcntl.F_SETPIPE_SZ, 4096)
+    with open(place.path("calls"), "rb") as calls, os.fdopen(writes, "wb") as output:
+        ran = place.start(["once", image, "--time", "2000"], stdin=calls, stdout=output)
     found = b""
-    while piece := os.read(ran.stdout.fileno(), 1 + len(found) % 61):
-        found += piece
-        if len(found) < 4000:
-            time.sleep(0.0005)
+    with os.fdopen(reads, "rb", buffering=0) as replies:
+        while piece := replies.read(1 + len(found) % 61):
+            found += piece
+            if len(found) < 4000:
+                time.sleep(0.0005)
     wanted = b"".join(wire.getattr_reply(xid, NEW_MODE, MADE, MADE) for xid in range(count))
     same("replies", found, wanted)
     same("standard error", ran.communicate(timeout=SECONDS)[1], NOTHING)

@@ -1,7 +1,7 @@
 //! Reading the listings of READDIR and READDIRPLUS (RFC 1813, sections 3.3.16 and 3.3.17).
 ghost use Rattle.std.specs.Prelude.{◌≡◌};
 ghost use Rattle.xdr.specs.Reading.{Gives};
-ghost use Rattle.nfs_codec.specs.Results as codes;
+ghost use Rattle.nfs_results.specs.Results as codes;
 
 use crate::told::{read_optional_attributes, read_optional_handle, read_text, read_verifier};
 use nfs_types::{
@@ -11,7 +11,7 @@ use std::alloc::Global;
 use xdr::{Reader, XdrFault};
 
 /// What READDIR lists.
-#[tactic(auto, unfolding(nfs_codec::specs::Results::listed))]
+#[tactic(auto, unfolding(nfs_results::specs::Results::listed))]
 pub fn read_listed(alloc: Global, reader: &mut Reader) -> Result<Listed, XdrFault>
     ensures { Gives (λ x. (x, reader.new)) result (codes.listed.read reader.old) }
 {
@@ -37,7 +37,7 @@ fn read_entries(alloc: Global, reader: &mut Reader) -> Result<ListedEntries, Xdr
 }
 
 // An entry.
-#[tactic(auto, unfolding(nfs_codec::specs::Results::entry))]
+#[tactic(auto, unfolding(nfs_results::specs::Results::entry))]
 fn read_entry(alloc: Global, reader: &mut Reader) -> Result<ListedEntry, XdrFault>
     ensures { Gives (λ x. (x, reader.new)) result (codes.entry.read reader.old) }
 {
@@ -52,7 +52,7 @@ fn read_entry(alloc: Global, reader: &mut Reader) -> Result<ListedEntry, XdrFaul
 }
 
 /// What READDIRPLUS lists.
-#[tactic(auto, unfolding(nfs_codec::specs::Results::listed_plus))]
+#[tactic(auto, unfolding(nfs_results::specs::Results::listed_plus))]
 pub fn read_listed_plus(alloc: Global, reader: &mut Reader) -> Result<ListedPlus, XdrFault>
     ensures { Gives (λ x. (x, reader.new)) result (codes.listed_plus.read reader.old) }
 {
@@ -78,7 +78,7 @@ fn read_entries_plus(alloc: Global, reader: &mut Reader) -> Result<ListedEntries
 }
 
 // An entry.
-#[tactic(auto, unfolding(nfs_codec::specs::Results::entry_plus))]
+#[tactic(auto, unfolding(nfs_results::specs::Results::entry_plus))]
 fn read_entry_plus(alloc: Global, reader: &mut Reader) -> Result<ListedEntryPlus, XdrFault>
     ensures { Gives (λ x. (x, reader.new)) result (codes.entry_plus.read reader.old) }
 {

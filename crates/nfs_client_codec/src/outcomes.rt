@@ -2,7 +2,7 @@
 ghost use Rattle.std.specs.Prelude.{◌≡◌};
 ghost use Rattle.xdr.specs.Codes.{word, items_at};
 ghost use Rattle.xdr.specs.Reading.{Reads, Gives};
-ghost use Rattle.nfs_codec.specs.Results as codes;
+ghost use Rattle.nfs_results.specs.Results as codes;
 
 use crate::told::{
     read_handle, read_moment, read_optional_attributes, read_optional_handle, read_stability,
@@ -17,7 +17,7 @@ use std::alloc::Global;
 use xdr::{Reader, XdrFault};
 
 /// What LOOKUP found.
-#[tactic(auto, unfolding(nfs_codec::specs::Results::looked))]
+#[tactic(auto, unfolding(nfs_results::specs::Results::looked))]
 pub fn read_looked(alloc: Global, reader: &mut Reader) -> Result<Looked, XdrFault>
     ensures { Gives (λ x. (x, reader.new)) result (codes.looked.read reader.old) }
 {
@@ -27,7 +27,7 @@ pub fn read_looked(alloc: Global, reader: &mut Reader) -> Result<Looked, XdrFaul
 }
 
 /// What READ gives.
-#[tactic(auto, unfolding(nfs_codec::specs::Results::read_bytes))]
+#[tactic(auto, unfolding(nfs_results::specs::Results::read_bytes))]
 pub fn read_read_bytes(alloc: Global, reader: &mut Reader) -> Result<ReadBytes, XdrFault>
     ensures { Gives (λ x. (x, reader.new)) result (codes.read_bytes.read reader.old) }
 {
@@ -38,7 +38,7 @@ pub fn read_read_bytes(alloc: Global, reader: &mut Reader) -> Result<ReadBytes, 
 }
 
 /// What WRITE did.
-#[tactic(auto, unfolding(nfs_codec::specs::Results::written))]
+#[tactic(auto, unfolding(nfs_results::specs::Results::written))]
 pub fn read_written(reader: &mut Reader) -> Result<Written, XdrFault>
     ensures { Reads (λ x. (x, reader.new)) result (codes.written.read reader.old) }
 {
@@ -53,7 +53,7 @@ pub fn read_written(reader: &mut Reader) -> Result<Written, XdrFault>
 }
 
 /// What CREATE, MKDIR, SYMLINK or MKNOD made.
-#[tactic(auto, unfolding(nfs_codec::specs::Results::created))]
+#[tactic(auto, unfolding(nfs_results::specs::Results::created))]
 pub fn read_created(alloc: Global, reader: &mut Reader) -> Result<Created, XdrFault>
     ensures { Gives (λ x. (x, reader.new)) result (codes.created.read reader.old) }
 {
@@ -63,7 +63,7 @@ pub fn read_created(alloc: Global, reader: &mut Reader) -> Result<Created, XdrFa
 }
 
 /// What FSSTAT tells.
-#[tactic(auto, unfolding(nfs_codec::specs::Results::space))]
+#[tactic(auto, unfolding(nfs_results::specs::Results::space))]
 pub fn read_space(reader: &mut Reader) -> Result<FileSystemSpace, XdrFault>
     ensures { Reads (λ x. (x, reader.new)) result (codes.space.read reader.old) }
 {
@@ -86,7 +86,7 @@ pub fn read_space(reader: &mut Reader) -> Result<FileSystemSpace, XdrFault>
 }
 
 /// What FSINFO tells.
-#[tactic(auto, unfolding(nfs_codec::specs::Results::info))]
+#[tactic(auto, unfolding(nfs_results::specs::Results::info))]
 pub fn read_info(reader: &mut Reader) -> Result<FileSystemInfo, XdrFault>
     ensures { Reads (λ x. (x, reader.new)) result (codes.info.read reader.old) }
 {
@@ -115,7 +115,7 @@ pub fn read_info(reader: &mut Reader) -> Result<FileSystemInfo, XdrFault>
 }
 
 /// What PATHCONF tells.
-#[tactic(auto, unfolding(nfs_codec::specs::Results::limits))]
+#[tactic(auto, unfolding(nfs_results::specs::Results::limits))]
 pub fn read_limits(reader: &mut Reader) -> Result<PathLimits, XdrFault>
     ensures { Reads (λ x. (x, reader.new)) result (codes.limits.read reader.old) }
 {
@@ -136,7 +136,7 @@ pub fn read_limits(reader: &mut Reader) -> Result<PathLimits, XdrFault>
 }
 
 /// What MNT gives.
-#[tactic(auto, unfolding(nfs_codec::specs::Results::mounted))]
+#[tactic(auto, unfolding(nfs_results::specs::Results::mounted))]
 pub fn read_mounted(alloc: Global, reader: &mut Reader) -> Result<Mounted, XdrFault>
     ensures { Gives (λ x. (x, reader.new)) result (codes.mounted.read reader.old) }
 {
@@ -146,7 +146,7 @@ pub fn read_mounted(alloc: Global, reader: &mut Reader) -> Result<Mounted, XdrFa
 }
 
 // A counted list of flavors.
-#[tactic(auto, unfolding(nfs_codec::specs::Results::flavors))]
+#[tactic(auto, unfolding(nfs_results::specs::Results::flavors))]
 fn read_flavors(alloc: Global, reader: &mut Reader) -> Result<NumberList, XdrFault>
     ensures { Gives (λ x. (x, reader.new)) result (codes.flavors.read reader.old) }
 {

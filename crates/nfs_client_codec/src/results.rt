@@ -2,7 +2,7 @@
 ghost use Rattle.std.specs.Prelude.{◌≡◌};
 ghost use Rattle.nfs_types.specs.declared.program.ProgramProcedure.TheVariants as procedures;
 ghost use Rattle.xdr.specs.Reading.{Reads, Gives};
-ghost use Rattle.nfs_codec.specs.Results as codes;
+ghost use Rattle.nfs_results.specs.Results as codes;
 
 use crate::entries::{read_listed, read_listed_plus};
 use crate::outcomes::{
@@ -12,7 +12,7 @@ use crate::outcomes::{
 use crate::told::{
     read_attributes, read_optional_attributes, read_text, read_verifier, read_weak_cache,
 };
-use nfs_codec::status_numbered;
+use nfs_results::status_numbered;
 use nfs_types::{
     Attributes, Created, FileSystemInfo, FileSystemSpace, Listed, ListedPlus, Looked,
     MountProcedure, MountReply, Mounted, Octets, PathLimits, Procedure, ProgramProcedure,
@@ -172,7 +172,7 @@ fn read_mount_result(
     }
 }
 
-#[tactic(auto, unfolding(nfs_codec::specs::Results::get_attr))]
+#[tactic(auto, unfolding(nfs_results::specs::Results::get_attr))]
 fn take_get_attr(reader: &mut Reader) -> Result<Result<Attributes, Status>, XdrFault>
     ensures { Reads (λ x. (x, reader.new)) result (codes.get_attr.read reader.old) }
 {
@@ -188,7 +188,7 @@ fn take_get_attr(reader: &mut Reader) -> Result<Result<Attributes, Status>, XdrF
     }
 }
 
-#[tactic(auto, unfolding(nfs_codec::specs::Results::set_attr))]
+#[tactic(auto, unfolding(nfs_results::specs::Results::set_attr))]
 fn take_set_attr(reader: &mut Reader) -> Result<(Result<(), Status>, WeakCacheData), XdrFault>
     ensures { Reads (λ x. (x, reader.new)) result (codes.set_attr.read reader.old) }
 {
@@ -207,7 +207,7 @@ fn take_set_attr(reader: &mut Reader) -> Result<(Result<(), Status>, WeakCacheDa
     }
 }
 
-#[tactic(auto, unfolding(nfs_codec::specs::Results::lookup))]
+#[tactic(auto, unfolding(nfs_results::specs::Results::lookup))]
 fn take_lookup(
     alloc: Global,
     reader: &mut Reader,
@@ -230,7 +230,7 @@ fn take_lookup(
     }
 }
 
-#[tactic(auto, unfolding(nfs_codec::specs::Results::access))]
+#[tactic(auto, unfolding(nfs_results::specs::Results::access))]
 fn take_access(reader: &mut Reader) -> Result<(Result<u32, Status>, Option<Attributes>), XdrFault>
     ensures { Reads (λ x. (x, reader.new)) result (codes.access.read reader.old) }
 {
@@ -250,7 +250,7 @@ fn take_access(reader: &mut Reader) -> Result<(Result<u32, Status>, Option<Attri
     }
 }
 
-#[tactic(auto, unfolding(nfs_codec::specs::Results::read_link))]
+#[tactic(auto, unfolding(nfs_results::specs::Results::read_link))]
 fn take_read_link(
     alloc: Global,
     reader: &mut Reader,
@@ -273,7 +273,7 @@ fn take_read_link(
     }
 }
 
-#[tactic(auto, unfolding(nfs_codec::specs::Results::read))]
+#[tactic(auto, unfolding(nfs_results::specs::Results::read))]
 fn take_read(
     alloc: Global,
     reader: &mut Reader,
@@ -296,7 +296,7 @@ fn take_read(
     }
 }
 
-#[tactic(auto, unfolding(nfs_codec::specs::Results::write))]
+#[tactic(auto, unfolding(nfs_results::specs::Results::write))]
 fn take_write(reader: &mut Reader) -> Result<(Result<Written, Status>, WeakCacheData), XdrFault>
     ensures { Reads (λ x. (x, reader.new)) result (codes.write.read reader.old) }
 {
@@ -316,7 +316,7 @@ fn take_write(reader: &mut Reader) -> Result<(Result<Written, Status>, WeakCache
     }
 }
 
-#[tactic(auto, unfolding(nfs_codec::specs::Results::create))]
+#[tactic(auto, unfolding(nfs_results::specs::Results::create))]
 fn take_create(
     alloc: Global,
     reader: &mut Reader,
@@ -339,7 +339,7 @@ fn take_create(
     }
 }
 
-#[tactic(auto, unfolding(nfs_codec::specs::Results::remove))]
+#[tactic(auto, unfolding(nfs_results::specs::Results::remove))]
 fn take_remove(reader: &mut Reader) -> Result<(Result<(), Status>, WeakCacheData), XdrFault>
     ensures { Reads (λ x. (x, reader.new)) result (codes.remove.read reader.old) }
 {
@@ -358,7 +358,7 @@ fn take_remove(reader: &mut Reader) -> Result<(Result<(), Status>, WeakCacheData
     }
 }
 
-#[tactic(auto, unfolding(nfs_codec::specs::Results::rename))]
+#[tactic(auto, unfolding(nfs_results::specs::Results::rename))]
 fn take_rename(
     reader: &mut Reader,
 ) -> Result<(Result<(), Status>, (WeakCacheData, WeakCacheData)), XdrFault>
@@ -381,7 +381,7 @@ fn take_rename(
     }
 }
 
-#[tactic(auto, unfolding(nfs_codec::specs::Results::link))]
+#[tactic(auto, unfolding(nfs_results::specs::Results::link))]
 fn take_link(
     reader: &mut Reader,
 ) -> Result<(Result<(), Status>, (Option<Attributes>, WeakCacheData)), XdrFault>
@@ -404,7 +404,7 @@ fn take_link(
     }
 }
 
-#[tactic(auto, unfolding(nfs_codec::specs::Results::read_dir))]
+#[tactic(auto, unfolding(nfs_results::specs::Results::read_dir))]
 fn take_read_dir(
     alloc: Global,
     reader: &mut Reader,
@@ -427,7 +427,7 @@ fn take_read_dir(
     }
 }
 
-#[tactic(auto, unfolding(nfs_codec::specs::Results::read_dir_plus))]
+#[tactic(auto, unfolding(nfs_results::specs::Results::read_dir_plus))]
 fn take_read_dir_plus(
     alloc: Global,
     reader: &mut Reader,
@@ -450,7 +450,7 @@ fn take_read_dir_plus(
     }
 }
 
-#[tactic(auto, unfolding(nfs_codec::specs::Results::fs_stat))]
+#[tactic(auto, unfolding(nfs_results::specs::Results::fs_stat))]
 fn take_fs_stat(
     reader: &mut Reader,
 ) -> Result<(Result<FileSystemSpace, Status>, Option<Attributes>), XdrFault>
@@ -472,7 +472,7 @@ fn take_fs_stat(
     }
 }
 
-#[tactic(auto, unfolding(nfs_codec::specs::Results::fs_info))]
+#[tactic(auto, unfolding(nfs_results::specs::Results::fs_info))]
 fn take_fs_info(
     reader: &mut Reader,
 ) -> Result<(Result<FileSystemInfo, Status>, Option<Attributes>), XdrFault>
@@ -494,7 +494,7 @@ fn take_fs_info(
     }
 }
 
-#[tactic(auto, unfolding(nfs_codec::specs::Results::path_conf))]
+#[tactic(auto, unfolding(nfs_results::specs::Results::path_conf))]
 fn take_path_conf(
     reader: &mut Reader,
 ) -> Result<(Result<PathLimits, Status>, Option<Attributes>), XdrFault>
@@ -516,7 +516,7 @@ fn take_path_conf(
     }
 }
 
-#[tactic(auto, unfolding(nfs_codec::specs::Results::commit))]
+#[tactic(auto, unfolding(nfs_results::specs::Results::commit))]
 fn take_commit(reader: &mut Reader) -> Result<(Result<Verifier, Status>, WeakCacheData), XdrFault>
     ensures { Reads (λ x. (x, reader.new)) result (codes.commit.read reader.old) }
 {
@@ -536,7 +536,7 @@ fn take_commit(reader: &mut Reader) -> Result<(Result<Verifier, Status>, WeakCac
     }
 }
 
-#[tactic(auto, unfolding(nfs_codec::specs::Results::mount_root))]
+#[tactic(auto, unfolding(nfs_results::specs::Results::mount_root))]
 fn take_mount_root(alloc: Global, reader: &mut Reader) -> Result<Result<Mounted, Status>, XdrFault>
     ensures { Gives (λ x. (x, reader.new)) result (codes.mount_root.read reader.old) }
 {

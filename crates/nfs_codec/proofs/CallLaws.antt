@@ -1,8 +1,6 @@
 -- The calls of each procedure are read as they are spelled: a row for each.
-use Rattle.std.proofs.Common.{◌≡◌, ℕ, ◌≤◌, List, [], ◌++◌, length, Result, Ok, Err, refl, sym, ap, subst, ◌∙◌, arith}
-use Rattle.nfs_types.specs.declared.call.Call.{Call}
+use Rattle.std.proofs.Common.{◌≡◌, ℕ, ◌≤◌, List, ◌++◌, length, Result, Ok, Err, refl, sym, ap, subst, ◌∙◌, arith}
 use Rattle.nfs_types.specs.declared.call.Call.TheVariants as calls
-use Rattle.nfs_types.specs.declared.mount.MountCall.{MountCall}
 use Rattle.nfs_types.specs.declared.mount.MountCall.TheVariants as mount_calls
 use Rattle.nfs_types.specs.declared.mount.TheConstants.{PATH_BYTES}
 use Rattle.nfs_types.specs.declared.program.MountProcedure.TheVariants as mount
@@ -18,12 +16,13 @@ use Rattle.xdr.specs.Reading.{◌>>=◌}
 use Rattle.xdr.proofs.Coded.{IsBytes, Takes}
 use Rattle.xdr.proofs.Never.{Never}
 use Rattle.xdr.proofs.Never as never
+use Rattle.xdr.proofs.Refusing.{made_err}
 use Rattle.xdr.proofs.Lawful.{IsCode, map_ok, words, doubles, opaques, nothings, thens, fittings, whole_takes}
-use Rattle.xdr.proofs.Lawful.{whole_again, whole_never, alike}
+use Rattle.xdr.proofs.Lawful.{whole_again, whole_never}
 use Rattle.nfs_codec.specs.Arguments.{get_attr, set_attr, lookup, access, read_link, read, write, create, mk_dir}
 use Rattle.nfs_codec.specs.Arguments.{sym_link, mk_nod, remove, rm_dir, rename, link, read_dir, read_dir_plus}
 use Rattle.nfs_codec.specs.Arguments.{fs_stat, fs_info, path_conf, commit, path, arguments, call_at, calls_of}
-use Rattle.nfs_codec.specs.Arguments.{call_of}
+use Rattle.nfs_codec.specs.Arguments.{call_refuses, call_of}
 use Rattle.nfs_codec.specs.Items.{handle, text, directory_name, moment, verifier, guard, new_attributes}
 use Rattle.nfs_codec.specs.Items.{create_how, stability, special_file}
 use Rattle.nfs_codec.specs.Procedures.{called}
@@ -88,6 +87,8 @@ record Row (p : ProgramProcedure) : Type 1 where
   make : Parts → ProgramCall
   makes : (x : Parts) → Makes p code make x
   reads : (bytes : List ℕ) → call_at p bytes ≡ (code.read bytes >>= made_of make)
+  refuses : (bytes : List ℕ) (e : XdrFault) → code.Refuses bytes e → call_refuses p bytes e
+  refused : (bytes : List ℕ) (e : XdrFault) → call_refuses p bytes e → code.Refuses bytes e
 
 twice : {A B C : Type 0} (r : Result (A × List ℕ) XdrFault) (f : A → B) (g : B → C)
     → (r >>= made_of f >>= made_of g) ≡ (r >>= made_of (λ x. g (f x)))
@@ -103,6 +104,8 @@ row (procedures.Nfs nfs.Null) = record {
   make = λ x. program_calls.Nfs calls.Null;
   makes = λ x. record { spelled = refl; called = refl; fits = λ f. tt };
   reads = λ bytes. twice (nothing.read bytes) (λ x. calls.Null) program_calls.Nfs;
+  refuses = λ bytes e r. r;
+  refused = λ bytes e r. r;
 }
 row (procedures.Nfs nfs.GetAttr) = record {
   Parts = _;
@@ -111,6 +114,8 @@ row (procedures.Nfs nfs.GetAttr) = record {
   make = λ x. program_calls.Nfs (calls.GetAttr x);
   makes = λ x. record { spelled = refl; called = refl; fits = λ f. f };
   reads = λ bytes. twice (get_attr.read bytes) (λ x. calls.GetAttr x) program_calls.Nfs;
+  refuses = λ bytes e r. r;
+  refused = λ bytes e r. r;
 }
 row (procedures.Nfs nfs.SetAttr) = record {
   Parts = _;
@@ -119,6 +124,8 @@ row (procedures.Nfs nfs.SetAttr) = record {
   make = λ x. program_calls.Nfs (calls.SetAttr x.0 x.1.0 x.1.1);
   makes = λ x. record { spelled = refl; called = refl; fits = λ f. (f.0, f.1.0, f.1.1) };
   reads = λ bytes. twice (set_attr.read bytes) (λ x. calls.SetAttr x.0 x.1.0 x.1.1) program_calls.Nfs;
+  refuses = λ bytes e r. r;
+  refused = λ bytes e r. r;
 }
 row (procedures.Nfs nfs.Lookup) = record {
   Parts = _;
@@ -127,6 +134,8 @@ row (procedures.Nfs nfs.Lookup) = record {
   make = λ x. program_calls.Nfs (calls.Lookup x);
   makes = λ x. record { spelled = refl; called = refl; fits = λ f. f };
   reads = λ bytes. twice (lookup.read bytes) (λ x. calls.Lookup x) program_calls.Nfs;
+  refuses = λ bytes e r. r;
+  refused = λ bytes e r. r;
 }
 row (procedures.Nfs nfs.Access) = record {
   Parts = _;
@@ -135,6 +144,8 @@ row (procedures.Nfs nfs.Access) = record {
   make = λ x. program_calls.Nfs (calls.Access x.0 x.1);
   makes = λ x. record { spelled = refl; called = refl; fits = λ f. (f.0, f.1) };
   reads = λ bytes. twice (access.read bytes) (λ x. calls.Access x.0 x.1) program_calls.Nfs;
+  refuses = λ bytes e r. r;
+  refused = λ bytes e r. r;
 }
 row (procedures.Nfs nfs.ReadLink) = record {
   Parts = _;
@@ -143,6 +154,8 @@ row (procedures.Nfs nfs.ReadLink) = record {
   make = λ x. program_calls.Nfs (calls.ReadLink x);
   makes = λ x. record { spelled = refl; called = refl; fits = λ f. f };
   reads = λ bytes. twice (read_link.read bytes) (λ x. calls.ReadLink x) program_calls.Nfs;
+  refuses = λ bytes e r. r;
+  refused = λ bytes e r. r;
 }
 row (procedures.Nfs nfs.Read) = record {
   Parts = _;
@@ -151,6 +164,8 @@ row (procedures.Nfs nfs.Read) = record {
   make = λ x. program_calls.Nfs (calls.Read x.0 x.1.0 x.1.1);
   makes = λ x. record { spelled = refl; called = refl; fits = λ f. (f.0, f.1.0, f.1.1) };
   reads = λ bytes. twice (read.read bytes) (λ x. calls.Read x.0 x.1.0 x.1.1) program_calls.Nfs;
+  refuses = λ bytes e r. r;
+  refused = λ bytes e r. r;
 }
 row (procedures.Nfs nfs.Write) = record {
   Parts = _;
@@ -159,6 +174,8 @@ row (procedures.Nfs nfs.Write) = record {
   make = λ x. program_calls.Nfs (calls.Write x.0 x.1.0 x.1.1.0 x.1.1.1.0 x.1.1.1.1);
   makes = λ x. record { spelled = refl; called = refl; fits = λ f. (f.0, f.1.0, f.1.1.0, f.1.1.1.1) };
   reads = λ bytes. twice (write.read bytes) (λ x. calls.Write x.0 x.1.0 x.1.1.0 x.1.1.1.0 x.1.1.1.1) program_calls.Nfs;
+  refuses = λ bytes e r. r;
+  refused = λ bytes e r. r;
 }
 row (procedures.Nfs nfs.Create) = record {
   Parts = _;
@@ -167,6 +184,8 @@ row (procedures.Nfs nfs.Create) = record {
   make = λ x. program_calls.Nfs (calls.Create x.0 x.1);
   makes = λ x. record { spelled = refl; called = refl; fits = λ f. (f.0, f.1) };
   reads = λ bytes. twice (create.read bytes) (λ x. calls.Create x.0 x.1) program_calls.Nfs;
+  refuses = λ bytes e r. r;
+  refused = λ bytes e r. r;
 }
 row (procedures.Nfs nfs.MkDir) = record {
   Parts = _;
@@ -175,6 +194,8 @@ row (procedures.Nfs nfs.MkDir) = record {
   make = λ x. program_calls.Nfs (calls.MkDir x.0 x.1);
   makes = λ x. record { spelled = refl; called = refl; fits = λ f. (f.0, f.1) };
   reads = λ bytes. twice (mk_dir.read bytes) (λ x. calls.MkDir x.0 x.1) program_calls.Nfs;
+  refuses = λ bytes e r. r;
+  refused = λ bytes e r. r;
 }
 row (procedures.Nfs nfs.SymLink) = record {
   Parts = _;
@@ -183,6 +204,8 @@ row (procedures.Nfs nfs.SymLink) = record {
   make = λ x. program_calls.Nfs (calls.SymLink x.0 x.1.0 x.1.1);
   makes = λ x. record { spelled = refl; called = refl; fits = λ f. (f.0, f.1.0, f.1.1) };
   reads = λ bytes. twice (sym_link.read bytes) (λ x. calls.SymLink x.0 x.1.0 x.1.1) program_calls.Nfs;
+  refuses = λ bytes e r. r;
+  refused = λ bytes e r. r;
 }
 row (procedures.Nfs nfs.MkNod) = record {
   Parts = _;
@@ -191,6 +214,8 @@ row (procedures.Nfs nfs.MkNod) = record {
   make = λ x. program_calls.Nfs (calls.MkNod x.0 x.1);
   makes = λ x. record { spelled = refl; called = refl; fits = λ f. (f.0, f.1) };
   reads = λ bytes. twice (mk_nod.read bytes) (λ x. calls.MkNod x.0 x.1) program_calls.Nfs;
+  refuses = λ bytes e r. r;
+  refused = λ bytes e r. r;
 }
 row (procedures.Nfs nfs.Remove) = record {
   Parts = _;
@@ -199,6 +224,8 @@ row (procedures.Nfs nfs.Remove) = record {
   make = λ x. program_calls.Nfs (calls.Remove x);
   makes = λ x. record { spelled = refl; called = refl; fits = λ f. f };
   reads = λ bytes. twice (remove.read bytes) (λ x. calls.Remove x) program_calls.Nfs;
+  refuses = λ bytes e r. r;
+  refused = λ bytes e r. r;
 }
 row (procedures.Nfs nfs.RmDir) = record {
   Parts = _;
@@ -207,6 +234,8 @@ row (procedures.Nfs nfs.RmDir) = record {
   make = λ x. program_calls.Nfs (calls.RmDir x);
   makes = λ x. record { spelled = refl; called = refl; fits = λ f. f };
   reads = λ bytes. twice (rm_dir.read bytes) (λ x. calls.RmDir x) program_calls.Nfs;
+  refuses = λ bytes e r. r;
+  refused = λ bytes e r. r;
 }
 row (procedures.Nfs nfs.Rename) = record {
   Parts = _;
@@ -215,6 +244,8 @@ row (procedures.Nfs nfs.Rename) = record {
   make = λ x. program_calls.Nfs (calls.Rename x.0 x.1);
   makes = λ x. record { spelled = refl; called = refl; fits = λ f. (f.0, f.1) };
   reads = λ bytes. twice (rename.read bytes) (λ x. calls.Rename x.0 x.1) program_calls.Nfs;
+  refuses = λ bytes e r. r;
+  refused = λ bytes e r. r;
 }
 row (procedures.Nfs nfs.Link) = record {
   Parts = _;
@@ -223,6 +254,8 @@ row (procedures.Nfs nfs.Link) = record {
   make = λ x. program_calls.Nfs (calls.Link x.0 x.1);
   makes = λ x. record { spelled = refl; called = refl; fits = λ f. (f.0, f.1) };
   reads = λ bytes. twice (link.read bytes) (λ x. calls.Link x.0 x.1) program_calls.Nfs;
+  refuses = λ bytes e r. r;
+  refused = λ bytes e r. r;
 }
 row (procedures.Nfs nfs.ReadDir) = record {
   Parts = _;
@@ -231,6 +264,8 @@ row (procedures.Nfs nfs.ReadDir) = record {
   make = λ x. program_calls.Nfs (calls.ReadDir x.0 x.1.0 x.1.1.0 x.1.1.1);
   makes = λ x. record { spelled = refl; called = refl; fits = λ f. (f.0, f.1.0, f.1.1.0, f.1.1.1) };
   reads = λ bytes. twice (read_dir.read bytes) (λ x. calls.ReadDir x.0 x.1.0 x.1.1.0 x.1.1.1) program_calls.Nfs;
+  refuses = λ bytes e r. r;
+  refused = λ bytes e r. r;
 }
 row (procedures.Nfs nfs.ReadDirPlus) = record {
   Parts = _;
@@ -239,6 +274,8 @@ row (procedures.Nfs nfs.ReadDirPlus) = record {
   make = λ x. program_calls.Nfs (calls.ReadDirPlus x.0 x.1.0 x.1.1.0 x.1.1.1.0 x.1.1.1.1);
   makes = λ x. record { spelled = refl; called = refl; fits = λ f. (f.0, f.1.0, f.1.1.0, f.1.1.1.0, f.1.1.1.1) };
   reads = λ bytes. twice (read_dir_plus.read bytes) (λ x. calls.ReadDirPlus x.0 x.1.0 x.1.1.0 x.1.1.1.0 x.1.1.1.1) program_calls.Nfs;
+  refuses = λ bytes e r. r;
+  refused = λ bytes e r. r;
 }
 row (procedures.Nfs nfs.FsStat) = record {
   Parts = _;
@@ -247,6 +284,8 @@ row (procedures.Nfs nfs.FsStat) = record {
   make = λ x. program_calls.Nfs (calls.FsStat x);
   makes = λ x. record { spelled = refl; called = refl; fits = λ f. f };
   reads = λ bytes. twice (fs_stat.read bytes) (λ x. calls.FsStat x) program_calls.Nfs;
+  refuses = λ bytes e r. r;
+  refused = λ bytes e r. r;
 }
 row (procedures.Nfs nfs.FsInfo) = record {
   Parts = _;
@@ -255,6 +294,8 @@ row (procedures.Nfs nfs.FsInfo) = record {
   make = λ x. program_calls.Nfs (calls.FsInfo x);
   makes = λ x. record { spelled = refl; called = refl; fits = λ f. f };
   reads = λ bytes. twice (fs_info.read bytes) (λ x. calls.FsInfo x) program_calls.Nfs;
+  refuses = λ bytes e r. r;
+  refused = λ bytes e r. r;
 }
 row (procedures.Nfs nfs.PathConf) = record {
   Parts = _;
@@ -263,6 +304,8 @@ row (procedures.Nfs nfs.PathConf) = record {
   make = λ x. program_calls.Nfs (calls.PathConf x);
   makes = λ x. record { spelled = refl; called = refl; fits = λ f. f };
   reads = λ bytes. twice (path_conf.read bytes) (λ x. calls.PathConf x) program_calls.Nfs;
+  refuses = λ bytes e r. r;
+  refused = λ bytes e r. r;
 }
 row (procedures.Nfs nfs.Commit) = record {
   Parts = _;
@@ -271,6 +314,8 @@ row (procedures.Nfs nfs.Commit) = record {
   make = λ x. program_calls.Nfs (calls.Commit x.0 x.1.0 x.1.1);
   makes = λ x. record { spelled = refl; called = refl; fits = λ f. (f.0, f.1.0, f.1.1) };
   reads = λ bytes. twice (commit.read bytes) (λ x. calls.Commit x.0 x.1.0 x.1.1) program_calls.Nfs;
+  refuses = λ bytes e r. r;
+  refused = λ bytes e r. r;
 }
 row (procedures.Mount mount.Null) = record {
   Parts = _;
@@ -279,6 +324,8 @@ row (procedures.Mount mount.Null) = record {
   make = λ x. program_calls.Mount mount_calls.Null;
   makes = λ x. record { spelled = refl; called = refl; fits = λ f. tt };
   reads = λ bytes. twice (nothing.read bytes) (λ x. mount_calls.Null) program_calls.Mount;
+  refuses = λ bytes e r. r;
+  refused = λ bytes e r. r;
 }
 row (procedures.Mount mount.Mount) = record {
   Parts = _;
@@ -287,6 +334,8 @@ row (procedures.Mount mount.Mount) = record {
   make = λ x. program_calls.Mount (mount_calls.Mount x);
   makes = λ x. record { spelled = refl; called = refl; fits = λ f. f };
   reads = λ bytes. twice (path.read bytes) (λ x. mount_calls.Mount x) program_calls.Mount;
+  refuses = λ bytes e r. r;
+  refused = λ bytes e r. r;
 }
 row (procedures.Mount mount.Unmount) = record {
   Parts = _;
@@ -295,6 +344,8 @@ row (procedures.Mount mount.Unmount) = record {
   make = λ x. program_calls.Mount (mount_calls.Unmount x);
   makes = λ x. record { spelled = refl; called = refl; fits = λ f. f };
   reads = λ bytes. twice (path.read bytes) (λ x. mount_calls.Unmount x) program_calls.Mount;
+  refuses = λ bytes e r. r;
+  refused = λ bytes e r. r;
 }
 
 record TakesCall (p : ProgramProcedure) (bytes : List ℕ) (c : ProgramCall) (rest : List ℕ) : Type 0 where
@@ -364,6 +415,12 @@ calls_are p = record {
       (call_again c rest fits.1);
   shrinks = λ bytes c rest e. call_shrinks p (row p) bytes c rest e;
   never = λ bytes. call_never p (row p) bytes;
+  refuses = λ bytes e fits h.
+      let r = row p in
+      r.refuses bytes e (r.lawful.refuses bytes e fits (made_err (r.code.read bytes) r.make e (sym (r.reads bytes) ∙ h)));
+  refused = λ bytes e h.
+      let r = row p in
+      r.reads bytes ∙ rw (r.lawful.refused bytes e (r.refused bytes e h)) refl;
 }
 
 pub taken_whole : (p : ProgramProcedure) (bytes : List ℕ) (c : ProgramCall) → IsBytes bytes → call_of p bytes ≡ Ok c

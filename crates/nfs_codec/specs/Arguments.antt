@@ -1,6 +1,6 @@
 -- The arguments of calls (RFC 1813, sections 3.3 and 5.2): how each procedure's are spelled, and the call that they
 -- make.
-use Rattle.std.specs.Prelude.{◌≡◌, ℕ, List, [], Option, Result}
+use Rattle.std.specs.Prelude.{◌≡◌, ℕ, Bool, false, List, [], Option, Result}
 use Rattle.nfs_types.specs.declared.attributes.NewAttributes.{NewAttributes}
 use Rattle.nfs_types.specs.declared.call.Call.{Call}
 use Rattle.nfs_types.specs.declared.call.Call.TheVariants as calls
@@ -26,7 +26,7 @@ use Rattle.nfs_types.specs.Fits.{StringFits, ProgramCallFits}
 use Rattle.xdr.specs.declared.fault.XdrFault.{XdrFault}
 use Rattle.xdr.specs.Codes.{Code, word, double, opaque, nothing, ◌then◌, fitting, made_of, whole}
 use Rattle.xdr.specs.Reading.{◌>>=◌}
-use Rattle.nfs_codec.specs.Items.{handle, text, directory_name, moment, verifier, guard, new_attributes}
+use Rattle.nfs_codec.specs.Items.{handle, text, directory_name, verifier, guard, new_attributes}
 use Rattle.nfs_codec.specs.Items.{create_how, stability, special_file}
 use Rattle.nfs_codec.specs.Procedures.{called}
 
@@ -135,6 +135,42 @@ abbrev pub arguments : ProgramCall → List ℕ
 arguments (program_calls.Nfs call) = nfs_arguments call
 arguments (program_calls.Mount call) = mount_arguments call
 
+-- ---- whether a length in a call is past what four bytes can tell
+
+abbrev pub nfs_too_long : Call → Bool
+nfs_too_long calls.Null = false
+nfs_too_long (calls.GetAttr object) = get_attr.too_long object
+nfs_too_long (calls.SetAttr object wanted time) = set_attr.too_long (object, (wanted, time))
+nfs_too_long (calls.Lookup name) = lookup.too_long name
+nfs_too_long (calls.Access object bits) = access.too_long (object, bits)
+nfs_too_long (calls.ReadLink object) = read_link.too_long object
+nfs_too_long (calls.Read file offset count) = read.too_long (file, (offset, count))
+nfs_too_long (calls.Write file offset count kept bytes) = write.too_long (file, (offset, (count, (kept, bytes))))
+nfs_too_long (calls.Create name how) = create.too_long (name, how)
+nfs_too_long (calls.MkDir name wanted) = mk_dir.too_long (name, wanted)
+nfs_too_long (calls.SymLink name wanted target) = sym_link.too_long (name, (wanted, target))
+nfs_too_long (calls.MkNod name special) = mk_nod.too_long (name, special)
+nfs_too_long (calls.Remove name) = remove.too_long name
+nfs_too_long (calls.RmDir name) = rm_dir.too_long name
+nfs_too_long (calls.Rename source target) = rename.too_long (source, target)
+nfs_too_long (calls.Link file name) = link.too_long (file, name)
+nfs_too_long (calls.ReadDir directory cookie given count) = read_dir.too_long (directory, (cookie, (given, count)))
+nfs_too_long (calls.ReadDirPlus directory cookie given directory_count greatest_count) =
+    read_dir_plus.too_long (directory, (cookie, (given, (directory_count, greatest_count))))
+nfs_too_long (calls.FsStat object) = fs_stat.too_long object
+nfs_too_long (calls.FsInfo object) = fs_info.too_long object
+nfs_too_long (calls.PathConf object) = path_conf.too_long object
+nfs_too_long (calls.Commit file offset count) = commit.too_long (file, (offset, count))
+
+abbrev pub mount_too_long : MountCall → Bool
+mount_too_long mount_calls.Null = false
+mount_too_long (mount_calls.Mount wanted) = path.too_long wanted
+mount_too_long (mount_calls.Unmount wanted) = path.too_long wanted
+
+abbrev pub too_long : ProgramCall → Bool
+too_long (program_calls.Nfs call) = nfs_too_long call
+too_long (program_calls.Mount call) = mount_too_long call
+
 -- ---- the call that stands in front of bytes
 
 abbrev pub nfs_call_at : Procedure → List ℕ → Result (Call × List ℕ) XdrFault
@@ -173,9 +209,50 @@ abbrev pub call_at : ProgramProcedure → List ℕ → Result (ProgramCall × Li
 call_at (procedures.Nfs p) bytes = nfs_call_at p bytes >>= made_of program_calls.Nfs
 call_at (procedures.Mount p) bytes = mount_call_at p bytes >>= made_of program_calls.Mount
 
+-- ---- why bytes have no call in front
+
+abbrev pub nfs_call_refuses : Procedure → List ℕ → XdrFault → Type 0
+nfs_call_refuses nfs.Null = nothing.Refuses
+nfs_call_refuses nfs.GetAttr = get_attr.Refuses
+nfs_call_refuses nfs.SetAttr = set_attr.Refuses
+nfs_call_refuses nfs.Lookup = lookup.Refuses
+nfs_call_refuses nfs.Access = access.Refuses
+nfs_call_refuses nfs.ReadLink = read_link.Refuses
+nfs_call_refuses nfs.Read = read.Refuses
+nfs_call_refuses nfs.Write = write.Refuses
+nfs_call_refuses nfs.Create = create.Refuses
+nfs_call_refuses nfs.MkDir = mk_dir.Refuses
+nfs_call_refuses nfs.SymLink = sym_link.Refuses
+nfs_call_refuses nfs.MkNod = mk_nod.Refuses
+nfs_call_refuses nfs.Remove = remove.Refuses
+nfs_call_refuses nfs.RmDir = rm_dir.Refuses
+nfs_call_refuses nfs.Rename = rename.Refuses
+nfs_call_refuses nfs.Link = link.Refuses
+nfs_call_refuses nfs.ReadDir = read_dir.Refuses
+nfs_call_refuses nfs.ReadDirPlus = read_dir_plus.Refuses
+nfs_call_refuses nfs.FsStat = fs_stat.Refuses
+nfs_call_refuses nfs.FsInfo = fs_info.Refuses
+nfs_call_refuses nfs.PathConf = path_conf.Refuses
+nfs_call_refuses nfs.Commit = commit.Refuses
+
+abbrev pub mount_call_refuses : MountProcedure → List ℕ → XdrFault → Type 0
+mount_call_refuses mount.Null = nothing.Refuses
+mount_call_refuses mount.Mount = path.Refuses
+mount_call_refuses mount.Unmount = path.Refuses
+
+abbrev pub call_refuses : ProgramProcedure → List ℕ → XdrFault → Type 0
+call_refuses (procedures.Nfs p) = nfs_call_refuses p
+call_refuses (procedures.Mount p) = mount_call_refuses p
+
 -- the calls of a procedure
 abbrev pub calls_of : ProgramProcedure → Code ProgramCall
-calls_of p = record { spell = arguments; Fits = λ c. (called c ≡ p) × ProgramCallFits c; read = call_at p }
+calls_of p = record {
+  spell = arguments;
+  Fits = λ c. (called c ≡ p) × ProgramCallFits c;
+  read = call_at p;
+  too_long = too_long;
+  Refuses = call_refuses p;
+}
 
 -- the call that all of the bytes spell
 abbrev pub call_of : ProgramProcedure → List ℕ → Result ProgramCall XdrFault

@@ -1,4 +1,3 @@
 pub mod Procedures
 pub mod Items
 pub mod Arguments
-pub mod Results

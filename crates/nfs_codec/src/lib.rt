@@ -1,22 +1,19 @@
-//! The arguments and results of NFS version 3 and of MOUNT (RFC 1813, sections 3.3 and 5.2), read and written. Their
-//! grammar stands in `specs/`.
+//! The arguments of NFS version 3 and of MOUNT (RFC 1813, sections 3.3 and 5.2), read; and the items that arguments
+//! and results share, read and written. Their grammar stands in `specs/`.
 #![tactic(auto)]
 
 mod arguments;
-mod entries;
 mod items;
 mod laws;
-mod outcomes;
+mod numbers;
 mod procedure;
-mod results;
-mod status;
-mod told;
+mod put;
 
 pub use arguments::decode_call;
 pub use laws::{
-    arguments_share_no_spelling, results_share_no_spelling, spelled_arguments_are_read,
-    spelled_results_are_read,
+    arguments_are_refused_so, arguments_share_no_spelling, spelled_arguments_are_read,
+    spelling_gives_the_call,
 };
+pub use numbers::{number_of_kind, number_of_stability};
 pub use procedure::procedure_of;
-pub use results::{encode_mount_reply, encode_reply};
-pub use status::{number_of_kind, number_of_stability, number_of_status, status_numbered};
+pub use put::{put_device, put_handle, put_moment, put_stability, put_text, put_verifier};

@@ -1,5 +1,4 @@
 pub mod Acted
-pub mod LinkSteps
 pub mod Linked
 pub mod Listed
 pub mod OneChange

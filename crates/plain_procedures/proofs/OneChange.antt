@@ -1,16 +1,16 @@
 -- Lists of files with one change, and the trees that they stand for.
 use Rattle.std.proofs.Common.{rules, ◌≡◌, ℕ, ◌<◌, sym, ap, ◌∙◌, refl, Bool, true, false, cond, not, List, []}
-use Rattle.std.proofs.Common.{◌∷◌, ◌++◌, filter, map, nat_eq, Option, Some, None, IfSome, subst}
+use Rattle.std.proofs.Common.{◌∷◌, ◌++◌, ◌-◌, ◌^◌, filter, map, nat_eq, Option, Some, None, subst}
 use Rattle.std.specs.Cmp.{nat_cmp_total, unsigned_tied}
 use Rattle.std.specs.FinMap as finmap
 use Rattle.std.specs.FinMap.Entries.{where_key, find-where_key}
 use Rattle.std.specs.Option.{option_map}
 use Rattle.std.specs.Ordering.{eq_by_cmp, nat_cmp}
-use Rattle.limits.specs.declared.TheConstants.{MOST_LINKS}
 use Rattle.model.proofs.Sets.{itself}
 use Rattle.model.specs.Node.{Node}
 use Rattle.plain_server.specs.Plain.{node_of, numbered}
 use Rattle.plain_server.specs.declared.tree.NumberedNode.{NumberedNode}
+use Rattle.plain_procedures.specs.Effects.{HasRoom}
 use Rattle.plain_procedures.specs.Listed.{files_of}
 
 abbrev eq : ℕ → ℕ → Bool
@@ -96,7 +96,6 @@ got (Some node) number file is = ap (option_map (λ f. f.1)) is
 
 -- a directory that is found has room for a link more, where it needs one
 pub room_found : (at : Option Node) (number links : ℕ) (file : ℕ × Node)
-    → (links ≡ 1 → IfSome at (λ d. d.nlink < MOST_LINKS)) → option_map (λ node. (number, node)) at ≡ Some file
-    → links ≡ 1 → file.1.nlink < MOST_LINKS
-room_found at number links file room is one =
-    subst (λ o. IfSome o (λ d. d.nlink < MOST_LINKS)) (got at number file is) (room one)
+    → (links ≡ 1 → HasRoom at) → option_map (λ node. (number, node)) at ≡ Some file
+    → links ≡ 1 → file.1.nlink < 2 ^ 32 - 1
+room_found at number links file room is one = subst HasRoom (got at number file is) (room one)

@@ -1,5 +1,5 @@
 -- What the plain structs of this crate stand for, and what a changed directory is.
-use Rattle.std.specs.Prelude.{ℕ, ◌+◌, ◌-◌, List, Some, Result, Ok, Err}
+use Rattle.std.specs.Prelude.{ℕ, ◌+◌, ◌-◌, ◌<◌, ◌^◌, IfSome, List, Option, Some, Result, Ok, Err}
 use Rattle.nfs_types.specs.declared.attributes.WeakCacheAttributes.{WeakCacheAttributes}
 use Rattle.nfs_types.specs.declared.attributes.WeakCacheData.{WeakCacheData}
 use Rattle.nfs_types.specs.declared.ctx.Moment.{Moment}
@@ -21,6 +21,10 @@ effect_in (Err status) = Err status
 -- what is told of a file that was so before the call
 abbrev pub told_since : WeakCacheAttributes → ℕ → Tree → WeakCacheData
 told_since before number next = record { before = Some before; after = attributes_at next number }
+
+-- a file that may get one link more, as far as its count goes
+abbrev pub HasRoom : Option Node → Type 0
+HasRoom at = IfSome at (λ node. node.nlink < 2 ^ 32 - 1)
 
 -- a directory that gets a name for a file that is so many links of it
 abbrev pub entered_with : Moment → List ℕ → DirectoryEntry → ℕ → Node → Node

@@ -1,4 +1,3 @@
-pub mod Computed
 pub mod Effects
 pub mod Listed
 pub mod Tests

@@ -1,11 +1,11 @@
 //! Trees with one change more. Each function takes a tree and gives the changed one.
-ghost use Rattle.std.specs.Prelude.{◌≡◌, ◌+◌, ◌<◌, ◌≤◌, IfOk, IfSome, OnOk, filter, nat_eq, not};
+ghost use Rattle.std.specs.Prelude.{◌≡◌, ◌+◌, ◌<◌, ◌≤◌, IfOk, OnOk, filter, nat_eq, not};
+ghost use Rattle.std.specs.Option.{option_map};
 ghost use Rattle.model.specs.Tree.{node_at, with_node};
-ghost use Rattle.limits.specs.declared.TheConstants.{MOST_LINKS};
 ghost use Rattle.procedures.specs.Changes.{changed_at, is_last_name, parent_links, unnamed, with_entry};
-ghost use Rattle.procedures.specs.Changes.{without_entry, without_node};
+ghost use Rattle.procedures.specs.Changes.{without_entry, without_name, without_node};
 ghost use Rattle.plain_server.specs.Plain.{body_of, node_of, numbered, tree_of};
-ghost use Rattle.plain_procedures.specs.Effects.{departed_with, entered_with, less_linked};
+ghost use Rattle.plain_procedures.specs.Effects.{HasRoom, departed_with, entered_with, less_linked};
 
 use crate::names::file_at;
 use limits::SLOTS_PER_BLOCK;
@@ -21,7 +21,7 @@ fn retain_others(files: &mut Vec<NumberedNode>, number: u32)
 }
 
 /// The tree without the file of a number.
-pub(crate) fn without_node(tree: PlainTree, number: u32) -> PlainTree
+fn without_node(tree: PlainTree, number: u32) -> PlainTree
     ensures { tree_of result ≡ without_node (tree_of tree) number }
 {
     let mut next = tree;
@@ -30,11 +30,7 @@ pub(crate) fn without_node(tree: PlainTree, number: u32) -> PlainTree
 }
 
 /// The tree with this file under this number.
-pub(crate) fn with_node(
-    tree: PlainTree,
-    number: u32,
-    node: PlainNode,
-) -> Result<PlainTree, AllocError>
+pub fn with_node(tree: PlainTree, number: u32, node: PlainNode) -> Result<PlainTree, AllocError>
     ensures { IfOk result (λ next. tree_of next ≡ with_node (tree_of tree) number (node_of node)) }
 {
     let mut next = without_node(tree, number);
@@ -43,7 +39,7 @@ pub(crate) fn with_node(
 }
 
 /// How many links of its directory a file is.
-pub(crate) fn parent_links(body: &PlainBody) -> u32
+pub fn parent_links(body: &PlainBody) -> u32
     ensures is { result ≡ parent_links (body_of body.now) }
     ensures small { result ≤ 1 }
 {
@@ -74,7 +70,7 @@ fn remove_entry(body: &mut PlainBody, name: &[u8])
 
 fn more_links(nlink: u32, links: u32) -> u32
     requires few { links ≤ 1 }
-    requires room { links ≡ 1 → nlink < MOST_LINKS }
+    requires room { links ≡ 1 → nlink < u32.MAX }
     ensures { result ≡ nlink + links }
 {
     nlink + links
@@ -91,7 +87,7 @@ fn entered(
     links: u32,
 ) -> Result<PlainNode, AllocError>
     requires few { links ≤ 1 }
-    requires room { links ≡ 1 → directory.now.nlink < MOST_LINKS }
+    requires room { links ≡ 1 → directory.now.nlink < u32.MAX }
     ensures { IfOk result (λ node. node_of node ≡ entered_with moment name.now
         (record { number = number; slot = slot }) links (node_of directory.now)) }
 {
@@ -105,7 +101,7 @@ fn entered(
 }
 
 /// The tree in which a directory gets a name for a file that is so many links of it.
-pub(crate) fn with_entered(
+pub fn with_entered(
     alloc: Global,
     tree: PlainTree,
     at: u32,
@@ -116,7 +112,7 @@ pub(crate) fn with_entered(
     links: u32,
 ) -> Result<PlainTree, AllocError>
     requires few { links ≤ 1 }
-    requires room { links ≡ 1 → IfSome (node_at (tree_of tree) at) (λ d. d.nlink < MOST_LINKS) }
+    requires room { links ≡ 1 → HasRoom (node_at (tree_of tree) at) }
     ensures { IfOk result (λ next. tree_of next ≡ changed_at (tree_of tree) at
         (entered_with moment name.now (record { number = number; slot = slot }) links)) }
 {
@@ -145,7 +141,7 @@ fn departed(
 }
 
 /// The tree in which a directory loses the name of a file that is so many links of it.
-pub(crate) fn with_departed(
+pub fn with_departed(
     tree: PlainTree,
     at: u32,
     moment: Moment,
@@ -179,12 +175,8 @@ fn is_last_name(node: &PlainNode) -> bool
     matches!(&node.body, PlainBody::Directory { .. }) || node.nlink <= 1
 }
 
-/// The tree in which a file loses a name: it is gone, or has one link less.
-pub(crate) fn unnamed(
-    tree: PlainTree,
-    moment: Moment,
-    file: &NumberedNode,
-) -> Result<PlainTree, AllocError>
+// The tree in which a file loses a name: it is gone, or has one link less.
+fn unnamed(tree: PlainTree, moment: Moment, file: &NumberedNode) -> Result<PlainTree, AllocError>
     ensures { IfOk result (λ next. tree_of next ≡ unnamed (tree_of tree) moment (numbered file.now).0
         (numbered file.now).1) }
 {
@@ -193,5 +185,26 @@ pub(crate) fn unnamed(
     } else {
         let node = less_linked(&file.node, moment)?;
         with_node(tree, file.number, node)
+    }
+}
+
+/// The tree in which the file that a name in a directory leads to, if it leads to one, loses that name.
+pub fn without_name(
+    tree: PlainTree,
+    moment: Moment,
+    directory: u32,
+    name: &[u8],
+    file: Option<&NumberedNode>,
+) -> Result<PlainTree, AllocError>
+    ensures { IfOk result (λ next. tree_of next ≡ without_name (tree_of tree) moment directory name.now
+        (option_map (λ f. numbered f.now) file.entry)) }
+{
+    match file {
+        None => Ok(tree),
+        Some(file) => {
+            let links = parent_links(&file.node.body);
+            let left = with_departed(tree, directory, moment, name, links)?;
+            Ok(unnamed(left, moment, file)?)
+        }
     }
 }

@@ -24,7 +24,7 @@ pub struct Changed<A> {
 }
 
 /// The attributes of the file of a number, if there is one.
-pub(crate) fn attributes_at(tree: &PlainTree, number: u32) -> Option<Attributes>
+pub fn attributes_at(tree: &PlainTree, number: u32) -> Option<Attributes>
     ensures { result ≡ attributes_at (tree_of tree.now) number }
 {
     match file_at(tree, number) {
@@ -34,11 +34,7 @@ pub(crate) fn attributes_at(tree: &PlainTree, number: u32) -> Option<Attributes>
 }
 
 /// What is told of a file that was so before the call.
-pub(crate) fn told_since(
-    tree: &PlainTree,
-    number: u32,
-    before: WeakCacheAttributes,
-) -> WeakCacheData
+pub fn told_since(tree: &PlainTree, number: u32, before: WeakCacheAttributes) -> WeakCacheData
     ensures { result ≡ told_since before number (tree_of tree.now) }
 {
     WeakCacheData {
@@ -48,7 +44,7 @@ pub(crate) fn told_since(
 }
 
 /// What a call answers. The tree becomes what the call leads to.
-pub(crate) fn take_effect<A>(
+pub fn take_effect<A>(
     tree: &mut PlainTree,
     effect: Result<PlainEffect<A>, Status>,
 ) -> Result<A, Status>
@@ -65,7 +61,7 @@ pub(crate) fn take_effect<A>(
 }
 
 /// What a call answers of the file that its handle names, which was so before it.
-pub(crate) fn led_to<A>(
+pub fn led_to<A>(
     tree: &mut PlainTree,
     number: u32,
     before: WeakCacheAttributes,
@@ -83,7 +79,7 @@ pub(crate) fn led_to<A>(
 }
 
 /// What a call answers whose handle names no file.
-pub(crate) fn refused<A>(status: Status) -> Changed<A>
+pub fn refused<A>(status: Status) -> Changed<A>
     ensures outcome { result.outcome ≡ Err status }
     ensures told { result.file ≡ untold }
 {

@@ -1,24 +1,19 @@
-//! The procedures of NFS version 3 computed in a plain, slow way over trees in memory. Each is proved to be
-//! the step that `procedures` defines.
+//! The procedures of NFS version 3 computed in a plain, slow way over trees in memory: those that tell
+//! something, WRITE,
+//! and the parts of which the crates above make those that change names. Each is proved to be the step that
+//! `procedures` defines.
 #![tactic(auto)]
 
-mod answering;
 mod changes;
 mod committing;
-mod creating;
-mod directories;
 mod effects;
 mod file_system;
 mod finding;
-mod linking;
-mod links;
 mod looking;
-mod making;
 mod names;
 mod needs;
 mod numbers;
 mod reading;
-mod removing;
 mod rights;
 mod slots;
 mod space;
@@ -26,20 +21,21 @@ mod special;
 mod targets;
 mod writing;
 
-pub use answering::{answer, answer_changing, answer_reading};
+pub use changes::{parent_links, with_departed, with_entered, with_node, without_name};
 pub use committing::commit;
-pub use creating::create;
-pub use directories::make_directory;
-pub use effects::{Changed, PlainEffect};
+pub use effects::{Changed, PlainEffect, attributes_at, led_to, refused, take_effect, told_since};
 pub use file_system::{file_system_info, path_limits};
-pub use finding::{Told, found};
-pub use linking::{LinkTold, link};
-pub use links::make_link;
-pub use looking::look_up;
+pub use finding::{Told, attributes_of, found, left_alone};
+pub use looking::{look_up, parent_of};
+pub use names::{
+    entry_at, file_at, first_of, is_found_directory, is_found_filled, is_found_other, is_full,
+    is_no_name, is_own_name, may_change, named_file, place_refusal,
+};
+pub use needs::if_room;
 pub use numbers::least_unused;
 pub use reading::read;
-pub use removing::{remove, remove_directory};
 pub use rights::access;
+pub use slots::least_free_slot;
 pub use space::{file_system_space, free_blocks};
 pub use special::make_special;
 pub use targets::read_link;

@@ -11,7 +11,8 @@ use nfs_types::{Ctx, DirectoryName, Handle, Looked, Status};
 use plain_server::{NumberedNode, PlainBody, PlainTree};
 use std::alloc::{AllocError, Global};
 
-fn parent_of(body: &PlainBody) -> u32
+/// The number of the directory that a directory lies in; 0 of what is none.
+pub fn parent_of(body: &PlainBody) -> u32
     ensures { result ≡ parent_of (body_of body.now) }
 {
     match body {

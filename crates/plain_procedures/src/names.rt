@@ -5,12 +5,15 @@ ghost use Rattle.std.specs.Option.{option_map};
 ghost use Rattle.model.specs.SetAttr.{first_of_tests};
 ghost use Rattle.model.specs.Sound.{DOT, SLASH};
 ghost use Rattle.procedures.specs.FirstTests.{is_no_name, may_change, may_search, place_tests};
-ghost use Rattle.procedures.specs.Places.{entry_at, file_at, is_dots, is_own_name, named_file};
+ghost use Rattle.procedures.specs.MkDir.{is_full};
+ghost use Rattle.procedures.specs.Places.{entry_at, file_at, is_dots, is_found_directory, is_found_other};
+ghost use Rattle.procedures.specs.Places.{is_own_name, named_file};
+ghost use Rattle.procedures.specs.RmDir.{has_names, is_found_filled};
 ghost use Rattle.plain_procedures.specs.Tests.{first_of};
 ghost use Rattle.plain_server.specs.Named.{place_of};
 ghost use Rattle.plain_server.specs.Plain.{body_of, node_of, numbered, tree_of};
 
-use limits::{EXECUTE_RIGHT, NAME_BYTES, WRITE_RIGHT};
+use limits::{EXECUTE_RIGHT, MOST_LINKS, NAME_BYTES, WRITE_RIGHT};
 use nfs_types::{Credential, Status};
 use plain_server::{NumberedNode, PlainBody, PlainEntry, PlainNode, PlainTree, has_right};
 
@@ -32,7 +35,8 @@ fn has_forbidden(name: &[u8]) -> bool
     name.iter().any(|byte| *byte == b'/' || *byte == 0)
 }
 
-fn is_no_name(name: &[u8]) -> bool
+/// Whether it is empty, or has a character that no name has.
+pub fn is_no_name(name: &[u8]) -> bool
     ensures { result ≡ is_no_name name.now }
 {
     name.len() == 0 || has_forbidden(name)
@@ -44,21 +48,22 @@ pub(crate) fn may_search(caller: &Credential, directory: &PlainNode) -> bool
     has_right(EXECUTE_RIGHT, caller, directory)
 }
 
-pub(crate) fn may_change(caller: &Credential, directory: &PlainNode) -> bool
+/// Whether the caller may make, change or remove names in the directory.
+pub fn may_change(caller: &Credential, directory: &PlainNode) -> bool
     ensures { result ≡ may_change caller.now (node_of directory.now) }
 {
     has_right(WRITE_RIGHT, caller, directory) && may_search(caller, directory)
 }
 
 /// Whether each directory has the name of its own.
-pub(crate) fn is_own_name(name: &[u8]) -> bool
+pub fn is_own_name(name: &[u8]) -> bool
     ensures { result ≡ is_own_name name.now }
 {
     is_dots(1, name) || is_dots(2, name)
 }
 
 /// The status of the first part of the tests, or else that of the second.
-pub(crate) fn first_of(one: Option<Status>, later: Option<Status>) -> Option<Status>
+pub fn first_of(one: Option<Status>, later: Option<Status>) -> Option<Status>
     ensures { result ≡ first_of one later }
 {
     match one {
@@ -68,7 +73,7 @@ pub(crate) fn first_of(one: Option<Status>, later: Option<Status>) -> Option<Sta
 }
 
 /// Why a name in a directory isn't looked at.
-pub(crate) fn place_refusal(allowed: bool, directory: &PlainNode, name: &[u8]) -> Option<Status>
+pub fn place_refusal(allowed: bool, directory: &PlainNode, name: &[u8]) -> Option<Status>
     ensures { result ≡ first_of_tests (place_tests allowed (node_of directory.now) name.now) }
 {
     if !matches!(&directory.body, PlainBody::Directory { .. }) {
@@ -85,7 +90,7 @@ pub(crate) fn place_refusal(allowed: bool, directory: &PlainNode, name: &[u8]) -
 }
 
 /// The file of a number.
-pub(crate) fn file_at(tree: &PlainTree, number: u32) -> Option<&NumberedNode>
+pub fn file_at(tree: &PlainTree, number: u32) -> Option<&NumberedNode>
     ensures some { IfSome result (λ file. file_at (tree_of tree.now) number ≡ Some (numbered file.now)) }
     ensures none { IfNone result (file_at (tree_of tree.now) number ≡ None) }
 {
@@ -94,7 +99,7 @@ pub(crate) fn file_at(tree: &PlainTree, number: u32) -> Option<&NumberedNode>
 }
 
 /// What a name in a directory leads to.
-pub(crate) fn entry_at<'t>(body: &'t PlainBody, name: &[u8]) -> Option<&'t PlainEntry>
+pub fn entry_at<'t>(body: &'t PlainBody, name: &[u8]) -> Option<&'t PlainEntry>
     ensures some { IfSome result (λ entry. entry_at (body_of body.now) name.now ≡ Some
         (place_of entry.now)) }
     ensures none { IfNone result (entry_at (body_of body.now) name.now ≡ None) }
@@ -106,7 +111,7 @@ pub(crate) fn entry_at<'t>(body: &'t PlainBody, name: &[u8]) -> Option<&'t Plain
 }
 
 /// The file that a name in a directory leads to.
-pub(crate) fn named_file<'t>(
+pub fn named_file<'t>(
     tree: &'t PlainTree,
     directory: &PlainNode,
     name: &[u8],
@@ -124,4 +129,50 @@ pub(crate) fn named_file<'t>(
         },
         None => None,
     }
+}
+
+/// Whether there is such a file, and it is a directory.
+pub fn is_found_directory(file: Option<&NumberedNode>) -> bool
+    ensures { result ≡ is_found_directory (option_map (λ f. numbered f.now) file.entry) }
+{
+    match file {
+        Some(file) => matches!(&file.node.body, PlainBody::Directory { .. }),
+        None => false,
+    }
+}
+
+/// Whether there is such a file, and it is no directory.
+pub fn is_found_other(file: Option<&NumberedNode>) -> bool
+    ensures { result ≡ is_found_other (option_map (λ f. numbered f.now) file.entry) }
+{
+    match file {
+        Some(file) => !matches!(&file.node.body, PlainBody::Directory { .. }),
+        None => false,
+    }
+}
+
+fn has_names(body: &PlainBody) -> bool
+    ensures { result ≡ has_names (body_of body.now) }
+{
+    match body {
+        PlainBody::Directory { entries, .. } => entries.as_slice().len() > 0,
+        PlainBody::Regular { .. } | PlainBody::Link { .. } => false,
+    }
+}
+
+/// Whether there is such a file, and it has names in it.
+pub fn is_found_filled(file: Option<&NumberedNode>) -> bool
+    ensures { result ≡ is_found_filled (option_map (λ f. numbered f.now) file.entry) }
+{
+    match file {
+        Some(file) => has_names(&file.node.body),
+        None => false,
+    }
+}
+
+/// Whether a file has as many links as it may have.
+pub fn is_full(node: &PlainNode) -> bool
+    ensures { result ≡ is_full (node_of node.now) }
+{
+    MOST_LINKS <= node.nlink
 }

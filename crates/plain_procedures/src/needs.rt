@@ -64,10 +64,7 @@ fn lacks_room(old: &PlainTree, next: &PlainTree) -> bool
 }
 
 /// What is done only where the blocks reach.
-pub(crate) fn if_room<A: Drop>(
-    tree: &PlainTree,
-    effect: PlainEffect<A>,
-) -> Result<PlainEffect<A>, Status>
+pub fn if_room<A: Drop>(tree: &PlainTree, effect: PlainEffect<A>) -> Result<PlainEffect<A>, Status>
     ensures { effect_in result ≡ if_room (tree_of tree.now) (effect_of effect) }
 {
     if lacks_room(tree, &effect.next) {

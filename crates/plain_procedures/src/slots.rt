@@ -11,7 +11,7 @@ use plain_server::{PlainBody, PlainEntry};
 const MOST_SLOTS: u32 = SLOTS_PER_BLOCK * MOST_SPAN as u32;
 
 /// Whether a name of the directory lies in the slot.
-pub(crate) fn is_taken_slot(body: &PlainBody, slot: u32) -> bool
+fn is_taken_slot(body: &PlainBody, slot: u32) -> bool
     ensures { result ≡ is_taken_slot (body_of body.now) slot }
 {
     match body {
@@ -27,7 +27,7 @@ fn has_slot(entries: &[PlainEntry], slot: u32) -> bool
 }
 
 /// The least slot in which no name lies, of all that a directory may ever have.
-pub(crate) fn least_free_slot(body: &PlainBody) -> Option<u32>
+pub fn least_free_slot(body: &PlainBody) -> Option<u32>
     ensures { result ≡ least_free_slot (body_of body.now) }
 {
     let mut slot = 0;

@@ -29,7 +29,7 @@ use Rattle.session_wire.proofs.CodedHeaders.{openings, headings, opening_bytes, 
 use Rattle.session_wire.proofs.CodedHeaders.{caller_again, flavor_of, body_of}
 use Rattle.session_wire.proofs.CallLaws.{opening_of, heading_of, parted, opens, heads, body_bytes}
 use Rattle.session_wire.proofs.CallLaws.{same_opening, same_heading, joined_parts}
-use Rattle.session_wire.proofs.ReplyLaws.{read_reply, reply_takes, reply_again}
+use Rattle.session_wire.proofs.ReplyLaws.{read_reply, reply_again}
 use Rattle.plain_wire.specs.Messages.{wanted, numbered, credential_of, message_of}
 
 chosen : {A : Type 0} (b : Bool) (x y z : Result A XdrFault) → cond b x y ≡ z → ((b ≡ true) × (x ≡ z))

@@ -6,22 +6,21 @@ use nfs_types::{
     Call, CreateHow, Created, DirectoryName, Handle, NewAttributes, Octets, Reply, Stamp, Status,
     Verifier, WeakCacheData,
 };
-use plain_procedures::{
-    Changed, answer, create, least_unused, link, make_directory, make_link, make_special,
-    read_link, remove, remove_directory,
-};
+use plain_naming::{create, link, make_directory, make_link, remove, remove_directory};
+use plain_procedures::{Changed, least_unused, make_special, read_link};
 use plain_server::PlainTree;
+use plain_steps::answer;
 use std::alloc::{AllocError, Global};
 
 // The number and the mode of what was made, or why nothing was.
 type Made = Result<(u64, u32), Status>;
 
-fn root(alloc: Global) -> Result<Handle, AllocError> {
+pub(crate) fn root(alloc: Global) -> Result<Handle, AllocError> {
     handle_of(alloc, 1, 0)
 }
 
 // The handle of what a call of `called_by` makes.
-fn handle_of_new(alloc: Global, number: u32) -> Result<Handle, AllocError> {
+pub(crate) fn handle_of_new(alloc: Global, number: u32) -> Result<Handle, AllocError> {
     let stamp = Stamp {
         boot: 1,
         transaction: 9,
@@ -29,7 +28,7 @@ fn handle_of_new(alloc: Global, number: u32) -> Result<Handle, AllocError> {
     Handle::of(alloc, number, stamp)
 }
 
-fn in_root(alloc: Global, name: &[u8]) -> Result<DirectoryName, AllocError> {
+pub(crate) fn in_root(alloc: Global, name: &[u8]) -> Result<DirectoryName, AllocError> {
     Ok(DirectoryName {
         directory: root(alloc)?,
         name: Octets::copied(alloc, name)?,
@@ -149,7 +148,7 @@ fn unchecked_sets_the_size_alone(rt: HostRuntime) -> Result<(), AllocError> {
 }
 
 // What a removal of a name in the root is answered.
-fn removed(
+pub(crate) fn removed(
     alloc: Global,
     tree: &mut PlainTree,
     uid: u32,
@@ -363,7 +362,7 @@ fn why_no_name_is_linked(rt: HostRuntime) -> Result<(), AllocError> {
 }
 
 // Gives the file 2 the names of two bytes from one number on and below an end.
-fn link_names(
+pub(crate) fn link_names(
     alloc: Global,
     tree: &mut PlainTree,
     from: u8,

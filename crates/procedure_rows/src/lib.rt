@@ -4,4 +4,8 @@
 #[cfg(test)]
 mod changes;
 #[cfg(test)]
+mod listings;
+#[cfg(test)]
+mod renames;
+#[cfg(test)]
 mod tests;

@@ -8,6 +8,7 @@ mod changed_super;
 mod compared;
 mod failures;
 mod first_path;
+mod formatted_runs;
 mod full_log;
 mod images;
 mod left;

@@ -3,4 +3,5 @@ pub mod Numbers
 pub mod Loops
 pub mod Marks
 pub mod RecordLaws
-pub mod Cutting
+pub mod EachCut
+pub mod Stages

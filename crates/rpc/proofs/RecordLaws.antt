@@ -10,7 +10,8 @@ use Rattle.std.proofs.lemmas.List.Concat.{flat_map-cons}
 use Rattle.limits.specs.declared.TheConstants.{RECORD_BYTES}
 use Rattle.xdr.specs.Items.{word}
 use Rattle.xdr.specs.Reading.{number_at}
-use Rattle.rpc.specs.Records.{mark, fragment, joined, IsRecord, records, IsTooLong, HasBegun}
+use Rattle.rpc.specs.Records.{mark, fragment, joined, IsRecord, records, IsTooLong, HasBegun, IsPart, IsRest}
+use Rattle.rpc.specs.Records.IsPart.{BeforeMark, InFragment}
 use Rattle.xdr.proofs.Coded.{words, alike}
 use Rattle.rpc.proofs.Lengths.{word-length}
 
@@ -47,11 +48,11 @@ fragments_alike l k a b x y p q e =
     let t = texts_alike a b x y m.1 m.2 in
     (m.0, t.0, t.1)
 
-mark-length : (l : Bool) (n : ℕ) → length (mark l n) ≡ 4
+pub mark-length : (l : Bool) (n : ℕ) → length (mark l n) ≡ 4
 mark-length false n = word-length n
 mark-length true n = word-length (2 ^ 31 + n)
 
-cons_parts : (p : List ℕ) (ps : List (List ℕ)) (t : List ℕ)
+pub cons_parts : (p : List ℕ) (ps : List (List ℕ)) (t : List ℕ)
     → flat_map (fragment false) (p ∷ ps) ++ t ≡ fragment false p ++ (flat_map (fragment false) ps ++ t)
 cons_parts p ps t = ap (λ (x : List ℕ). x ++ t) (flat_map-cons (fragment false) p ps)
     ∙ append_assoc (fragment false p) (flat_map (fragment false) ps) t
@@ -59,7 +60,7 @@ cons_parts p ps t = ap (λ (x : List ℕ). x ++ t) (flat_map-cons (fragment fals
 cons_joined : (p : List ℕ) (ps : List (List ℕ)) → joined (p ∷ ps) ≡ p ++ joined ps
 cons_joined p ps = flat_map-cons (λ (x : List ℕ). x) p ps
 
-cons_length : (p : List ℕ) (ps : List (List ℕ)) → length (joined (p ∷ ps)) ≡ length p + length (joined ps)
+pub cons_length : (p : List ℕ) (ps : List (List ℕ)) → length (joined (p ∷ ps)) ≡ length p + length (joined ps)
 cons_length p ps = ap length (cons_joined p ps) ∙ length-append p (joined ps)
 
 -- ---- records
@@ -128,53 +129,93 @@ one_cut bytes (f ∷ o) (g ∷ u) rest last r s =
 
 -- ---- what comes of the front of a stream
 
-pub record_ahead : (content more rest : List ℕ) (list : List (List ℕ)) → length content ≤ RECORD_BYTES
-    → records more list rest → records (fragment true content ++ more) (content ∷ list) rest
-record_ahead content more rest list le r = (
-  fragment true content,
-  more,
-  refl,
-  record {
-    parts = [];
-    last = content;
-    cut = refl;
-    content_is = refl;
-    bounded = le;
-  },
-  r,
-)
+pub fragment-length : (l : Bool) (p : List ℕ) → length (fragment l p) ≡ 4 + length p
+fragment-length l p = length-append (mark l (length p)) p
+    ∙ ap (λ (n : ℕ). n + length p) (mark-length l (length p))
 
-begun_parts : (ps : List (List ℕ)) (last more : List ℕ) (n : ℕ) (behind : List ℕ)
-    → length (joined ps) + length last < 2 ^ 31 → n < 2 ^ 31 → length behind < n
-    → flat_map (fragment false) ps ++ (fragment true last ++ more) ≡ mark true n ++ behind → ⊥
-begun_parts [] last more n behind fits small short e =
-    let m = marks_alike true true (length last) n (last ++ more) behind (omega (arith, fits)) small
-    (sym (append_assoc (mark true (length last)) last more) ∙ e) in
-    omega (arith, m.1, ap length m.2, length-append last more)
-begun_parts (p ∷ ps) last more n behind fits small short e =
-    let t = flat_map (fragment false) ps ++ (fragment true last ++ more) in
-    let m = marks_alike true false n (length p) behind (p ++ t) small (omega (arith, fits, cons_length p ps))
-    (sym e ∙ cons_parts p ps (fragment true last ++ more) ∙ append_assoc (mark false (length p)) p t) in
-    apart m.0
+-- a fragment has a mark at least
+has_mark : (l : Bool) (p t : List ℕ) → 4 ≤ length (fragment l p ++ t)
+has_mark l p t = omega (arith, length-append (fragment l p) t, fragment-length l p)
 
-pub begun_is_rest : (bytes : List ℕ) → HasBegun bytes → records bytes [] bytes
-begun_is_rest bytes (inl few) = (
+-- a mark that isn't whole is none
+no_mark : (qs : List (List ℕ)) (l : Bool) (q some t : List ℕ) → length some < 4
+    → some ≡ flat_map (fragment false) qs ++ (fragment l q ++ t) → ⊥
+no_mark [] l q some t few e = omega (arith, few, ap length e, has_mark l q t)
+no_mark (r ∷ qs) l q some t few e =
+    omega (
+      arith,
+      few,
+      ap length e,
+      ap length (cons_parts r qs (fragment l q ++ t)),
+      has_mark false r (flat_map (fragment false) qs ++ (fragment l q ++ t)),
+    )
+
+strip : (p q : List ℕ) (ps qs : List (List ℕ)) (s t : List ℕ) → length p < 2 ^ 31 → length q < 2 ^ 31
+    → flat_map (fragment false) (p ∷ ps) ++ s ≡ flat_map (fragment false) (q ∷ qs) ++ t
+    → (p ≡ q) × (flat_map (fragment false) ps ++ s ≡ flat_map (fragment false) qs ++ t)
+strip p q ps qs s t small fits e =
+    let f = fragments_alike false false p q (flat_map (fragment false) ps ++ s)
+    (flat_map (fragment false) qs ++ t) small fits (sym (cons_parts p ps s) ∙ e ∙ cons_parts q qs t) in
+    (f.1, f.2)
+
+-- a fragment that isn't the last stands where a last one stands
+not_last : (p : List ℕ) (ps : List (List ℕ)) (s last t : List ℕ) → length p < 2 ^ 31 → length last < 2 ^ 31
+    → flat_map (fragment false) (p ∷ ps) ++ s ≡ fragment true last ++ t → ⊥
+not_last p ps s last t small fits e =
+    let f = fragments_alike false true p last (flat_map (fragment false) ps ++ s) t small fits
+    (sym (cons_parts p ps s) ∙ e) in
+    apart (sym f.0)
+
+-- bytes that end before a mark is whole begin with no record
+before_mark : (ps qs : List (List ℕ)) (some last t : List ℕ) → length (joined ps) < 2 ^ 31
+    → length (joined qs) + length last < 2 ^ 31 → length some < 4
+    → flat_map (fragment false) ps ++ some ≡ flat_map (fragment false) qs ++ (fragment true last ++ t) → ⊥
+before_mark [] qs some last t small fits few e = no_mark qs true last some t few e
+before_mark (p ∷ ps) [] some last t small fits few e =
+    not_last p ps some last t (omega (arith, small, cons_length p ps)) (omega (arith, fits)) e
+before_mark (p ∷ ps) (q ∷ qs) some last t small fits few e =
+    before_mark ps qs some last t (omega (arith, small, cons_length p ps))
+    (omega (arith, fits, cons_length q qs)) few
+    (strip p q ps qs some (fragment true last ++ t) (omega (arith, small, cons_length p ps))
+    (omega (arith, fits, cons_length q qs)) e).1
+
+-- the first fragment is longer than what is there
+too_few : (l k : Bool) (n : ℕ) (some q t : List ℕ) → n < 2 ^ 31 → length q < 2 ^ 31 → length some < n
+    → mark l n ++ some ≡ fragment k q ++ t → ⊥
+too_few l k n some q t small fits few e =
+    let m = marks_alike l k n (length q) some (q ++ t) small fits (e
+    ∙ append_assoc (mark k (length q)) q t) in
+    omega (arith, few, m.1, ap length m.2, length-append q t)
+
+-- bytes that end inside a fragment begin with no record
+in_fragment : (ps qs : List (List ℕ)) (l : Bool) (n : ℕ) (some last t : List ℕ)
+    → length (joined ps) + n < 2 ^ 31 → length (joined qs) + length last < 2 ^ 31 → length some < n
+    → flat_map (fragment false) ps ++ (mark l n ++ some) ≡ flat_map (fragment false) qs
+    ++ (fragment true last ++ t) → ⊥
+in_fragment [] [] l n some last t small fits few e =
+    too_few l true n some last t (omega (arith, small)) (omega (arith, fits)) few e
+in_fragment [] (q ∷ qs) l n some last t small fits few e =
+    too_few l false n some q (flat_map (fragment false) qs ++ (fragment true last ++ t)) (omega (arith, small))
+    (omega (arith, fits, cons_length q qs)) few (e ∙ cons_parts q qs (fragment true last ++ t))
+in_fragment (p ∷ ps) [] l n some last t small fits few e =
+    not_last p ps (mark l n ++ some) last t (omega (arith, small, cons_length p ps)) (omega (arith, fits)) e
+in_fragment (p ∷ ps) (q ∷ qs) l n some last t small fits few e =
+    in_fragment ps qs l n some last t (omega (arith, small, cons_length p ps))
+    (omega (arith, fits, cons_length q qs)) few
+    (strip p q ps qs (mark l n ++ some) (fragment true last ++ t) (omega (arith, small, cons_length p ps))
+    (omega (arith, fits, cons_length q qs)) e).1
+
+begun_is_rest : (bytes : List ℕ) → IsPart bytes → records bytes [] bytes
+begun_is_rest bytes (BeforeMark ps some bounded few cut) = (
   refl,
-  λ b. omega (
-    arith,
-    few,
-    ap length b.3,
-    ap length (spread b.0 b.1 b.2 b.4),
-    length-append (flat_map (fragment false) b.4.parts) (fragment true b.4.last ++ b.2),
-    length-append (fragment true b.4.last) b.2,
-    length-append (mark true (length b.4.last)) b.4.last,
-    mark-length true (length b.4.last),
-  ),
+  λ b. before_mark ps b.4.parts some b.4.last b.2 (omega (arith, bounded)) (record_fits b.0 b.1 b.4) few
+      (sym cut ∙ b.3 ∙ spread b.0 b.1 b.2 b.4),
 )
-begun_is_rest bytes (inr some) = (
+begun_is_rest bytes (InFragment ps l n some bounded few cut) = (
   refl,
-  λ b. begun_parts b.4.parts b.4.last b.2 some.0 some.1 (record_fits b.0 b.1 b.4)
-      (omega (arith, some.2)) some.3 (sym (spread b.0 b.1 b.2 b.4) ∙ sym b.3 ∙ some.4),
+  λ b. in_fragment ps b.4.parts l n some b.4.last b.2 (omega (arith, bounded)) (record_fits b.0 b.1 b.4) few
+      (sym (append_assoc (flat_map (fragment false) ps) (mark l n) some) ∙ sym cut ∙ b.3
+      ∙ spread b.0 b.1 b.2 b.4),
 )
 
 long_parts : (ps qs : List (List ℕ)) (l : Bool) (n k : ℕ) (more last behind : List ℕ)
@@ -213,3 +254,100 @@ too_long_is_rest bytes t = (
       (sym (append_assoc (flat_map (fragment false) t.parts) (mark t.last t.announced) t.more) ∙ sym t.cut
       ∙ b.3 ∙ spread b.0 b.1 b.2 b.4),
 )
+
+empty_is_rest : records [] [] []
+empty_is_rest = begun_is_rest [] (BeforeMark [] [] (omega arith) (omega arith) refl)
+
+pub rest_is_rest : (bytes : List ℕ) → IsRest bytes → records bytes [] bytes
+rest_is_rest bytes (inl e) = subst (λ (b : List ℕ). records b [] b) (sym e) empty_is_rest
+rest_is_rest bytes (inr (inl begun)) = begun_is_rest bytes begun.part
+rest_is_rest bytes (inr (inr long)) = too_long_is_rest bytes long
+
+pub longer : (bytes more : List ℕ) → IsTooLong bytes → IsTooLong (bytes ++ more)
+longer bytes more t =
+    record {
+      parts = t.parts;
+      last = t.last;
+      announced = t.announced;
+      more = t.more ++ more;
+      parts_marked = t.parts_marked;
+      marked = t.marked;
+      cut = ap (λ (b : List ℕ). b ++ more) t.cut
+          ∙ append_assoc (flat_map (fragment false) t.parts ++ mark t.last t.announced) t.more more;
+      long = t.long;
+    }
+
+-- ---- a rest that has begun doesn't announce too much
+
+-- the first fragment of a record that fits announces too much
+first_long : (p : List ℕ) (ps : List (List ℕ)) (m : Bool) (a k : ℕ) (s t : List ℕ)
+    → k + length (joined (p ∷ ps)) ≤ RECORD_BYTES → a < 2 ^ 31 → RECORD_BYTES < k + a
+    → flat_map (fragment false) (p ∷ ps) ++ s ≡ mark m a ++ t → ⊥
+first_long p ps m a k s t fits small long e =
+    let f = marks_alike false m (length p) a (p ++ (flat_map (fragment false) ps ++ s)) t
+    (omega (arith, fits, cons_length p ps)) small (sym (append_assoc (mark false (length p)) p
+    (flat_map (fragment false) ps ++ s)) ∙ sym (cons_parts p ps s) ∙ e) in
+    omega (arith, fits, long, f.1, cons_length p ps)
+
+has_a_mark : (m : Bool) (a : ℕ) (t : List ℕ) → 4 ≤ length (mark m a ++ t)
+has_a_mark m a t = omega (arith, length-append (mark m a) t, mark-length m a)
+
+before_long : (ps qs : List (List ℕ)) (some : List ℕ) (m : Bool) (a k : ℕ) (t : List ℕ)
+    → k + length (joined ps) ≤ RECORD_BYTES → AllByRecursion (λ q. length q < 2 ^ 31) qs → a < 2 ^ 31
+    → RECORD_BYTES < k + length (joined qs) + a → length some < 4
+    → flat_map (fragment false) ps ++ some ≡ flat_map (fragment false) qs ++ (mark m a ++ t) → ⊥
+before_long [] [] some m a k t fits each small long few e =
+    omega (arith, few, ap length e, has_a_mark m a t)
+before_long [] (q ∷ qs) some m a k t fits each small long few e =
+    omega (
+      arith,
+      few,
+      ap length e,
+      ap length (cons_parts q qs (mark m a ++ t)),
+      has_mark false q (flat_map (fragment false) qs ++ (mark m a ++ t)),
+    )
+before_long (p ∷ ps) [] some m a k t fits each small long few e =
+    first_long p ps m a k some t fits small (omega (arith, long)) e
+before_long (p ∷ ps) (q ∷ qs) some m a k t fits each small long few e =
+    let f = strip p q ps qs some (mark m a ++ t) (omega (arith, fits, cons_length p ps)) each.0 e in
+    before_long ps qs some m a (k + length p) t (omega (arith, fits, cons_length p ps)) each.1 small
+    (omega (arith, long, cons_length q qs, ap length f.0)) few f.1
+
+inside_long : (ps qs : List (List ℕ)) (l : Bool) (n : ℕ) (some : List ℕ) (m : Bool) (a k : ℕ) (t : List ℕ)
+    → k + length (joined ps) + n ≤ RECORD_BYTES → AllByRecursion (λ q. length q < 2 ^ 31) qs → a < 2 ^ 31
+    → RECORD_BYTES < k + length (joined qs) + a → length some < n
+    → flat_map (fragment false) ps ++ (mark l n ++ some) ≡ flat_map (fragment false) qs ++ (mark m a ++ t) → ⊥
+inside_long [] [] l n some m a k t fits each small long few e =
+    let f = marks_alike l m n a some t (omega (arith, fits)) small e in
+    omega (arith, fits, long, f.1)
+inside_long [] (q ∷ qs) l n some m a k t fits each small long few e =
+    too_few l false n some q (flat_map (fragment false) qs ++ (mark m a ++ t)) (omega (arith, fits)) each.0 few
+    (e ∙ cons_parts q qs (mark m a ++ t))
+inside_long (p ∷ ps) [] l n some m a k t fits each small long few e =
+    first_long p ps m a k (mark l n ++ some) t (omega (arith, fits)) small (omega (arith, long)) e
+inside_long (p ∷ ps) (q ∷ qs) l n some m a k t fits each small long few e =
+    let f = strip p q ps qs (mark l n ++ some) (mark m a ++ t) (omega (arith, fits, cons_length p ps)) each.0 e in
+    inside_long ps qs l n some m a (k + length p) t (omega (arith, fits, cons_length p ps)) each.1 small
+    (omega (arith, long, cons_length q qs, ap length f.0)) few f.1
+
+long_cut : (rest : List ℕ) (t : IsTooLong rest)
+    → rest ≡ flat_map (fragment false) t.parts ++ (mark t.last t.announced ++ t.more)
+long_cut rest t = t.cut ∙ append_assoc (flat_map (fragment false) t.parts) (mark t.last t.announced) t.more
+
+part_not_long : (rest : List ℕ) → IsPart rest → IsTooLong rest → ⊥
+part_not_long rest (BeforeMark ps some bounded few cut) t =
+    before_long ps t.parts some t.last t.announced 0 t.more (omega (arith, bounded)) t.parts_marked t.marked
+    (omega (arith, t.long)) few (sym cut ∙ long_cut rest t)
+part_not_long rest (InFragment ps l n some bounded few cut) t =
+    inside_long ps t.parts l n some t.last t.announced 0 t.more (omega (arith, bounded)) t.parts_marked t.marked
+    (omega (arith, t.long)) few
+    (sym (append_assoc (flat_map (fragment false) ps) (mark l n) some) ∙ sym cut ∙ long_cut rest t)
+
+pub begun_not_long : (rest : List ℕ) → HasBegun rest → IsTooLong rest → ⊥
+begun_not_long rest begun long = part_not_long rest begun.part long
+
+pub empty_not_long : IsTooLong [] → ⊥
+empty_not_long long = part_not_long [] (BeforeMark [] [] (omega arith) (omega arith) refl) long
+
+pub empty_not_begun : HasBegun [] → ⊥
+empty_not_begun begun = omega (arith, begun.some)

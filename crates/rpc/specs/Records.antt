@@ -35,6 +35,12 @@ records bytes [] rest = (bytes ≡ rest) × (BeginsWithRecord rest → ⊥)
 records bytes (first ∷ others) rest = (text : List ℕ) × (more : List ℕ) × (bytes ≡ text ++ more)
     × IsRecord text first × records more others rest
 
+-- the bytes are whole records of these contents, and then what is left, whatever that is
+abbrev pub CutsOff : List ℕ → List (List ℕ) → List ℕ → Type 0
+CutsOff bytes [] left = bytes ≡ left
+CutsOff bytes (first ∷ others) left = (text : List ℕ) × (more : List ℕ) × (bytes ≡ text ++ more)
+    × IsRecord text first × CutsOff more others left
+
 -- the marks of the first record announce more than a record may have
 pub record IsTooLong (rest : List ℕ) : Type 0 where
   pub parts : List (List ℕ)
@@ -46,12 +52,19 @@ pub record IsTooLong (rest : List ℕ) : Type 0 where
   pub cut : rest ≡ flat_map (fragment false) parts ++ mark last announced ++ more
   pub long : RECORD_BYTES < length (joined parts) + announced
 
--- the bytes begin with the mark of a fragment that isn't the last of its record
-abbrev pub GoesOn : List ℕ → Type 0
-GoesOn bytes = (n : ℕ) × (more : List ℕ) × (n < 2 ^ 31) × (bytes ≡ mark false n ++ more)
+-- A record has begun and isn't whole: fewer bytes are there than the next mark has, or fewer than the last mark
+-- announces; the marks so far announce no more than a record may have.
+pub data IsPart (rest : List ℕ) : Type 0 where
+  BeforeMark : (parts : List (List ℕ)) (some : List ℕ) → length (joined parts) ≤ RECORD_BYTES → length some < 4
+      → rest ≡ flat_map (fragment false) parts ++ some → IsPart rest
+  InFragment : (parts : List (List ℕ)) (last : Bool) (announced : ℕ) (some : List ℕ)
+      → length (joined parts) + announced ≤ RECORD_BYTES → length some < announced
+      → rest ≡ flat_map (fragment false) parts ++ mark last announced ++ some → IsPart rest
 
--- a record of one fragment has only begun: less than its mark is there, or fewer bytes than the mark
--- announces
-abbrev pub HasBegun : List ℕ → Type 0
-HasBegun bytes = (length bytes < 4)
-    ⊎ ((n : ℕ) × (more : List ℕ) × (n ≤ RECORD_BYTES) × (length more < n) × (bytes ≡ mark true n ++ more))
+pub record HasBegun (rest : List ℕ) : Type 0 where
+  pub some : 0 < length rest
+  pub part : IsPart rest
+
+-- what may be left of a stream, once all whole records are cut out
+abbrev pub IsRest : List ℕ → Type 0
+IsRest rest = (rest ≡ []) ⊎ HasBegun rest ⊎ IsTooLong rest

@@ -3,17 +3,24 @@
 
 mod constants;
 mod credential;
+mod cutter;
+mod fault;
 mod header;
 mod laws;
 mod records;
 mod refusal;
+mod stage;
 
 pub use constants::{
     AUTH_NONE, AUTH_SYS, CALL, LAST_FRAGMENT, MOUNT_PROGRAM, NFS_PROGRAM, NFS_VERSION, REPLY,
     RPC_VERSION,
 };
 pub use credential::{SystemCredential, read_caller, read_credential};
+pub use fault::RpcFault;
 pub use header::{Header, Opening, read_header, read_opening};
-pub use laws::{a_record_stands_first, no_record_stands_there, streams_have_one_cut};
-pub use records::{Records, RpcFault};
+pub use laws::{
+    a_cut_goes_on, a_rest_is_one_of_three, each_stream_has_a_cut, no_record_stands_there,
+    records_are_handed_out_in_order, streams_have_one_cut, too_long_stays,
+};
+pub use records::Records;
 pub use refusal::{Refusal, put_accepted, put_refusal};

@@ -1,6 +1,7 @@
 //! Replies that have no result (RFC 5531, section 9).
-ghost use Rattle.std.specs.Prelude.{◌≡◌, ◌++◌, OnOk};
+ghost use Rattle.std.specs.Prelude.{false};
 ghost use Rattle.rpc.specs.Refused.{accepted, denied, refused};
+ghost use Rattle.xdr.specs.Writing.{WritesBytes};
 
 use crate::{NFS_VERSION, REPLY, RPC_VERSION};
 use xdr::{Writer, XdrFault};
@@ -20,7 +21,7 @@ pub enum Refusal {
 
 /// Writes the beginning of an accepted reply, up to its status.
 pub fn put_accepted(out: &mut Writer, xid: u32, status: u32) -> Result<(), XdrFault>
-    ensures { OnOk result (out.new ≡ out.old ++ accepted xid status) }
+    ensures { WritesBytes result out.old out.new (accepted xid status) false }
 {
     out.unsigned(xid)?;
     out.unsigned(REPLY)?;
@@ -32,7 +33,7 @@ pub fn put_accepted(out: &mut Writer, xid: u32, status: u32) -> Result<(), XdrFa
 
 // Writes the beginning of a denied reply, up to what it was denied for.
 fn put_denied(out: &mut Writer, xid: u32, reason: u32) -> Result<(), XdrFault>
-    ensures { OnOk result (out.new ≡ out.old ++ denied xid reason) }
+    ensures { WritesBytes result out.old out.new (denied xid reason) false }
 {
     out.unsigned(xid)?;
     out.unsigned(REPLY)?;
@@ -42,7 +43,7 @@ fn put_denied(out: &mut Writer, xid: u32, reason: u32) -> Result<(), XdrFault>
 
 /// Writes a reply that refuses.
 pub fn put_refusal(out: &mut Writer, xid: u32, refusal: Refusal) -> Result<(), XdrFault>
-    ensures { OnOk result (out.new ≡ out.old ++ refused xid refusal) }
+    ensures { WritesBytes result out.old out.new (refused xid refusal) false }
 {
     match refusal {
         Refusal::RpcMismatch => {

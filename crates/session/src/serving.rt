@@ -1,5 +1,5 @@
 //! Serving a stream: the calls of its records, one after the other, and their replies.
-ghost use Rattle.std.specs.Prelude.{◌≡◌, ◌<◌, ◌≤◌, IsSome, IfOk, IfSome, OnOk, None, length};
+ghost use Rattle.std.specs.Prelude.{◌≡◌, ◌<◌, ◌≤◌, IfOk, IfSome, OnOk, None, length};
 ghost use Rattle.std.specs.Io.KnownBytes.{IsAtEnd};
 ghost use Rattle.store.specs.Opening.{store_of};
 ghost use Rattle.store.specs.Settling.{IsIdle};
@@ -22,7 +22,7 @@ use xdr::XdrFault;
 /// Why a stream isn't served to its end.
 #[derive(Clone, Copy, Debug, PartialEq, Eq, Error)]
 pub enum SessionFault {
-    /// A record isn't one fragment, announces too much, or is no call whose header can be read.
+    /// A record announces too much, or is no call whose header can be read.
     #[error("Record")]
     Record,
     /// A read failed and wasn't interrupted, or there were too many of them.
@@ -136,7 +136,7 @@ fn serve_records<D: CrashDisk, W: Write>(
     ensures { IsIdle store.new.core }
 {
     let mut replies = count;
-    'records: while let Some(record) = next_record(alloc, records)? {
+    'records: while let Some(record) = next_record(records)? {
         serve_record(alloc, store, &record, writer, moment)?;
         replies = replies.saturating_add(1);
     }
@@ -144,13 +144,13 @@ fn serve_records<D: CrashDisk, W: Write>(
 }
 
 // The next record that has come whole.
-fn next_record(alloc: Global, records: &mut Records) -> Result<Option<Bytes>, SessionFault>
-    ensures { IfOk result (λ o. IsSome o → length records.new < length records.old) }
+fn next_record(records: &mut Records) -> Result<Option<Bytes>, SessionFault>
+    ensures { IfOk result (λ o. IfSome o (λ _. length records.new < length records.old)) }
 {
-    match records.next(alloc) {
+    match records.next() {
         Ok(record) => Ok(record),
         Err(RpcFault::NoMemory) => Err(SessionFault::NoMemory),
-        Err(RpcFault::TooLong) | Err(RpcFault::NotACall) => Err(SessionFault::Record),
+        Err(RpcFault::TooLong) => Err(SessionFault::Record),
     }
 }
 
@@ -232,14 +232,14 @@ fn put<W: Write>(
     xid: u32,
     reply: RpcReply<'_>,
 ) -> Result<(), SessionFault> {
-    let mut bytes = Vec::new(alloc);
-    if let Err(fault) = reply_bytes(alloc, &mut bytes, xid, reply) {
-        if fault == XdrFault::NoMemory {
-            return Err(SessionFault::NoMemory);
+    let bytes = match reply_bytes(alloc, xid, reply) {
+        Ok(bytes) => bytes,
+        Err(XdrFault::Length) => {
+            let refused = RpcReply::Refused(Refusal::SystemError);
+            reply_bytes(alloc, xid, refused).map_err(|_| SessionFault::NoMemory)?
         }
-        let refused = RpcReply::Refused(Refusal::SystemError);
-        reply_bytes(alloc, &mut bytes, xid, refused).map_err(|_| SessionFault::NoMemory)?;
-    }
+        Err(_) => return Err(SessionFault::NoMemory),
+    };
     writer.write_all(&bytes).map_err(|_| SessionFault::Output)?;
     writer.flush().map_err(|_| SessionFault::Output)
 }

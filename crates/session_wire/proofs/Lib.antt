@@ -1,5 +1,6 @@
 pub mod Numbered
 pub mod CodedHeaders
+pub mod Behind
 pub mod CallLaws
 pub mod ReplyLaws
 pub mod ServedStreams

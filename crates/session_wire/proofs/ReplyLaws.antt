@@ -21,8 +21,8 @@ use Rattle.xdr.specs.declared.fault.XdrFault.TheVariants.{Value}
 use Rattle.xdr.specs.Items.{word}
 use Rattle.xdr.specs.Reading.{◌>>=◌, number_at, end_at}
 use Rattle.nfs_codec.specs.Procedures.{replied_to}
-use Rattle.nfs_codec.specs.Results.{result_bytes, reply_at}
-use Rattle.nfs_codec.proofs.ReplyLaws.{replies_are}
+use Rattle.nfs_results.specs.Results.{result_bytes, reply_at}
+use Rattle.nfs_results.proofs.ReplyLaws.{replies_are}
 use Rattle.xdr.proofs.Lawful.{end_is}
 use Rattle.session_wire.specs.Replies.{reply_bytes, BodyFits, RepliesTo, SpellsReply}
 use Rattle.session_wire.specs.ReadingReplies.{this_at, versions_at, refusing, accepted_of}

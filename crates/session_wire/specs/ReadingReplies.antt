@@ -15,7 +15,7 @@ use Rattle.session_wire.specs.declared.message.ReplyMessage.{ReplyMessage}
 use Rattle.xdr.specs.declared.fault.XdrFault.{XdrFault}
 use Rattle.xdr.specs.declared.fault.XdrFault.TheVariants.{Value}
 use Rattle.xdr.specs.Reading.{◌>>=◌, number_at, end_at}
-use Rattle.nfs_codec.specs.Results.{reply_at}
+use Rattle.nfs_results.specs.Results.{reply_at}
 
 -- this very number
 abbrev pub this_at : ℕ → List ℕ → Result (Unit {0} × List ℕ) XdrFault

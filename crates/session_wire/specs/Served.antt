@@ -22,7 +22,7 @@ use Rattle.session_wire.specs.declared.message.Judged.TheVariants.{Closed, Refus
 use Rattle.rpc.specs.declared.refusal.Refusal.TheVariants.{SystemError}
 use Rattle.session_wire.specs.Judging.{judged}
 use Rattle.rpc.specs.Refused.{accepted, refused}
-use Rattle.nfs_codec.specs.Results.{result_bytes}
+use Rattle.nfs_results.specs.Results.{result_bytes}
 
 -- the boot number and the moment of all calls of a stream
 pub record Serving : Type 0 where

@@ -64,6 +64,7 @@ use Rattle.store.specs.Seen.{Seen, seen_in, with_object}
 use Rattle.store.specs.WorkerAnswers.{after_commit, begun_wanted, committing_of, phase_wanted, seen_wanted}
 use Rattle.store.specs.WorkerAnswers.{told_of, wish_of, with_answer}
 use Rattle.store.specs.WorkerAnswers.{with_entry}
+use Rattle.store.specs.Telling as telling
 use Rattle.store.specs.Worker.{with_call}
 use Rattle.store.specs.WorkerReads.{HasReadBlock}
 use Rattle.store.specs.WorkerSteps.{GoesByNext, GoesOn, HasBegun, HasLacked}
@@ -129,6 +130,8 @@ pub record IsToRead (old new : Side) : Type 0 where
   pub within : addr.block.0 < old.core.log.blocks
   pub job : new.worker.work.job ≡ old.worker.work.job
   pub seen : seen_in new.worker.work.snap ≡ seen_in old.worker.work.snap
+  pub entry : new.worker.work.entry ≡ old.worker.work.entry
+  pub answer : new.worker.work.answer ≡ old.worker.work.answer
 
 -- a commit was refused for want of room: the call begins again once there is some
 pub record IsFull (most : ℕ) (new : Side) : Type 0 where
@@ -272,11 +275,12 @@ module _ (old new : Side) (addr : Addr) (job : Job) (tx : ℕ) (snap : Snap) (jo
       → IsWanted old.core tx addr modes.Exclusive answer new.core → new.worker.phase ≡ phase_wanted answer
       → new.worker.begun ≡ begun_wanted answer
       → seen_in new.worker.work.snap ≡ seen_wanted addr answer (seen_in old.worker.work.snap)
+      → new.worker.work.entry ≡ old.worker.work.entry → new.worker.work.answer ≡ old.worker.work.answer
       → Came Planning old (Some made) new
-  wanted made free (want.Held back bytes) made_is core phase got seen =
+  wanted made free (want.Held back bytes) made_is core phase got seen entry answer =
       goes_by Planning old made _ new (held bytes.items phase (ap (λ (c : CoreState). c.log) core.2.only) seen)
       made_is refl refl
-  wanted made free (want.Fetch back io) made_is core phase got seen =
+  wanted made free (want.Fetch back io) made_is core phase got seen entry answer =
       reads (record {
         phase = phase;
         tx = tx;
@@ -287,14 +291,16 @@ module _ (old new : Side) (addr : Addr) (job : Job) (tx : ℕ) (snap : Snap) (jo
         within = core.1.home.1;
         job = same_job;
         seen = seen;
+        entry = entry;
+        answer = answer;
       }) refl (ap (λ m. is_full (Some m)) made_is) (ap (λ m. waits_for_log (Some m)) made_is)
-  wanted made free (want.Busy back) made_is core phase got seen =
+  wanted made free (want.Busy back) made_is core phase got seen entry answer =
       absurd (true≢false (sym (ap (λ m. is_kept_off (Some m)) made_is) ∙ free))
-  wanted made free (want.Loading back) made_is core phase got seen =
+  wanted made free (want.Loading back) made_is core phase got seen entry answer =
       absurd (true≢false (sym (ap (λ m. is_kept_off (Some m)) made_is) ∙ free))
-  wanted made free (want.Outside back) made_is core phase got seen =
+  wanted made free (want.Outside back) made_is core phase got seen entry answer =
       goes_by Planning old made _ new (nearer left new.worker new.core _ phase tt (grind (arith))) made_is refl refl
-  wanted made free (want.NoMemory back) made_is core phase got seen =
+  wanted made free (want.NoMemory back) made_is core phase got seen entry answer =
       goes_by Planning old made _ new (nearer left new.worker new.core _ phase tt (grind (arith))) made_is refl refl
 
 -- ---- a commit
@@ -378,6 +384,7 @@ goes old new tx made next tx_is is taken free goes_so = of_next next is.plan goe
         (has_of old.worker old.core is.job tx (seen_of is.snap) is.job_is tx_is is.snap_is taken) planned
         (ap (λ (s : State). s.work.job) wish.worker) made free wish.answer wish.made_is wish.core
         (ap (λ (s : State). s.phase) wish.worker) (ap (λ (s : State). s.begun) wish.worker) wish.seen
+        (ap (λ (s : State). s.work.entry) wish.worker) (ap (λ (s : State). s.work.answer) wish.worker)
     of_next (plan.Claim block) planned wish = absurd planned.1
     of_next (plan.Done done) planned end = elim (ending old new tx done made end) [
       | lacked has ↦ lacked_so old new tx made has
@@ -645,6 +652,23 @@ module _ (phase : Phase) (old : Side) (made : Option Step) (mid : Side) (at : ol
           waiting : Waiting place ≡ Reading → ⊥
           waiting e = cc
 
+  -- what lies ready is what did, where a read is due
+  pub nothing_new : is_full made ≡ false → mid.worker.phase ≡ Reading
+      → (mid.worker.work.entry ≡ old.worker.work.entry) × (mid.worker.work.answer ≡ old.worker.work.answer)
+  nothing_new off reading = by came
+    where
+      by : Came phase old made mid
+          → (mid.worker.work.entry ≡ old.worker.work.entry) × (mid.worker.work.answer ≡ old.worker.work.answer)
+      by (gone on unkept none) = absurd (no_read most mid.worker mid.core reading on)
+      by (told is unkept) = absurd (no_read most mid.worker mid.core reading (inl is))
+      by (reads is planning unkept none) = (is.entry, is.answer)
+      by (full is so_it_is log_is) = absurd (not_both (is_full made) so_it_is off)
+      by (waits place is so unkept so_it_is) =
+          absurd (waiting (sym is ∙ sym at ∙ sym (ap (λ (s : State). s.phase) so.same) ∙ reading))
+        where
+          waiting : Waiting place ≡ Reading → ⊥
+          waiting e = cc
+
   pub begins_again : is_full made ≡ true → (state : State) (core : CoreState)
       → (mid.worker.phase ≡ Planning → state ≡ record mid.worker { phase = Again })
       → has_room core.log ≡ true → core.log.blocks ≡ mid.core.log.blocks → HasGoneOn most state core
@@ -767,7 +791,7 @@ none_made None none some is has = has
 none_made (Some made) none some is has = absurd (true≢false is)
 
 left_same : (phase : Phase) (work : Work) (core : CoreState)
-    → left_in phase (record work { answer = None }) core ≡ left_in phase work core
+    → left_in phase (record work { entry = None; answer = None }) core ≡ left_in phase work core
 left_same Idle work core = refl
 left_same Called work core = refl
 left_same Planning work core = refl
@@ -777,9 +801,14 @@ left_same (Refused why) work core = refl
 left_same Again work core = refl
 left_same (Waiting place) work core = refl
 
+-- its entry and its answer are taken
+pub taken_both : (mid one new : State) → one ≡ record mid { work = record mid.work { answer = None } }
+    → new ≡ record one { work = record one.work { entry = None } } → new ≡ telling.told mid
+taken_both mid one new answer entry =
+    entry ∙ ap (λ (s : State). record s { work = record s.work { entry = None } }) answer
+
 goes_round : (bound : ℕ) (mid new : State) (core : CoreState) (result : Option CallAnswer) → HasGoneOn bound mid core
-    → result ≡ mid.work.answer → result ≡ None
-    → new ≡ record mid { work = record mid.work { answer = None } } → IsNearer bound new core
+    → result ≡ mid.work.answer → result ≡ None → new ≡ telling.told mid → IsNearer bound new core
 goes_round bound mid new core result (inl heard) is none same =
     absurd (true≢false (sym heard.there ∙ ap (λ (o : Option CallAnswer). is_some o) (sym is ∙ none)))
 goes_round bound mid new core result (inr on) is none same =
@@ -788,17 +817,19 @@ goes_round bound mid new core result (inr on) is none same =
       less = subst (λ n. n < bound) (sym (left_same mid.phase mid.work core)) on.less;
     })
 
-pub still_under_way : (bound : ℕ) (mid new : State) (core : CoreState) (result : Option CallAnswer)
+pub still_under_way : (bound : ℕ) (mid one new : State) (core : CoreState) (result : Option CallAnswer)
     → HasGoneOn bound mid core → result ≡ mid.work.answer → result ≡ None
-    → new ≡ record mid { work = record mid.work { answer = None } } → IsUnderWay new core
-still_under_way bound mid new core result on is none same =
-    (goes_round bound mid new core result on is none same).under_way
+    → one ≡ record mid { work = record mid.work { answer = None } }
+    → new ≡ record one { work = record one.work { entry = None } } → IsUnderWay new core
+still_under_way bound mid one new core result on is none answer entry =
+    (goes_round bound mid new core result on is none (taken_both mid one new answer entry)).under_way
 
-pub less_is_left : (bound : ℕ) (mid new : State) (core : CoreState) (result : Option CallAnswer)
+pub less_is_left : (bound : ℕ) (mid one new : State) (core : CoreState) (result : Option CallAnswer)
     → HasGoneOn bound mid core → result ≡ mid.work.answer → result ≡ None
-    → new ≡ record mid { work = record mid.work { answer = None } } → steps_left new core < bound
-less_is_left bound mid new core result on is none same =
-    (goes_round bound mid new core result on is none same).less
+    → one ≡ record mid { work = record mid.work { answer = None } }
+    → new ≡ record one { work = record one.work { entry = None } } → steps_left new core < bound
+less_is_left bound mid one new core result on is none answer entry =
+    (goes_round bound mid new core result on is none (taken_both mid one new answer entry)).less
 
 -- a call that was taken is under way
 pub starts : (state old : State) (core : CoreState) (ctx : Ctx) (call : Call) → state ≡ with_call ctx call old

@@ -122,7 +122,7 @@ found_entry (c ∷ cs) zero e is =
     (c, refl, ap (λ (e : Entry). e.reply) same)
 found_entry (c ∷ cs) (suc index) e is = found_entry cs index e is
 
-has_replies : (t : Transcript) (cs : List Committed) → t.history ≡ cs → HasReplies t (map entry_of cs)
+pub has_replies : (t : Transcript) (cs : List Committed) → t.history ≡ cs → HasReplies t (map entry_of cs)
 has_replies t cs same zero e is = cc
 has_replies t cs same (suc index) e is =
     let found = found_entry cs index e is in

@@ -7,6 +7,9 @@ pub mod AtWorkGoes
 pub mod AtWorkMay
 pub mod AtWorkStays
 pub mod AtWorkTold
+pub mod CallEvents
+pub mod CallStages
+pub mod CallSteps
 pub mod CallsLeft
 pub mod ComingHome
 pub mod CommitTold
@@ -15,6 +18,7 @@ pub mod DrivenAlone
 pub mod EventTells
 pub mod FormatStops
 pub mod Formatted
+pub mod FormattedRun
 pub mod GoingBeside
 pub mod GoingCall
 pub mod GoingOn
@@ -34,7 +38,9 @@ pub mod Raising
 pub mod Refusing
 pub mod RunTaken
 pub mod SameNumbers
+pub mod Staying
 pub mod StaysAlone
+pub mod StillOpen
 pub mod StepKinds
 pub mod StepTells
 pub mod WorkCases

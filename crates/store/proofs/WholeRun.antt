@@ -87,7 +87,7 @@ next_is (first ∷ yielded) rest event = next_is yielded rest event
 
 module _ (before : Device) (tree : Tree) (first : ℕ) (events : Schedule) where
   pub gone_on : (keeps_model : Type 0) (now : Event) (old new : RunSide) (told later : Run) (yielded rest : List Event)
-      → keeps_model → MayRun keeps_model before tree first events → events ≡ yielded ++ now ∷ rest
+      → keeps_model → MayRun keeps_model before tree first 1 events → events ≡ yielded ++ now ∷ rest
       → length told.steps.items ≡ length yielded → HasGone before tree first events old told
       → LeavesGoing keeps_model now old told new later → HasGone before tree first events new later
   gone_on keeps_model now old new told later yielded rest keeps may events_are steps_are gone leaves =

@@ -108,4 +108,4 @@ pub record HasGone (before : Device) (tree : Tree) (first : ℕ) (events : Sched
 -- so it is where the device held it, the events come at sound times, and the device keeps its model
 abbrev pub GoesOnWell : Type 0 → Device → Schedule → RunSide → Run → Type 0
 GoesOnWell keeps_model before events run told = (tree : Tree) (first : ℕ)
-    → MayRun keeps_model before tree first events → HasGone before tree first events run told
+    → MayRun keeps_model before tree first 1 events → HasGone before tree first events run told

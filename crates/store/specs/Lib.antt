@@ -2,10 +2,13 @@ pub mod Alone
 pub mod Asked
 pub mod AtWork
 pub mod BringingHome
+pub mod Calling
 pub mod Counts
 pub mod Driving
 pub mod Fetches
+pub mod FormattedRun
 pub mod Formatting
+pub mod Further
 pub mod Going
 pub mod LogSide
 pub mod Noting
@@ -14,6 +17,7 @@ pub mod Phases
 pub mod Running
 pub mod Seen
 pub mod Settling
+pub mod SettlingStops
 pub mod Stages
 pub mod Telling
 pub mod WorkTells

@@ -4,7 +4,7 @@ ghost use Rattle.disk.specs.Blocks.{AreBlocks};
 ghost use Rattle.disk.specs.Crash.{IsAtRest};
 ghost use Rattle.disk.specs.Device.{CountsFailure, Device, HasWritten};
 ghost use Rattle.layout.specs.Fresh.{fresh};
-ghost use Rattle.layout.specs.Geometry.{data_at};
+ghost use Rattle.layout.specs.Geometry.{IsLawful, data_at};
 ghost use Rattle.limits.specs.declared.TheConstants.{BLOCK_BYTES, FIRST_HOME_BLOCK, SUPER_BLOCK};
 ghost use Rattle.store.specs.Formatting.{HasFormatted, HasWrittenUpTo, IsBlank, IsMade, IsMadeBehind};
 ghost use Rattle.store.specs.Formatting.{LeavesByFormat, LeavesSuper, Stops};
@@ -50,6 +50,7 @@ pub fn format<D: CrashDisk>(
     moment: Moment,
 ) -> Result<u32, FormatFault>
     ensures formatted { HasFormatted (D.device disk.old) inodes moment result (D.device disk.new) }
+    ensures lawful { OnOk result (IsLawful (D.device disk.old).size inodes) }
     ensures left { D.keeps_model disk.new
         → LeavesByFormat (D.device disk.old) inodes moment result (D.device disk.new) }
     ensures model { D.keeps_model disk.new → D.keeps_model disk.old }

@@ -4,6 +4,8 @@
 
 mod alone;
 mod at_work;
+mod calling;
+mod formatted_run;
 mod formatting;
 mod one_call;
 mod opened;
@@ -12,6 +14,8 @@ mod options;
 mod runs;
 mod workers;
 
+pub use calling::an_opened_store_is_open;
+pub use formatted_run::format_and_run;
 pub use formatting::{FormatFault, format};
 pub use one_call::procedure;
 pub use opened::{Store, close, settle};

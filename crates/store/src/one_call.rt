@@ -1,11 +1,18 @@
 //! One call to its answer, by one thread.
 ghost use Rattle.std.specs.Prelude.{◌≡◌};
 ghost use Rattle.store.specs.Alone.{IsAlone, is_full};
+ghost use Rattle.store.specs.Calling.{Answers, HasAnswered, HasStepped, IsCalling, Outset, asked_of};
 ghost use Rattle.store.specs.Driving.{HasGoneOn, IsUnderWay, steps_left, waits_for_log};
 ghost use Rattle.store.specs.Fetches.{FetchesOnly};
+ghost use Rattle.store.specs.Opening.{store_of};
 ghost use Rattle.store.specs.Settling.{IsIdle, IsQuiet};
 ghost use Rattle.store.specs.Worker.{Fits};
+ghost use Rattle.store.specs.declared.workers.parts.Phase.TheVariants.{Idle};
 
+use crate::calling::{
+    a_call_begins, a_read_keeps_a_call_going, a_settling_keeps_a_call_going,
+    a_step_keeps_a_call_going,
+};
 use crate::opened::{Store, keeps_too_many, settle};
 use crate::workers::Worker;
 use disk::CrashDisk;
@@ -15,7 +22,9 @@ use store_promise::{Committing, Step, Verdict};
 
 /// Runs a call to its answer. Where the answer waits for its place everything is settled before; where the
 /// log is full, too, and so it is where more than MOST_KEPT_COMMITS commits are kept then, since that brings
-/// home what is logged. A call that isn't served is NOTSUPP and begins no transaction.
+/// home what is logged. A call that isn't served is NOTSUPP and begins no transaction. A store that is open with
+/// some entries is open with the same then, or with the call's besides, whose reply is answered; else the answer says
+/// why there is none.
 #[tactic(auto, using(crate::proofs::Driven::starts, crate::proofs::DrivenAlone::starts_alone))]
 pub fn procedure<D: CrashDisk>(
     alloc: Global,
@@ -26,8 +35,13 @@ pub fn procedure<D: CrashDisk>(
 ) -> Verdict
     requires { IsIdle store.old.core }
     ensures idle { IsIdle store.new.core }
+    ensures boot { store.new.boot ≡ store.old.boot }
+    ensures answered { Answers (D.keeps_model store.new.disk)
+        (store_of (D.device store.old.disk) store.old.core store.old.boot) (asked_of credential moment call) result
+        (store_of (D.device store.new.disk) store.new.core store.new.boot) }
     ensures model { D.keeps_model store.new.disk → D.keeps_model store.old.disk }
 {
+    a_call_begins();
     let mut worker = Worker::new(store.boot);
     worker.hand(credential, moment, call);
     let verdict = answer(alloc, store, &mut worker);
@@ -48,6 +62,11 @@ fn answer<D: CrashDisk>(alloc: Global, store: &mut Store<D>, worker: &mut Worker
     ensures fits { Fits worker.new store.new.core }
     ensures quiet { IsQuiet store.new.core.log }
     ensures fetches { FetchesOnly worker.new.state.begun.io store.new.core }
+    ensures boot { store.new.boot ≡ store.old.boot }
+    ensures answered { (o : Outset) → D.keeps_model store.new.disk
+        → IsCalling o (store_of (D.device store.old.disk) store.old.core store.old.boot) worker.old.state
+        → HasAnswered o result (store_of (D.device store.new.disk) store.new.core store.new.boot)
+        × (worker.new.state.phase ≡ Idle) }
     ensures model { D.keeps_model store.new.disk → D.keeps_model store.old.disk }
 {
     'steps: loop {
@@ -55,6 +74,7 @@ fn answer<D: CrashDisk>(alloc: Global, store: &mut Store<D>, worker: &mut Worker
         if let Some(answered) = worker.take_answer() {
             return answered.verdict;
         }
+        drop(worker.take_entry());
     }
 }
 
@@ -69,10 +89,18 @@ fn go_on<D: CrashDisk>(alloc: Global, store: &mut Store<D>, worker: &mut Worker)
     ensures quiet { IsQuiet store.new.core.log }
     ensures alone { IsAlone worker.new.state store.new.core }
     ensures nearer { HasGoneOn (steps_left worker.old.state store.old.core) worker.new.state store.new.core }
+    ensures boot { store.new.boot ≡ store.old.boot }
+    ensures going { (o : Outset) → D.keeps_model store.new.disk
+        → IsCalling o (store_of (D.device store.old.disk) store.old.core store.old.boot) worker.old.state
+        → HasStepped o (store_of (D.device store.new.disk) store.new.core store.new.boot) worker.new.state }
     ensures model { D.keeps_model store.new.disk → D.keeps_model store.old.disk }
 {
+    a_read_keeps_a_call_going();
+    a_settling_keeps_a_call_going();
+    a_step_keeps_a_call_going();
     store.core.lawful();
     let made = worker.step(alloc, &mut store.core);
+    store.core.lawful();
     if waits_for_log(&made) {
         let _ = settle(store);
     }
@@ -81,6 +109,7 @@ fn go_on<D: CrashDisk>(alloc: Global, store: &mut Store<D>, worker: &mut Worker)
         worker.begin_again();
     } else if worker.read(&mut store.disk).is_some() {
         worker.step(alloc, &mut store.core);
+        store.core.lawful();
     }
 }
 

@@ -4,14 +4,21 @@ ghost use Rattle.limits.specs.declared.TheConstants.{MOST_KEPT_COMMITS};
 ghost use Rattle.layout.specs.Geometry.{IsLawful};
 ghost use Rattle.store.specs.Counts.{SameFrame};
 ghost use Rattle.store.specs.Fetches.{KeepsFetches};
+ghost use Rattle.store.specs.Further.{LeavesOpen};
 ghost use Rattle.store.specs.Opening.{IsSettled};
 ghost use Rattle.store.specs.Settling.{HasCalled, HasFailed, IsQuiet, SameNumbers};
+ghost use Rattle.store.specs.SettlingStops.{KeepsPrefixes, StayOpen};
 ghost use Rattle.wal_law.specs.Installer.{may_install};
 ghost use Rattle.wal_law.specs.Logger.{may_log};
 
 use disk::{CrashDisk, Failed};
 use limits::MOST_KEPT_COMMITS;
 use procs::Done;
+use store_promise::{
+    a_device_counts_the_calls_of_its_steps, a_stop_leaves_a_beginning,
+    an_open_store_keeps_its_files, the_installer_leaves_the_store_open,
+    the_logger_leaves_the_store_open, what_is_settled_stays_settled, what_was_read_is_at_home,
+};
 use txn::Core;
 
 /// A store that was opened.
@@ -54,18 +61,25 @@ pub fn close<D: CrashDisk>(store: Store<D>) -> D
 /// Makes every change settled in the log. What is logged is brought home only where the log has no room
 /// behind its settled start for the changes that wait, or where more than MOST_KEPT_COMMITS commits are kept;
 /// what is left, the next opening brings home. It fails only where a device call fails in it, or where a
-/// write or a barrier failed since the opening.
+/// write or a barrier failed since the opening. Whatever comes of it, a store that is open for some entries stays
+/// open for them, and each stop leaves the files after a beginning of them, in which is what was settled before.
 pub fn settle<D: CrashDisk>(store: &mut Store<D>) -> Result<(), Failed>
     requires { IsQuiet store.old.core.log }
     ensures out { store.new.core.out ≡ store.old.core.out }
+    ensures boot { store.new.boot ≡ store.old.boot }
+    ensures open { LeavesOpen (D.device store.old.disk) store.old.core (D.device store.new.disk) store.new.core }
     ensures counts { SameFrame store.old.core store.new.core }
     ensures numbers { SameNumbers store.old.core store.new.core }
     ensures fetches { KeepsFetches store.old.core store.new.core }
     ensures settled { OnOk result (IsSettled store.new.core) }
     ensures failed { OnErr result (HasFailed store.old.core.log (D.device store.old.disk) (D.device store.new.disk)) }
     ensures broken { OnErr result (store.new.core.log.broken ≡ true) }
+    ensures keeps { D.keeps_model store.new.disk → KeepsPrefixes (D.device store.old.disk) store.old.core
+        (D.device store.new.disk) store.new.core }
     ensures model { D.keeps_model store.new.disk → D.keeps_model store.old.disk }
 {
+    a_stop_leaves_a_beginning();
+    an_open_store_keeps_its_files();
     'calls: loop {
         if store.core.broken() {
             return Err(Failed);
@@ -92,6 +106,8 @@ pub(crate) fn keeps_too_many<D: CrashDisk>(store: &Store<D>) -> bool
 fn log_one<D: CrashDisk>(store: &mut Store<D>) -> bool
     requires { IsQuiet store.old.core.log }
     ensures out { store.new.core.out ≡ store.old.core.out }
+    ensures boot { store.new.boot ≡ store.old.boot }
+    ensures open { LeavesOpen (D.device store.old.disk) store.old.core (D.device store.new.disk) store.new.core }
     ensures counts { SameFrame store.old.core store.new.core }
     ensures numbers { SameNumbers store.old.core store.new.core }
     ensures fetches { KeepsFetches store.old.core store.new.core }
@@ -100,8 +116,14 @@ fn log_one<D: CrashDisk>(store: &mut Store<D>) -> bool
         → HasCalled store.old.core.log (D.device store.old.disk) store.new.core.log (D.device store.new.disk) }
     ensures none { IsFalse result
         → (store.new.core ≡ store.old.core) × (D.device store.new.disk ≡ D.device store.old.disk) }
+    ensures stays { StayOpen (D.device store.old.disk) store.old.core (D.device store.new.disk) store.new.core }
     ensures model { D.keeps_model store.new.disk → D.keeps_model store.old.disk }
 {
+    the_logger_leaves_the_store_open();
+    an_open_store_keeps_its_files();
+    a_device_counts_the_calls_of_its_steps();
+    what_was_read_is_at_home();
+    what_is_settled_stays_settled();
     store.core.lawful();
     let Some(io) = store.core.log_next() else {
         return false;
@@ -109,6 +131,7 @@ fn log_one<D: CrashDisk>(store: &mut Store<D>) -> bool
     store.core.lawful();
     let ok = io.perform(&mut store.disk).is_ok();
     store.core.log_done(io, ok);
+    store.core.lawful();
     true
 }
 
@@ -117,6 +140,8 @@ fn log_one<D: CrashDisk>(store: &mut Store<D>) -> bool
 fn install_one<D: CrashDisk>(store: &mut Store<D>) -> bool
     requires { IsQuiet store.old.core.log }
     ensures out { store.new.core.out ≡ store.old.core.out }
+    ensures boot { store.new.boot ≡ store.old.boot }
+    ensures open { LeavesOpen (D.device store.old.disk) store.old.core (D.device store.new.disk) store.new.core }
     ensures counts { SameFrame store.old.core store.new.core }
     ensures numbers { SameNumbers store.old.core store.new.core }
     ensures fetches { KeepsFetches store.old.core store.new.core }
@@ -125,8 +150,14 @@ fn install_one<D: CrashDisk>(store: &mut Store<D>) -> bool
         → HasCalled store.old.core.log (D.device store.old.disk) store.new.core.log (D.device store.new.disk) }
     ensures none { IsFalse result
         → (store.new.core ≡ store.old.core) × (D.device store.new.disk ≡ D.device store.old.disk) }
+    ensures stays { StayOpen (D.device store.old.disk) store.old.core (D.device store.new.disk) store.new.core }
     ensures model { D.keeps_model store.new.disk → D.keeps_model store.old.disk }
 {
+    the_installer_leaves_the_store_open();
+    an_open_store_keeps_its_files();
+    a_device_counts_the_calls_of_its_steps();
+    what_was_read_is_at_home();
+    what_is_settled_stays_settled();
     store.core.lawful();
     let Some(io) = store.core.inst_next() else {
         return false;
@@ -134,5 +165,6 @@ fn install_one<D: CrashDisk>(store: &mut Store<D>) -> bool
     store.core.lawful();
     let ok = io.perform(&mut store.disk).is_ok();
     store.core.inst_done(io, ok);
+    store.core.lawful();
     true
 }

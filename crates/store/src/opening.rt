@@ -30,7 +30,7 @@ use wal::circ::{self, LogFault};
 /// these that holds: an allocation failed (NoMemory), its device has no blocks (Magic), the super block can't
 /// be read (Device) or is refused as `Super::read` says, its sizes aren't the device's or no boot number is left
 /// (Range), the log isn't one (Log). Until then nothing is written. Later only Device and NoMemory come. A refusal
-/// hands the disk back. A device at rest with a good image keeps its tree at each stop, and so it does when it is
+/// hands the disk back, and is Device just where a call of the device failed and was counted. A device at rest with a good image keeps its tree at each stop, and so it does when it is
 /// opened again.
 #[tactic(auto, using(crate::specs::Opening::has_opened))]
 pub fn open<D: CrashDisk>(alloc: Global, disk: D) -> Result<Store<D>, (D, OpenFault)>
@@ -41,6 +41,7 @@ pub fn open<D: CrashDisk>(alloc: Global, disk: D) -> Result<Store<D>, (D, OpenFa
     ensures answered { MatchResult result
         (λ store. IsAnsweredFor (D.keeps_model store.disk) None (D.device disk) (D.device store.disk))
         (λ refused. IsAnsweredFor (D.keeps_model refused.0) (Some refused.1) (D.device disk) (D.device refused.0)) }
+    ensures counted { IfErr result (λ refused. CountsCause refused.1 (D.device disk) (D.device refused.0)) }
     ensures keeps { (tree : Tree) (first : ℕ) → HoldsTree (D.device disk) tree first → MatchResult result
         (λ store. D.keeps_model store.disk → Opens (D.device disk)
         (Ok (store_of (D.device store.disk) store.core store.boot)) tree first)
@@ -65,6 +66,7 @@ fn recover<D: CrashDisk>(alloc: Global, disk: &mut D) -> Result<(Core<Done>, u64
     ensures answered { MatchResult result
         (λ _. IsAnsweredFor (D.keeps_model disk.new) None (D.device disk.old) (D.device disk.new))
         (λ cause. IsAnsweredFor (D.keeps_model disk.new) (Some cause) (D.device disk.old) (D.device disk.new)) }
+    ensures counted { IfErr result (λ cause. CountsCause cause (D.device disk.old) (D.device disk.new)) }
     ensures keeps { (tree : Tree) (first : ℕ) → HoldsTree (D.device disk.old) tree first → D.keeps_model disk.new
         → MatchResult result (λ opened. Opens (D.device disk.old)
         (Ok (store_of (D.device disk.new) opened.0 opened.1)) tree first)

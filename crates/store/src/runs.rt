@@ -25,7 +25,6 @@ pub fn run<D: CrashDisk>(
     workers: usize,
     events: Vec<Event>,
 ) -> (D, Result<Run, OpenFault>)
-    requires { workers ≡ 1 }
     ensures model { D.keeps_model result.0 → D.keeps_model disk }
     ensures promised { (tree : Tree) (first : ℕ) → MatchResult result.1
         (λ told. IsPromised (D.keeps_model result.0) (D.device disk) (D.device result.0) tree first workers events.items

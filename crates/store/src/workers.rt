@@ -21,6 +21,7 @@ use std::alloc::Global;
 use store_promise::{CallAnswer, Entry, Step};
 pub(crate) use telling::{
     a_run_notes_its_workers_steps, a_worker_tells_its_call, a_worker_tells_its_read,
+    a_worker_tells_its_steps,
 };
 use txn::Core;
 
@@ -182,6 +183,7 @@ impl Worker {
         ensures frame { SameFrame core.old core.new }
         ensures ended { core.new.out ≡ [] }
         ensures fetches { FetchesOnly self.state.begun.io core.old → FetchesOnly None core.new }
+        ensures idle { self.state.phase ≡ Idle → core.new ≡ core.old }
     {
         let Worker { state } = self;
         let State {

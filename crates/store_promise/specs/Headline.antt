@@ -88,13 +88,14 @@ pub record KeepsPromise (before later : Device) (tree : Tree) (first workers : �
   pub files : (place : ℕ) → StandsAfter setting.geometry tree (take place (entries_of t)) (setting.blocks place)
 
 -- What a run stands on: the device keeps its model, is at rest, and holds a good image with this tree and this
--- boot number; and calls are handed over at moments below a second.
-pub record MayRun (keeps_model : Type 0) (before : Device) (tree : Tree) (first : ℕ)
+-- boot number; there is one worker; and calls are handed over at moments below a second.
+pub record MayRun (keeps_model : Type 0) (before : Device) (tree : Tree) (first workers : ℕ)
     (events : Schedule) : Type 0 where
   pub model : keeps_model
   pub rest : IsAtRest before
   pub good : (image : Image) → IsCrashImage before before.clock image
       → IsGoodImage before.size image tree first
+  pub alone : workers ≡ 1
   pub timely : AreTimely events
 
 -- what comes of a run: its transcript, or why the store wasn't opened
@@ -107,4 +108,4 @@ IsAnswered before later tree first workers events (Err cause) = IsRefused before
 abbrev pub IsPromised : Type 0 → Device → Device → Tree → ℕ → ℕ → Schedule → Result Transcript OpenFault
     → Type 0
 IsPromised keeps_model before later tree first workers events answer =
-    MayRun keeps_model before tree first events → IsAnswered before later tree first workers events answer
+    MayRun keeps_model before tree first workers events → IsAnswered before later tree first workers events answer

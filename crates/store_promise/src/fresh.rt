@@ -24,12 +24,12 @@ pub fn a_fresh_image_is_good()
     layout::a_fresh_image_stands_for_the_format_tree();
 }
 
-/// A run may stand on an image that was made on a device at rest, as on one that a store has left.
+/// A run of one worker may stand on an image that was made on a device at rest, as on one that a store has left.
 pub fn a_made_image_may_run()
     ensures { (before later : Device) (g : Geometry) (moment : Moment) (events : Schedule)
         → IsLawful g.blocks g.inodes → SoundTime moment → AreTimely events
         → IsAtRest before → IsFormatted before later g moment
-        → MayRun (Unit {0}) later (format_tree (geometry_of g) moment) 0 events }
+        → MayRun (Unit {0}) later (format_tree (geometry_of g) moment) 0 1 events }
 {
     a_fresh_image_is_good();
 }

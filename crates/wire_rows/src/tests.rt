@@ -4,7 +4,6 @@ mod copies;
 mod items;
 mod judged;
 mod plain_reader;
-mod records;
 mod replies;
 mod room;
 mod setattr;

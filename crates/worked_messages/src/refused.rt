@@ -106,9 +106,6 @@ pub const REJECTED_CREDENTIAL: [u32; 6] = [0x8000_0014, 1, 1, 1, 1, 2];
 /// A mark that announces 40,961 bytes.
 pub const TOO_LONG: [u32; 1] = [0x8000_a001];
 
-/// The mark of a fragment of 40 bytes that isn't the last.
-pub const NO_LAST_FRAGMENT: [u32; 1] = [0x0000_0028];
-
 /// A message whose type is neither call nor reply, as one that replies would be.
 pub const NO_CALL: [u32; 11] = [0x8000_0028, 1, 1, 2, 100_003, 3, 0, 0, 0, 0, 0];
 

@@ -3,6 +3,23 @@
 /// NULL of NFS version 3 by nobody, transaction 1.
 pub const NULL: [u32; 11] = [0x8000_0028, 1, 0, 2, 100_003, 3, 0, 0, 0, 0, 0];
 
+/// The same in fragments of 4, 16 and 20 bytes.
+pub const NULL_IN_FRAGMENTS: [u32; 13] = [
+    4,
+    1,
+    0x0000_0010,
+    0,
+    2,
+    100_003,
+    3,
+    0x8000_0014,
+    0,
+    0,
+    0,
+    0,
+    0,
+];
+
 /// Its reply.
 pub const NULL_REPLY: [u32; 7] = [0x8000_0018, 1, 1, 0, 0, 0, 0];
 

@@ -3,23 +3,46 @@ use Rattle.std.proofs.Common.{◌≡◌, ℕ, zero, suc, ◌+◌, ◌^◌, ◌<�
 use Rattle.std.specs.Prelude.{◌==◌}
 use Rattle.std.specs.Int.{Width, w32, w64, byte_len}
 use Rattle.std.specs.List.{list_all, AllByRecursion}
-use Rattle.std.proofs.lemmas.Bool.{cases_Bool, eq-eqb, eqb-true, ltb-false, le-ltb}
+use Rattle.std.proofs.lemmas.Bool.{cases_Bool, eq-eqb, eqb-true, ltb-true, ltb-false, lt-ltb, le-ltb}
 use Rattle.std.proofs.lemmas.List.{append-nil, length-drop}
 use Rattle.xdr.specs.declared.fault.XdrFault.{XdrFault}
-use Rattle.xdr.specs.declared.fault.XdrFault.TheVariants.{Short, Padding, Length, Value}
+use Rattle.xdr.specs.declared.fault.XdrFault.TheVariants.{Short, Padding, Length, Value, Left}
 use Rattle.xdr.specs.Items as items
 use Rattle.xdr.specs.Items.{padding}
 use Rattle.xdr.specs.Reading.{◌>>=◌, number_at, flag_of, flag_at, opaque_at, eight_at, end_at}
 use Rattle.xdr.proofs.Never as never
 use Rattle.xdr.proofs.Never.{Never}
+use Rattle.xdr.proofs.Refusing.{err_is, no_err, bind_err, made_err, guard_err, holds_err, number_refuses, number_refused, flag_refuses, flag_refused}
+use Rattle.xdr.proofs.Refusing.{eight_refuses, eight_refused, string_of, string_refuses, string_refused_so, end_refuses, end_refused}
 use Rattle.xdr.proofs.Coded.{IsBytes, Takes, Takes-then, words as word_items, doubles as double_items, flags as flag_items, strings, string_bytes, eights as eight_items, optionals as optional_items, bind_ok, guard_ok, holds_ok, ok_is}
-use Rattle.xdr.specs.Codes.{Code, word, double, flag, opaque, eight, nothing, ◌then◌, made_of, viewed, fitting, optional, items_bytes, items_at, counted, chain_bytes, chain_at, chain, Arms, arm, arm_or, numbered, on_listed, arms, union, one_of, whole}
+use Rattle.xdr.specs.Codes.{Code, word, double, flag, opaque, eight, nothing, ◌then◌, made_of, viewed, fitting, optional, items_bytes, items_at, counted, chain_bytes, chain_at, chain, Arms, arm, arm_or, numbered, on_listed, arms, union, one_of, whole, Behind, here_or_behind, fewer_than, string_refused, link_refused, item_refused, is_some, refused_whole}
 
 pub record IsCode {A : Type 0} (F : Code A) : Type 0 where
   pub takes : (bytes : List ℕ) (x : A) (rest : List ℕ) → IsBytes bytes → F.read bytes ≡ Ok (x, rest) → Takes bytes (F.spell x) rest × F.Fits x
   pub again : (x : A) (rest : List ℕ) → F.Fits x → F.read (F.spell x ++ rest) ≡ Ok (x, rest)
   pub shrinks : (bytes : List ℕ) (x : A) (rest : List ℕ) → F.read bytes ≡ Ok (x, rest) → length rest ≤ length bytes
   pub never : (bytes : List ℕ) → Never (F.read bytes)
+  pub refuses : (bytes : List ℕ) (e : XdrFault) → IsBytes bytes → F.read bytes ≡ Err e → F.Refuses bytes e
+  pub refused : (bytes : List ℕ) (e : XdrFault) → F.Refuses bytes e → F.read bytes ≡ Err e
+
+-- what is read first is refused, or what is read behind it
+behind_refuses : {A B : Type 0} (F : Code A) → IsCode F → (f : A × List ℕ → Result B XdrFault) (Holds : A → List ℕ → Type 0) (bytes : List ℕ) (e : XdrFault) → IsBytes bytes
+    → ((x : A) (rest : List ℕ) → IsBytes rest → f (x, rest) ≡ Err e → Holds x rest) → (F.read bytes >>= f) ≡ Err e → here_or_behind F Holds bytes e
+behind_refuses F is f Holds bytes e fits tail h =
+    elim (bind_err (F.read bytes) f e h) [
+      | inl r ↦ inl (is.refuses bytes e fits r)
+      | inr m ↦
+          let t = is.takes bytes m.0.0 m.0.1 fits m.1 in
+          inr (record { value = m.0.0; rest = m.0.1; fits = t.1; parts = t.0.parts; holds = tail m.0.0 m.0.1 t.0.rest_fits m.2 })
+    ]
+
+read_so : {A : Type 0} (F : Code A) → IsCode F → (Holds : A → List ℕ → Type 0) (bytes : List ℕ) → (b : Behind F Holds bytes) → F.read bytes ≡ Ok (b.value, b.rest)
+read_so F is Holds bytes b = ap F.read b.parts ∙ is.again b.value b.rest b.fits
+
+behind_refused : {A B : Type 0} (F : Code A) → IsCode F → (f : A × List ℕ → Result B XdrFault) (Holds : A → List ℕ → Type 0) (bytes : List ℕ) (e : XdrFault)
+    → ((x : A) (rest : List ℕ) → Holds x rest → f (x, rest) ≡ Err e) → here_or_behind F Holds bytes e → (F.read bytes >>= f) ≡ Err e
+behind_refused F is f Holds bytes e tail (inl r) = rw (is.refused bytes e r) refl
+behind_refused F is f Holds bytes e tail (inr b) = rw (read_so F is Holds bytes b) (tail b.value b.rest b.holds)
 
 -- what a step made of what was read
 pub map_ok : {A B : Type 0} (r : Result (A × List ℕ) XdrFault) (f : A → B) (y : B) (rest : List ℕ) → (r >>= made_of f) ≡ Ok (y, rest) → (x : A) × (r ≡ Ok (x, rest)) × (f x ≡ y)
@@ -44,10 +67,10 @@ number_shrinks w bytes n rest e =
     omega (arith, ltb-false _ _ g.0, ap length one, length-drop (byte_len w) bytes)
 
 pub words : IsCode word
-words = record { takes = word_items.takes; again = word_items.again; shrinks = λ bytes n rest e. omega (arith, number_shrinks w32 bytes n rest e); never = never.number w32 }
+words = record { takes = word_items.takes; again = word_items.again; shrinks = λ bytes n rest e. omega (arith, number_shrinks w32 bytes n rest e); never = never.number w32; refuses = λ bytes e fits h. number_refuses w32 bytes e h; refused = number_refused w32 }
 
 pub doubles : IsCode double
-doubles = record { takes = double_items.takes; again = double_items.again; shrinks = λ bytes n rest e. omega (arith, number_shrinks w64 bytes n rest e); never = never.number w64 }
+doubles = record { takes = double_items.takes; again = double_items.again; shrinks = λ bytes n rest e. omega (arith, number_shrinks w64 bytes n rest e); never = never.number w64; refuses = λ bytes e fits h. number_refuses w64 bytes e h; refused = number_refused w64 }
 
 flag_of_shrinks : (n : ℕ) (bytes : List ℕ) (b : Bool) (rest : List ℕ) → flag_of n bytes ≡ Ok (b, rest) → bytes ≡ rest
 flag_of_shrinks zero bytes b rest e = ap (λ (q : Bool × List ℕ). q.1) (ok_is (false, bytes) (b, rest) e)
@@ -60,8 +83,16 @@ flag_shrinks bytes b rest e =
     let a = bind_ok (number_at w32 bytes) (λ n. flag_of n.0 n.1) (b, rest) e in
     omega (arith, number_shrinks w32 bytes a.0.0 a.0.1 a.1, ap length (flag_of_shrinks a.0.0 a.0.1 b rest a.2))
 
+flags_refuse : (bytes : List ℕ) (e : XdrFault) → IsBytes bytes → flag_at bytes ≡ Err e → flag.Refuses bytes e
+unfolding flag_at
+flags_refuse bytes e fits h = behind_refuses word words (λ n. flag_of n.0 n.1) (λ n rest. (1 < n) × (e ≡ Value)) bytes e fits (λ n rest g k. flag_refuses n rest e k) h
+
+flags_refused : (bytes : List ℕ) (e : XdrFault) → flag.Refuses bytes e → flag_at bytes ≡ Err e
+unfolding flag_at
+flags_refused bytes e r = behind_refused word words (λ n. flag_of n.0 n.1) (λ n rest. (1 < n) × (e ≡ Value)) bytes e (λ n rest k. flag_refused n rest e k) r
+
 pub flags : IsCode flag
-flags = record { takes = flag_items.takes; again = flag_items.again; shrinks = λ bytes b rest e. omega (arith, flag_shrinks bytes b rest e); never = never.flag }
+flags = record { takes = flag_items.takes; again = flag_items.again; shrinks = λ bytes b rest e. omega (arith, flag_shrinks bytes b rest e); never = never.flag; refuses = flags_refuse; refused = flags_refused }
 
 opaque_shrinks : (bound : ℕ) (bytes text rest : List ℕ) → opaque_at bound bytes ≡ Ok (text, rest) → length rest ≤ length bytes
 unfolding opaque_at
@@ -75,6 +106,14 @@ opaque_shrinks bound bytes text rest e =
     let one : drop (padding n) (drop n r) ≡ rest = ap (λ (q : List ℕ × List ℕ). q.1) (ok_is (take n r, drop (padding n) (drop n r)) (text, rest) zeros.1) in
     omega (arith, number_shrinks w32 bytes n r a.1, ap length one, length-drop (padding n) (drop n r), length-drop n r)
 
+opaques_refuse : (bound : ℕ) (bytes : List ℕ) (e : XdrFault) → IsBytes bytes → opaque_at bound bytes ≡ Err e → (opaque bound).Refuses bytes e
+unfolding opaque_at
+opaques_refuse bound bytes e fits h = behind_refuses word words (λ n. string_of bound n.0 n.1) (λ n rest. string_refused bound n rest e) bytes e fits (λ n rest g k. string_refuses bound n rest e k) h
+
+opaques_refused : (bound : ℕ) (bytes : List ℕ) (e : XdrFault) → (opaque bound).Refuses bytes e → opaque_at bound bytes ≡ Err e
+unfolding opaque_at
+opaques_refused bound bytes e r = behind_refused word words (λ n. string_of bound n.0 n.1) (λ n rest. string_refused bound n rest e) bytes e (λ n rest k. string_refused_so bound n rest e k) r
+
 pub opaques : (bound : ℕ) → bound < 2 ^ 32 → IsCode (opaque bound)
 opaques bound small =
     let s = strings bound small in
@@ -85,6 +124,8 @@ opaques bound small =
       again = λ text rest fits. s.again text rest fits.0;
       shrinks = opaque_shrinks bound;
       never = never.opaque bound;
+      refuses = opaques_refuse bound;
+      refused = opaques_refused bound;
     }
 
 eight_shrinks : (bytes text rest : List ℕ) → eight_at bytes ≡ Ok (text, rest) → length rest ≤ length bytes
@@ -101,6 +142,8 @@ eights = record {
   again = eight_items.again;
   shrinks = eight_shrinks;
   never = never.eight;
+  refuses = λ bytes e fits h. eight_refuses bytes e h;
+  refused = eight_refused;
 }
 
 pub nothings : IsCode nothing
@@ -111,6 +154,8 @@ nothings = record {
   again = λ x rest fits. refl;
   shrinks = λ bytes x rest e. omega (arith, ap length (ap (λ (q : Unit {0} × List ℕ). q.1) (ok_is (tt, bytes) (x, rest) e)));
   never = λ bytes. never.ok_never _;
+  refuses = λ bytes e fits h. no_err _ e h;
+  refused = λ bytes e r. absurd r;
 }
 
 -- ---- one after another, a view, what may be absent
@@ -137,6 +182,12 @@ thens F G f g = record {
   never = λ bytes.
       never.bind (F.read bytes) _ (f.never bytes)
       (λ x. never.bind (G.read x.1) _ (g.never x.1) (λ y. never.ok_never _));
+  refuses = λ bytes e fits h.
+      behind_refuses F f (λ x. G.read x.1 >>= made_of (λ y. (x.0, y))) (λ x rest. G.Refuses rest e) bytes e fits
+      (λ x rest p k. g.refuses rest e p (made_err (G.read rest) (λ y. (x, y)) e k)) h;
+  refused = λ bytes e r.
+      behind_refused F f (λ x. G.read x.1 >>= made_of (λ y. (x.0, y))) (λ x rest. G.Refuses rest e) bytes e
+      (λ x rest k. rw (g.refused rest e k) refl) r;
 }
 
 pub vieweds : {A B : Type 0} (make : B → A) (parts : A → B) (F : Code B) → ((b : B) → parts (make b) ≡ b) → ((a : A) → make (parts a) ≡ a) → IsCode F → IsCode (viewed make parts F)
@@ -150,6 +201,8 @@ vieweds make parts F back forth f = record {
       let m = map_ok (F.read bytes) make a rest e in
       f.shrinks bytes m.0 rest m.1;
   never = λ bytes. never.bind (F.read bytes) _ (f.never bytes) (λ x. never.ok_never _);
+  refuses = λ bytes e fits h. f.refuses bytes e fits (made_err (F.read bytes) make e h);
+  refused = λ bytes e r. rw (f.refused bytes e r) refl;
 }
 
 pub fittings : {A : Type 0} (Fits : A → Type 0) (F : Code A) → ((x : A) → F.Fits x → Fits x)
@@ -159,6 +212,8 @@ fittings Fits F back forth f = record {
   again = λ x rest fits. f.again x rest (forth x fits);
   shrinks = f.shrinks;
   never = f.never;
+  refuses = f.refuses;
+  refused = f.refused;
 }
 
 by_flag_shrinks : {A : Type 0} (F : Code A) → IsCode F → (b : Bool) (bytes : List ℕ) (o : Option A) (rest : List ℕ) → cond b (F.read bytes >>= made_of (λ x. Some x)) (Ok (None, bytes)) ≡ Ok (o, rest) → length rest ≤ length bytes
@@ -168,6 +223,10 @@ by_flag_shrinks F f true bytes o rest e =
 by_flag_shrinks {A} F f false bytes o rest e =
     let pair : Option A × List ℕ = (None, bytes) in
     omega (arith, ap length (ap (λ (q : Option A × List ℕ). q.1) (ok_is pair (o, rest) e)))
+
+by_flag_refuses : {A : Type 0} (F : Code A) → IsCode F → (e : XdrFault) (b : Bool) (bytes : List ℕ) → IsBytes bytes → cond b (F.read bytes >>= made_of (λ x. Some x)) (Ok (None, bytes)) ≡ Err e → (b ≡ true) × F.Refuses bytes e
+by_flag_refuses F f e true bytes fits h = (refl, f.refuses bytes e fits (made_err (F.read bytes) (λ x. Some x) e h))
+by_flag_refuses F f e false bytes fits h = absurd (no_err _ e h)
 
 pub optionals : {A : Type 0} (F : Code A) → IsCode F → IsCode (optional F)
 optionals {A} F f =
@@ -179,6 +238,12 @@ optionals {A} F f =
           let a = bind_ok (flag_at bytes) _ (o, rest) e in
           omega (arith, flag_shrinks bytes a.0.0 a.0.1 a.1, by_flag_shrinks F f a.0.0 a.0.1 o rest a.2);
       never = never.optional F.read f.never;
+      refuses = λ bytes e fits h.
+          behind_refuses flag flags (λ b. cond b.0 (F.read b.1 >>= made_of (λ x. Some x)) (Ok (None, b.1)))
+          (λ b rest. (b ≡ true) × F.Refuses rest e) bytes e fits (λ b rest p k. by_flag_refuses F f e b rest p k) h;
+      refused = λ bytes e r.
+          behind_refused flag flags (λ b. cond b.0 (F.read b.1 >>= made_of (λ x. Some x)) (Ok (None, b.1)))
+          (λ b rest. (b ≡ true) × F.Refuses rest e) bytes e (λ b rest k. rw (k.0, f.refused rest e k.1) refl) r;
     }
 
 -- ---- unions
@@ -190,6 +255,8 @@ pub record AreArms {A : Type 0} (G : Arms A) : Type 0 where
   pub small : (x : A) → G.number x < 2 ^ 32
   pub has : (x : A) → G.has (G.number x) ≡ true
   pub never : (n : ℕ) (bytes : List ℕ) → Never (G.read n bytes)
+  pub refuses : (n : ℕ) (bytes : List ℕ) (e : XdrFault) → IsBytes bytes → G.read n bytes ≡ Err e → G.Refuses n bytes e
+  pub refused : (n : ℕ) (bytes : List ℕ) (e : XdrFault) → G.Refuses n bytes e → G.read n bytes ≡ Err e
 
 same : (k : ℕ) → (k == k) ≡ true
 same k = eq-eqb k k refl
@@ -200,6 +267,17 @@ apart has n k held missing =
       | inl e ↦ let h : has n ≡ has k = ap has (eqb-true n k e) in absurd cc
       | inr e ↦ e
     ]
+
+arm_refuses : {A : Type 0} (k : ℕ) (F : Code A) → IsCode F → (n : ℕ) (bytes : List ℕ) (e : XdrFault) → IsBytes bytes → (arm k F).read n bytes ≡ Err e → (arm k F).Refuses n bytes e
+arm_refuses k F f n bytes e fits h =
+    elim (holds_err (n == k) Value (F.read bytes) e h) [
+      | inl r ↦ inl (r.0, f.refuses bytes e fits r.1)
+      | inr r ↦ inr r
+    ]
+
+arm_refused : {A : Type 0} (k : ℕ) (F : Code A) → IsCode F → (n : ℕ) (bytes : List ℕ) (e : XdrFault) → (arm k F).Refuses n bytes e → (arm k F).read n bytes ≡ Err e
+arm_refused k F f n bytes e (inl r) = rw r.0 (f.refused bytes e r.1)
+arm_refused k F f n bytes e (inr r) = rw (r.0, r.1) refl
 
 pub arm_is : {A : Type 0} (k : ℕ) (F : Code A) → k < 2 ^ 32 → IsCode F → AreArms (arm k F)
 arm_is k F small f = record {
@@ -212,6 +290,8 @@ arm_is k F small f = record {
   small = λ x. small;
   has = λ x. same k;
   never = λ n bytes. never.if_never (n == k) _ _ (f.never bytes) never.value;
+  refuses = arm_refuses k F f;
+  refused = arm_refused k F f;
 }
 
 record Took {A : Type 0} (G : Arms A) (n : ℕ) (bytes : List ℕ) (x : A) (rest : List ℕ) : Type 0 where
@@ -251,6 +331,17 @@ or_has : {A B : Type 0} (k : ℕ) (F : Code A) (G : Arms B) → AreArms G → G.
 or_has k F G g missing (inl x) = rw (same k) refl
 or_has k F G g missing (inr y) = rw (apart G.has (G.number y) k (g.has y) missing) (g.has y)
 
+or_refuses : {A B : Type 0} (k : ℕ) (F : Code A) (G : Arms B) → IsCode F → AreArms G → (n : ℕ) (bytes : List ℕ) (e : XdrFault) → IsBytes bytes → (arm_or k F G).read n bytes ≡ Err e → (arm_or k F G).Refuses n bytes e
+or_refuses k F G f g n bytes e fits h =
+    elim (chosen (n == k) (F.read bytes >>= made_of inl) (G.read n bytes >>= made_of inr) (Err e) h) [
+      | inl r ↦ inl (r.0, f.refuses bytes e fits (made_err (F.read bytes) inl e r.1))
+      | inr r ↦ inr (r.0, g.refuses n bytes e fits (made_err (G.read n bytes) inr e r.1))
+    ]
+
+or_refused : {A B : Type 0} (k : ℕ) (F : Code A) (G : Arms B) → IsCode F → AreArms G → (n : ℕ) (bytes : List ℕ) (e : XdrFault) → (arm_or k F G).Refuses n bytes e → (arm_or k F G).read n bytes ≡ Err e
+or_refused k F G f g n bytes e (inl r) = rw (r.0, f.refused bytes e r.1) refl
+or_refused k F G f g n bytes e (inr r) = rw (r.0, g.refused n bytes e r.1) refl
+
 pub or_is : {A B : Type 0} (k : ℕ) (F : Code A) (G : Arms B) → k < 2 ^ 32 → G.has k ≡ false → IsCode F → AreArms G → AreArms (arm_or k F G)
 or_is k F G small missing f g = record {
   takes = λ n bytes x rest fits e. let t = or_takes k F G f g n bytes x rest fits e in (t.number, t.takes, t.fits);
@@ -261,6 +352,8 @@ or_is k F G small missing f g = record {
   never = λ n bytes.
       never.if_never (n == k) _ _ (never.bind (F.read bytes) _ (f.never bytes) (λ x. never.ok_never _))
       (never.bind (G.read n bytes) _ (g.never n bytes) (λ x. never.ok_never _));
+  refuses = or_refuses k F G f g;
+  refused = or_refused k F G f g;
 }
 
 -- each of these has a number of its own
@@ -288,6 +381,18 @@ on_listed_never : {S B : Type 0} (o : Option S) (r : Result (B × List ℕ) XdrF
 on_listed_never (Some s) r h = never.bind r _ h (λ x. never.ok_never _)
 on_listed_never None r h = never.value
 
+on_listed_refuses : {S B : Type 0} (F : Code B) → IsCode F → (o : Option S) (bytes : List ℕ) (e : XdrFault) → IsBytes bytes → on_listed o (F.read bytes) ≡ Err e
+    → ((is_some o ≡ true) × F.Refuses bytes e) ⊎ ((is_some o ≡ false) × (e ≡ Value))
+on_listed_refuses {S} {B} F f (Some s) bytes e fits h = inl (refl, f.refuses bytes e fits (made_err (F.read bytes) (λ (b : B). (s, b)) e h))
+on_listed_refuses {S} {B} F f None bytes e fits h = inr (refl, err_is {A = (S × B) × List ℕ} Value e h)
+
+on_listed_refused : {S B : Type 0} (F : Code B) → IsCode F → (o : Option S) (bytes : List ℕ) (e : XdrFault)
+    → ((is_some o ≡ true) × F.Refuses bytes e) ⊎ ((is_some o ≡ false) × (e ≡ Value)) → on_listed o (F.read bytes) ≡ Err e
+on_listed_refused F f (Some s) bytes e (inl r) = rw (f.refused bytes e r.1) refl
+on_listed_refused F f (Some s) bytes e (inr r) = absurd cc
+on_listed_refused F f None bytes e (inl r) = absurd cc
+on_listed_refused F f None bytes e (inr r) = rw r.1 refl
+
 pub arms_are : {S B : Type 0} (number : S → ℕ) (all : List S) (F : Code B) → ((s : S) → HasNumbers number all s) → IsCode F → AreArms (arms number all F)
 arms_are number all F numbers f = record {
   takes = λ n bytes x rest fits e.
@@ -299,6 +404,8 @@ arms_are number all F numbers f = record {
   small = λ x. (numbers x.0).small;
   has = λ x. rw (numbers x.0).found refl;
   never = λ n bytes. on_listed_never (numbered number all n) (F.read bytes) (f.never bytes);
+  refuses = λ n bytes e fits h. on_listed_refuses F f (numbered number all n) bytes e fits h;
+  refused = λ n bytes e r. on_listed_refused F f (numbered number all n) bytes e r;
 }
 
 pub unions : {A : Type 0} (G : Arms A) → AreArms G → IsCode (union G)
@@ -314,6 +421,10 @@ unions G g = record {
       let a = bind_ok (number_at w32 bytes) (λ n. G.read n.0 n.1) (x, rest) e in
       omega (arith, number_shrinks w32 bytes a.0.0 a.0.1 a.1, g.shrinks a.0.0 a.0.1 x rest a.2);
   never = λ bytes. never.bind (number_at w32 bytes) _ (never.number w32 bytes) (λ n. g.never n.0 n.1);
+  refuses = λ bytes e fits h.
+      behind_refuses word words (λ n. G.read n.0 n.1) (λ n rest. G.Refuses n rest e) bytes e fits (λ n rest p k. g.refuses n rest e p k) h;
+  refused = λ bytes e r.
+      behind_refused word words (λ n. G.read n.0 n.1) (λ n rest. G.Refuses n rest e) bytes e (λ n rest k. g.refused n rest e k) r;
 }
 
 pub one_ofs : {S : Type 0} (number : S → ℕ) (all : List S) → ((s : S) → HasNumbers number all s) → IsCode (one_of number all)
@@ -393,12 +504,57 @@ links_never F f (suc links) bytes =
     (λ x. never.bind (chain_at F links x.1) _ (links_never F f links x.1) (λ xs. never.ok_never _)))
     (never.ok_never _))
 
+links_refuse : {A : Type 0} (F : Code A) → IsCode F → (links : ℕ) (bytes : List ℕ) (e : XdrFault) → IsBytes bytes → length bytes < links → chain_at F links bytes ≡ Err e
+    → (k : ℕ) × link_refused F k bytes e
+links_refuse F f zero bytes e fits lt h = absurd (omega (arith, lt))
+links_refuse {A} F f (suc links) bytes e fits lt h =
+    elim (bind_err (flag_at bytes) _ e h) [
+      | inl r ↦ (0, inl (flags.refuses bytes e fits r))
+      | inr m ↦
+          let t = flags.takes bytes m.0.0 m.0.1 fits m.1 in
+          let less = flag_shrinks bytes m.0.0 m.0.1 m.1 in
+          let pair : List A × List ℕ = ([], m.0.1) in
+          elim (chosen m.0.0 (F.read m.0.1 >>= λ x. chain_at F links x.1 >>= made_of (λ ys. x.0 ∷ ys)) (Ok pair) (Err e) m.2) [
+            | inl c ↦ elim (bind_err (F.read m.0.1) (λ x. chain_at F links x.1 >>= made_of (λ ys. x.0 ∷ ys)) e c.1) [
+              | inl r ↦ (0, inr (record { value = m.0.0; rest = m.0.1; fits = tt; parts = t.0.parts; holds = (c.0, f.refuses m.0.1 e t.0.rest_fits r) }))
+              | inr x ↦
+                  let u = f.takes m.0.1 x.0.0 x.0.1 t.0.rest_fits x.1 in
+                  let next = links_refuse F f links x.0.1 e u.0.rest_fits (omega (arith, lt, less, f.shrinks m.0.1 x.0.0 x.0.1 x.1)) (made_err (chain_at F links x.0.1) (λ ys. x.0.0 ∷ ys) e x.2) in (
+                    suc next.0,
+                    record {
+                      value = m.0.0;
+                      rest = m.0.1;
+                      fits = tt;
+                      parts = t.0.parts;
+                      holds = (c.0, record { value = x.0.0; rest = x.0.1; fits = u.1; parts = u.0.parts; holds = next.1 });
+                    },
+                  )
+            ]
+            | inr c ↦ absurd (no_err pair e c.1)
+          ]
+    ]
+
+links_refused : {A : Type 0} (F : Code A) → IsCode F → (k links : ℕ) (bytes : List ℕ) (e : XdrFault) → length bytes < links → link_refused F k bytes e → chain_at F links bytes ≡ Err e
+links_refused F f zero zero bytes e lt r = absurd (omega (arith, lt))
+links_refused F f (suc k) zero bytes e lt r = absurd (omega (arith, lt))
+links_refused F f zero (suc links) bytes e lt (inl r) = rw (flags.refused bytes e r) refl
+links_refused F f zero (suc links) bytes e lt (inr b) =
+    rw (read_so flag flags _ bytes b, b.holds.0, f.refused b.rest e b.holds.1) refl
+links_refused F f (suc k) (suc links) bytes e lt b =
+    let more = read_so flag flags _ bytes b in
+    let i = b.holds.1 in
+    let item = read_so F f _ b.rest i in
+    let fewer : length i.rest < links = omega (arith, lt, flag_shrinks bytes b.value b.rest more, f.shrinks b.rest i.value i.rest item) in
+    rw (more, b.holds.0, item, links_refused F f k links i.rest e fewer i.holds) refl
+
 pub chains : {A : Type 0} (F : Code A) → IsCode F → IsCode (chain F)
 chains F f = record {
   takes = λ bytes xs rest fits e. let t = links_take F f (suc (length bytes)) bytes xs rest fits e in (t.takes, t.fits);
   again = λ xs rest fits. links_again F f (suc (length (chain_bytes F xs ++ rest))) xs rest (omega (arith, chain-length F xs, length-append (chain_bytes F xs) rest)) fits;
   shrinks = λ bytes xs rest e. links_shrink F f (suc (length bytes)) bytes xs rest e;
   never = λ bytes. links_never F f (suc (length bytes)) bytes;
+  refuses = λ bytes e fits h. links_refuse F f (suc (length bytes)) bytes e fits (omega arith) h;
+  refused = λ bytes e r. links_refused F f r.0 (suc (length bytes)) bytes e (omega arith) r.1;
 }
 
 -- ---- counted items
@@ -438,6 +594,31 @@ items_never F f (suc n) bytes =
     never.bind (F.read bytes) _ (f.never bytes)
     (λ x. never.bind (items_at F n x.1) _ (items_never F f n x.1) (λ xs. never.ok_never _))
 
+items_refuse : {A : Type 0} (F : Code A) → IsCode F → (n : ℕ) (bytes : List ℕ) (e : XdrFault) → IsBytes bytes → items_at F n bytes ≡ Err e → item_refused F n bytes e
+items_refuse F f zero bytes e fits h = absurd (no_err _ e h)
+items_refuse F f (suc n) bytes e fits h =
+    behind_refuses F f (λ x. items_at F n x.1 >>= made_of (λ xs. x.0 ∷ xs)) (λ x rest. item_refused F n rest e) bytes e fits
+    (λ x rest p k. items_refuse F f n rest e p (made_err (items_at F n rest) (λ xs. x ∷ xs) e k)) h
+
+items_refused : {A : Type 0} (F : Code A) → IsCode F → (n : ℕ) (bytes : List ℕ) (e : XdrFault) → item_refused F n bytes e → items_at F n bytes ≡ Err e
+items_refused F f zero bytes e r = absurd r
+items_refused F f (suc n) bytes e r =
+    behind_refused F f (λ x. items_at F n x.1 >>= made_of (λ xs. x.0 ∷ xs)) (λ x rest. item_refused F n rest e) bytes e
+    (λ x rest k. rw (items_refused F f n rest e k) refl) r
+
+count_refuses : {A : Type 0} (bound : ℕ) (F : Code A) → IsCode F → (n : ℕ) (rest : List ℕ) (e : XdrFault) → IsBytes rest → cond (ltb bound n) (Err Length) (items_at F n rest) ≡ Err e
+    → ((bound < n) × (e ≡ Length)) ⊎ ((n ≤ bound) × item_refused F n rest e)
+count_refuses bound F f n rest e fits h =
+    elim (guard_err (ltb bound n) Length (items_at F n rest) e h) [
+      | inl long ↦ inl (ltb-true _ _ long.0, long.1)
+      | inr few ↦ inr (ltb-false _ _ few.0, items_refuse F f n rest e fits few.1)
+    ]
+
+count_refused : {A : Type 0} (bound : ℕ) (F : Code A) → IsCode F → (n : ℕ) (rest : List ℕ) (e : XdrFault)
+    → ((bound < n) × (e ≡ Length)) ⊎ ((n ≤ bound) × item_refused F n rest e) → cond (ltb bound n) (Err Length) (items_at F n rest) ≡ Err e
+count_refused bound F f n rest e (inl long) = rw (lt-ltb bound n long.0, long.1) refl
+count_refused bound F f n rest e (inr few) = rw (le-ltb bound n few.0) (items_refused F f n rest e few.1)
+
 pub counteds : {A : Type 0} (bound : ℕ) (F : Code A) → bound < 2 ^ 32 → IsCode F → IsCode (counted bound F)
 counteds bound F small f = record {
   takes = λ bytes xs rest fits e.
@@ -458,6 +639,14 @@ counteds bound F small f = record {
   never = λ bytes.
       never.bind (number_at w32 bytes) _ (never.number w32 bytes)
       (λ n. never.if_never (ltb bound n.0) _ _ never.long (items_never F f n.0 n.1));
+  refuses = λ bytes e fits h.
+      behind_refuses word words (λ n. cond (ltb bound n.0) (Err Length) (items_at F n.0 n.1))
+      (λ n rest. ((bound < n) × (e ≡ Length)) ⊎ ((n ≤ bound) × item_refused F n rest e)) bytes e fits
+      (λ n rest p k. count_refuses bound F f n rest e p k) h;
+  refused = λ bytes e r.
+      behind_refused word words (λ n. cond (ltb bound n.0) (Err Length) (items_at F n.0 n.1))
+      (λ n rest. ((bound < n) × (e ≡ Length)) ⊎ ((n ≤ bound) × item_refused F n rest e)) bytes e
+      (λ n rest k. count_refused bound F f n rest e k) r;
 }
 
 -- ---- what the law gives
@@ -496,3 +685,19 @@ pub whole_never : {A : Type 0} (F : Code A) → IsCode F → (bytes : List ℕ) 
 whole_never F f bytes =
     never.bind (F.read bytes) _ (f.never bytes)
     (λ x. never.bind (end_at x.1) _ (never.end x.1) (λ e. never.ok_never _))
+
+-- all of the bytes are refused just for a reason of theirs
+pub whole_refuses : {A : Type 0} (F : Code A) → IsCode F → (bytes : List ℕ) (e : XdrFault) → IsBytes bytes
+    → whole (F.read bytes) ≡ Err e → refused_whole F bytes e
+whole_refuses F f bytes e fits h =
+    behind_refuses F f (λ x. end_at x.1 >>= λ u. Ok x.0) (λ x rest. (0 < length rest) × (e ≡ Left)) bytes e fits
+    (λ x rest p k. elim (bind_err (end_at rest) (λ u. Ok x) e k) [
+      | inl r ↦ end_refuses rest e r
+      | inr r ↦ absurd (no_err x e r.2)
+    ]) h
+
+pub whole_refused : {A : Type 0} (F : Code A) → IsCode F → (bytes : List ℕ) (e : XdrFault) → refused_whole F bytes e
+    → whole (F.read bytes) ≡ Err e
+whole_refused F f bytes e r =
+    behind_refused F f (λ x. end_at x.1 >>= λ u. Ok x.0) (λ x rest. (0 < length rest) × (e ≡ Left)) bytes e
+    (λ x rest k. rw (end_refused rest e k) refl) r

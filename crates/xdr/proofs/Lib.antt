@@ -1,5 +1,6 @@
 pub mod Endian
 pub mod Never
 pub mod Coded
+pub mod Refusing
 pub mod Lawful
 pub mod Links

@@ -1,11 +1,13 @@
 -- Reading a chain as a loop does: what was read so far stands in front of what is still read.
-use Rattle.std.proofs.Common.{◌≡◌, ℕ, zero, suc, ◌<◌, true, false, List, [], ◌∷◌, ◌++◌, length, drop, get_or, ◌+◌, ◌-◌, ◌≤◌, Result, Ok, Err, refl, sym, ap, ◌∙◌, append_assoc, arith}
+use Rattle.std.specs.Prelude.{Bool, ◌||◌}
+use Rattle.std.proofs.Common.{◌≡◌, ℕ, zero, suc, ◌<◌, true, false, List, [], ◌∷◌, ◌++◌, length, drop, get_or, ◌+◌, ◌-◌, ◌≤◌, Result, Ok, Err, refl, sym, ap, ◌∙◌, append_assoc, arith, inl, inr}
 use Rattle.std.proofs.lemmas.List.{append-nil, at_drop_more}
 use Rattle.std.proofs.Math.ListN.{drop_of_length-le}
 use Rattle.xdr.specs.declared.fault.XdrFault.{XdrFault}
 use Rattle.xdr.specs.Items as items
 use Rattle.xdr.specs.Reading.{◌>>=◌, flag_at}
-use Rattle.xdr.specs.Codes.{Code, chain_bytes, chain_at, chain, items_bytes, items_at}
+use Rattle.xdr.specs.Codes.{Code, chain_bytes, chain_at, chain, items_bytes, items_at, some_too_long}
+use Rattle.xdr.specs.Writing.{RefusesToWrite}
 use Rattle.xdr.proofs.Lawful.{IsCode, flag_shrinks}
 
 abbrev pub behind : {A : Type 0} → List A → Result (List A × List ℕ) XdrFault → Result (List A × List ℕ) XdrFault
@@ -121,3 +123,33 @@ items_done F front count i bytes total le so_far =
     let one : behind front (items_at F (count - i) bytes) ≡ Ok (front, bytes) =
     rw k (ap (λ (xs : List _). Ok (xs, bytes)) (append-nil front)) in
     sym so_far ∙ one
+
+-- ---- which of a list has a length that four bytes can't tell, as a loop finds it
+
+more_left : {A : Type 0} (F : Code A) (xs : List A) (i : ℕ) (x : A) → i < length xs → x ≡ get_or xs i x
+    → some_too_long F (drop i xs) ≡ (F.too_long x || some_too_long F (drop (i + 1) xs))
+more_left F xs i x lt is =
+    at_drop_more (some_too_long F) xs i x lt
+    ∙ ap (λ (y : _). some_too_long F (y ∷ drop (i + 1) xs)) (sym is)
+
+pub short_on : {A : Type 0} (F : Code A) (xs : List A) (i : ℕ) (x : A) (whole : Bool) → i < length xs
+    → x ≡ get_or xs i x → F.too_long x ≡ false → some_too_long F (drop i xs) ≡ whole
+    → some_too_long F (drop (i + 1) xs) ≡ whole
+short_on F xs i x whole lt is short so_far =
+    ap (λ (b : Bool). b || some_too_long F (drop (i + 1) xs)) (sym short) ∙ sym (more_left F xs i x lt is) ∙ so_far
+
+pub short_end : {A : Type 0} (F : Code A) (xs : List A) (i : ℕ) (whole : Bool) → length xs ≤ i
+    → some_too_long F (drop i xs) ≡ whole → whole ≡ false
+short_end F xs i whole le so_far =
+    sym so_far ∙ ap (some_too_long F) (drop_of_length-le xs le)
+
+pub refused_on : {A : Type 0} (F : Code A) (xs : List A) (i : ℕ) (x : A) (whole : Bool) (e : XdrFault)
+    → i < length xs → x ≡ get_or xs i x → some_too_long F (drop i xs) ≡ whole → RefusesToWrite e (F.too_long x)
+    → RefusesToWrite e whole
+refused_on F xs i x whole e lt is so_far (inl long) =
+    inl (
+      long.0,
+      sym so_far ∙ more_left F xs i x lt is
+          ∙ ap (λ (b : Bool). b || some_too_long F (drop (i + 1) xs)) long.1,
+    )
+refused_on F xs i x whole e lt is so_far (inr memory) = inr memory

@@ -1,5 +1,5 @@
 -- How items are spelled, each in a multiple of four bytes (RFC 4506).
-use Rattle.std.specs.Prelude.{ℕ, ◌-◌, ◌%◌, Bool, true, false, List, ◌++◌, length, replicate, Option, Some}
+use Rattle.std.specs.Prelude.{ℕ, ◌-◌, ◌%◌, nat_lt, Bool, true, false, List, ◌++◌, length, replicate, Option, Some}
 use Rattle.std.specs.Prelude.{None}
 use Rattle.std.specs.Int.{w32, w64, to_be_bytes}
 
@@ -14,6 +14,10 @@ double n = to_be_bytes w64 n
 unfoldable pub flag : Bool → List ℕ
 flag false = word 0
 flag true = word 1
+
+-- more than four bytes can count (sections 4.10 and 4.13)
+abbrev pub is_uncounted : {A : Type 0} → List A → Bool
+is_uncounted xs = nat_lt 4294967295 (length xs)
 
 -- how many zeros stand behind so many bytes
 abbrev pub padding : ℕ → ℕ

@@ -1,5 +1,6 @@
 //! Why bytes are no spelling of what was to be read.
 ghost use Rattle.std.specs.Prelude.{◌≡◌};
+ghost use Rattle.xdr.specs.Numbers.{fault_number};
 ghost use Rattle.xdr.specs.declared.fault.XdrFault.TheVariants.{NoMemory};
 
 use std::alloc::{AllocError, AllocFailed};
@@ -21,6 +22,22 @@ pub enum XdrFault {
     Left,
     #[error("no memory")]
     NoMemory,
+}
+
+impl XdrFault {
+    /// The number that tells of it.
+    pub fn number(self) -> u32
+        ensures { result ≡ fault_number self }
+    {
+        match self {
+            XdrFault::Short => 1,
+            XdrFault::Padding => 2,
+            XdrFault::Value => 3,
+            XdrFault::Length => 4,
+            XdrFault::Left => 5,
+            XdrFault::NoMemory => 6,
+        }
+    }
 }
 
 impl From<AllocError> for XdrFault {

@@ -1,13 +1,15 @@
 //! Items one after another at the end of bytes.
-ghost use Rattle.std.specs.Prelude.{◌≡◌, ◌++◌, [], OnOk};
-ghost use Rattle.xdr.specs.Items.{word, double, flag, opaque};
+ghost use Rattle.std.specs.Prelude.{◌≡◌, ◌≤◌, ◌++◌, [], true, false, length as len, drop, OnOk, OnErr, IfOk, IfErr};
+ghost use Rattle.xdr.specs.declared.fault.XdrFault.TheVariants.{Length, NoMemory};
+ghost use Rattle.xdr.specs.Items.{word, double, flag, opaque, is_uncounted};
+ghost use Rattle.xdr.specs.Writing.{WritesBytes};
 
 use crate::XdrFault;
 use byteorder::{BigEndian, ByteOrder};
 use std::alloc::Global;
 use std::marker::Model;
 
-/// The bytes that are written so far. After a refusal a part of the item may stand there.
+/// The bytes that are written so far. An item that is refused leaves them as they were.
 #[derive(Drop)]
 pub struct Writer {
     bytes: Vec<u8>,
@@ -36,10 +38,27 @@ impl Writer {
         &self.bytes
     }
 
+    /// Gives the bytes away, as they are.
+    pub fn into_bytes(self) -> Vec<u8>
+        ensures { result.items ≡ self }
+    {
+        self.bytes
+    }
+
+    /// Puts another number in place of the first four bytes.
+    #[tactic(auto, unfolding(crate::specs::Items::word))]
+    pub fn set_first(&mut self, number: u32)
+        requires { 4 ≤ len self.old }
+        ensures { self.new ≡ word number ++ drop 4 self.old }
+    {
+        BigEndian::write_u32(&mut self.bytes, number);
+    }
+
     /// An unsigned number of four bytes (RFC 4506, section 4.2).
     #[tactic(auto, unfolding(crate::specs::Items::word))]
     pub fn unsigned(&mut self, number: u32) -> Result<(), XdrFault>
-        ensures { OnOk result (self.new ≡ self.old ++ word number) }
+        ensures written { WritesBytes result self.old self.new (word number) false }
+        ensures refused { OnErr result (self.new ≡ self.old) }
     {
         let mut bytes = [0; 4];
         BigEndian::write_u32(&mut bytes, number);
@@ -50,7 +69,8 @@ impl Writer {
     /// An unsigned number of eight bytes (RFC 4506, section 4.5).
     #[tactic(auto, unfolding(crate::specs::Items::double))]
     pub fn hyper(&mut self, number: u64) -> Result<(), XdrFault>
-        ensures { OnOk result (self.new ≡ self.old ++ double number) }
+        ensures written { WritesBytes result self.old self.new (double number) false }
+        ensures refused { OnErr result (self.new ≡ self.old) }
     {
         let mut bytes = [0; 8];
         BigEndian::write_u64(&mut bytes, number);
@@ -61,28 +81,42 @@ impl Writer {
     /// A flag, which is 0 or 1 (RFC 4506, section 4.4).
     #[tactic(auto, unfolding(crate::specs::Items::flag))]
     pub fn flag(&mut self, value: bool) -> Result<(), XdrFault>
-        ensures { OnOk result (self.new ≡ self.old ++ flag value) }
+        ensures written { WritesBytes result self.old self.new (flag value) false }
+        ensures refused { OnErr result (self.new ≡ self.old) }
     {
         self.unsigned(if value { 1 } else { 0 })
     }
 
     /// Eight bytes as they are (RFC 4506, section 4.9).
     pub fn eight(&mut self, bytes: &[u8; 8]) -> Result<(), XdrFault>
-        ensures { OnOk result (self.new ≡ self.old ++ bytes.now) }
+        ensures written { WritesBytes result self.old self.new (bytes.now) false }
+        ensures refused { OnErr result (self.new ≡ self.old) }
     {
         self.bytes.extend_from_slice(bytes)?;
         Ok(())
     }
 
     /// A string with its length and its padding (RFC 4506, section 4.10). One of 2^32 bytes or more has no spelling.
-    #[tactic(auto, unfolding(crate::specs::Items::opaque))]
     pub fn opaque(&mut self, string: &[u8]) -> Result<(), XdrFault>
-        ensures { OnOk result (self.new ≡ self.old ++ opaque string.now) }
+        ensures written { WritesBytes result self.old self.new (opaque string.now) (is_uncounted string.now) }
+        ensures refused { OnErr result (self.new ≡ self.old) }
     {
-        let Ok(length) = u32::try_from(string.len()) else {
-            return Err(XdrFault::Length);
-        };
-        self.unsigned(length)?;
+        let length = length_of(string)?;
+        self.padded(length, string)
+    }
+
+    // A string of this length, behind its length and with its padding.
+    #[tactic(auto, unfolding(crate::specs::Items::opaque, crate::specs::Items::word))]
+    fn padded(&mut self, length: u32, string: &[u8]) -> Result<(), XdrFault>
+        requires { length ≡ len string.now }
+        ensures written { OnOk result (self.new ≡ self.old ++ opaque string.now) }
+        ensures memory { IfErr result (λ e. e ≡ NoMemory) }
+        ensures refused { OnErr result (self.new ≡ self.old) }
+    {
+        let mut bytes = [0; 4];
+        BigEndian::write_u32(&mut bytes, length);
+        self.bytes.reserve(8 + string.len())?;
+        self.bytes.extend_from_slice(&bytes)?;
         self.bytes.extend_from_slice(string)?;
         match string.len() % 4 {
             0 => {}
@@ -92,4 +126,15 @@ impl Writer {
         }
         Ok(())
     }
+}
+
+// The length of a string, where four bytes can tell it.
+fn length_of(string: &[u8]) -> Result<u32, XdrFault>
+    ensures ok { IfOk result (λ n. (n ≡ len string.now) × (is_uncounted string.now ≡ false)) }
+    ensures err { IfErr result (λ e. (e ≡ Length) × (is_uncounted string.now ≡ true)) }
+{
+    if string.len() > u32::MAX as usize {
+        return Err(XdrFault::Length);
+    }
+    Ok(string.len() as u32)
 }

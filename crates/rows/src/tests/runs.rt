@@ -41,9 +41,9 @@ fn worked(alloc: Global) -> Result<Vec<Event>, Fail> {
     Ok(events)
 }
 
-// Then each device call of the log and one round more, and each of the installer and one round more. After
-// each the worker makes a step. What doesn't apply does nothing.
-fn schedule(alloc: Global) -> Result<Vec<Event>, Fail> {
+/// A call that is handed over and worked. Then each device call of the log and one round more, and each of the
+/// installer and one round more. After each the worker makes a step. What doesn't apply does nothing.
+pub fn schedule(alloc: Global) -> Result<Vec<Event>, Fail> {
     let mut events = worked(alloc)?;
     for _ in 0..=LOG_CALLS {
         events.push(Event::Log)?;
@@ -140,10 +140,9 @@ fn what_a_run_tells(rt: HostRuntime) -> Result<(), Fail> {
 
 // Whether the verdict is written as the worked reply.
 fn is_so_written(alloc: Global, verdict: &Verdict) -> Result<bool, AllocError> {
-    let mut out = Vec::new(alloc);
-    if reply_bytes(alloc, &mut out, 4, reply_to(verdict)).is_err() {
+    let Ok(out) = reply_bytes(alloc, 4, reply_to(verdict)) else {
         return Ok(false);
-    }
+    };
     let wanted = spelled(alloc, &SETATTR_DONE)?;
     Ok(out.as_slice() == wanted.as_slice())
 }
@@ -165,8 +164,8 @@ fn has_answers(alloc: Global, run: &Run, reply: &Reply) -> Result<bool, AllocErr
     Ok(true)
 }
 
-// Whether each answer of the run is the worked reply, which is the plain server's too.
-fn has_worked_answers(alloc: Global, run: &Run) -> Result<bool, Fail> {
+/// Whether each answer of the run is the worked reply, which is the plain server's too.
+pub fn has_worked_answers(alloc: Global, run: &Run) -> Result<bool, Fail> {
     let mut tree = fresh(alloc)?;
     let reply = plain_reply_to(alloc, &mut tree, run.boot, &SETATTR)?;
     let has_them = has_answers(alloc, run, &reply);

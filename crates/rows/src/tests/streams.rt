@@ -7,8 +7,9 @@ use std::test::Fail;
 use store::Verdict;
 use worked_messages::{
     GETATTR, GETATTR_CHANGED, GETATTR_FRESH, LOOKUP, LOOKUP_UNSUPPORTED, MOUNT, MOUNT_ANOTHER,
-    MOUNT_DONE, MOUNT_NULL, MOUNT_REFUSED, NO_CALL, NO_LAST_FRAGMENT, NO_VERSION, NULL, NULL_REPLY,
-    REFUSED, SETATTR, SETATTR_DONE, SETATTR_NO_MEMORY, TOO_LONG, UNMOUNT, spelled, stream,
+    MOUNT_DONE, MOUNT_NULL, MOUNT_REFUSED, NO_CALL, NO_VERSION, NULL, NULL_IN_FRAGMENTS,
+    NULL_REPLY, REFUSED, SETATTR, SETATTR_DONE, SETATTR_NO_MEMORY, TOO_LONG, UNMOUNT, spelled,
+    stream,
 };
 
 #[test]
@@ -55,13 +56,7 @@ fn inputs_that_end_in_a_record(rt: HostRuntime) -> Result<(), Fail> {
 #[test]
 fn records_that_end_the_session(rt: HostRuntime) -> Result<(), Fail> {
     let alloc = rt.alloc();
-    let closed: [&[u32]; 5] = [
-        &TOO_LONG,
-        &NO_LAST_FRAGMENT,
-        &NULL_REPLY,
-        &NO_CALL,
-        &NO_VERSION,
-    ];
+    let closed: [&[u32]; 4] = [&TOO_LONG, &NULL_REPLY, &NO_CALL, &NO_VERSION];
     for record in closed {
         let served = serve(alloc, formatted(alloc)?, &[&NULL, record, &NULL])?;
         assert!(rt; has_replies(alloc, &served, &[&NULL_REPLY])?);
@@ -81,8 +76,9 @@ fn calls_that_are_refused(rt: HostRuntime) -> Result<(), Fail> {
     Ok(())
 }
 
-// Calls of MOUNT, and one of NFS without rules, each with its reply.
-const PLAIN: [(&[u32], &[u32]); 5] = [
+// A call in fragments, calls of MOUNT, and one of NFS without rules, each with its reply.
+const PLAIN: [(&[u32], &[u32]); 6] = [
+    (&NULL_IN_FRAGMENTS, &NULL_REPLY),
     (&MOUNT_NULL, &NULL_REPLY),
     (&MOUNT, &MOUNT_DONE),
     (&MOUNT_ANOTHER, &MOUNT_REFUSED),
@@ -103,8 +99,7 @@ fn calls_that_begin_no_transaction(rt: HostRuntime) -> Result<(), Fail> {
 
 #[test]
 fn an_allocation_that_failed(rt: HostRuntime) -> Result<(), Fail> {
-    let mut out = Vec::new(rt.alloc());
-    reply_bytes(rt.alloc(), &mut out, 4, reply_to(&Verdict::NoMemory))?;
+    let out = reply_bytes(rt.alloc(), 4, reply_to(&Verdict::NoMemory))?;
     let wanted = spelled(rt.alloc(), &SETATTR_NO_MEMORY)?;
     assert!(rt; out.as_slice() == wanted.as_slice());
     Ok(())

@@ -102,6 +102,7 @@ impl Begun {
         ensures frame { SameFrame core.old core.new }
         ensures ended { core.new.out ≡ [] }
         ensures fetches { FetchesOnly self.io core.old → FetchesOnly None core.new }
+        ensures none { self.tx ≡ None → self.io ≡ None → core.new ≡ core.old }
     {
         let Begun { tx, io } = self;
         give_up(io, core);
@@ -114,6 +115,7 @@ fn give_up(io: Option<FetchIo>, core: &mut Core<Done>)
     ensures frame { SameFrame core.old core.new }
     ensures out { core.new.out ≡ core.old.out }
     ensures fetches { FetchesOnly io core.old → FetchesOnly None core.new }
+    ensures none { io ≡ None → core.new ≡ core.old }
 {
     if let Some(io) = io {
         core.fetch_failed(io);
@@ -126,6 +128,7 @@ fn leave(tx: Option<Tx>, core: &mut Core<Done>)
     ensures frame { SameFrame core.old core.new }
     ensures ended { core.new.out ≡ [] }
     ensures fetches { KeepsFetches core.old core.new }
+    ensures none { tx ≡ None → core.new ≡ core.old }
 {
     if let Some(tx) = tx {
         core.abort(tx);

@@ -14,10 +14,9 @@ fn is_written(
     answer: RpcReply<'_>,
     words: &[u32],
 ) -> Result<bool, AllocError> {
-    let mut out = Vec::new(alloc);
-    if reply_bytes(alloc, &mut out, xid, answer).is_err() {
+    let Ok(out) = reply_bytes(alloc, xid, answer) else {
         return Ok(false);
-    }
+    };
     let wanted = spelled(alloc, words)?;
     Ok(out.as_slice() == wanted.as_slice())
 }

@@ -2,7 +2,6 @@
 
 use nfs_types::{Call, Credential, ProgramCall};
 use plain_wire::read_call;
-use rpc::Records;
 use session_wire::{Judged, MessageCredential, judge};
 use std::alloc::{AllocError, Global};
 use std::test::Fail;
@@ -101,40 +100,5 @@ fn is_read_so(alloc: Global, bytes: &[u8]) -> Result<bool, AllocError> {
 fn sixteen_groups_are_read(rt: HostRuntime) -> Result<(), Fail> {
     let bytes = content(rt.alloc(), &SIXTEEN_GIDS)?;
     assert!(rt; is_read_so(rt.alloc(), bytes.as_slice())?);
-    Ok(())
-}
-
-// The largest record: its mark, and 40,960 bytes, each the lowest of its offset.
-fn largest(alloc: Global) -> Result<Vec<u8>, AllocError> {
-    let mut bytes = Vec::new(alloc);
-    bytes.extend_from_slice(&0x8000_a000_u32.to_be_bytes())?;
-    for offset in 0..40960_u32 {
-        bytes.push((offset % 256) as u8)?;
-    }
-    Ok(bytes)
-}
-
-// Feeds a stream in pieces of 4,000 bytes.
-fn fed(alloc: Global, stream: &[u8]) -> Result<Records, AllocError> {
-    let mut records = Records::new(alloc);
-    for piece in stream.chunks(4000) {
-        records.feed(piece)?;
-    }
-    Ok(records)
-}
-
-// Whether the next record is the rest of this stream behind its mark, and nothing else is there.
-fn is_only(alloc: Global, records: &mut Records, stream: &[u8]) -> bool {
-    match records.next(alloc) {
-        Ok(Some(record)) => Some(record.as_slice()) == stream.get(4..) && records.is_empty(),
-        _ => false,
-    }
-}
-
-#[test]
-fn the_largest_record_is_cut_out(rt: HostRuntime) -> Result<(), Fail> {
-    let stream = largest(rt.alloc())?;
-    let mut records = fed(rt.alloc(), stream.as_slice())?;
-    assert!(rt; is_only(rt.alloc(), &mut records, stream.as_slice()));
     Ok(())
 }

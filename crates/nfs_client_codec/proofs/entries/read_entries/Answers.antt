@@ -1,8 +1,8 @@
 use Rattle.std.proofs.Common.{arith, inl, inr}
 use Rattle.std.proofs.lemmas.Result.{err_from_is_err_and}
-use Rattle.nfs_codec.specs.Results.{entry, entries}
+use Rattle.nfs_results.specs.Results.{entry, entries}
 use Rattle.xdr.proofs.Lawful.{flag_shrinks}
-use Rattle.nfs_codec.proofs.ReplyLaws.{entry_is}
+use Rattle.nfs_results.proofs.ReplyLaws.{entry_is}
 use Rattle.xdr.proofs.Links.{begins, goes_on, is_done, no_flag, no_item}
 use Rattle.nfs_client_codec.proofs.entries.read_entries.Goals as goal
 

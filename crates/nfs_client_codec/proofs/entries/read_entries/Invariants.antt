@@ -1,5 +1,5 @@
 use Rattle.std.proofs.Common.{length}
-use Rattle.nfs_codec.specs.Results.{entry, entries}
+use Rattle.nfs_results.specs.Results.{entry, entries}
 use Rattle.xdr.proofs.Links.{Links}
 use Rattle.nfs_client_codec.proofs.entries.read_entries.Given as goal
 

@@ -1,5 +1,5 @@
 use Rattle.std.proofs.Common.{length}
-use Rattle.nfs_codec.specs.Results.{entry_plus, entries_plus}
+use Rattle.nfs_results.specs.Results.{entry_plus, entries_plus}
 use Rattle.xdr.proofs.Links.{Links}
 use Rattle.nfs_client_codec.proofs.entries.read_entries_plus.Given as goal
 

@@ -1,4 +1,4 @@
-use Rattle.std.proofs.Common.{[], refl, ap, sym, ◌++◌}
+use Rattle.std.proofs.Common.{[], refl, ap, ◌++◌}
 use Rattle.xdr.proofs.Lawful.{alike}
 use Rattle.nfs_codec.specs.Arguments.{calls_of}
 use Rattle.nfs_codec.specs.Procedures.{called}

@@ -1,8 +1,14 @@
-use Rattle.std.proofs.Common.{arith, rules, ◌∙◌, refl, sym, true≢false}
+use Rattle.std.proofs.Common.{arith, rules, ◌∙◌, refl, subst, sym, true≢false}
 use Rattle.procs.specs.Finished.{HasPlan}
+use Rattle.store.specs.Further.{LeavesOpen}
 use Rattle.store.proofs.CallsLeft.{stuck}
+use Rattle.store.proofs.Staying.{prefixes_kept, stay_along}
+use Rattle.store.proofs.StillOpen.{open_then}
+use Rattle.store.specs.SettlingStops.{StayOpen}
 use Rattle.store.proofs.opened.settle.Goals.{else-is_settled-via-then-is_settled+else-not-keeps_too_many}
 use Rattle.store.proofs.opened.settle.Goals.{else-is_settled-via-else-is_settled}
+use Rattle.store.proofs.opened.settle.Goals.{else-not-log_one-via-then-not-log_one+else-not-install_one}
+use Rattle.store.proofs.opened.settle.Goals.{else-not-log_one-via-else-not-log_one}
 use Rattle.store.proofs.opened.settle.Goals as goal
 
 pub unreachable-requires : goal.unreachable-requires
@@ -16,4 +22,62 @@ unreachable-requires g c =
           let many = w.if-not-keeps_too_many.ensures.0 refl in grind (arith, rest.1)
       | else-is_settled-via-else-is_settled w ↦
           absurd (true≢false (sym (w.if-is_settled.ensures.1 rest.0)))
+    ]
+
+pub returns-then-broken-clause-keeps : goal.returns-then-broken-clause-keeps
+returns-then-broken-clause-keeps g c = λ keeps.
+    prefixes_kept (g.D.CrashDisk.device c.args.store.now.disk) (g.D.CrashDisk.device c.calls.store.disk)
+    c.args.store.now.core c.calls.store.core (g.met.D.CrashDisk.whole c.calls.store.disk keeps)
+    c.an_open_store_keeps_its_files.ensures.now c.a_stop_leaves_a_beginning.ensures.files c.calls.invariant.9
+
+pub returns-then-not-keeps_too_many-clause-keeps : goal.returns-then-not-keeps_too_many-clause-keeps
+returns-then-not-keeps_too_many-clause-keeps g c = λ keeps.
+    prefixes_kept (g.D.CrashDisk.device c.args.store.now.disk) (g.D.CrashDisk.device c.calls.store.disk)
+    c.args.store.now.core c.calls.store.core (g.met.D.CrashDisk.whole c.calls.store.disk keeps)
+    c.an_open_store_keeps_its_files.ensures.now c.a_stop_leaves_a_beginning.ensures.files c.calls.invariant.9
+
+pub calls-preserved : goal.calls-preserved
+calls-preserved g c =
+    let device = g.D.CrashDisk.device in
+    let first = c.args.store.now in
+    let old = c.calls.store in
+    let mid = c.log_one.new.store in
+    let logged : LeavesOpen (device first.disk) first.core (device mid.disk) mid.core =
+    open_then (device first.disk) (device old.disk) (device mid.disk) first.core old.core mid.core
+    c.calls.invariant.8 c.log_one.ensures.open in
+    let stayed : StayOpen (device first.disk) first.core (device mid.disk) mid.core =
+    stay_along (device first.disk) (device old.disk) (device mid.disk) first.core old.core mid.core
+    c.calls.invariant.9 c.log_one.ensures.stays in
+    elim c.else-not-log_one.branch [
+      | else-not-log_one-via-then-not-log_one+else-not-install_one w ↦
+          let new = w.install_one.new.store in
+          let same = sym w.store-is in (
+            search rules,
+            search rules,
+            search rules,
+            search rules,
+            search rules,
+            search rules,
+            search rules,
+            search rules,
+            subst (λ s. LeavesOpen (device first.disk) first.core (device s.disk) s.core) same
+                (open_then (device first.disk) (device mid.disk) (device new.disk) first.core mid.core new.core logged
+                w.install_one.ensures.open),
+            subst (λ s. StayOpen (device first.disk) first.core (device s.disk) s.core) same
+                (stay_along (device first.disk) (device mid.disk) (device new.disk) first.core mid.core new.core stayed
+                w.install_one.ensures.stays),
+          )
+      | else-not-log_one-via-else-not-log_one w ↦
+          let same = sym w.store-is in (
+            search rules,
+            search rules,
+            search rules,
+            search rules,
+            search rules,
+            search rules,
+            search rules,
+            search rules,
+            subst (λ s. LeavesOpen (device first.disk) first.core (device s.disk) s.core) same logged,
+            subst (λ s. StayOpen (device first.disk) first.core (device s.disk) s.core) same stayed,
+          )
     ]

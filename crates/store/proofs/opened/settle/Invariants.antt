@@ -1,9 +1,11 @@
--- no transaction begins or ends, the image's counts and the pending fetches stay, no device call is out, what has failed was counted, and
--- the device has kept its model so far where it does
+-- no transaction begins or ends, the image's counts and the pending fetches stay, no device call is out, what has
+-- failed was counted, the device has kept its model so far where it does, and the store has stayed open
 use Rattle.std.proofs.Common.{◌≡◌, ◌≤◌, ◌+◌, true, if◌then◌else◌}
 use Rattle.store.specs.Counts.{SameFrame}
 use Rattle.store.specs.Fetches.{KeepsFetches}
+use Rattle.store.specs.Further.{LeavesOpen}
 use Rattle.store.specs.Settling.{HasFailed, SameNumbers, calls_left}
+use Rattle.store.specs.SettlingStops.{StayOpen}
 use Rattle.store.proofs.opened.settle.Given as goal
 
 abbrev pub invariant-calls : goal.invariant-calls
@@ -15,6 +17,9 @@ invariant-calls g l = (l.store.core.out ≡ l.fn.store.core.out)
     × (l.store.core.log.broken ≡ true
     → HasFailed l.fn.store.core.log (g.D.CrashDisk.device l.fn.store.disk) (g.D.CrashDisk.device l.store.disk))
     × (g.D.CrashDisk.keeps_model l.store.disk → g.D.CrashDisk.keeps_model l.fn.store.disk)
+    × (l.store.boot ≡ l.fn.store.boot)
+    × LeavesOpen (g.D.CrashDisk.device l.fn.store.disk) l.fn.store.core (g.D.CrashDisk.device l.store.disk) l.store.core
+    × StayOpen (g.D.CrashDisk.device l.fn.store.disk) l.fn.store.core (g.D.CrashDisk.device l.store.disk) l.store.core
 
 abbrev pub decreases-calls : goal.decreases-calls
 decreases-calls g l = if l.store.core.log.broken then 0 else calls_left l.store.core.log + 1

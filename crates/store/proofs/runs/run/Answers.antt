@@ -1,4 +1,4 @@
-use Rattle.std.proofs.Common.{rules, ◌∙◌, ap, sym, subst, ◌++◌, ◌∷◌, [], length, length-append, arith}
+use Rattle.std.proofs.Common.{rules, refl, ◌∙◌, ap, sym, subst, ◌++◌, ◌∷◌, [], length, length-append, arith}
 use Rattle.std.proofs.lemmas.List.{append_assoc}
 use Rattle.std.specs.Vec.Iter.{into_iter_items}
 use Rattle.store_promise.specs.Headline.{KeepsPromise}
@@ -72,6 +72,7 @@ events-preserved g c =
             model = c.take.ensures.model may.model;
             rest = may.rest;
             good = may.good;
+            alone = refl;
             timely = may.timely;
           }))
           c.take.ensures.goes,
@@ -91,7 +92,7 @@ returns-clause-promised g c = λ tree first may.
     let so_far : g.D.CrashDisk.keeps_model old.store.disk → HasGone before tree first events
     (run_side (g.D.CrashDisk.device old.store.disk) old.store.core old.calls old.worker.state old.clock) c.events.run =
     λ kept. invariant.4 tree first
-    (record { model = kept; rest = may.rest; good = may.good; timely = may.timely }) in
+    (record { model = kept; rest = may.rest; good = may.good; alone = refl; timely = may.timely }) in
     let gone : HasGone before tree first events side told = elim c.match-next.branch [
       | in-None w ↦
           subst (λ r. HasGone before tree first events
@@ -115,12 +116,12 @@ returns-clause-promised g c = λ tree first may.
           (run_side (g.D.CrashDisk.device old.store.disk) old.store.core old.calls old.worker.state old.clock)
           (run_side (g.D.CrashDisk.device new.store.disk) new.store.core new.calls new.worker.state new.clock)
           c.events.run w.take.new.run c.events.yielded _ kept
-          (record { model = kept; rest = may.rest; good = may.good; timely = may.timely }) items invariant.3
+          (record { model = kept; rest = may.rest; good = may.good; alone = refl; timely = may.timely }) items invariant.3
           (so_far (w.take.ensures.model kept)) w.take.ensures.goes))
     ] in
     subst (λ disk. KeepsPromise before (g.D.CrashDisk.device disk) tree first c.args.workers events (transcript_of told))
     (sym disk_is)
     (subst (λ n. KeepsPromise before (g.D.CrashDisk.device last.store.disk) tree first n events (transcript_of told))
-    (sym c.requires)
+    (sym may.alone)
     (promise_kept before tree first events side told (g.met.D.CrashDisk.whole last.store.disk keeps) gone
     c.a_run_keeps_its_promise.ensures))

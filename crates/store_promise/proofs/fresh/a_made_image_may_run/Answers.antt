@@ -1,4 +1,4 @@
-use Rattle.std.proofs.Common.{sym, subst}
+use Rattle.std.proofs.Common.{refl, sym, subst}
 use Rattle.model.specs.Format.{format_tree}
 use Rattle.layout.specs.Stands.{geometry_of}
 use Rattle.store_promise.specs.GoodImage.{IsGoodImage}
@@ -11,5 +11,6 @@ returns c = λ before later g moment events lawful now timely rest made. record 
   good = λ image crash. subst (λ size. IsGoodImage size image (format_tree (geometry_of g) moment) 0)
       (sym made.making.size)
       (c.a_fresh_image_is_good.ensures g moment image lawful now (made.fresh image crash));
+  alone = refl;
   timely = timely;
 }

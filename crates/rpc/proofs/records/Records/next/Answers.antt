@@ -1,12 +1,22 @@
-use Rattle.std.proofs.Common.{◌≡◌, take}
-use Rattle.std.proofs.lemmas.Result.{err_from_is_err_and}
-use Rattle.rpc.proofs.Marks.{too_long}
+use Rattle.std.proofs.Common.{◌≡◌, ◌++◌, ℕ, List, Ok, subst, ◌∙◌, sym, ap}
+use Rattle.rpc.specs.declared.stage.Progress.{Progress}
+use Rattle.rpc.specs.Records.{IsPart, HasBegun}
+use Rattle.rpc.specs.Cutting.{Advances, taken_text, text_of}
+use Rattle.rpc.proofs.EachCut.{empty_or_begun, takes_some}
 use Rattle.rpc.proofs.records.Records.next.Goals as goal
 
-pub returns-in_err-length-clause-too_long : goal.returns-in_err-length-clause-too_long
-returns-in_err-length-clause-too_long c = λ h.
-    let p = err_from_is_err_and c.from_residual.result c.from_residual.ensures.1 in
-    let a = c.in_err-length.ensures.too_long (cc (p.1, p.2, h)) in
-    let front : c.split_at.result.0.now ≡ take 4 c.args.self.now =
-    cc (c.split_at.ensures.front, c.as_slice-pending.ensures, c.self.view_is) in
-    too_long c.args.self.now c.split_at.result.0.now front a.0 a.1 a.2 a.3 a.4
+pub returns-in-Waits-clause-begun : goal.returns-in-Waits-clause-begun
+returns-in-Waits-clause-begun c =
+    let left = subst (λ (p : Progress). Advances c.fragments.self-inside.cutter (Ok p) c.advance.new.self)
+    c.in-Waits.is c.in_ok-advance.ensures in
+    empty_or_begun c.args.self.now
+    (subst IsPart (left.text ∙ c.fragments.invariant.1 ∙ c.self.view_is) left.told)
+
+pub returns-in-Whole-clause-shorter : goal.returns-in-Whole-clause-shorter
+returns-in-Whole-clause-shorter c =
+    let left = subst (λ (p : Progress). Advances c.fragments.self-inside.cutter (Ok p) c.advance.new.self)
+    c.in-Whole.is c.in_ok-advance.ensures in
+    let found = c.in_ok-hand_out-in-Whole.ensures.found in
+    takes_some (taken_text c.advance.new.self.taken.items) _ c.args.self.now (text_of c.hand_out.new.self) found.0
+    (sym (left.text ∙ c.fragments.invariant.1 ∙ c.self.view_is)
+    ∙ ap (λ (t : List ℕ). taken_text c.advance.new.self.taken.items ++ t) (sym found.1))

@@ -1,7 +1,0 @@
-use Rattle.std.proofs.Common.{◌≡◌, ◌++◌, drop}
-use Rattle.xdr.specs.Codes.{chain_bytes}
-use Rattle.nfs_codec.specs.Results.{entry}
-use Rattle.nfs_codec.proofs.entries.put_entries.Given as goal
-
-abbrev pub invariant-loop-entry : goal.invariant-loop-entry
-invariant-loop-entry l = l.out ++ chain_bytes entry (drop l.entry-index l.entries) ≡ l.fn.out ++ chain_bytes entry l.entries

@@ -1,7 +1,0 @@
-use Rattle.std.proofs.Common.{◌≡◌, ◌++◌, drop}
-use Rattle.xdr.specs.Codes.{chain_bytes}
-use Rattle.nfs_codec.specs.Results.{entry_plus}
-use Rattle.nfs_codec.proofs.entries.put_entries_plus.Given as goal
-
-abbrev pub invariant-loop-entry : goal.invariant-loop-entry
-invariant-loop-entry l = l.out ++ chain_bytes entry_plus (drop l.entry-index l.entries) ≡ l.fn.out ++ chain_bytes entry_plus l.entries

@@ -1,0 +1,48 @@
+//! Writing items, each behind what is written.
+ghost use Rattle.std.specs.Prelude.{◌≡◌, ◌++◌, OnOk};
+ghost use Rattle.std.specs.Int.{w32, w64, to_be_bytes};
+
+use crate::ItemFault;
+use std::alloc::AllocError;
+
+/// A number of four bytes.
+pub fn put_word(out: &mut Vec<u8>, word: u32) -> Result<(), AllocError>
+    ensures { OnOk result (out.new.items ≡ out.old.items ++ to_be_bytes w32 word) }
+{
+    out.extend_from_slice(&word.to_be_bytes())
+}
+
+/// A number of eight bytes.
+pub fn put_double(out: &mut Vec<u8>, double: u64) -> Result<(), AllocError>
+    ensures { OnOk result (out.new.items ≡ out.old.items ++ to_be_bytes w64 double) }
+{
+    out.extend_from_slice(&double.to_be_bytes())
+}
+
+/// Eight bytes as they are.
+pub fn put_eight(out: &mut Vec<u8>, eight: &[u8; 8]) -> Result<(), AllocError> {
+    out.extend_from_slice(eight)
+}
+
+/// True or false: 1 or 0.
+pub fn put_flag(out: &mut Vec<u8>, flag: bool) -> Result<(), AllocError> {
+    if flag {
+        put_word(out, 1)
+    } else {
+        put_word(out, 0)
+    }
+}
+
+/// A string behind its length, with zeros up to a multiple of four.
+pub fn put_opaque(out: &mut Vec<u8>, bytes: &[u8]) -> Result<(), ItemFault> {
+    let length = u32::try_from(bytes.len()).or(Err(ItemFault::TooLong))?;
+    put_word(out, length)?;
+    out.extend_from_slice(bytes)?;
+    match length % 4 {
+        1 => out.extend_from_slice(&[0, 0, 0])?,
+        2 => out.extend_from_slice(&[0, 0])?,
+        3 => out.extend_from_slice(&[0])?,
+        _ => {}
+    }
+    Ok(())
+}

@@ -1,0 +1,2 @@
+pub mod SlotsOf
+pub mod Told

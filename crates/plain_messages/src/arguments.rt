@@ -1,0 +1,243 @@
+//! Reading the arguments of the procedures of NFS version 3 (RFC 1813, section 3.3).
+
+use crate::parts::{
+    read_device, read_guard, read_handle, read_name, read_new_attributes, read_stability,
+    read_string, read_verifier,
+};
+use nfs_types::{Call, CreateHow, SpecialFile};
+use plain_items::{ItemFault, ItemReader};
+use std::alloc::Global;
+
+/// The call of a procedure whose arguments these are, to the last byte. A number from 22 on has no
+/// procedure, and no arguments of it can be read.
+pub fn read_nfs_call(alloc: Global, procedure: u32, bytes: &[u8]) -> Result<Call, ItemFault> {
+    let mut reader = ItemReader::new(bytes);
+    let call = if procedure < 8 {
+        read_of_files(alloc, procedure, &mut reader)?
+    } else if procedure < 16 {
+        read_of_names(alloc, procedure, &mut reader)?
+    } else {
+        read_of_systems(alloc, procedure, &mut reader)?
+    };
+    reader.end()?;
+    Ok(call)
+}
+
+// Procedures 0 to 7.
+fn read_of_files(
+    alloc: Global,
+    procedure: u32,
+    reader: &mut ItemReader<'_>,
+) -> Result<Call, ItemFault> {
+    match procedure {
+        0 => Ok(Call::Null),
+        1 => Ok(Call::GetAttr {
+            object: read_handle(alloc, reader)?,
+        }),
+        2 => read_set_attributes(alloc, reader),
+        3 => Ok(Call::Lookup {
+            name: read_name(alloc, reader)?,
+        }),
+        4 => read_access(alloc, reader),
+        5 => Ok(Call::ReadLink {
+            link: read_handle(alloc, reader)?,
+        }),
+        6 => read_read(alloc, reader),
+        7 => read_write(alloc, reader),
+        _ => Err(ItemFault::Unreadable),
+    }
+}
+
+// Procedures 8 to 15.
+fn read_of_names(
+    alloc: Global,
+    procedure: u32,
+    reader: &mut ItemReader<'_>,
+) -> Result<Call, ItemFault> {
+    match procedure {
+        8 => read_create(alloc, reader),
+        9 => read_make_directory(alloc, reader),
+        10 => read_make_link(alloc, reader),
+        11 => read_make_special(alloc, reader),
+        12 => Ok(Call::Remove {
+            name: read_name(alloc, reader)?,
+        }),
+        13 => Ok(Call::RmDir {
+            name: read_name(alloc, reader)?,
+        }),
+        14 => read_rename(alloc, reader),
+        15 => read_link(alloc, reader),
+        _ => Err(ItemFault::Unreadable),
+    }
+}
+
+// Procedures 16 to 21.
+fn read_of_systems(
+    alloc: Global,
+    procedure: u32,
+    reader: &mut ItemReader<'_>,
+) -> Result<Call, ItemFault> {
+    match procedure {
+        16 => read_listing(alloc, reader),
+        17 => read_listing_plus(alloc, reader),
+        18 => Ok(Call::FsStat {
+            object: read_handle(alloc, reader)?,
+        }),
+        19 => Ok(Call::FsInfo {
+            object: read_handle(alloc, reader)?,
+        }),
+        20 => Ok(Call::PathConf {
+            object: read_handle(alloc, reader)?,
+        }),
+        21 => read_commit(alloc, reader),
+        _ => Err(ItemFault::Unreadable),
+    }
+}
+
+fn read_set_attributes(alloc: Global, reader: &mut ItemReader<'_>) -> Result<Call, ItemFault> {
+    let object = read_handle(alloc, reader)?;
+    let attributes = read_new_attributes(reader)?;
+    let guard = read_guard(reader)?;
+    Ok(Call::SetAttr {
+        object,
+        attributes,
+        guard,
+    })
+}
+
+fn read_access(alloc: Global, reader: &mut ItemReader<'_>) -> Result<Call, ItemFault> {
+    let object = read_handle(alloc, reader)?;
+    let bits = reader.word()?;
+    Ok(Call::Access { object, bits })
+}
+
+fn read_read(alloc: Global, reader: &mut ItemReader<'_>) -> Result<Call, ItemFault> {
+    let file = read_handle(alloc, reader)?;
+    let offset = reader.double()?;
+    let count = reader.word()?;
+    Ok(Call::Read {
+        file,
+        offset,
+        count,
+    })
+}
+
+fn read_write(alloc: Global, reader: &mut ItemReader<'_>) -> Result<Call, ItemFault> {
+    let file = read_handle(alloc, reader)?;
+    let offset = reader.double()?;
+    let count = reader.word()?;
+    let stability = read_stability(reader)?;
+    let bytes = read_string(alloc, reader)?;
+    Ok(Call::Write {
+        file,
+        offset,
+        count,
+        stability,
+        bytes,
+    })
+}
+
+fn read_create(alloc: Global, reader: &mut ItemReader<'_>) -> Result<Call, ItemFault> {
+    let name = read_name(alloc, reader)?;
+    let how = match reader.word()? {
+        0 => CreateHow::Unchecked(read_new_attributes(reader)?),
+        1 => CreateHow::Guarded(read_new_attributes(reader)?),
+        2 => CreateHow::Exclusive(read_verifier(reader)?),
+        _ => return Err(ItemFault::Unreadable),
+    };
+    Ok(Call::Create { name, how })
+}
+
+fn read_make_directory(alloc: Global, reader: &mut ItemReader<'_>) -> Result<Call, ItemFault> {
+    let name = read_name(alloc, reader)?;
+    let attributes = read_new_attributes(reader)?;
+    Ok(Call::MkDir { name, attributes })
+}
+
+fn read_make_link(alloc: Global, reader: &mut ItemReader<'_>) -> Result<Call, ItemFault> {
+    let name = read_name(alloc, reader)?;
+    let attributes = read_new_attributes(reader)?;
+    let target = read_string(alloc, reader)?;
+    Ok(Call::SymLink {
+        name,
+        attributes,
+        target,
+    })
+}
+
+fn read_make_special(alloc: Global, reader: &mut ItemReader<'_>) -> Result<Call, ItemFault> {
+    let name = read_name(alloc, reader)?;
+    let special = read_special(reader)?;
+    Ok(Call::MkNod { name, special })
+}
+
+// What MKNOD is to make (`mknoddata3`).
+fn read_special(reader: &mut ItemReader<'_>) -> Result<SpecialFile, ItemFault> {
+    match reader.word()? {
+        1 => Ok(SpecialFile::Regular),
+        2 => Ok(SpecialFile::Directory),
+        3 => {
+            let attributes = read_new_attributes(reader)?;
+            Ok(SpecialFile::BlockDevice(attributes, read_device(reader)?))
+        }
+        4 => {
+            let attributes = read_new_attributes(reader)?;
+            Ok(SpecialFile::CharacterDevice(attributes, read_device(reader)?))
+        }
+        5 => Ok(SpecialFile::Link),
+        6 => Ok(SpecialFile::Socket(read_new_attributes(reader)?)),
+        7 => Ok(SpecialFile::Fifo(read_new_attributes(reader)?)),
+        _ => Err(ItemFault::Unreadable),
+    }
+}
+
+fn read_rename(alloc: Global, reader: &mut ItemReader<'_>) -> Result<Call, ItemFault> {
+    let source = read_name(alloc, reader)?;
+    let target = read_name(alloc, reader)?;
+    Ok(Call::Rename { source, target })
+}
+
+fn read_link(alloc: Global, reader: &mut ItemReader<'_>) -> Result<Call, ItemFault> {
+    let file = read_handle(alloc, reader)?;
+    let name = read_name(alloc, reader)?;
+    Ok(Call::Link { file, name })
+}
+
+fn read_listing(alloc: Global, reader: &mut ItemReader<'_>) -> Result<Call, ItemFault> {
+    let directory = read_handle(alloc, reader)?;
+    let cookie = reader.double()?;
+    let verifier = read_verifier(reader)?;
+    let count = reader.word()?;
+    Ok(Call::ReadDir {
+        directory,
+        cookie,
+        verifier,
+        count,
+    })
+}
+
+fn read_listing_plus(alloc: Global, reader: &mut ItemReader<'_>) -> Result<Call, ItemFault> {
+    let directory = read_handle(alloc, reader)?;
+    let cookie = reader.double()?;
+    let verifier = read_verifier(reader)?;
+    let directory_count = reader.word()?;
+    let greatest_count = reader.word()?;
+    Ok(Call::ReadDirPlus {
+        directory,
+        cookie,
+        verifier,
+        directory_count,
+        greatest_count,
+    })
+}
+
+fn read_commit(alloc: Global, reader: &mut ItemReader<'_>) -> Result<Call, ItemFault> {
+    let file = read_handle(alloc, reader)?;
+    let offset = reader.double()?;
+    let count = reader.word()?;
+    Ok(Call::Commit {
+        file,
+        offset,
+        count,
+    })
+}

@@ -1,0 +1,60 @@
+//! The arguments and the results of MOUNT version 3 (RFC 1813, section 5.2), of NULL, MNT and UMNT.
+
+use crate::statuses::status_number;
+use nfs_types::{MountCall, MountReply, Mounted, Octets, PATH_BYTES};
+use plain_items::{ItemFault, ItemReader, put_opaque, put_word};
+use std::alloc::Global;
+
+/// The call of a procedure whose arguments these are, to the last byte. Of no other number than 0, 1 and 3
+/// arguments can be read.
+pub fn read_mount_call(
+    alloc: Global,
+    procedure: u32,
+    bytes: &[u8],
+) -> Result<MountCall, ItemFault> {
+    let mut reader = ItemReader::new(bytes);
+    let call = match procedure {
+        0 => MountCall::Null,
+        1 => MountCall::Mount {
+            path: read_path(alloc, &mut reader)?,
+        },
+        3 => MountCall::Unmount {
+            path: read_path(alloc, &mut reader)?,
+        },
+        _ => return Err(ItemFault::Unreadable),
+    };
+    reader.end()?;
+    Ok(call)
+}
+
+// The path of a directory (`dirpath`).
+fn read_path(alloc: Global, reader: &mut ItemReader<'_>) -> Result<Octets, ItemFault> {
+    let path = reader.opaque(PATH_BYTES)?;
+    Ok(Octets::copied(alloc, path)?)
+}
+
+/// Writes a result.
+pub fn put_mount_result(out: &mut Vec<u8>, reply: &MountReply) -> Result<(), ItemFault> {
+    match reply {
+        MountReply::Null | MountReply::Unmount => Ok(()),
+        MountReply::Mount {
+            outcome: Err(status),
+        } => Ok(put_word(out, status_number(*status))?),
+        MountReply::Mount {
+            outcome: Ok(mounted),
+        } => put_mounted(out, mounted),
+    }
+}
+
+// What MNT gives (`mountres3_ok`).
+fn put_mounted(out: &mut Vec<u8>, mounted: &Mounted) -> Result<(), ItemFault> {
+    put_word(out, 0)?;
+    put_opaque(out, mounted.root.bytes.as_slice())?;
+    let flavors = mounted.flavors.as_slice();
+    let count = u32::try_from(flavors.len()).or(Err(ItemFault::TooLong))?;
+    put_word(out, count)?;
+    for flavor in flavors {
+        put_word(out, *flavor)?;
+    }
+    Ok(())
+}

@@ -1,0 +1,101 @@
+//! Reading the parts that the arguments of several procedures share (RFC 1813, sections 2.3 to 2.6).
+
+use limits::MOST_HANDLE_BYTES;
+use nfs_types::{
+    DeviceNumber, DirectoryName, Handle, Moment, NewAttributes, Octets, SetTime, Stability,
+    Verifier,
+};
+use plain_items::{ItemFault, ItemReader};
+use std::alloc::Global;
+
+/// A handle (`nfs_fh3`).
+pub fn read_handle(alloc: Global, reader: &mut ItemReader<'_>) -> Result<Handle, ItemFault> {
+    let bytes = reader.opaque(MOST_HANDLE_BYTES)?;
+    Ok(Handle {
+        bytes: Octets::copied(alloc, bytes)?,
+    })
+}
+
+/// A string of any length.
+pub fn read_string(alloc: Global, reader: &mut ItemReader<'_>) -> Result<Octets, ItemFault> {
+    let bytes = reader.string()?;
+    Ok(Octets::copied(alloc, bytes)?)
+}
+
+/// A directory's handle and a name (`diropargs3`).
+pub fn read_name(alloc: Global, reader: &mut ItemReader<'_>) -> Result<DirectoryName, ItemFault> {
+    let directory = read_handle(alloc, reader)?;
+    let name = read_string(alloc, reader)?;
+    Ok(DirectoryName { directory, name })
+}
+
+/// A time (`nfstime3`).
+pub fn read_moment(reader: &mut ItemReader<'_>) -> Result<Moment, ItemFault> {
+    let seconds = reader.word()?;
+    let nanoseconds = reader.word()?;
+    Ok(Moment {
+        seconds,
+        nanoseconds,
+    })
+}
+
+/// A time that may be left out (`sattrguard3`).
+pub fn read_guard(reader: &mut ItemReader<'_>) -> Result<Option<Moment>, ItemFault> {
+    if reader.flag()? {
+        Ok(Some(read_moment(reader)?))
+    } else {
+        Ok(None)
+    }
+}
+
+// What is to become of a time (`set_atime`, `set_mtime`).
+fn read_set_time(reader: &mut ItemReader<'_>) -> Result<SetTime, ItemFault> {
+    match reader.word()? {
+        0 => Ok(SetTime::Unchanged),
+        1 => Ok(SetTime::Server),
+        2 => Ok(SetTime::Client(read_moment(reader)?)),
+        _ => Err(ItemFault::Unreadable),
+    }
+}
+
+/// The attributes that are set (`sattr3`).
+pub fn read_new_attributes(reader: &mut ItemReader<'_>) -> Result<NewAttributes, ItemFault> {
+    let mode = reader.optional_word()?;
+    let uid = reader.optional_word()?;
+    let gid = reader.optional_word()?;
+    let size = reader.optional_double()?;
+    let atime = read_set_time(reader)?;
+    let mtime = read_set_time(reader)?;
+    Ok(NewAttributes {
+        mode,
+        uid,
+        gid,
+        size,
+        atime,
+        mtime,
+    })
+}
+
+/// How a WRITE is to be kept (`stable_how`).
+pub fn read_stability(reader: &mut ItemReader<'_>) -> Result<Stability, ItemFault> {
+    match reader.word()? {
+        0 => Ok(Stability::Unstable),
+        1 => Ok(Stability::DataSync),
+        2 => Ok(Stability::FileSync),
+        _ => Err(ItemFault::Unreadable),
+    }
+}
+
+/// A verifier of eight bytes.
+pub fn read_verifier(reader: &mut ItemReader<'_>) -> Result<Verifier, ItemFault> {
+    Ok(Verifier {
+        bytes: reader.eight()?,
+    })
+}
+
+/// The two numbers of a device (`specdata3`).
+pub fn read_device(reader: &mut ItemReader<'_>) -> Result<DeviceNumber, ItemFault> {
+    let major = reader.word()?;
+    let minor = reader.word()?;
+    Ok(DeviceNumber { major, minor })
+}

@@ -1,0 +1,115 @@
+//! Writing what replies tell of files (RFC 1813, section 2.6).
+
+use crate::statuses::{kind_number, status_number};
+use nfs_types::{Attributes, Handle, Moment, Status, WeakCacheAttributes, WeakCacheData};
+use plain_items::{ItemFault, put_double, put_flag, put_opaque, put_word};
+
+/// The status OK.
+pub fn put_ok(out: &mut Vec<u8>) -> Result<(), ItemFault> {
+    Ok(put_word(out, 0)?)
+}
+
+/// A time (`nfstime3`).
+pub fn put_moment(out: &mut Vec<u8>, moment: &Moment) -> Result<(), ItemFault> {
+    put_word(out, moment.seconds)?;
+    put_word(out, moment.nanoseconds)?;
+    Ok(())
+}
+
+/// The attributes of a file (`fattr3`).
+pub fn put_attributes(out: &mut Vec<u8>, attributes: &Attributes) -> Result<(), ItemFault> {
+    put_owner(out, attributes)?;
+    put_double(out, attributes.size)?;
+    put_double(out, attributes.used)?;
+    put_word(out, attributes.device.major)?;
+    put_word(out, attributes.device.minor)?;
+    put_double(out, attributes.file_system)?;
+    put_double(out, attributes.number)?;
+    put_moment(out, &attributes.atime)?;
+    put_moment(out, &attributes.mtime)?;
+    put_moment(out, &attributes.ctime)
+}
+
+// The first five of them.
+fn put_owner(out: &mut Vec<u8>, attributes: &Attributes) -> Result<(), ItemFault> {
+    put_word(out, kind_number(attributes.kind))?;
+    put_word(out, attributes.mode)?;
+    put_word(out, attributes.nlink)?;
+    put_word(out, attributes.uid)?;
+    put_word(out, attributes.gid)?;
+    Ok(())
+}
+
+/// The attributes of a file, or that there are none (`post_op_attr`).
+pub fn put_after(out: &mut Vec<u8>, attributes: &Option<Attributes>) -> Result<(), ItemFault> {
+    match attributes {
+        Some(attributes) => {
+            put_flag(out, true)?;
+            put_attributes(out, attributes)
+        }
+        None => Ok(put_flag(out, false)?),
+    }
+}
+
+// A file before a change, or that nothing is told of it (`pre_op_attr`).
+fn put_before(out: &mut Vec<u8>, before: &Option<WeakCacheAttributes>) -> Result<(), ItemFault> {
+    match before {
+        Some(before) => {
+            put_flag(out, true)?;
+            put_double(out, before.size)?;
+            put_moment(out, &before.mtime)?;
+            put_moment(out, &before.ctime)
+        }
+        None => Ok(put_flag(out, false)?),
+    }
+}
+
+/// A file before and after a change (`wcc_data`).
+pub fn put_change(out: &mut Vec<u8>, change: &WeakCacheData) -> Result<(), ItemFault> {
+    put_before(out, &change.before)?;
+    put_after(out, &change.after)
+}
+
+/// A handle (`nfs_fh3`).
+pub fn put_handle(out: &mut Vec<u8>, handle: &Handle) -> Result<(), ItemFault> {
+    put_opaque(out, handle.bytes.as_slice())
+}
+
+/// A handle, or that there is none (`post_op_fh3`).
+pub fn put_optional_handle(out: &mut Vec<u8>, handle: &Option<Handle>) -> Result<(), ItemFault> {
+    match handle {
+        Some(handle) => {
+            put_flag(out, true)?;
+            put_handle(out, handle)
+        }
+        None => Ok(put_flag(out, false)?),
+    }
+}
+
+/// A refusal that tells of one file.
+pub fn put_refusal(
+    out: &mut Vec<u8>,
+    status: Status,
+    attributes: &Option<Attributes>,
+) -> Result<(), ItemFault> {
+    put_word(out, status_number(status))?;
+    put_after(out, attributes)
+}
+
+/// A refusal that tells of one file before and after it.
+pub fn put_refused_change(
+    out: &mut Vec<u8>,
+    status: Status,
+    change: &WeakCacheData,
+) -> Result<(), ItemFault> {
+    put_word(out, status_number(status))?;
+    put_change(out, change)
+}
+
+/// The status of what gives nothing.
+pub fn put_outcome(out: &mut Vec<u8>, outcome: &Result<(), Status>) -> Result<(), ItemFault> {
+    match outcome {
+        Ok(()) => put_ok(out),
+        Err(status) => Ok(put_word(out, status_number(*status))?),
+    }
+}

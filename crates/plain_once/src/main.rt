@@ -1,0 +1,94 @@
+//! The program `plain_once BLOCKS INODES MADE TIME`: answers the records of the standard input over a fresh
+//! tree in memory, by plain code, to compare another server with.
+#![tactic(auto)]
+
+mod words;
+
+use crate::words::{Asked, parse};
+use limits::{MOST_READS, PIECE_BYTES};
+use plain_session::{PlainSession, Progress};
+use std::alloc::{AllocError, Global};
+use std::env;
+use std::env::Env;
+use std::io::{ErrorKind, Read, Write};
+use std::process::ExitCode;
+
+// The arguments ask for nothing that can be done.
+const SENSELESS: u8 = 2;
+
+// The connection closes, or a read, a write or an allocation failed.
+const CLOSED: u8 = 1;
+
+// The input has ended.
+const ENDED: u8 = 0;
+
+fn main(rt: HostRuntime) -> ExitCode {
+    ExitCode::from(attend(&rt))
+}
+
+// Reads the arguments, and answers the standard input.
+fn attend(rt: &HostRuntime) -> u8 {
+    let Ok(Some(asked)) = read_arguments(rt) else {
+        return SENSELESS;
+    };
+    let alloc = rt.alloc();
+    match PlainSession::new(alloc, asked.blocks, asked.inodes, asked.made, asked.time) {
+        Ok(Some(mut session)) => {
+            answer_input(alloc, &mut session, &mut rt.reader(), &mut rt.stdout())
+        }
+        Ok(None) => SENSELESS,
+        Err(_) => CLOSED,
+    }
+}
+
+// What the arguments ask for.
+fn read_arguments<R: Env + AllocGlobal>(rt: &R) -> Result<Option<Asked>, AllocError> {
+    let Ok(given) = env::args(rt) else {
+        return Ok(None);
+    };
+    let line: Vec<String> = match given.collect(rt.alloc()) {
+        Ok(line) => line,
+        Err(_) => return Ok(None),
+    };
+    Ok(parse(line.as_slice()))
+}
+
+// Answers the records of an input as they come, and gives the exit status.
+fn answer_input<R: Read, W: Write>(
+    alloc: Global,
+    session: &mut PlainSession,
+    reader: &mut R,
+    writer: &mut W,
+) -> u8 {
+    let mut piece = [0; PIECE_BYTES];
+    for _ in 0..MOST_READS {
+        let count = match reader.read(&mut piece) {
+            Ok(count) => count,
+            Err(error) if error.kind() == ErrorKind::Interrupted => continue,
+            Err(_) => return CLOSED,
+        };
+        if count == 0 {
+            return match session.end() {
+                Progress::Open => ENDED,
+                Progress::Closed => CLOSED,
+            };
+        }
+        if !answer_piece(alloc, session, &piece[..count], writer) {
+            return CLOSED;
+        }
+    }
+    CLOSED
+}
+
+// Answers the records that are whole by now, and tells whether the session goes on.
+fn answer_piece<W: Write>(
+    alloc: Global,
+    session: &mut PlainSession,
+    piece: &[u8],
+    writer: &mut W,
+) -> bool {
+    let mut replies = Vec::new(alloc);
+    let progress = session.feed(alloc, piece, &mut replies);
+    let is_written = writer.write_all(replies.as_slice()).is_ok() && writer.flush().is_ok();
+    is_written && matches!(progress, Ok(Progress::Open))
+}

@@ -1,0 +1,28 @@
+//! What the words of the command line ask for.
+
+/// The counts of the image, when its root is made, and when calls come.
+#[derive(Clone, Copy, Debug, PartialEq, Eq)]
+pub struct Asked {
+    pub blocks: u32,
+    pub inodes: u32,
+    pub made: u32,
+    pub time: u32,
+}
+
+/// What a command line asks for, of which the first word is the program's name: four numbers, or nothing.
+pub fn parse(line: &[String]) -> Option<Asked> {
+    match line {
+        [_, blocks, inodes, made, time] => Some(Asked {
+            blocks: number(blocks)?,
+            inodes: number(inodes)?,
+            made: number(made)?,
+            time: number(time)?,
+        }),
+        _ => None,
+    }
+}
+
+// The number that a word spells in decimal digits.
+fn number(word: &String) -> Option<u32> {
+    word.as_str().parse::<u32>().ok()
+}

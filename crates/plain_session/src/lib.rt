@@ -1,0 +1,13 @@
+//! A session over a fresh tree in memory by plain code: bytes in, in any pieces, and the bytes of the
+//! replies out. It shares nothing with the server's wire.
+#![tactic(auto)]
+
+mod answers;
+mod image;
+mod mounted;
+mod records;
+mod session;
+
+pub use image::data_blocks;
+pub use records::{Cut, first_record};
+pub use session::{PlainSession, Progress, answer_stream};

@@ -1,0 +1,33 @@
+//! Answering MOUNT (RFC 1813, section 5.2). The root alone is exported, under the path `/`.
+
+use nfs_types::{Handle, MountCall, MountReply, Mounted, NumberList, Octets, Status};
+use std::alloc::{AllocError, Global};
+
+// The handle of the root: number 1, made at no boot by no transaction.
+const ROOT_HANDLE: [u8; 20] = [0, 0, 0, 1, 0, 0, 0, 0, 0, 0, 0, 0, 0, 0, 0, 0, 0, 0, 0, 0];
+
+/// What a call of MOUNT is answered.
+pub fn mount(alloc: Global, call: &MountCall) -> Result<MountReply, AllocError> {
+    match call {
+        MountCall::Null => Ok(MountReply::Null),
+        MountCall::Unmount { .. } => Ok(MountReply::Unmount),
+        MountCall::Mount { path } => match path.as_slice() {
+            [b'/'] => Ok(MountReply::Mount {
+                outcome: Ok(root(alloc)?),
+            }),
+            _ => Ok(MountReply::Mount {
+                outcome: Err(Status::NoEnt),
+            }),
+        },
+    }
+}
+
+fn root(alloc: Global) -> Result<Mounted, AllocError> {
+    let bytes = Octets::copied(alloc, &ROOT_HANDLE)?;
+    let mut flavors = Vec::new(alloc);
+    flavors.push(1)?;
+    Ok(Mounted {
+        root: Handle { bytes },
+        flavors: NumberList::new(flavors),
+    })
+}

@@ -1,0 +1,5 @@
+//! Tests of the records. The page README.md says which file asks which question.
+
+mod fragments;
+mod records;
+mod sizes;

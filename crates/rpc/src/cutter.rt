@@ -1,0 +1,193 @@
+//! The machine that cuts records out of a stream. It looks at each byte once: what it has looked at it takes off the
+//! front, marks are let go, and the rest is gathered in one buffer.
+ghost use Rattle.std.specs.Prelude.{◌≡◌, ◌<◌, ◌≤◌, ◌^◌, ◌++◌, ◌==◌, [], Bool, true, false, length, take, drop};
+ghost use Rattle.std.specs.Prelude.{ℕ, IfOk, IfErr, IfSome, IsSome, OnOk, OnErr};
+ghost use Rattle.xdr.specs.Items.{word};
+ghost use Rattle.rpc.specs.Records.{mark as mark_of, IsRecord};
+ghost use Rattle.rpc.specs.Cutting.{Advances, IsCut, IsOutside, taken_text, text_of};
+
+use crate::LAST_FRAGMENT;
+use crate::fault::RpcFault;
+use crate::stage::{Progress, Stage};
+use bytes::{Bytes, BytesMut};
+use http_server::Log;
+use limits::RECORD_BYTES;
+use std::alloc::{AllocError, Global};
+use std::snapshot::Snapshot;
+
+/// The bytes that haven't been looked at, the content of the record so far, and how far it has come. What was taken
+/// off the front is noted for proofs alone, in `http_server`'s `Log`: that takes no memory.
+#[derive(Drop)]
+pub struct Cutter {
+    pending: BytesMut,
+    content: BytesMut,
+    stage: Stage,
+    taken: Log<Snapshot<BytesMut>, usize>,
+}
+
+// The bytes of a mark.
+const MARK_BYTES: usize = 4;
+
+impl Cutter {
+    pub fn new(alloc: Global) -> Cutter
+        ensures text { text_of result ≡ [] }
+        ensures cut { IsCut result }
+    {
+        Cutter {
+            pending: BytesMut::new(alloc),
+            content: BytesMut::new(alloc),
+            stage: Stage::Fresh,
+            taken: Log::new(),
+        }
+    }
+
+    /// Takes the next piece of the stream.
+    pub fn feed(&mut self, piece: &[u8]) -> Result<(), AllocError>
+        requires { IsCut self.old }
+        ensures cut { IsCut self.new }
+        ensures ok { OnOk result (text_of self.new ≡ text_of self.old ++ piece.now) }
+        ensures err { OnErr result (text_of self.new ≡ text_of self.old) }
+    {
+        self.pending.extend_from_slice(piece)
+    }
+
+    /// Whether nothing is left.
+    pub fn is_empty(&self) -> bool
+        requires { IsCut self.now }
+        ensures { result ≡ (length (text_of self.now) == 0) }
+    {
+        match self.stage {
+            Stage::Fresh => self.pending.is_empty(),
+            Stage::Between | Stage::Inside { .. } => false,
+        }
+    }
+
+    /// Looks at the bytes that are there, up to the end of a fragment.
+    pub fn advance(&mut self) -> Result<Progress, RpcFault>
+        requires { IsCut self.old }
+        ensures { Advances self.old result self.new }
+    {
+        match self.stage {
+            Stage::Inside { last, left } => self.fill(last, left),
+            Stage::Fresh | Stage::Between => self.begin(),
+        }
+    }
+
+    // Takes the next mark, and then what is there of its fragment.
+    fn begin(&mut self) -> Result<Progress, RpcFault>
+        requires cut { IsCut self.old }
+        requires outside { IsOutside self.old.stage }
+        ensures { Advances self.old result self.new }
+    {
+        let pending = self.pending.as_slice();
+        if pending.len() < MARK_BYTES {
+            return Ok(Progress::Waits);
+        }
+        let (last, length) = announced(&pending[..MARK_BYTES]);
+        if length > RECORD_BYTES - self.content.len() {
+            return Err(RpcFault::TooLong);
+        }
+        self.take_off(MARK_BYTES);
+        self.stage = Stage::Inside { last, left: length };
+        self.fill(last, length)
+    }
+
+    // Gathers what is there of a fragment of which so many bytes are still to come.
+    fn fill(&mut self, last: bool, left: usize) -> Result<Progress, RpcFault>
+        requires cut { IsCut self.old }
+        requires inside { self.old.stage ≡ Stage.Inside last left }
+        ensures { Advances self.old result self.new }
+    {
+        let count = left.min(self.pending.len());
+        self.gather(count)?;
+        if count < left {
+            self.stage = Stage::Inside {
+                last,
+                left: left - count,
+            };
+            return Ok(Progress::Waits);
+        }
+        if last {
+            self.stage = Stage::Inside { last, left: 0 };
+            return Ok(Progress::Whole);
+        }
+        self.stage = Stage::Between;
+        Ok(Progress::GoesOn)
+    }
+
+    // Takes bytes off the front, as content of the record.
+    fn gather(&mut self, count: usize) -> Result<(), RpcFault>
+        requires { count ≤ length self.old.pending.items }
+        ensures taken { OnOk result (taken_text self.new.taken.items
+            ≡ taken_text self.old.taken.items ++ take count self.old.pending.items) }
+        ensures pending { OnOk result (self.new.pending.items ≡ drop count self.old.pending.items) }
+        ensures content { OnOk result (self.new.content.items
+            ≡ self.old.content.items ++ take count self.old.pending.items) }
+        ensures err { IfErr result (λ e. e ≡ RpcFault.NoMemory) }
+        ensures kept { OnErr result ((text_of self.new ≡ text_of self.old)
+            × (taken_text self.new.taken.items ≡ taken_text self.old.taken.items)
+            × (self.new.content.items ≡ self.old.content.items)) }
+        ensures stage { self.new.stage ≡ self.old.stage }
+    {
+        self.content
+            .extend_from_slice(&self.pending.as_slice()[..count])
+            .map_err(|_| RpcFault::NoMemory)?;
+        self.take_off(count);
+        Ok(())
+    }
+
+    // Takes bytes off the front, and notes them.
+    fn take_off(&mut self, count: usize)
+        requires { count ≤ length self.old.pending.items }
+        ensures taken { taken_text self.new.taken.items
+            ≡ taken_text self.old.taken.items ++ take count self.old.pending.items }
+        ensures pending { self.new.pending.items ≡ drop count self.old.pending.items }
+        ensures content { self.new.content ≡ self.old.content }
+        ensures stage { self.new.stage ≡ self.old.stage }
+    {
+        self.taken = self.taken.and(&Snapshot::of(&self.pending), &count);
+        self.pending.advance(count);
+    }
+
+    /// Hands out the record that is whole. Nothing is copied.
+    pub fn hand_out(&mut self) -> Result<Bytes, RpcFault>
+        requires cut { IsCut self.old }
+        requires whole { self.old.stage ≡ Stage.Inside true 0 }
+        ensures cut { IsCut self.new }
+        ensures found { IfOk result (λ content. IsRecord (taken_text self.old.taken.items) content
+            × (text_of self.new ≡ self.old.pending.items)) }
+        ensures err { IfErr result (λ e. (e ≡ RpcFault.NoMemory) × (text_of self.new ≡ text_of self.old)) }
+    {
+        let length = self.content.len();
+        let record = self
+            .content
+            .freeze_to(length)
+            .map_err(|_| RpcFault::NoMemory)?;
+        self.stage = Stage::Fresh;
+        self.taken = Log::new();
+        Ok(record)
+    }
+}
+
+// Whether a mark is that of a last fragment, and the length that it announces.
+fn announced(mark: &[u8]) -> (bool, usize)
+    requires { length mark.now ≡ MARK_BYTES }
+    ensures mark { mark.now ≡ mark_of result.0 result.1 }
+    ensures bound { result.1 < 2 ^ 31 }
+{
+    let number = number_of(mark);
+    if number < LAST_FRAGMENT {
+        (false, number as usize)
+    } else {
+        (true, (number - LAST_FRAGMENT) as usize)
+    }
+}
+
+// The number that a mark spells.
+#[tactic(auto, unfolding(xdr::specs::Items::word))]
+fn number_of(mark: &[u8]) -> u32
+    requires { length mark.now ≡ MARK_BYTES }
+    ensures { word result ≡ mark.now }
+{
+    u32::from_be_bytes([mark[0], mark[1], mark[2], mark[3]])
+}

@@ -1,0 +1,383 @@
+-- A call begins, its read keeps it under way, and so does the settling that it waits for.
+use Rattle.std.proofs.Common.{arith, ◌≡◌, ◌∙◌, refl, sym, ap, subst, true≢false, ℕ, ◌<◌, ◌≤◌, inl, inr, Bool, true, false}
+use Rattle.std.proofs.Common.{IfSome, Option, Some, None, Result, Ok, Err, is_ok, is_some, List, [], ◌++◌, option_to_list}
+use Rattle.std.specs.Prelude.{IsSomeAnd}
+use Rattle.std.proofs.lemmas.List.{append-nil}
+use Rattle.std.proofs.lemmas.List.Elements.{All-nil}
+use Rattle.disk.specs.Device.{Content, CountsFailure, Device}
+use Rattle.disk.specs.declared.device.Failed.{Failed}
+use Rattle.layout.specs.Geometry.{IsLawful}
+use Rattle.model.specs.After.{Entry}
+use Rattle.model.specs.Sound.{SoundTime}
+use Rattle.txn_law.specs.Core.{CoreState}
+use Rattle.txn_law.specs.Fetch.{Fetch}
+use Rattle.store_promise.specs.Progress.{Begun, Progress, Stage, At, Idle, Called, Planning, Reading, Read, Refused, Again}
+use Rattle.store_promise.specs.Progress.{Waiting, is_idle, progressed}
+use Rattle.store_promise.specs.Running.{IsFetchOver, IsRunningOver, at_rest as quiet}
+use Rattle.store_promise.specs.Schedule.{IsStepOfRead}
+use Rattle.store_promise.specs.declared.answers.CallAnswer.{CallAnswer}
+use Rattle.store_promise.specs.declared.answers.Verdict.{Verdict}
+use Rattle.store_promise.specs.declared.events.Step.{Step}
+use Rattle.store_promise.specs.declared.events.Step.TheVariants as step
+use Rattle.store.specs.AtWork.{IsCoreAtWork, fetches_in, fetches_of}
+use Rattle.store.specs.Calling.{HasAnswered, HasStepped, IsCalling, IsOpenAt, IsOpenWith, IsSoFar, Outset}
+use Rattle.store.specs.Calling.{StandsWith, Tells}
+use Rattle.store.specs.Further.{LeavesOpen, RunsOn}
+use Rattle.store.specs.Opening.{Opened, store_of}
+use Rattle.store.specs.Settling.{HasFailed, IsIdle}
+use Rattle.store.specs.Phases.{is_ready}
+use Rattle.store.specs.Seen.{seen_in}
+use Rattle.store.specs.Stages.{IsJobIn, IsJobOf, IsWorkerAt, StandsAt, at_stage, begun_of, progress_in, progress_of}
+use Rattle.store.specs.Telling.{told}
+use Rattle.store.specs.WorkTells.{TellsRead}
+use Rattle.store.specs.Worker.{Fits, GoesWith, IsCoreOf, ReadsWithin, at_rest, ctx_of, with_call}
+use Rattle.store.specs.WorkerReads.{with_read}
+use Rattle.store.specs.declared.workers.Worker.{Worker}
+use Rattle.store.specs.declared.workers.parts.Job.{Job as WorkJob}
+use Rattle.store.specs.declared.workers.parts.Phase as phases
+use Rattle.store.specs.declared.workers.parts.Phase.TheVariants as Phase
+use Rattle.store.specs.declared.workers.parts.State.{State}
+use Rattle.store.specs.declared.workers.parts.Work.{Work}
+use Rattle.store.proofs.CallStages.{IsAfter, failed_then, so_far_still, tells_still}
+use Rattle.store.proofs.CallSteps.{open_of, runs_of, setting_of}
+use Rattle.store.proofs.DrivenAlone.{starts_alone}
+use Rattle.store.proofs.GoingOn.{still_at_work}
+use Rattle.store.proofs.HowFar.{some_of}
+use Rattle.store.proofs.StillOpen.{same_further}
+
+-- ---- a call begins
+
+abbrev handed_to : Outset → State
+handed_to o = with_call (ctx_of o.asked.credential o.asked.moment o.store.boot) o.asked.call (at_rest o.store.boot)
+
+pub begins : (o : Outset) (worker : State) → SoundTime o.asked.moment → IsIdle o.store.core → worker ≡ handed_to o
+    → GoesWith worker o.store.core → IsOpenWith o.store o.first o.entries o.last → IsCalling o o.store worker
+begins o worker timely idle is with opened = record {
+  entry = None;
+  last = o.last;
+  base = opened.base;
+  boot = refl;
+  comes = refl;
+  opened = subst (λ (w : State). IsOpenAt opened.base o.store (fetches_of w) o.first (o.entries ++ []) o.last) (sym is)
+      (subst (λ (es : List Entry). IsOpenAt opened.base o.store [] o.first es o.last) (sym (append-nil o.entries))
+      opened.opened);
+  stands = subst (λ (w : State). IsWorkerAt o.store.boot (o.entries ++ []) w) (sym is) (record {
+    boot_is = refl;
+    entry = refl;
+    answer = refl;
+    stands = record { boot_is = refl; timely = timely };
+  });
+  at_work = subst (λ (w : State). IsCoreAtWork w o.store.core) (sym is) (record {
+    with = subst (λ (w : State). GoesWith w o.store.core) is with;
+    alone = starts_alone (handed_to o) o.store.core o.store.boot
+        (ctx_of o.asked.credential o.asked.moment o.store.boot) o.asked.call refl idle.fetches;
+    loads = tt;
+  });
+  so_far = subst (λ (w : State). IsSoFar o None o.store (progress_of w)) (sym is) (refl, refl);
+  counted = omega arith;
+  broken = λ broken. inl broken;
+}
+
+-- ---- a read
+
+more_failed : (before after : Device) (answer : Result Unit Failed) → CountsFailure before after answer
+    → before.failures ≤ after.failures
+more_failed before after (Ok done) counts = omega (arith, counts)
+more_failed before after (Err failed) counts = omega (arith, counts)
+
+was_counted : (before after : Device) (answer : Result Unit Failed) → CountsFailure before after answer
+    → is_ok answer ≡ false → before.failures < after.failures
+was_counted before after (Ok done) counts failed = cc
+was_counted before after (Err error) counts failed = omega (arith, counts)
+
+none_made : (made : Step) → Some made ≡ None → ⊥
+none_made made same = cc
+
+module _ (o : Outset) (now : Opened) (device : Device) (worker : State) (calling : IsCalling o now worker) (io : Fetch)
+    (content : Content) (answer : Result Unit Failed) (failure : CountsFailure now.device device answer) where
+  abbrev later : Opened
+  later = record now { device = device }
+
+  abbrev read : State
+  read = with_read (is_ok answer) io content worker
+
+  abbrev made : Step
+  made = step.Read io.block (is_ok answer)
+
+  after : IsAfter now later
+  after = record {
+    failures = more_failed now.device device answer failure;
+    further = same_further now.core;
+  }
+
+  so_far_by : (broken : Bool) (p : Progress) → IsStepOfRead p (Some made) → IsSoFar o calling.entry now p
+      → IsSoFar o calling.entry later (progressed broken made p)
+  so_far_by broken Idle may has = tt
+  so_far_by broken (At job Called) may has = absurd (none_made made may)
+  so_far_by broken (At job (Planning begun)) may has = absurd (none_made made may)
+  so_far_by broken (At job (Reading begun taken)) may has = (has.0, by (is_ok answer) refl)
+    where
+      by : (ok : Bool) → is_ok answer ≡ ok → StandsWith o calling.entry later (Read begun taken ok)
+      by true is = has.1
+      by false is =
+          let was = calling.counted in
+          let more = was_counted now.device device answer failure is in
+          (has.1, omega (arith, was, more))
+  so_far_by broken (At job (Read begun taken ok)) may has = absurd (none_made made may)
+  so_far_by broken (At job (Refused begun why)) may has = absurd (none_made made may)
+  so_far_by broken (At job (Again begun)) may has = absurd (none_made made may)
+  so_far_by broken (At job (Waiting place)) may has = absurd (none_made made may)
+
+  pub was_read : TellsRead o.store.boot (o.entries ++ option_to_list calling.entry) worker (Some made) read
+      → IsCoreAtWork read now.core
+      → IsRunningOver (setting_of calling.base now (fetches_of worker) o.first
+      (o.entries ++ option_to_list calling.entry) calling.last calling.opened) calling.base (quiet device now.core)
+      (fetches_of read) now.boot o.first (o.entries ++ option_to_list calling.entry) calling.last
+      → IsCalling o later read
+  was_read tells at_work run = record {
+    entry = calling.entry;
+    last = calling.last;
+    base = calling.base;
+    boot = calling.boot;
+    comes = calling.comes;
+    opened = open_of _ calling.base later (fetches_of read) o.first (o.entries ++ option_to_list calling.entry)
+        calling.last run;
+    stands = tells.stands;
+    at_work = at_work;
+    so_far = subst (IsSoFar o calling.entry later) (sym (tells.progress now.core.log.broken))
+        (so_far_by now.core.log.broken (progress_of worker) tells.may calling.so_far);
+    counted = let was = calling.counted in let more = after.failures in omega (arith, was, more);
+    broken = λ is. failed_then o now later after (calling.broken is);
+  }
+
+-- ---- a settling
+
+module _ (o : Outset) (now : Opened) (device : Device) (core : CoreState) (worker : State)
+    (opens : LeavesOpen now.device now.core device core) where
+  abbrev settled : Opened
+  settled = store_of device core now.boot
+
+  abbrev pub still_after : IsAfter now settled
+  still_after = record { failures = opens.failures; further = opens.further }
+
+  module _ (calling : IsCalling o now worker) (with : GoesWith worker core) where
+    abbrev entries : List Entry
+    entries = o.entries ++ option_to_list calling.entry
+
+    from : HasFailed now.core.log now.device device → HasFailed o.store.core.log o.store.device device
+    from (inl broken) = failed_then o now settled still_after (calling.broken broken)
+    from (inr more) = inr (let was = calling.counted in omega (arith, was, more))
+
+    run : IsRunningOver (setting_of calling.base now (fetches_of worker) o.first entries calling.last calling.opened)
+        calling.base (quiet now.device now.core) (fetches_of worker) now.boot o.first entries calling.last
+    run = runs_of calling.base now (fetches_of worker) o.first entries calling.last calling.opened
+
+    next : RunsOn (setting_of calling.base now (fetches_of worker) o.first entries calling.last calling.opened) device
+        core (fetches_of worker) now.boot o.first entries calling.last
+    next = opens.runs _ calling.base (fetches_of worker) now.boot o.first calling.last entries run
+
+    abbrev settles_on : IsCalling o settled worker
+    settles_on = record {
+      entry = calling.entry;
+      last = calling.last;
+      base = next.home;
+      boot = calling.boot;
+      comes = calling.comes;
+      opened = open_of _ next.home settled (fetches_of worker) o.first entries calling.last next.running;
+      stands = calling.stands;
+      at_work = still_at_work now.core core opens.core (sym next.running.blocks ∙ run.blocks) worker with
+          calling.at_work;
+      so_far = so_far_still o now settled still_after calling.entry (progress_of worker) calling.so_far;
+      counted = let was = calling.counted in let more = opens.failures in omega (arith, was, more);
+      broken = λ is. from (opens.failed is);
+    }
+
+answer_still : (o : Outset) (now new : Opened) (is_after : IsAfter now new) (entry : Option Entry)
+    (found : Option CallAnswer) → IfSome found (λ ready. Tells o entry ready.verdict now)
+    → IfSome found (λ ready. Tells o entry ready.verdict new)
+answer_still o now new is_after entry None is = tt
+answer_still o now new is_after entry (Some ready) is = tells_still o now new is_after entry ready.verdict is
+
+pub settled_step : (o : Outset) (now : Opened) (device : Device) (core : CoreState) (worker : State)
+    (opens : LeavesOpen now.device now.core device core) → HasStepped o now worker → GoesWith (told worker) core
+    → HasStepped o (store_of device core now.boot) worker
+settled_step o now device core worker opens stepped with = record {
+  calling = settles_on o now device core (told worker) opens stepped.calling with;
+  ends = stepped.ends;
+  answer = answer_still o now (store_of device core now.boot) (still_after o now device core (told worker) opens)
+      stepped.calling.entry worker.work.answer stepped.answer;
+}
+
+-- the store once a call was answered
+pub settled_answer : (o : Outset) (verdict : Verdict) (now : Opened) (device : Device) (core : CoreState)
+    (opens : LeavesOpen now.device now.core device core) → HasAnswered o verdict now
+    → HasAnswered o verdict (store_of device core now.boot)
+settled_answer o verdict now device core opens has =
+    let entries = o.entries ++ option_to_list has.entry in
+    let at = has.opened.opened in
+    let next = opens.runs (setting_of has.opened.base now [] o.first entries has.last at) has.opened.base [] now.boot
+    o.first has.last entries (runs_of has.opened.base now [] o.first entries has.last at) in
+    record {
+      entry = has.entry;
+      last = has.last;
+      comes = has.comes;
+      opened = record {
+        base = next.home;
+        opened = open_of (setting_of has.opened.base now [] o.first entries has.last at) next.home
+            (store_of device core now.boot) [] o.first entries has.last next.running;
+      };
+      tells = tells_still o now (store_of device core now.boot)
+          (record { failures = opens.failures; further = opens.further }) has.entry verdict has.tells;
+    }
+
+-- ---- it begins again
+
+so_far_again : (o : Outset) (now : Opened) (entry : Option Entry) (job : Option WorkJob) (begun : Begun)
+    → IsSoFar o entry now (at_stage job (Planning begun)) → IsSoFar o entry now (at_stage job (Again begun))
+so_far_again o now entry None begun has = tt
+so_far_again o now entry (Some job) begun has = has
+
+ends_again : (job : Option WorkJob) (begun : Begun) → is_idle (at_stage job (Planning begun)) ≡ true
+    → is_idle (at_stage job (Again begun)) ≡ true
+ends_again None begun ends = refl
+ends_again (Some job) begun ends = ends
+
+-- a worker that begins again
+abbrev pub again : State → State
+again worker = record worker { phase = Phase.Again }
+
+pub again_goes : (o : Outset) (now : Opened) (worker : State) → HasStepped o now worker
+    → worker.phase ≡ Phase.Planning → GoesWith (told (again worker)) now.core → HasStepped o now (again worker)
+again_goes o now worker stepped planning with =
+    let was = stepped.calling in
+    let entries = o.entries ++ option_to_list was.entry in
+    record {
+      calling = record {
+        entry = was.entry;
+        last = was.last;
+        base = was.base;
+        boot = was.boot;
+        comes = was.comes;
+        opened = subst (λ fetches. IsOpenAt was.base now fetches o.first entries was.last)
+            (ap (λ (p : phases.Phase). fetches_in p worker.begun.io) planning) was.opened;
+        stands = record {
+          boot_is = was.stands.boot_is;
+          entry = was.stands.entry;
+          answer = was.stands.answer;
+          stands = subst (λ (p : phases.Phase). StandsAt o.store.boot entries p (told worker)) planning
+              was.stands.stands;
+        };
+        at_work = record {
+          with = with;
+          alone = record { fetches = was.at_work.alone.fetches; plans = tt };
+          loads = tt;
+        };
+        so_far = so_far_again o now was.entry worker.work.job
+            (begun_of worker.begun.tx (seen_in worker.work.snap) worker.asked.fetched)
+            (subst (λ (p : phases.Phase). IsSoFar o was.entry now (progress_in p worker.work.job
+            (begun_of worker.begun.tx (seen_in worker.work.snap) worker.asked.fetched) worker.asked)) planning
+            was.so_far);
+        counted = was.counted;
+        broken = was.broken;
+      };
+      ends = λ some. ends_again worker.work.job
+          (begun_of worker.begun.tx (seen_in worker.work.snap) worker.asked.fetched)
+          (subst (λ (p : phases.Phase). is_idle (progress_in p worker.work.job
+          (begun_of worker.begun.tx (seen_in worker.work.snap) worker.asked.fetched) worker.asked) ≡ true) planning
+          (stepped.ends some));
+      answer = stepped.answer;
+    }
+
+-- ---- what a worker goes with, once what it gave was taken
+
+ready_told : (phase : phases.Phase) (work : Work)
+    → is_ready phase (record work { entry = None; answer = None }) ≡ is_ready phase work
+ready_told Phase.Idle work = refl
+ready_told Phase.Called work = refl
+ready_told Phase.Planning work = refl
+ready_told Phase.Reading work = refl
+ready_told (Phase.Read ok) work = refl
+ready_told (Phase.Refused why) work = refl
+ready_told Phase.Again work = refl
+ready_told (Phase.Waiting place) work = refl
+
+pub goes_told : (worker : Worker) (core : CoreState) → Fits worker core → GoesWith (told worker.state) core
+goes_told worker core fits = record {
+  sound = record {
+    transaction = worker.transaction;
+    fetch = worker.fetch;
+    ready = ready_told worker.state.phase worker.state.work ∙ worker.ready;
+  };
+  core_of = record { out = fits.out; reads = fits.reads; lawful = fits.lawful };
+}
+
+-- a worker of which nothing lies ready has nothing to tell
+pub none_to_tell : (worker : State) → worker.work.entry ≡ None → worker.work.answer ≡ None → told worker ≡ worker
+none_to_tell worker entry answer = λ i.
+    record worker { work = record worker.work { entry = sym entry i; answer = sym answer i } }
+
+-- a core with the same transactions and counts fits it, too
+pub still_fits : (state : State) (old new : CoreState) → IsCoreOf state old → new.out ≡ old.out
+    → new.log.blocks ≡ old.log.blocks → new.inodes ≡ old.inodes → IsCoreOf state new
+still_fits state old new fits out blocks inodes = record {
+  out = out ∙ fits.out;
+  reads = subst (λ (n : ℕ). ReadsWithin n state) (sym blocks) fits.reads;
+  lawful = subst (λ (n : ℕ). IsLawful n new.inodes) (sym blocks)
+      (subst (λ (n : ℕ). IsLawful old.log.blocks n) (sym inodes) fits.lawful);
+}
+
+-- ---- a call that was answered
+
+no_stage : (found : Option WorkJob) (job : WorkJob) (stage : Stage) → found ≡ Some job
+    → is_idle (at_stage found stage) ≡ true → ⊥
+no_stage found job stage is idle =
+    true≢false (sym (subst (λ (o : Option WorkJob). is_idle (at_stage o stage) ≡ true) is idle))
+
+none_of : (P : WorkJob → Type 0) (found : Option WorkJob) (stage : Stage) → IsSomeAnd found P
+    → is_idle (at_stage found stage) ≡ true → ⊥
+none_of P found stage has idle = let (job, is, rest) = some_of found has in no_stage found job stage is idle
+
+idle_by : (boot : ℕ) (done : List Entry) (state : State) (phase : phases.Phase) → StandsAt boot done phase state
+    → is_idle (progress_in phase state.work.job (begun_of state.begun.tx (seen_in state.work.snap)
+    state.asked.fetched) state.asked) ≡ true
+    → phase ≡ Phase.Idle
+idle_by boot done state Phase.Idle stands idle = refl
+idle_by boot done state Phase.Called stands idle =
+    absurd (none_of (IsJobOf boot) state.work.job _ stands idle)
+idle_by boot done state Phase.Planning stands idle =
+    absurd (none_of (IsJobIn boot state.begun.tx) state.work.job _ stands idle)
+idle_by boot done state Phase.Reading stands idle =
+    absurd (none_of (IsJobIn boot state.begun.tx) state.work.job _ stands.0 idle)
+idle_by boot done state (Phase.Read ok) stands idle =
+    absurd (none_of (IsJobIn boot state.begun.tx) state.work.job _ stands.0 idle)
+idle_by boot done state (Phase.Refused why) stands idle =
+    absurd (none_of (IsJobIn boot state.begun.tx) state.work.job _ stands idle)
+idle_by boot done state Phase.Again stands idle =
+    absurd (none_of (IsJobIn boot state.begun.tx) state.work.job _ stands idle)
+idle_by boot done state (Phase.Waiting place) stands idle =
+    absurd (no_stage state.asked.waiting stands.job _ stands.job_is idle)
+
+-- the store is open with what the call came to, and its worker is idle
+pub answered : (o : Outset) (now : Opened) (worker : State) (ready : CallAnswer) → HasStepped o now worker
+    → Some ready ≡ worker.work.answer → HasAnswered o ready.verdict now × (worker.phase ≡ Phase.Idle)
+answered o now worker ready stepped is =
+    let was = stepped.calling in
+    let some : is_some worker.work.answer ≡ true = ap is_some (sym is) in (
+      record {
+        entry = was.entry;
+        last = was.last;
+        comes = was.comes;
+        opened = record {
+          base = was.base;
+          opened = record {
+            since = was.opened.since;
+            stands = was.opened.stands;
+            fetched = All-nil (IsFetchOver was.base now.core);
+          };
+        };
+        tells = subst (λ (o2 : Option CallAnswer). IfSome o2 (λ ready. Tells o was.entry ready.verdict now)) (sym is)
+            stepped.answer;
+      },
+      idle_by o.store.boot (o.entries ++ option_to_list was.entry) (told worker) worker.phase was.stands.stands
+          (stepped.ends some),
+    )

@@ -1,0 +1,399 @@
+-- How far a call is after a step of its worker, and what the step answers, by the stage that it was at.
+use Rattle.std.proofs.Common.{arith, ◌≡◌, ◌∙◌, refl, sym, ap, subst, true≢false, ℕ, ◌+◌, ◌^◌, ◌≤◌, ◌⊎◌, inl, inr}
+use Rattle.std.proofs.Common.{Bool, true, false, ◌||◌, if◌then◌else◌, nat_le, Option, Some, None, Ok, Err}
+use Rattle.std.proofs.Common.{List, [], ◌∷◌, ◌++◌, length, map, option_to_list, zero, suc, slice_get}
+use Rattle.std.proofs.lemmas.Bool.Decides.{nat_tests}
+use Rattle.disk.specs.declared.block.BlockNo.{BlockNo}
+use Rattle.model.specs.After.{Entry}
+use Rattle.model.specs.Calls.{has_rules, is_answered_stable}
+use Rattle.procs.specs.MostChanged.{most_changed}
+use Rattle.txn.specs.declared.outcomes.BeginFault.{BeginFault}
+use Rattle.txn.specs.declared.outcomes.BeginFault.TheVariants as begin_fault
+use Rattle.wal_law.specs.Log.{settled_place}
+use Rattle.wal_law.specs.declared.outcomes.Seq.{Seq}
+use Rattle.store_promise.specs.LogTold.{settled_told}
+use Rattle.store_promise.specs.Progress.{Begun, Progress, Stage, At, Idle, Called, Planning, Reading, Read}
+use Rattle.store_promise.specs.Progress.{Refused, Again, Waiting, Taken, Wished, after_called, after_claimed}
+use Rattle.store_promise.specs.Progress.{after_commit, after_planning, after_waiting, after_wanted, going_on, is_idle}
+use Rattle.store_promise.specs.Progress.{stage_after}
+use Rattle.store_promise.specs.Schedule.{HasNumbers, IsClaimWish, IsCommitting, IsStepByPlan, IsStepOfCalled}
+use Rattle.store_promise.specs.Schedule.{IsStepOfWork, IsWish, Setting, Told, wish_of}
+use Rattle.store_promise.specs.Transcript.{Transcript, committed_at, entry_of}
+use Rattle.store_promise.specs.Verdicts.{HasVerdict, IsReplyAt, cause_of}
+use Rattle.store_promise.specs.declared.answers.Verdict.{Verdict}
+use Rattle.store_promise.specs.declared.answers.Verdict.TheVariants as verdict
+use Rattle.store_promise.specs.declared.events.Cause.{Cause}
+use Rattle.store_promise.specs.declared.events.Cause.TheVariants as cause
+use Rattle.store_promise.specs.declared.events.Committing.{Committing}
+use Rattle.store_promise.specs.declared.events.Committing.TheVariants as committing
+use Rattle.store_promise.specs.declared.events.Ending.TheVariants as ending
+use Rattle.store_promise.specs.declared.events.Step.{Step}
+use Rattle.store_promise.specs.declared.events.Step.TheVariants as step
+use Rattle.store_promise.specs.declared.events.Wish.{Wish}
+use Rattle.store_promise.specs.declared.events.Wish.TheVariants as wish
+use Rattle.store_promise.specs.declared.transcript.Answer.{Answer}
+use Rattle.store_promise.specs.declared.transcript.Committed.{Committed}
+use Rattle.store.specs.AtWork.{has_committed}
+use Rattle.store.specs.Calling.{HasCause, IsRefusal, IsSoFar, IsSpent, IsUnserved, Outset, StandsWith, Tells}
+use Rattle.store.specs.Further.{IsFurther}
+use Rattle.store.specs.Opening.{Opened}
+use Rattle.store.specs.Settling.{HasFailed}
+
+-- ---- an entry in a transcript
+
+abbrev pub noted : Entry → Committed
+noted e = record { worker = e.worker; ctx = e.ctx; call = e.call; reply = e.reply; event = 0; clock = 0 }
+
+-- what a history of these entries tells
+abbrev pub told_by : List Entry → Transcript
+told_by entries = record { boot = 0; history = map noted entries; answers = []; steps = [] }
+
+pub same_entries : (entries : List Entry) → map entry_of (map noted entries) ≡ entries
+same_entries [] = refl
+same_entries (e ∷ entries) = λ i. e ∷ same_entries entries i
+
+last_of : (entries : List Entry) (e : Entry)
+    → slice_get (map noted (entries ++ e ∷ [])) (length entries) ≡ Some (noted e)
+last_of [] e = refl
+last_of (first ∷ entries) e = last_of entries e
+
+last_told : (entries : List Entry) (e : Entry) (place : ℕ) → place ≡ length entries + 1
+    → committed_at (told_by (entries ++ e ∷ [])) place ≡ Some (noted e)
+last_told entries e zero is = absurd (omega (arith, is))
+last_told entries e (suc index) is =
+    ap (slice_get (map noted (entries ++ e ∷ []))) (less index (length entries) is) ∙ last_of entries e
+  where
+    less : (a b : ℕ) → suc a ≡ b + 1 → a ≡ b
+    less a b same = omega (arith, same)
+
+one_of : (a b : Committed) → Some a ≡ Some b → a ≡ b
+one_of a b is = cc
+
+-- the reply at its place is the entry's
+pub reply_is : (entries : List Entry) (e : Entry) (place : Seq) (a : Answer) → place.0 ≡ length entries + 1
+    → IsReplyAt (told_by (entries ++ e ∷ [])) place a → a.verdict ≡ verdict.Reply e.reply
+reply_is entries e place a at is = is.told ∙ ap (λ (c : Committed). verdict.Reply c.reply)
+    (one_of is.entry (noted e) (sym is.is_entry ∙ last_told entries e place.0 at))
+
+-- ---- what a later store still has
+
+-- a store later on: no failure was taken back, and it has gone further
+pub record IsAfter (now new : Opened) : Type 0 where
+  pub failures : now.device.failures ≤ new.device.failures
+  pub further : IsFurther now.core new.core
+
+module _ (o : Outset) (now new : Opened) (after : IsAfter now new) where
+  pub failed_then : HasFailed o.store.core.log o.store.device now.device
+      → HasFailed o.store.core.log o.store.device new.device
+  failed_then (inl broken) = inl broken
+  failed_then (inr failed) = inr (let more = after.failures in omega (arith, failed, more))
+
+  spent_then : IsSpent o.asked.call now.core → IsSpent o.asked.call new.core
+  spent_then (inl begun) = inl (let more = after.further.begun in omega (arith, begun, more))
+  spent_then (inr none) = inr (λ left.
+      let place = left.0 in
+      let positions = left.1 in
+      let more = after.further.places in
+      let longer = after.further.positions in
+      none (omega (arith, place, more), omega (arith, positions, longer)))
+
+  pub cause_then : (why : Cause) → HasCause o now why → HasCause o new why
+  cause_then cause.Io has = failed_then has
+  cause_then cause.Spent has = spent_then has
+  cause_then cause.NoMemory has = tt
+
+  pub stands_then : (entry : Option Entry) (stage : Stage) → StandsWith o entry now stage
+      → StandsWith o entry new stage
+  stands_then entry Called has = has
+  stands_then entry (Planning begun) has = has
+  stands_then entry (Reading begun taken) has = has
+  stands_then entry (Read begun taken true) has = has
+  stands_then entry (Read begun taken false) has =
+      (has.0, let failed = has.1 in let more = after.failures in omega (arith, failed, more))
+  stands_then entry (Refused begun why) has = (has.0, cause_then why has.1)
+  stands_then entry (Again begun) has = has
+  stands_then entry (Waiting place) has = has
+
+  pub so_far_still : (entry : Option Entry) (progress : Progress) → IsSoFar o entry now progress
+      → IsSoFar o entry new progress
+  so_far_still entry Idle has = tt
+  so_far_still entry (At job stage) has = (has.0, stands_then entry stage has.1)
+
+  pub tells_still : (entry : Option Entry) (told : Verdict) → Tells o entry told now → Tells o entry told new
+  tells_still None told (inl unserved) = inl unserved
+  tells_still None told (inr refused) = inr (record {
+    why = refused.why;
+    told_is = refused.told_is;
+    because = cause_then refused.why refused.because;
+  })
+  tells_still (Some entry) told (inl reply) = inl (record {
+    told_is = reply.told_is;
+    settled = λ waits.
+        let there = reply.settled waits in
+        let more = after.further.settled in
+        omega (arith, there, more);
+  })
+  tells_still (Some entry) told (inr unsettled) = inr (record {
+    stable = unsettled.stable;
+    told_is = unsettled.told_is;
+    broken = after.further.broken unsettled.broken;
+    failed = failed_then unsettled.failed;
+  })
+
+-- ---- a step
+
+or_true : (a b : Bool) → a ≡ false → (a || b) ≡ true → b ≡ true
+or_true false b is some = some
+or_true true b is some = cc
+
+le_of : (a b : ℕ) → nat_le a b ≡ true → a ≤ b
+le_of a b is = grind (arith, nat_tests)
+
+-- what is told of the store before a step of the worker is what it has
+pub record IsStepFrom (o : Outset) (now : Opened) (s : Setting) (t : Told) : Type 0 where
+  pub broken_is : t.log.broken ≡ now.core.log.broken
+  pub begun_is : t.begun ≡ now.core.begun
+  pub settled_is : settled_told t.log ≡ settled_place now.core.log
+  pub numbers : (blocks : ℕ) → blocks ≤ most_changed o.asked.call → (HasNumbers s t.log blocks → ⊥)
+      → IsSpent o.asked.call now.core
+  pub broke : now.core.log.broken ≡ true → HasFailed o.store.core.log o.store.device now.device
+
+module _ (o : Outset) (now new : Opened) (s : Setting) (t : Told) (from : IsStepFrom o now s t)
+    (after : IsAfter now new) where
+  abbrev stable : Bool
+  stable = is_answered_stable o.asked.call
+
+  abbrev broken : Bool
+  broken = now.core.log.broken
+
+  broke : now.core.log.broken ≡ true → HasFailed o.store.core.log o.store.device new.device
+  broke is = failed_then o now new after (from.broke is)
+
+  -- why no transaction was begun
+  begin_cause : (served : Bool) (why : BeginFault) → IsStepOfCalled t served (step.Begun (Err why))
+      → HasCause o new (cause_of why)
+  begin_cause true begin_fault.Broken may = broke (sym from.broken_is ∙ may)
+  begin_cause true begin_fault.Spent may =
+      cause_then o now new after cause.Spent (inl (subst (λ (n : ℕ). 2 ^ 64 ≤ n + 1) from.begun_is may.1))
+  begin_cause true begin_fault.NoMemory may = tt
+  begin_cause false why may = absurd (none may)
+    where
+      none : step.Begun (Err why) ≡ step.Replied → ⊥
+      none same = cc
+
+  unserved : (served : Bool) → has_rules o.asked.call ≡ served → IsStepOfCalled t served step.Replied
+      → has_rules o.asked.call ≡ false
+  unserved true is may = absurd may
+  unserved false is may = is
+
+  -- a store in which nothing was committed for the call
+  module _ (entry : Option Entry) where
+    abbrev pub StageOk : Option Stage → Type 0
+    StageOk None = Unit {0}
+    StageOk (Some stage) = StandsWith o entry new stage
+
+    wanted_ok : (begun : Begun) (taken : Taken) (answer : Wish) → entry ≡ None
+        → (answer ≡ wish.Outside → ⊥) → StandsWith o entry new (after_wanted begun taken answer)
+    wanted_ok begun taken wish.Held none inside = none
+    wanted_ok begun taken wish.Fetch none inside = none
+    wanted_ok begun taken wish.Busy none inside = none
+    wanted_ok begun taken wish.Loading none inside = none
+    wanted_ok begun taken wish.Outside none inside = absurd (inside refl)
+    wanted_ok begun taken wish.NoMemory none inside = (none, tt)
+
+    claimed_ok : (begun : Begun) (block : BlockNo) (answer : Wish) → entry ≡ None
+        → (answer ≡ wish.Outside → ⊥) → StandsWith o entry new (after_claimed begun block answer)
+    claimed_ok begun block wish.Held none inside = none
+    claimed_ok begun block wish.Fetch none inside = none
+    claimed_ok begun block wish.Busy none inside = none
+    claimed_ok begun block wish.Loading none inside = none
+    claimed_ok begun block wish.Outside none inside = absurd (inside refl)
+    claimed_ok begun block wish.NoMemory none inside = (none, tt)
+
+    never_outside : (begun : Begun) (wished : Wished) (answer : Wish) → IsWish t 0 begun wished answer
+        → answer ≡ wish.Outside → ⊥
+    never_outside begun wished answer is same = subst (IsWish t 0 begun wished) same is
+
+    never_claimed_outside : (begun : Begun) (block : BlockNo) (answer : Wish) → IsClaimWish t 0 begun block answer
+        → answer ≡ wish.Outside → ⊥
+    never_claimed_outside begun block answer is same = subst (IsClaimWish t 0 begun block) same is
+
+    commit_ok : (begun : Begun) (blocks : ℕ) (answer : Committing) → entry ≡ None
+        → has_committed (Some (step.Commit blocks answer)) ≡ false → blocks ≤ most_changed o.asked.call
+        → IsCommitting s t.log blocks answer → StageOk (after_commit stable begun answer)
+    commit_ok begun blocks (committing.Committed place) none not few may = absurd (true≢false not)
+    commit_ok begun blocks committing.Full none not few may = none
+    commit_ok begun blocks committing.Foreign none not few may = none
+    commit_ok begun blocks committing.NoMemory none not few may = (none, tt)
+    commit_ok begun blocks committing.Broken none not few may = (none, broke (sym from.broken_is ∙ may))
+    commit_ok begun blocks committing.Spent none not few may = (none, cause_then o now new after cause.Spent (from.numbers blocks few may.1))
+
+    waits_ok : (settled : Bool) (place : ℕ) → StandsWith o entry now (Waiting place)
+        → StageOk (if settled then None else Some (Waiting place))
+    waits_ok true place stands = tt
+    waits_ok false place stands = stands
+
+    called_ok : (made : Step) → entry ≡ None → StageOk (after_called made)
+    called_ok (step.Begun (Ok number)) none = none
+    called_ok (step.Begun (Err why)) none = tt
+    called_ok _ none = tt
+
+    planning_ok : (begun : Begun) (made : Step) → has_committed (Some made) ≡ false → entry ≡ None
+        → IsStepByPlan s t 0 o.asked.call begun made → StageOk (after_planning stable begun made)
+    planning_ok begun (step.Wanted addr mode answer) not none may =
+        wanted_ok begun (record { addr = addr; mode = mode }) answer none
+        (never_outside begun (wish_of addr mode) answer may.1)
+    planning_ok begun (step.Claimed block answer) not none may =
+        claimed_ok begun block answer none (never_claimed_outside begun block answer may.1)
+    planning_ok begun (step.Commit blocks answer) not none may = commit_ok begun blocks answer none not may.0 may.1
+    planning_ok begun (step.Ended why) not none may = tt
+    planning_ok begun _ not none may = none
+
+    waiting_ok : (place : ℕ) (made : Step) → StandsWith o entry now (Waiting place)
+        → StageOk (after_waiting broken place made)
+    waiting_ok place (step.Stable seq settled) stands = waits_ok (settled || broken) place stands
+    waiting_ok place _ stands = stands
+
+    pub next_ok : (stage : Stage) (made : Step) → has_committed (Some made) ≡ false → StandsWith o entry now stage
+        → IsStepOfWork s t 0 (At o.asked stage) (Some made) → StageOk (stage_after broken stable made stage)
+    next_ok Called made not stands may = called_ok made stands
+    next_ok (Planning begun) made not stands may = planning_ok begun made not stands may
+    next_ok (Reading begun taken) made not stands may = absurd (some_none made may)
+      where
+        some_none : (made : Step) → Some made ≡ None → ⊥
+        some_none made same = cc
+    next_ok (Read begun taken true) made not stands may = stands
+    next_ok (Read begun taken false) made not stands may =
+        (stands.0, cause_then o now new after cause.Io (inr stands.1))
+    next_ok (Refused begun why) made not stands may = tt
+    next_ok (Again begun) made not stands may = stands
+    next_ok (Waiting place) made not stands may = waiting_ok place made stands
+
+    pub so_far_then : (next : Option Stage) → StageOk next → IsSoFar o entry new (going_on o.asked next)
+    so_far_then None ok = tt
+    so_far_then (Some stage) ok = (refl, ok)
+
+    -- ---- what it answers
+    none_tells : (a : Answer) → entry ≡ None → IsUnserved o a.verdict ⊎ IsRefusal o a.verdict new
+        → Tells o entry a.verdict new
+    none_tells a none tells = subst (λ (e : Option Entry). Tells o e a.verdict new) (sym none) tells
+
+    called_tells : (made : Step) (t2 : Transcript) (a : Answer) → entry ≡ None
+        → IsStepOfCalled t (has_rules o.asked.call) made → HasVerdict t2 o.asked.call Called made a
+        → Tells o entry a.verdict new
+    called_tells step.Replied t2 a none may told = none_tells a none
+        (inl (record { rules = unserved (has_rules o.asked.call) refl may; told_is = told.1 }))
+    called_tells (step.Begun (Err why)) t2 a none may told = none_tells a none
+        (inr (record {
+          why = cause_of why;
+          told_is = told.1;
+          because = begin_cause (has_rules o.asked.call) why may;
+        }))
+    called_tells (step.Begun (Ok number)) t2 a none may told = absurd told
+    called_tells _ t2 a none may told = absurd told
+
+    planning_tells : (begun : Begun) (made : Step) (t2 : Transcript) (a : Answer)
+        → has_committed (Some made) ≡ false → entry ≡ None → HasVerdict t2 o.asked.call (Planning begun) made a
+        → Tells o entry a.verdict new
+    planning_tells begun (step.Commit blocks (committing.Committed place)) t2 a not none told =
+        absurd (true≢false not)
+    planning_tells begun (step.Ended ending.NoMemory) t2 a not none told = none_tells a none
+        (inr (record { why = cause.NoMemory; told_is = told.1; because = tt }))
+    planning_tells begun (step.Ended ending.Refused) t2 a not none told = absurd told
+    planning_tells begun (step.Ended ending.Again) t2 a not none told = absurd told
+    planning_tells begun (step.Commit blocks committing.Full) t2 a not none told = absurd told
+    planning_tells begun (step.Commit blocks committing.Foreign) t2 a not none told = absurd told
+    planning_tells begun (step.Commit blocks committing.NoMemory) t2 a not none told = absurd told
+    planning_tells begun (step.Commit blocks committing.Broken) t2 a not none told = absurd told
+    planning_tells begun (step.Commit blocks committing.Spent) t2 a not none told = absurd told
+    planning_tells begun _ t2 a not none told = absurd told
+
+    refused_tells : (begun : Begun) (why : Cause) (made : Step) (t2 : Transcript) (a : Answer)
+        → StandsWith o entry now (Refused begun why) → HasVerdict t2 o.asked.call (Refused begun why) made a
+        → Tells o entry a.verdict new
+    refused_tells begun why (step.Ended ending.Refused) t2 a stands told = none_tells a stands.0
+        (inr (record { why = why; told_is = told.1; because = cause_then o now new after why stands.1 }))
+    refused_tells begun why (step.Ended ending.NoMemory) t2 a stands told = absurd told
+    refused_tells begun why (step.Ended ending.Again) t2 a stands told = absurd told
+    refused_tells begun why _ t2 a stands told = absurd told
+
+  -- the procedure was committed, and its place is waited for
+  waiting_tells : (entry : Option Entry) (place : ℕ) (made : Step) (a : Answer)
+      → StandsWith o entry now (Waiting place) → IsStepOfWork s t 0 (At o.asked (Waiting place)) (Some made)
+      → is_idle (going_on o.asked (after_waiting broken place made)) ≡ true
+      → HasVerdict (told_by (o.entries ++ option_to_list entry)) o.asked.call (Waiting place) made a
+      → Tells o entry a.verdict new
+  waiting_tells None place made a stands may ends told = absurd (true≢false (sym stands.1))
+  waiting_tells (Some e) place (step.Stable seq true) a stands may ends told = inl (record {
+    told_is = reply_is o.entries e (record { 0 = place }) a stands.0 told;
+    settled = λ waits.
+        let there = le_of place (settled_told t.log) (sym may.1) in
+        let is = from.settled_is in
+        let at = stands.0 in
+        let still = after.further.settled in
+        omega (arith, there, is, at, still);
+  })
+  waiting_tells (Some e) place (step.Stable seq false) a stands may ends told =
+      let is_broken = broken_by broken ends in
+      inr (record {
+        stable = stands.2;
+        told_is = told.1;
+        broken = after.further.broken is_broken;
+        failed = broke is_broken;
+      })
+    where
+      broken_by : (b : Bool) → is_idle (going_on o.asked (if false || b then None else Some (Waiting place))) ≡ true
+          → b ≡ true
+      broken_by true is = refl
+      broken_by false is = absurd (true≢false (sym is))
+  waiting_tells (Some e) place _ a stands may ends told = absurd told
+
+  pub tells_of : (entry : Option Entry) (stage : Stage) (made : Step) (a : Answer)
+      → has_committed (Some made) ≡ false → StandsWith o entry now stage
+      → IsStepOfWork s t 0 (At o.asked stage) (Some made)
+      → is_idle (going_on o.asked (stage_after broken stable made stage)) ≡ true
+      → HasVerdict (told_by (o.entries ++ option_to_list entry)) o.asked.call stage made a
+      → Tells o entry a.verdict new
+  tells_of entry Called made a not stands may ends told = called_tells entry made (told_by (o.entries ++ option_to_list entry)) a stands may told
+  tells_of entry (Planning begun) made a not stands may ends told =
+      planning_tells entry begun made (told_by (o.entries ++ option_to_list entry)) a not stands told
+  tells_of entry (Reading begun taken) made a not stands may ends told = absurd (true≢false (sym (still made ends)))
+    where
+      still : (made : Step)
+          → is_idle (going_on o.asked (stage_after broken stable made (Reading begun taken))) ≡ true → false ≡ true
+      still (step.Read block ok) is = is
+      still _ is = is
+  tells_of entry (Read begun taken true) made a not stands may ends told = absurd (true≢false (sym ends))
+  tells_of entry (Read begun taken false) made a not stands may ends told = absurd (true≢false (sym ends))
+  tells_of entry (Refused begun why) made a not stands may ends told =
+      refused_tells entry begun why made (told_by (o.entries ++ option_to_list entry)) a stands told
+  tells_of entry (Again begun) made a not stands may ends told = absurd (true≢false (sym ends))
+  tells_of entry (Waiting place) made a not stands may ends told =
+      waiting_tells entry place made a stands may ends told
+
+-- ---- a commit
+
+module _ (o : Outset) (new : Opened) (e : Entry) (begun : Begun) (place : Seq)
+    (at : place.0 ≡ length o.entries + 1) where
+  abbrev next_stage : Option Stage
+  next_stage = after_commit (is_answered_stable o.asked.call) begun (committing.Committed place)
+
+  pub made_so_far : IsSoFar o (Some e) new (going_on o.asked next_stage)
+  made_so_far = by (is_answered_stable o.asked.call) refl
+    where
+      by : (b : Bool) → is_answered_stable o.asked.call ≡ b
+          → IsSoFar o (Some e) new (going_on o.asked (if b then Some (Waiting place.0) else None))
+      by true is = (refl, (at, refl, is))
+      by false is = tt
+
+  pub made_tells : (a : Answer) → is_idle (going_on o.asked next_stage) ≡ true
+      → IsReplyAt (told_by (o.entries ++ e ∷ [])) place a → Tells o (Some e) a.verdict new
+  made_tells a ends told = inl (record {
+    told_is = reply_is o.entries e place a at told;
+    settled = λ waits. absurd (true≢false (sym (by (is_answered_stable o.asked.call) waits ends)));
+  })
+    where
+      by : (b : Bool) → b ≡ true → is_idle (going_on o.asked (if b then Some (Waiting place.0) else None)) ≡ true
+          → false ≡ true
+      by true is ends = ends
+      by false is ends = is

@@ -1,0 +1,434 @@
+-- A call that is under way stays so with each step of its worker, or is answered by it.
+use Rattle.std.proofs.Common.{arith, ◌≡◌, ◌∙◌, refl, sym, ap, subst, true≢false, ℕ, ◌+◌, ◌-◌, ◌≤◌, inr}
+use Rattle.std.proofs.Common.{Bool, true, false, not, ◌&&◌, Option, Some, None, IfSome, Ok, is_some}
+use Rattle.std.proofs.Common.{List, [], ◌∷◌, ◌++◌, length, map, option_to_list}
+use Rattle.std.proofs.lemmas.List.{append-nil}
+use Rattle.disk.specs.Crash.{Image}
+use Rattle.model.specs.After.{Entry}
+use Rattle.model.specs.Calls.{is_answered_stable}
+use Rattle.model.specs.Step as model
+use Rattle.model.specs.Tree.{Tree}
+use Rattle.txn_law.specs.Fetch.{Fetch}
+use Rattle.wal_law.specs.Calls.{idle}
+use Rattle.wal_law.specs.Log.{Log, installed_place, settled_place}
+use Rattle.wal_law.specs.declared.outcomes.Seq.{Seq}
+use Rattle.store_promise.specs.History.{ctx_of}
+use Rattle.store_promise.specs.OpenSince.{StandsBeside, blocks_after, file_blocks}
+use Rattle.store_promise.specs.Progress.{Begun, Job, Progress, Stage, At, Planning, going_on, is_idle, progressed}
+use Rattle.store_promise.specs.Progress as how
+use Rattle.store_promise.specs.Running.{IsRunningOver, IsTold, StoreSide, at_rest, told_of, with_blocks}
+use Rattle.store_promise.specs.Schedule.{IsStepOfWork, Setting, Told, begun_after, told_after}
+use Rattle.store_promise.specs.ToldOf.{log_told}
+use Rattle.store_promise.specs.Verdicts.{HasVerdict, IsReplyAt}
+use Rattle.store_promise.specs.declared.answers.CallAnswer.{CallAnswer}
+use Rattle.store_promise.specs.declared.answers.Entry as ready
+use Rattle.store_promise.specs.declared.events.Committing.TheVariants as committing
+use Rattle.store_promise.specs.declared.events.Event.TheVariants as event
+use Rattle.store_promise.specs.declared.events.Step.{Step}
+use Rattle.store_promise.specs.declared.events.Step.TheVariants as step
+use Rattle.store_promise.specs.declared.transcript.Answer.{Answer}
+use Rattle.store_promise.proofs.ToldLog.{settled_is}
+use Rattle.store.specs.AtWork.{GoesOnWith, IsCoreAtWork, entry_by, fetches_of, has_committed, with_core}
+use Rattle.store.specs.Calling.{ComesTo, HasStepped, IsCalling, IsMadeFor, IsOpenAt, IsSoFar, Outset}
+use Rattle.store.specs.Calling.{Tells}
+use Rattle.store.specs.Further.{end_of}
+use Rattle.store.specs.Opening.{Opened}
+use Rattle.store.specs.Stages.{IsWorkerAt, progress_of}
+use Rattle.store.specs.Telling.{told}
+use Rattle.store.specs.WorkTells.{HasReplies, IsAnswerOf, IsEntryOf, TellsEntry, TellsStep, entries_ready, progress_after}
+use Rattle.store.specs.WorkTells.{with_ready}
+use Rattle.store.specs.WorkerSteps.{Side, side}
+use Rattle.store.specs.declared.workers.parts.State.{State}
+use Rattle.store.proofs.AtWorkStays.{some_of}
+use Rattle.store.proofs.CallStages.{IsAfter, IsStepFrom, made_so_far, made_tells, next_ok, noted, same_entries}
+use Rattle.store.proofs.CallStages.{so_far_still, so_far_then, tells_of, told_by}
+use Rattle.store.proofs.GoingWork.{has_replies}
+
+-- ---- an open store as a run that goes on
+
+-- a setting in which it does
+abbrev pub setting_of : (base : Image) (now : Opened) (fetches : List Fetch) (first : Tree) (entries : List Entry)
+    (last : Tree) → IsOpenAt base now fetches first entries last → Setting
+setting_of base now fetches first entries last opened = record {
+  geometry = opened.since.over.files.super.geometry;
+  position = 0;
+  blocks = λ place. blocks_after base now.core (place - installed_place now.core.log);
+}
+
+past_count : (n count : ℕ) → n + count - n ≡ count
+past_count n count = omega arith
+
+pub runs_of : (base : Image) (now : Opened) (fetches : List Fetch) (first : Tree) (entries : List Entry) (last : Tree)
+    (opened : IsOpenAt base now fetches first entries last)
+    → IsRunningOver (setting_of base now fetches first entries last opened) base (at_rest now.device now.core) fetches
+    now.boot first entries last
+runs_of base now fetches first entries last opened = record {
+  since = opened.since;
+  position = omega arith;
+  blocks = opened.since.over.files.blocks_are;
+  inodes = opened.since.over.files.inodes_are;
+  stands = opened.stands;
+  fetched = opened.fetched;
+  placed = λ count. ap (blocks_after base now.core) (past_count (installed_place now.core.log) count);
+}
+
+pub open_of : (o : Setting) (base : Image) (now : Opened) (fetches : List Fetch) (first : Tree) (entries : List Entry)
+    (last : Tree)
+    → IsRunningOver o base (at_rest now.device now.core) fetches now.boot first entries last
+    → IsOpenAt base now fetches first entries last
+open_of o base now fetches first entries last run = record {
+  since = run.since;
+  stands = run.stands;
+  fetched = run.fetched;
+}
+
+-- what is told of it
+abbrev pub told_at : Opened → Told
+told_at now = record {
+  workers = λ worker. how.Idle;
+  begun = now.core.begun;
+  log = told_of 0 (at_rest now.device now.core);
+}
+
+pub is_told : (o : Setting) (now : Opened) → o.position ≡ 0 → IsTold o (told_at now) (at_rest now.device now.core)
+is_told o now none = record {
+  log = ap (λ (n : ℕ). log_told n now.core.log idle idle) (sym none);
+  begun = refl;
+}
+
+-- ---- replies
+
+replies_of : (entries : List Entry) → HasReplies (told_by entries) entries
+replies_of entries =
+    subst (HasReplies (told_by entries)) (same_entries entries)
+    (has_replies (told_by entries) (map noted entries) refl)
+
+-- an answer in a transcript
+abbrev answer_of : CallAnswer → Answer
+answer_of ready = record { worker = 0; verdict = ready.verdict; place = ready.place; event = 0; clock = 0 }
+
+verdict_of : (entries : List Entry) (progress : Progress) (made : Option Step) (ready : CallAnswer)
+    (is : IsAnswerOf entries progress made ready)
+    → HasVerdict (told_by entries) is.job.call is.stage is.step (answer_of ready)
+verdict_of entries progress made ready is =
+    is.verdict (told_by entries) (answer_of ready) (replies_of entries) refl refl
+
+-- ---- a step
+
+both_true : (one other : Bool) → (one && other) ≡ true → other ≡ true
+both_true true other is = is
+both_true false other is = cc
+
+never_both : (b : Bool) → (not b && b) ≡ false
+never_both true = refl
+never_both false = refl
+
+no_entry : (boot places : ℕ) (progress : Progress) (made : Option Step) (entry : Option ready.Entry)
+    → has_committed made ≡ false → TellsEntry boot places progress made entry → entry ≡ None
+no_entry boot places progress (Some (step.Commit added (committing.Committed place))) entry not is =
+    absurd (true≢false not)
+no_entry boot places progress (Some (step.Commit added committing.Full)) entry not is = is
+no_entry boot places progress (Some (step.Commit added committing.Foreign)) entry not is = is
+no_entry boot places progress (Some (step.Commit added committing.NoMemory)) entry not is = is
+no_entry boot places progress (Some (step.Commit added committing.Broken)) entry not is = is
+no_entry boot places progress (Some (step.Commit added committing.Spent)) entry not is = is
+no_entry boot places progress None entry not is = is
+no_entry boot places progress (Some _) entry not is = is
+
+pub record IsCommitStep (made : Option Step) : Type 0 where
+  pub added : ℕ
+  pub place : Seq
+  pub made_is : made ≡ Some (step.Commit added (committing.Committed place))
+
+commit_step : (made : Option Step) → has_committed made ≡ true → IsCommitStep made
+commit_step (Some (step.Commit added (committing.Committed place))) has =
+    record { added = added; place = place; made_is = refl }
+commit_step (Some (step.Commit added committing.Full)) has = absurd (true≢false (sym has))
+commit_step (Some (step.Commit added committing.Foreign)) has = absurd (true≢false (sym has))
+commit_step (Some (step.Commit added committing.NoMemory)) has = absurd (true≢false (sym has))
+commit_step (Some (step.Commit added committing.Broken)) has = absurd (true≢false (sym has))
+commit_step (Some (step.Commit added committing.Spent)) has = absurd (true≢false (sym has))
+commit_step None has = absurd (true≢false (sym has))
+commit_step (Some _) has = absurd (true≢false (sym has))
+
+-- transactions are only begun
+begun_more : (begun : ℕ) (made : Step) → begun ≤ begun_after begun made
+begun_more begun (step.Begun (Ok number)) = omega arith
+begun_more begun _ = omega arith
+
+begun_then : (told : Told) (made : Option Step) → told.begun ≤ (told_after told (event.Work 0) made).begun
+begun_then told None = omega arith
+begun_then told (Some made) = begun_more told.begun made
+
+same_at : (a b : Job) (s r : Stage) → At a s ≡ At b r → (a ≡ b) × (s ≡ r)
+same_at a b s r same = (cc, cc)
+
+one_step : (a b : Step) → Some a ≡ Some b → a ≡ b
+one_step a b same = cc
+
+not_idle : (job : Job) (stage : Stage) → how.Idle ≡ At job stage → ⊥
+not_idle job stage same = cc
+
+module _ (o : Outset) (now : Opened) (worker : State) (new : Side) (made : Option Step)
+    (calling : IsCalling o now worker) where
+  abbrev entries : List Entry
+  entries = o.entries ++ option_to_list calling.entry
+
+  abbrev pub s : Setting
+  s = setting_of calling.base now (fetches_of worker) o.first entries calling.last calling.opened
+
+  abbrev pub t : Told
+  t = told_at now
+
+  abbrev pub store : StoreSide
+  store = at_rest now.device now.core
+
+  abbrev pub run : IsRunningOver s calling.base store (fetches_of worker) now.boot o.first entries calling.last
+  run = runs_of calling.base now (fetches_of worker) o.first entries calling.last calling.opened
+
+  abbrev pub later : Opened
+  later = record now { core = new.core }
+
+  from : IsStepFrom o now s t
+  from = record {
+    broken_is = refl;
+    begun_is = refl;
+    settled_is = settled_is 0 now.core.log idle idle calling.opened.since.over.lawful;
+    numbers = λ blocks few none. inr (λ left. none (record {
+      place = left.0;
+      positions = let within = left.1 in omega (arith, few, within);
+    }));
+    broke = calling.broken;
+  }
+
+  module _ (may : IsStepOfWork s t 0 (progress_of worker) made)
+      (tells : TellsStep now.boot 0 entries (side worker now.core) made new)
+      (told_then : IsTold s (told_after t (event.Work 0) made) (with_core store new.core))
+      (at_work : IsCoreAtWork (told new.worker) new.core) where
+    progress_is : progress_of new.worker ≡ progress_after now.core.log.broken made (progress_of worker)
+    progress_is = tells.progress
+
+    -- ---- nothing was committed
+    module _ (uncommitted : has_committed made ≡ false)
+        (run_then : IsRunningOver s calling.base (with_core store new.core) (fetches_of new.worker) now.boot o.first
+        entries calling.last) (beside : StandsBeside now.core new.core) where
+      log_is : new.core.log ≡ now.core.log
+      log_is = beside.log
+
+      after : IsAfter now later
+      after = record {
+        failures = omega arith;
+        further = record {
+          begun = let more = begun_then t made in let is = told_then.begun in omega (arith, more, is);
+          places = subst (λ (l : Log). now.core.log.places ≤ l.places) (sym log_is) (omega arith);
+          positions = subst (λ (l : Log). end_of now.core.log ≤ end_of l) (sym log_is) (omega arith);
+          settled = subst (λ (l : Log). settled_place now.core.log ≤ settled_place l) (sym log_is) (omega arith);
+          broken = λ is. ap (λ (l : Log). l.broken) log_is ∙ is;
+        };
+      }
+
+      none_ready : new.worker.work.entry ≡ None
+      none_ready = no_entry now.boot (length entries) (progress_of worker) made new.worker.work.entry uncommitted
+          tells.entry
+
+      same_ready : with_ready 0 entries new.worker ≡ entries
+      same_ready = ap (λ (e : Option ready.Entry). entries ++ entries_ready 0 e) none_ready ∙ append-nil entries
+
+      -- how far it is then
+      so_far_by : (m : Option Step) (p : Progress) → has_committed m ≡ false → IsSoFar o calling.entry now p
+          → IsStepOfWork s t 0 p m → IsSoFar o calling.entry later (progress_after now.core.log.broken m p)
+      so_far_by None p not has may = so_far_still o now later after calling.entry p has
+      so_far_by (Some one) how.Idle not has may = tt
+      so_far_by (Some one) (At job stage) not has may =
+          subst (λ (j : Job). IsSoFar o calling.entry later (progressed now.core.log.broken one (At j stage))) (sym has.0)
+          (so_far_then o now later s t from after calling.entry
+          (how.stage_after now.core.log.broken (is_answered_stable o.asked.call) one stage)
+          (next_ok o now later s t from after calling.entry stage one not has.1
+          (subst (λ (j : Job). IsStepOfWork s t 0 (At j stage) (Some one)) has.0 may)))
+
+      calling_then : IsCalling o later (told new.worker)
+      calling_then = record {
+        entry = calling.entry;
+        last = calling.last;
+        base = calling.base;
+        boot = calling.boot;
+        comes = calling.comes;
+        opened = open_of s calling.base later (fetches_of new.worker) o.first entries calling.last run_then;
+        stands = subst (λ (b : ℕ). IsWorkerAt b entries (told new.worker)) calling.boot
+            (subst (λ (es : List Entry). IsWorkerAt now.boot es (told new.worker)) same_ready tells.stands);
+        at_work = at_work;
+        so_far = subst (IsSoFar o calling.entry later) (sym progress_is)
+            (so_far_by made (progress_of worker) uncommitted calling.so_far may);
+        counted = calling.counted;
+        broken = λ is. calling.broken (sym (ap (λ (l : Log). l.broken) log_is) ∙ is);
+      }
+
+      -- what it answers
+      answered_by : (ready : CallAnswer) → is_idle (progress_of new.worker) ≡ true
+          → IsAnswerOf (with_ready 0 entries new.worker) (progress_of worker) made ready
+          → Tells o calling.entry ready.verdict later
+      answered_by ready ends is =
+          let has = subst (IsSoFar o calling.entry now) is.so_far calling.so_far in
+          let may_so : IsStepOfWork s t 0 (At is.job is.stage) (Some is.step) =
+          subst (λ (m : Option Step). IsStepOfWork s t 0 (At is.job is.stage) m) is.made_is
+          (subst (λ (p : Progress). IsStepOfWork s t 0 p made) is.so_far may) in
+          let not : has_committed (Some is.step) ≡ false = sym (ap has_committed is.made_is) ∙ uncommitted in
+          let ended : is_idle (progressed now.core.log.broken is.step (At is.job is.stage)) ≡ true =
+          sym (ap (λ (p : Progress). is_idle p) (progress_is
+          ∙ ap (λ (m : Option Step). progress_after now.core.log.broken m (progress_of worker)) is.made_is
+          ∙ ap (λ (p : Progress). progressed now.core.log.broken is.step p) is.so_far)) ∙ ends in
+          let verdict_is = verdict_of (with_ready 0 entries new.worker) (progress_of worker) made ready is in
+          tells_of o now later s t from after calling.entry is.stage is.step (answer_of ready) not has.1
+          (subst (λ (j : Job). IsStepOfWork s t 0 (At j is.stage) (Some is.step)) has.0 may_so)
+          (subst (λ (j : Job). is_idle (progressed now.core.log.broken is.step (At j is.stage)) ≡ true) has.0 ended)
+          (subst (λ (es : List Entry). HasVerdict (told_by es) o.asked.call is.stage is.step (answer_of ready)) same_ready
+          (subst (λ (j : Job). HasVerdict (told_by (with_ready 0 entries new.worker)) j.call is.stage is.step
+          (answer_of ready)) has.0 verdict_is))
+
+      answer_by : (found : Option CallAnswer)
+          → is_some found ≡ (not (is_idle (progress_of worker)) && is_idle (progress_of new.worker))
+          → IfSome found (IsAnswerOf (with_ready 0 entries new.worker) (progress_of worker) made)
+          → IfSome found (λ ready. Tells o calling.entry ready.verdict later)
+      answer_by None ends is = tt
+      answer_by (Some ready) ends is =
+          answered_by ready (both_true (not (is_idle (progress_of worker))) (is_idle (progress_of new.worker)) (sym ends))
+          is
+
+      pub stepped_on : HasStepped o later new.worker
+      unfolding calling_then
+      stepped_on = record {
+        calling = calling_then;
+        ends = λ some. both_true (not (is_idle (progress_of worker))) (is_idle (progress_of new.worker))
+            (sym tells.answer.ends ∙ some);
+        answer = answer_by new.worker.work.answer tells.answer.ends tells.answer.is_of;
+      }
+
+    -- ---- its procedure was committed
+    module _ (has : has_committed made ≡ true)
+        (goes_with : GoesOnWith s calling.base store new now.boot 0 o.first entries calling.last (side worker now.core))
+      where
+        abbrev commit : IsCommitStep made
+        commit = commit_step made has
+
+        abbrev e : Entry
+        e = entry_by 0 goes_with.taken.entry
+
+        ready_is : new.worker.work.entry ≡ Some goes_with.taken.entry
+        ready_is = goes_with.taken.ready
+
+        told_entry : TellsEntry now.boot (length entries) (progress_of worker)
+            (Some (step.Commit commit.added (committing.Committed commit.place))) new.worker.work.entry
+        told_entry = subst (λ (m : Option Step). TellsEntry now.boot (length entries) (progress_of worker) m
+            new.worker.work.entry) commit.made_is tells.entry
+
+        is_of : IsEntryOf now.boot (progress_of worker) goes_with.taken.entry
+        is_of = some_of (IsEntryOf now.boot (progress_of worker)) new.worker.work.entry goes_with.taken.entry ready_is
+            told_entry.1
+
+        was_so_far : (is_of.job ≡ o.asked) × (calling.entry ≡ None)
+        was_so_far = subst (IsSoFar o calling.entry now) is_of.planned calling.so_far
+
+        none_before : entries ≡ o.entries
+        none_before = ap (λ (x : Option Entry). o.entries ++ option_to_list x) was_so_far.1 ∙ append-nil o.entries
+
+        last_is : calling.last ≡ o.last
+        last_is = subst (λ (x : Option Entry). ComesTo o x calling.last) was_so_far.1 calling.comes
+
+        place_is : commit.place.0 ≡ length o.entries + 1
+        place_is = told_entry.0 ∙ ap (λ (es : List Entry). length es + 1) none_before
+
+        entries_then : with_ready 0 entries new.worker ≡ o.entries ++ e ∷ []
+        entries_then = ap (λ (x : Option ready.Entry). entries ++ entries_ready 0 x) ready_is
+            ∙ ap (λ (es : List Entry). es ++ e ∷ []) none_before
+
+        made_for : IsMadeFor o e goes_with.left
+        made_for = record {
+          begun = is_of.begun;
+          ctx = is_of.ctx ∙ ap (λ (b : ℕ). ctx_of b is_of.job is_of.begun) calling.boot
+              ∙ ap (λ (j : Job). ctx_of o.store.boot j is_of.begun) was_so_far.0;
+          call = is_of.call ∙ ap (λ (j : Job). j.call) was_so_far.0;
+          step = subst (λ (tree : Tree). model.step tree goes_with.taken.entry.ctx goes_with.taken.entry.call
+              goes_with.taken.entry.reply goes_with.left) last_is goes_with.goes;
+        }
+
+        progress_then : progress_of new.worker
+            ≡ going_on o.asked (how.after_commit (is_answered_stable o.asked.call) is_of.begun
+            (committing.Committed commit.place))
+        progress_then = progress_is
+            ∙ ap (λ (m : Option Step). progress_after now.core.log.broken m (progress_of worker)) commit.made_is
+            ∙ ap (λ (p : Progress). progressed now.core.log.broken
+            (step.Commit commit.added (committing.Committed commit.place)) p) is_of.planned
+            ∙ ap (λ (j : Job). going_on j (how.after_commit (is_answered_stable j.call) is_of.begun
+            (committing.Committed commit.place))) was_so_far.0
+
+        broken_is : new.core.log.broken ≡ now.core.log.broken
+        broken_is = ap (λ l. l.broken) (sym told_then.log)
+            ∙ ap (λ (m : Option Step). (told_after t (event.Work 0) m).log.broken) commit.made_is
+
+        calling_made : IsCalling o later (told new.worker)
+        calling_made = record {
+          entry = Some e;
+          last = goes_with.left;
+          base = calling.base;
+          boot = calling.boot;
+          comes = made_for;
+          opened = open_of (with_blocks s (length entries) (file_blocks calling.base new.core)) calling.base later (fetches_of new.worker) o.first
+              (o.entries ++ e ∷ []) goes_with.left
+              (subst (λ (es : List Entry). IsRunningOver (with_blocks s (length entries) (file_blocks calling.base new.core)) calling.base
+              (with_core store new.core) (fetches_of new.worker) now.boot o.first (es ++ e ∷ []) goes_with.left)
+              none_before goes_with.runs);
+          stands = subst (λ (b : ℕ). IsWorkerAt b (o.entries ++ e ∷ []) (told new.worker)) calling.boot
+              (subst (λ (es : List Entry). IsWorkerAt now.boot es (told new.worker)) entries_then tells.stands);
+          at_work = at_work;
+          so_far = subst (IsSoFar o (Some e) later) (sym progress_then)
+              (made_so_far o later e is_of.begun commit.place place_is);
+          counted = calling.counted;
+          broken = λ is. calling.broken (sym broken_is ∙ is);
+        }
+
+        made_answer : (ready : CallAnswer) → is_idle (progress_of new.worker) ≡ true
+            → IsAnswerOf (with_ready 0 entries new.worker) (progress_of worker) made ready
+            → Tells o (Some e) ready.verdict later
+        made_answer ready ends is =
+            let same = same_at is.job is_of.job is.stage (Planning is_of.begun) (sym is.so_far ∙ is_of.planned) in
+            let step_is = one_step is.step (step.Commit commit.added (committing.Committed commit.place))
+            (sym is.made_is ∙ commit.made_is) in
+            let told_so : IsReplyAt (told_by (with_ready 0 entries new.worker)) commit.place (answer_of ready) =
+            subst (λ (st : Step). HasVerdict (told_by (with_ready 0 entries new.worker)) is.job.call
+            (Planning is_of.begun) st (answer_of ready)) step_is
+            (subst (λ (stage : Stage). HasVerdict (told_by (with_ready 0 entries new.worker)) is.job.call stage is.step
+            (answer_of ready)) same.1
+            (verdict_of (with_ready 0 entries new.worker) (progress_of worker) made ready is)) in
+            made_tells o later e is_of.begun commit.place place_is (answer_of ready)
+            (sym (ap is_idle progress_then) ∙ ends)
+            (subst (λ (es : List Entry). IsReplyAt (told_by es) commit.place (answer_of ready)) entries_then told_so)
+
+        answer_made : (found : Option CallAnswer)
+            → is_some found ≡ (not (is_idle (progress_of worker)) && is_idle (progress_of new.worker))
+            → IfSome found (IsAnswerOf (with_ready 0 entries new.worker) (progress_of worker) made)
+            → IfSome found (λ ready. Tells o (Some e) ready.verdict later)
+        answer_made None ends is = tt
+        answer_made (Some ready) ends is =
+            made_answer ready (both_true (not (is_idle (progress_of worker))) (is_idle (progress_of new.worker)) (sym ends))
+            is
+
+        pub stepped_with : HasStepped o later new.worker
+        unfolding calling_made
+        stepped_with = record {
+          calling = calling_made;
+          ends = λ some. both_true (not (is_idle (progress_of worker))) (is_idle (progress_of new.worker))
+              (sym tells.answer.ends ∙ some);
+          answer = answer_made new.worker.work.answer tells.answer.ends tells.answer.is_of;
+        }
+
+    -- by whether it took a place
+    pub stepped : (has_committed made ≡ false → IsRunningOver s calling.base (with_core store new.core)
+        (fetches_of new.worker) now.boot o.first entries calling.last × StandsBeside now.core new.core)
+        → (has_committed made ≡ true → GoesOnWith s calling.base store new now.boot 0 o.first entries calling.last
+        (side worker now.core))
+        → HasStepped o later new.worker
+    stepped beside committed = by (has_committed made) refl
+      where
+        by : (has : Bool) → has_committed made ≡ has → HasStepped o later new.worker
+        by false is = let left = beside is in stepped_on is left.0 left.1
+        by true is = stepped_with is (committed is)

@@ -1,0 +1,103 @@
+-- A store that stays open from one device call to the next, and what each stop leaves of it.
+use Rattle.std.proofs.Common.{arith, ◌≡◌, sym, subst, ℕ, ◌≤◌, inl, inr, List}
+use Rattle.std.proofs.lemmas.Bool.{cases_order}
+use Rattle.disk.specs.Crash.{Image, IsCrashImage}
+use Rattle.disk.specs.Device.{Device}
+use Rattle.model.specs.After.{Entry}
+use Rattle.model.specs.Tree.{Tree}
+use Rattle.txn_law.specs.Core.{CoreState}
+use Rattle.store_promise.specs.Openings.{IsLater}
+use Rattle.wal_law.specs.Calls.{Pending, idle}
+use Rattle.wal_law.specs.Log.{settled_place}
+use Rattle.disk.specs.Blocks.{AreBlocks}
+use Rattle.store_promise.specs.OpenSince.{HasKeptFiles, IsOpenSince, KeepsFiles, LeavesBeginning}
+use Rattle.store.specs.SettlingStops.{KeepsPrefixes, StayOpen}
+use Rattle.store.proofs.Later.{earlier, past_more, past_none, some_image}
+
+-- nothing was left yet
+pub none_left : (d : Device) (boot : ℕ) (first : Tree) (entries : List Entry) (settled : ℕ)
+    → HasKeptFiles d d boot first entries settled
+none_left d boot first entries settled = λ clock image above below is. absurd (omega (arith, above, below))
+
+-- so it is where no call was made
+pub still_open : (d : Device) (core : CoreState) → StayOpen d core d core
+still_open d core = λ base boot first last entries since. record {
+  past = past_none d;
+  left = none_left d boot first entries _;
+  further = omega arith;
+  base = base;
+  since = since;
+}
+
+pub same_open : (d e : Device) (old new : CoreState) → new ≡ old → e ≡ d → StayOpen d old e new
+same_open d e old new core device =
+    subst (λ (c : CoreState). StayOpen d old e c) (sym core)
+    (subst (λ (x : Device). StayOpen d old x old) (sym device) (still_open d old))
+
+-- fewer places are in it too
+fewer_last : (size boot settled more : ℕ) (first : Tree) (entries : List Entry) (image : Image) → settled ≤ more
+    → LeavesBeginning size boot first entries more image → LeavesBeginning size boot first entries settled image
+fewer_last size boot settled more first entries image few left = record {
+  boot = left.boot;
+  boot_is = left.boot_is;
+  left = left.left;
+  good = left.good;
+  count = left.count;
+  few = left.few;
+  prefix = left.prefix;
+  lasts = λ place within. left.lasts place (omega (arith, within, few));
+}
+
+-- a later part of the past behind an earlier one
+kept_along : (before mid later : Device) (boot settled more : ℕ) (first : Tree) (entries : List Entry)
+    → IsLater before mid → IsLater mid later → settled ≤ more → HasKeptFiles before mid boot first entries settled
+    → HasKeptFiles mid later boot first entries more → HasKeptFiles before later boot first entries settled
+kept_along before mid later boot settled more first entries one two few was then_ =
+    λ clock image above below is. elim (cases_order clock mid.clock) [
+      | inl at ↦ fewer_last later.size boot settled more first entries image few
+          (then_ clock image (omega (arith, at)) below is)
+      | inr (inl past) ↦ subst (λ (size : ℕ). LeavesBeginning size boot first entries settled image) (sym two.size)
+          (was clock image above (omega (arith, past))
+          (earlier mid later two clock image (omega (arith, past)) is))
+      | inr (inr after) ↦ fewer_last later.size boot settled more first entries image few
+          (then_ clock image (omega (arith, after)) below is)
+    ]
+
+pub stay_along : (before mid later : Device) (old core new : CoreState) → StayOpen before old mid core
+    → StayOpen mid core later new → StayOpen before old later new
+stay_along before mid later old core new one two = λ base boot first last entries since.
+    let first_part = one base boot first last entries since in
+    let second = two first_part.base boot first last entries first_part.since in
+    record {
+      past = past_more before mid later first_part.past second.past;
+      left = kept_along before mid later boot _ _ first entries first_part.past second.past first_part.further
+          first_part.left second.left;
+      further = omega (arith, first_part.further, second.further);
+      base = second.base;
+      since = second.since;
+    }
+
+-- ---- the end
+
+-- each stop leaves a beginning, by the laws on a store that is open
+pub prefixes_kept : (before later : Device) (old new : CoreState) → AreBlocks later
+    → ((before d : Device) (base : Image) (core : CoreState) (logging installing : Pending) (boot settled : ℕ)
+    (first last : Tree) (entries : List Entry) → HasKeptFiles before d boot first entries settled
+    → IsOpenSince base d core logging installing boot first entries last → settled ≤ settled_place core.log
+    → KeepsFiles before d boot first entries settled)
+    → ((base : Image) (d : Device) (core : CoreState) (logging installing : Pending) (boot : ℕ) (first last : Tree)
+    (entries : List Entry) (image : Image) → IsOpenSince base d core logging installing boot first entries last
+    → IsCrashImage d d.clock image → LeavesBeginning d.size boot first entries (settled_place core.log) image)
+    → StayOpen before old later new → KeepsPrefixes before old later new
+prefixes_kept before later old new blocks now stop stays = λ base boot first last entries since.
+    let is = stays base boot first last entries since in
+    record {
+      past = is.past;
+      left = some_image before later blocks;
+      stops = now before later is.base new idle idle boot (settled_place old.log) first last entries is.left is.since
+          is.further;
+      ended = λ image crash. stop is.base later new idle idle boot first last entries image is.since crash;
+      further = is.further;
+      base = is.base;
+      since = is.since;
+    }

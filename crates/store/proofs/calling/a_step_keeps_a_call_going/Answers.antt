@@ -1,0 +1,39 @@
+use Rattle.std.proofs.Common.{◌≡◌, ◌∙◌, ◌++◌, List, ap, arith, length, option_to_list, refl, subst, sym}
+use Rattle.std.proofs.lemmas.List.{take_all}
+use Rattle.layout.specs.Homes.{homes_of}
+use Rattle.txn_law.specs.Window.{Footprint, after_commits, opening}
+use Rattle.store_promise.specs.OpenSince.{file_blocks}
+use Rattle.store.specs.AtWork.{fetches_of}
+use Rattle.store.specs.Stages.{IsWorkerAt}
+use Rattle.store.specs.WorkerSteps.{side}
+use Rattle.store.proofs.CallSteps.{is_told, run, s, stepped, store, t}
+use Rattle.store.proofs.calling.a_step_keeps_a_call_going.Goals as goal
+
+pub returns : goal.returns
+returns c = λ o now worker new made calling goes home reads lawful tidy with.
+    let entries = o.entries ++ option_to_list calling.entry in
+    let setting = s o now worker new made calling in
+    let told = t o now worker new made calling in
+    let so_far = store o now worker new made calling in
+    let runs = run o now worker new made calling in
+    let old = side worker now.core in
+    let since = calling.opened.since in
+    let tells_so = is_told setting now refl in
+    let stands : IsWorkerAt now.boot entries worker =
+    subst (λ n. IsWorkerAt n entries worker) (sym calling.boot) calling.stands in
+    let files : setting.blocks told.log.places ≡ file_blocks calling.base now.core =
+    ap setting.blocks (sym since.over.files.home.window.all) ∙ runs.placed (length now.core.records)
+    ∙ ap (λ (rs : List Footprint). after_commits (homes_of now.core.log.blocks (opening calling.base now.core.log)) rs)
+    (take_all (length now.core.records) now.core.records (omega arith)) in
+    stepped o now worker new made calling
+    (c.a_workers_step_may_be_made.ensures setting told 0 calling.base so_far (fetches_of worker) now.boot o.first
+    calling.last entries runs tells_so runs.inodes files worker new made goes calling.at_work stands)
+    (c.a_worker_tells_its_steps.ensures now.boot 0 entries old new made stands (sym since.counted) goes)
+    (c.a_workers_step_is_told.ensures setting told 0 so_far tells_so worker new since.over.lawful lawful runs.position
+    made goes)
+    (c.a_core_at_work_stays_so.ensures old new made now.boot entries calling.at_work stands since.over.tidy reads goes
+    with)
+    (λ uncommitted. c.a_worker_leaves_the_run_going.ensures.beside setting calling.base so_far worker new now.boot
+    o.first calling.last entries made runs goes home lawful tidy uncommitted)
+    (λ has. c.a_worker_leaves_the_run_going.ensures.committed setting calling.base so_far worker new now.boot 0 o.first
+    calling.last entries made runs goes home lawful tidy stands has)

@@ -1,0 +1,40 @@
+-- Each round leaves the call under way, or answers it.
+use Rattle.std.proofs.Common.{rules, ◌≡◌, ◌∙◌, ap, sym, subst, Some}
+use Rattle.store.specs.Calling.{IsCalling}
+use Rattle.store.specs.Opening.{store_of}
+use Rattle.store.specs.declared.workers.parts.State.{State}
+use Rattle.store.proofs.CallEvents.{answered}
+use Rattle.store.proofs.Driven.{taken_both}
+use Rattle.store.proofs.one_call.answer.Goals as goal
+
+pub returns-in-Some-clause-boot : goal.returns-in-Some-clause-boot
+returns-in-Some-clause-boot g c = c.go_on.ensures.boot ∙ c.steps.invariant.5
+
+pub returns-in-Some-clause-answered : goal.returns-in-Some-clause-answered
+returns-in-Some-clause-answered g c = λ o keeps calling.
+    let store = c.go_on.new.store in
+    let worker = c.go_on.new.worker.state in
+    let so_far = c.steps.invariant.6 o (c.go_on.ensures.model keeps) calling in
+    let is : Some c.in-Some.answered ≡ worker.work.answer = sym c.in-Some.is ∙ c.take_answer.ensures.result in
+    let has = answered o (store_of (g.D.CrashDisk.device store.disk) store.core store.boot) worker c.in-Some.answered
+    (c.go_on.ensures.going o keeps so_far) is in (
+      has.0,
+      ap (λ (s : State). s.phase) c.take_answer.ensures.rest ∙ has.1,
+    )
+
+pub steps-preserved : goal.steps-preserved
+steps-preserved g c = (
+  search rules,
+  search rules,
+  search rules,
+  search rules,
+  λ keeps. c.steps.invariant.4 (c.go_on.ensures.model keeps),
+  c.go_on.ensures.boot ∙ c.steps.invariant.5,
+  λ o keeps calling.
+      let store = c.go_on.new.store in
+      let so_far = c.steps.invariant.6 o (c.go_on.ensures.model keeps) calling in
+      subst (λ (s : State). IsCalling o (store_of (g.D.CrashDisk.device store.disk) store.core store.boot) s)
+      (sym (taken_both c.go_on.new.worker.state c.take_answer.new.self.state c.take_entry.new.self.state
+      c.take_answer.ensures.rest c.take_entry.ensures.rest))
+      (c.go_on.ensures.going o keeps so_far).calling,
+)

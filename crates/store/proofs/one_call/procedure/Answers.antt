@@ -1,0 +1,61 @@
+-- The call that was handed over is answered, and so the store is left, once everything is settled, too.
+use Rattle.std.proofs.Common.{◌∙◌, ap, subst, sym}
+use Rattle.store.specs.Calling.{HasAnswered, Outset, asked_of}
+use Rattle.store.specs.Opening.{store_of}
+use Rattle.store.specs.Worker.{ctx_of, with_call}
+use Rattle.store.specs.declared.workers.parts.State.{State}
+use Rattle.store.proofs.CallEvents.{settled_answer}
+use Rattle.store.proofs.RunTaken.{goes_with}
+use Rattle.store.proofs.one_call.procedure.Goals as goal
+
+pub returns-then-keeps_too_many-clause-answered : goal.returns-then-keeps_too_many-clause-answered
+returns-then-keeps_too_many-clause-answered g c = λ first last entries keeps timely opened.
+    let device = g.D.CrashDisk.device in
+    let was = c.args.store.now in
+    let o : Outset = record {
+      store = store_of (device was.disk) was.core was.boot;
+      first = first;
+      entries = entries;
+      last = last;
+      asked = asked_of c.args.credential c.args.moment c.args.call;
+    } in
+    let at_rest_is = c.new-worker.ensures.state in
+    let took = c.hand.ensures.took (c.hand.ensures.taken.1 (ap (λ (s : State). s.phase) at_rest_is)) in
+    let state_is = took
+    ∙ ap (λ (s : State). with_call (ctx_of c.args.credential c.args.moment s.boot) c.args.call s) at_rest_is in
+    let fits = c.hand.ensures.fits was.core (c.new-worker.ensures.fits was.core c.requires.out was.lawful) in
+    let begun = c.a_call_begins.ensures o c.hand.new.self.state timely c.requires state_is
+    (goes_with c.hand.new.self was.core fits) opened in
+    let verdict = c.answer-verdict.result in
+    let mid = c.answer-verdict.new.store in
+    let has = c.answer-verdict.ensures.answered o (c.settle.ensures.model keeps) begun in
+    let now = store_of (device mid.disk) c.end.new.core mid.boot in
+    let ended = subst (λ core. HasAnswered o verdict (store_of (device mid.disk) core mid.boot))
+    (sym (c.end.ensures.idle has.1)) has.0 in
+    let later = c.settle.new.store in
+    subst (λ boot. HasAnswered o verdict (store_of (device later.disk) later.core boot)) (sym c.settle.ensures.boot)
+    (settled_answer o verdict now (device later.disk) later.core c.settle.ensures.open ended)
+
+pub returns-else-keeps_too_many-clause-answered : goal.returns-else-keeps_too_many-clause-answered
+returns-else-keeps_too_many-clause-answered g c = λ first last entries keeps timely opened.
+    let device = g.D.CrashDisk.device in
+    let was = c.args.store.now in
+    let o : Outset = record {
+      store = store_of (device was.disk) was.core was.boot;
+      first = first;
+      entries = entries;
+      last = last;
+      asked = asked_of c.args.credential c.args.moment c.args.call;
+    } in
+    let at_rest_is = c.new-worker.ensures.state in
+    let took = c.hand.ensures.took (c.hand.ensures.taken.1 (ap (λ (s : State). s.phase) at_rest_is)) in
+    let state_is = took
+    ∙ ap (λ (s : State). with_call (ctx_of c.args.credential c.args.moment s.boot) c.args.call s) at_rest_is in
+    let fits = c.hand.ensures.fits was.core (c.new-worker.ensures.fits was.core c.requires.out was.lawful) in
+    let begun = c.a_call_begins.ensures o c.hand.new.self.state timely c.requires state_is
+    (goes_with c.hand.new.self was.core fits) opened in
+    let verdict = c.answer-verdict.result in
+    let mid = c.answer-verdict.new.store in
+    let has = c.answer-verdict.ensures.answered o keeps begun in
+    subst (λ core. HasAnswered o verdict (store_of (device mid.disk) core mid.boot))
+    (sym (c.end.ensures.idle has.1)) has.0

@@ -1,0 +1,180 @@
+-- One call of one thread: what it begins from, what holds while it is under way, and what it answers.
+use Rattle.std.specs.Prelude.{◌≡◌, ◌+◌, ◌^◌, ◌<◌, ◌≤◌, ◌⊎◌, true, false, Option, Some, None, IfSome, is_some}
+use Rattle.std.specs.Prelude.{List, [], ◌++◌, All, length, option_to_list}
+use Rattle.disk.specs.Crash.{Image}
+use Rattle.model.specs.After.{Entry}
+use Rattle.model.specs.Calls.{has_rules, is_answered_stable, unsupported}
+use Rattle.model.specs.Refused.{refused}
+use Rattle.model.specs.Sound.{SoundTime}
+use Rattle.model.specs.Step as model
+use Rattle.model.specs.Tree.{Tree}
+use Rattle.nfs_types.specs.declared.call.Call.{Call}
+use Rattle.nfs_types.specs.declared.ctx.Credential.{Credential}
+use Rattle.nfs_types.specs.declared.ctx.Moment.{Moment}
+use Rattle.nfs_types.specs.declared.status.Status.TheVariants as status
+use Rattle.procs.specs.MostChanged.{most_changed}
+use Rattle.txn_law.specs.Core.{CoreState}
+use Rattle.txn_law.specs.Fetch.{Fetch}
+use Rattle.wal_law.specs.Calls.{idle}
+use Rattle.wal_law.specs.Log.{settled_place}
+use Rattle.store_promise.specs.History.{ctx_of}
+use Rattle.store_promise.specs.OpenSince.{IsOpenSince}
+use Rattle.store_promise.specs.Progress.{Begun, Job, Progress, Stage, At, Idle, Called, Planning, Reading, Read}
+use Rattle.store_promise.specs.Progress.{Refused, Again, Waiting, is_idle}
+use Rattle.store_promise.specs.Running.{IsFetchOver}
+use Rattle.store_promise.specs.ToldOf.{StandsAtHome}
+use Rattle.store_promise.specs.Verdicts.{refusal}
+use Rattle.store_promise.specs.declared.answers.Verdict.{Verdict}
+use Rattle.store_promise.specs.declared.answers.Verdict.TheVariants as verdict
+use Rattle.store_promise.specs.declared.events.Cause.{Cause}
+use Rattle.store_promise.specs.declared.events.Cause.TheVariants as cause
+use Rattle.store.specs.AtWork.{IsCoreAtWork, fetches_of}
+use Rattle.store.specs.Further.{end_of}
+use Rattle.store.specs.Opening.{Opened}
+use Rattle.store.specs.Settling.{HasFailed}
+use Rattle.store.specs.Stages.{IsWorkerAt, progress_of}
+use Rattle.store.specs.Telling.{told}
+use Rattle.store.specs.declared.workers.parts.State.{State}
+
+-- ---- an open store
+
+-- A store is open over what is at home: its files lead from the first tree by these entries to the last, and what was
+-- read and isn't given back yet is what is at home.
+pub record IsOpenAt (base : Image) (store : Opened) (fetches : List Fetch) (first : Tree) (entries : List Entry)
+    (last : Tree) : Type 0 where
+  pub since : IsOpenSince base store.device store.core idle idle store.boot first entries last
+  pub stands : StandsAtHome store.core.log
+  pub fetched : All (IsFetchOver base store.core) fetches
+
+-- so it is where no call is under way
+pub record IsOpenWith (store : Opened) (first : Tree) (entries : List Entry) (last : Tree) : Type 0 where
+  pub base : Image
+  pub opened : IsOpenAt base store [] first entries last
+
+-- ---- a call
+
+-- what was asked: for whom, when, and the call
+abbrev pub asked_of : Credential → Moment → Call → Job
+asked_of credential moment call = record { credential = credential; moment = moment; call = call }
+
+-- what a call begins from: an open store, which has these files, and what is asked of it
+pub record Outset : Type 0 where
+  pub store : Opened
+  pub first : Tree
+  pub entries : List Entry
+  pub last : Tree
+  pub asked : Job
+
+-- the procedure of the call was committed: in this boot, in a transaction of its own, as a step of the sequential
+-- server from the files as they were
+pub record IsMadeFor (o : Outset) (entry : Entry) (next : Tree) : Type 0 where
+  pub begun : Begun
+  pub ctx : entry.ctx ≡ ctx_of o.store.boot o.asked begun
+  pub call : entry.call ≡ o.asked.call
+  pub step : model.step o.last entry.ctx entry.call entry.reply next
+
+-- so it was, or none was, and then the files are what they were
+abbrev pub ComesTo : Outset → Option Entry → Tree → Type 0
+ComesTo o None now = now ≡ o.last
+ComesTo o (Some entry) now = IsMadeFor o entry now
+
+-- ---- why a call is refused
+
+-- no transaction is left, or no place or too few log positions for what the call may change
+abbrev pub IsSpent : Call → CoreState → Type 0
+IsSpent call core = (2 ^ 64 ≤ core.begun + 1)
+    ⊎ ((core.log.places + 1 < 2 ^ 64) × (end_of core.log + most_changed call < 2 ^ 64) → ⊥)
+
+-- the store was broken when the call began, or a device call failed since; the numbers are spent; or memory was
+-- refused
+abbrev pub HasCause : Outset → Opened → Cause → Type 0
+HasCause o now cause.Io = HasFailed o.store.core.log o.store.device now.device
+HasCause o now cause.Spent = IsSpent o.asked.call now.core
+HasCause o now cause.NoMemory = Unit {0}
+
+-- ---- what it answers
+
+-- the reply of its procedure, once the place is settled where the call is to be answered so
+pub record IsReplyOf (o : Outset) (entry : Entry) (told : Verdict) (now : Opened) : Type 0 where
+  pub told_is : told ≡ verdict.Reply entry.reply
+  pub settled : is_answered_stable o.asked.call ≡ true → length o.entries + 1 ≤ settled_place now.core.log
+
+-- IO in its stead, where the store broke before
+pub record IsUnsettled (o : Outset) (told : Verdict) (now : Opened) : Type 0 where
+  pub stable : is_answered_stable o.asked.call ≡ true
+  pub told_is : told ≡ verdict.Reply (refused status.Io o.asked.call)
+  pub broken : now.core.log.broken ≡ true
+  pub failed : HasFailed o.store.core.log o.store.device now.device
+
+-- that it isn't served
+pub record IsUnserved (o : Outset) (told : Verdict) : Type 0 where
+  pub rules : has_rules o.asked.call ≡ false
+  pub told_is : told ≡ verdict.Reply (unsupported o.asked.call)
+
+-- that it was refused, for a cause
+pub record IsRefusal (o : Outset) (told : Verdict) (now : Opened) : Type 0 where
+  pub why : Cause
+  pub told_is : told ≡ refusal o.asked.call why
+  pub because : HasCause o now why
+
+-- by whether a procedure was committed
+abbrev pub Tells : Outset → Option Entry → Verdict → Opened → Type 0
+Tells o (Some entry) told now = IsReplyOf o entry told now ⊎ IsUnsettled o told now
+Tells o None told now = IsUnserved o told ⊎ IsRefusal o told now
+
+-- What comes of a call: the store is open with the entries that there were, and with the call's, where its procedure
+-- was committed; and the answer is that procedure's, or says why there is none.
+pub record HasAnswered (o : Outset) (told : Verdict) (now : Opened) : Type 0 where
+  pub entry : Option Entry
+  pub last : Tree
+  pub comes : ComesTo o entry last
+  pub opened : IsOpenWith now o.first (o.entries ++ option_to_list entry) last
+  pub tells : Tells o entry told now
+
+-- so it does of any call that is handed over at a sound time, to a store that is open with any entries
+abbrev pub Answers : Type 0 → Opened → Job → Verdict → Opened → Type 0
+Answers keeps_model old asked told new = (first last : Tree) (entries : List Entry) → keeps_model
+    → SoundTime asked.moment → IsOpenWith old first entries last
+    → HasAnswered (record { store = old; first = first; entries = entries; last = last; asked = asked }) told new
+
+-- ---- while it is under way
+
+-- what is known at a stage: whether the procedure was committed, and why the call will be refused
+abbrev pub StandsWith : Outset → Option Entry → Opened → Stage → Type 0
+StandsWith o entry now Called = entry ≡ None
+StandsWith o entry now (Planning begun) = entry ≡ None
+StandsWith o entry now (Reading begun taken) = entry ≡ None
+StandsWith o entry now (Read begun taken true) = entry ≡ None
+StandsWith o entry now (Read begun taken false) =
+    (entry ≡ None) × (o.store.device.failures < now.device.failures)
+StandsWith o entry now (Refused begun why) = (entry ≡ None) × HasCause o now why
+StandsWith o entry now (Again begun) = entry ≡ None
+StandsWith o entry now (Waiting place) = (place ≡ length o.entries + 1) × (is_some entry ≡ true)
+    × (is_answered_stable o.asked.call ≡ true)
+
+-- the worker has no call any more, or is so far with this one
+abbrev pub IsSoFar : Outset → Option Entry → Opened → Progress → Type 0
+IsSoFar o entry now Idle = Unit {0}
+IsSoFar o entry now (At job stage) = (job ≡ o.asked) × StandsWith o entry now stage
+
+-- A call is under way: the store is open with the entries that there were and with the call's, where its procedure was
+-- committed; its worker has it alone, and is so far; and whatever broke the store was a counted failure.
+pub record IsCalling (o : Outset) (now : Opened) (worker : State) : Type 0 where
+  pub entry : Option Entry
+  pub last : Tree
+  pub base : Image
+  pub boot : now.boot ≡ o.store.boot
+  pub comes : ComesTo o entry last
+  pub opened : IsOpenAt base now (fetches_of worker) o.first (o.entries ++ option_to_list entry) last
+  pub stands : IsWorkerAt o.store.boot (o.entries ++ option_to_list entry) worker
+  pub at_work : IsCoreAtWork worker now.core
+  pub so_far : IsSoFar o entry now (progress_of worker)
+  pub counted : o.store.device.failures ≤ now.device.failures
+  pub broken : now.core.log.broken ≡ true → HasFailed o.store.core.log o.store.device now.device
+
+-- So it is after a step of the worker's own, once its entry and its answer are taken; and its answer, if it gave one,
+-- is what the call comes to.
+pub record HasStepped (o : Outset) (now : Opened) (worker : State) : Type 0 where
+  pub calling : IsCalling o now (told worker)
+  pub ends : is_some worker.work.answer ≡ true → is_idle (progress_of worker) ≡ true
+  pub answer : IfSome worker.work.answer (λ ready. Tells o calling.entry ready.verdict now)

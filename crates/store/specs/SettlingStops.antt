@@ -1,0 +1,50 @@
+-- What each stop leaves of an open store while it settles.
+use Rattle.std.specs.Prelude.{ℕ, ◌≤◌, List}
+use Rattle.disk.specs.Crash.{Image, IsCrashImage}
+use Rattle.disk.specs.Device.{Device}
+use Rattle.model.specs.After.{Entry}
+use Rattle.model.specs.Tree.{Tree}
+use Rattle.wal_law.specs.Calls.{idle}
+use Rattle.wal_law.specs.Log.{settled_place}
+use Rattle.txn_law.specs.Core.{CoreState}
+use Rattle.store_promise.specs.Openings.{IsLater, LeavesImages}
+use Rattle.store_promise.specs.OpenSince.{HasKeptFiles, IsOpenSince, KeepsFiles, LeavesBeginning}
+
+-- ---- what a settling keeps
+
+-- What holds from one moment to a later one of a store that is open for these entries, none of whose device calls is
+-- out at either moment. The store stays open for them. Each stop on the way leaves some image, and each that is left
+-- is good, with the boot number and the files after a beginning of the entries, in which is each place that was
+-- settled at first; and each stop at the end has in it each place that is settled then.
+pub record KeepsPrefix (before : Device) (old : CoreState) (later : Device) (new : CoreState) (boot : ℕ) (first : Tree)
+    (entries : List Entry) (last : Tree) : Type 0 where
+  pub past : IsLater before later
+  pub left : LeavesImages before later
+  pub stops : KeepsFiles before later boot first entries (settled_place old.log)
+  pub ended : (image : Image) → IsCrashImage later later.clock image
+      → LeavesBeginning later.size boot first entries (settled_place new.log) image
+  pub further : settled_place old.log ≤ settled_place new.log
+  pub base : Image
+  pub since : IsOpenSince base later new idle idle boot first entries last
+
+-- so it is of any entries for which the store was open
+abbrev pub KeepsPrefixes : Device → CoreState → Device → CoreState → Type 0
+KeepsPrefixes before old later new = (base : Image) (boot : ℕ) (first last : Tree) (entries : List Entry)
+    → IsOpenSince base before old idle idle boot first entries last
+    → KeepsPrefix before old later new boot first entries last
+
+-- ---- between its device calls
+
+-- The store has stayed open, each stop before now left the same, and no settled place was taken back.
+pub record StaysOpen (before : Device) (old : CoreState) (later : Device) (new : CoreState) (boot : ℕ) (first : Tree)
+    (entries : List Entry) (last : Tree) : Type 0 where
+  pub past : IsLater before later
+  pub left : HasKeptFiles before later boot first entries (settled_place old.log)
+  pub further : settled_place old.log ≤ settled_place new.log
+  pub base : Image
+  pub since : IsOpenSince base later new idle idle boot first entries last
+
+abbrev pub StayOpen : Device → CoreState → Device → CoreState → Type 0
+StayOpen before old later new = (base : Image) (boot : ℕ) (first last : Tree) (entries : List Entry)
+    → IsOpenSince base before old idle idle boot first entries last
+    → StaysOpen before old later new boot first entries last

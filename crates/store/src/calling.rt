@@ -1,0 +1,69 @@
+//! Laws on one call of one thread: what it begins with, and that its worker's steps and its reads, and the settling
+//! that it waits for, keep it going.
+ghost use Rattle.std.specs.Prelude.{◌≡◌, ℕ, Ok, Option, []};
+ghost use Rattle.disk.specs.Device.{Device};
+ghost use Rattle.model.specs.Sound.{SoundTime};
+ghost use Rattle.model.specs.Tree.{Tree};
+ghost use Rattle.txn_law.specs.Core.{CoreState};
+ghost use Rattle.txn_law.specs.HomeRead.{HasContents};
+ghost use Rattle.txn_law.specs.Tidy.{AreTidy};
+ghost use Rattle.wal_law.specs.Log.{IsLawful};
+ghost use Rattle.store_promise.specs.declared.events.Step.{Step};
+ghost use Rattle.store.specs.Calling.{HasStepped, IsCalling, IsOpenWith, Outset};
+ghost use Rattle.store.specs.Further.{LeavesOpen};
+ghost use Rattle.store.specs.Opening.{Opened, Opens, store_of};
+ghost use Rattle.store.specs.Settling.{IsIdle};
+ghost use Rattle.store.specs.Telling.{told};
+ghost use Rattle.store.specs.Worker.{GoesWith, at_rest, ctx_of, with_call};
+ghost use Rattle.store.specs.WorkerReads.{HasReadBlock};
+ghost use Rattle.store.specs.WorkerSteps.{GoesOn, KeepsHomeOf, KeepsReadsOf, Side, side};
+ghost use Rattle.store.specs.declared.workers.parts.Phase.TheVariants.{Reading};
+ghost use Rattle.store.specs.declared.workers.parts.State.{State};
+
+/// What an opening leaves of a device that held a tree is a store that is open with that tree, and with no entry yet.
+pub fn an_opened_store_is_open()
+    ensures { (before : Device) (store : Opened) (tree : Tree) (first : ℕ) → Opens before (Ok store) tree first
+        → IsOpenWith store tree [] tree }
+{
+    run_law::a_run_begins();
+}
+
+/// A call that was handed to a worker at rest is under way.
+pub(crate) fn a_call_begins()
+    ensures { (o : Outset) (worker : State) → SoundTime o.asked.moment → IsIdle o.store.core
+        → worker ≡ with_call (ctx_of o.asked.credential o.asked.moment o.store.boot) o.asked.call (at_rest o.store.boot)
+        → GoesWith worker o.store.core → IsOpenWith o.store o.first o.entries o.last → IsCalling o o.store worker }
+{}
+
+/// Each step of the worker leaves it under way, or answers it.
+pub(crate) fn a_step_keeps_a_call_going()
+    ensures { (o : Outset) (now : Opened) (worker : State) (new : Side) (made : Option Step)
+        → IsCalling o now worker → GoesOn worker.phase (side worker now.core) made new
+        → KeepsHomeOf (side worker now.core) new → KeepsReadsOf (side worker now.core) new
+        → IsLawful new.core.log → AreTidy new.core → GoesWith (told new.worker) new.core
+        → HasStepped o (record now { core = new.core }) new.worker }
+{
+    crate::at_work::a_core_at_work_stays_so();
+    crate::at_work::a_worker_leaves_the_run_going();
+    crate::at_work::a_workers_step_is_told();
+    crate::at_work::a_workers_step_may_be_made();
+    crate::workers::a_worker_tells_its_steps();
+}
+
+/// So does its read, of a device that keeps its model.
+pub(crate) fn a_read_keeps_a_call_going()
+    ensures { (o : Outset) (now : Opened) (device : Device) (worker new : State) (made : Step)
+        → IsCalling o now worker → worker.phase ≡ Reading → HasContents now.device
+        → HasReadBlock (Unit {0}) now.device worker made device new → GoesWith new now.core
+        → IsCalling o (record now { device = device }) new }
+{
+    crate::at_work::a_read_leaves_the_run_going();
+    crate::workers::a_worker_tells_its_read();
+}
+
+/// So does the settling that it waits for.
+pub(crate) fn a_settling_keeps_a_call_going()
+    ensures { (o : Outset) (now : Opened) (device : Device) (core : CoreState) (worker : State)
+        → HasStepped o now worker → LeavesOpen now.device now.core device core
+        → GoesWith (told worker) core → HasStepped o (store_of device core now.boot) worker }
+{}

@@ -1,0 +1,21 @@
+//! The arguments of a worked call and the result of a worked reply of each procedure of NFS version 3 and of MOUNT
+//! version 3, spelled by hand from RFC 1813 (sections 2.5, 2.6, 3.3 and 5.2). A spelling is parts in their order, each in
+//! words of four bytes. Only tests use this crate.
+#![tactic(auto)]
+
+mod arguments;
+mod parts;
+mod results;
+
+pub use arguments::{
+    ACCESS_ARGUMENTS, COMMIT_ARGUMENTS, CREATE_ARGUMENTS, HANDLE_ARGUMENTS, LINK_ARGUMENTS,
+    MK_DIR_ARGUMENTS, MK_NOD_ARGUMENTS, MOUNT_ARGUMENTS, NAME_ARGUMENTS, NO_ARGUMENTS,
+    READ_ARGUMENTS, READ_DIR_ARGUMENTS, READ_DIR_PLUS_ARGUMENTS, RENAME_ARGUMENTS,
+    SET_ATTR_ARGUMENTS, SYM_LINK_ARGUMENTS, UNMOUNT_ARGUMENTS, WRITE_ARGUMENTS,
+};
+pub use results::{
+    ACCESS_RESULT, COMMIT_RESULT, CREATE_RESULT, FS_INFO_RESULT, FS_STAT_RESULT, GET_ATTR_RESULT,
+    LINK_RESULT, LOOKUP_RESULT, MK_DIR_RESULT, MK_NOD_RESULT, MOUNT_RESULT, NO_RESULT,
+    PATH_CONF_RESULT, READ_DIR_PLUS_RESULT, READ_DIR_RESULT, READ_LINK_RESULT, READ_RESULT,
+    REMOVE_RESULT, RENAME_RESULT, RM_DIR_RESULT, SET_ATTR_RESULT, SYM_LINK_RESULT, WRITE_RESULT,
+};
