@@ -47,6 +47,13 @@ def test_a_closed_output_that_nothing_is_written_to_is_no_fault(place):
     same("block 0", block_0(image), opened(1))
 
 
+def test_many_fragments_without_bytes_take_no_memory(place):
+    # 24 million marks of fragments that aren't the last and have no bytes, before the fragment of a call.
+    marks = bytes(96 << 20)
+    ran = place.once(place.image(), marks + wire.null_call(1), memory_limit=64 << 20)
+    expect("once", ran, 0, wire.null_reply(1), NOTHING)
+
+
 def test_a_closed_error_stream_loses_its_line_alone(place):
     image = place.image()
     cut_off = wire.null_call(1)[:20]

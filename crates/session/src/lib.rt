@@ -2,11 +2,14 @@
 //! thread, and its reply is written. The bytes of messages are `session_wire`'s.
 #![tactic(auto)]
 
+mod answering;
 mod mounting;
 mod serving;
+mod writing;
 
+pub use answering::reply_to;
 pub use mounting::mount_reply;
-pub use serving::{SessionFault, reply_to, serve};
+pub use serving::{SessionFault, serve};
 pub use session_wire::{
     CallMessage, Judged, MessageCredential, MessageVerifier, ReplyBody, ReplyMessage, RpcReply,
     judge, reply_bytes,

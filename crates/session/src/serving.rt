@@ -1,23 +1,23 @@
 //! Serving a stream: the calls of its records, one after the other, and their replies.
-ghost use Rattle.std.specs.Prelude.{◌≡◌, ◌<◌, ◌≤◌, IfOk, IfSome, OnOk, None, length};
-ghost use Rattle.std.specs.Io.KnownBytes.{IsAtEnd};
-ghost use Rattle.store.specs.Opening.{store_of};
+ghost use Rattle.std.specs.Prelude.{◌≡◌, ◌<◌, ◌≤◌, ◌⊎◌, ◌++◌, [], ℕ, List, Option, IfOk, IfErr, IfSome, IfNone};
+ghost use Rattle.std.specs.Prelude.{OnOk, OnErr, length, take};
+ghost use Rattle.std.specs.Io.KnownBytes.{Consumes, IsAtEnd, Keeps};
+ghost use Rattle.store.specs.Opening.{Opened, store_of};
 ghost use Rattle.store.specs.Settling.{IsIdle};
-ghost use Rattle.session.specs.Serving.{HasServed, client_of, reply_for};
-ghost use Rattle.session_wire.specs.Replies.{body_of};
+ghost use Rattle.rpc.specs.Records.{HasBegun, IsRecord, IsTooLong};
+ghost use Rattle.session.specs.Serving.{HasServed, client_of};
+ghost use Rattle.session.specs.Streaming.{Going, IsCourse, IsStream, IsUnfinished};
 
-use crate::mounting::mount_reply;
+use crate::answering::serve_record;
 use bytes::Bytes;
 use disk::CrashDisk;
 use limits::{MOST_READS, PIECE_BYTES};
-use nfs_types::{Credential, Moment, MountCall, ProgramCall};
-use rpc::{Records, Refusal, RpcFault};
-use session_wire::{Judged, RpcReply, judge, reply_bytes};
+use nfs_types::Moment;
+use rpc::{Records, RpcFault};
 use std::alloc::Global;
 use std::io::{ErrorKind, Read, Write};
-use store::{Store, Verdict, procedure, settle};
+use store::{Store, settle};
 use thiserror::Error;
-use xdr::XdrFault;
 
 /// Why a stream isn't served to its end.
 #[derive(Clone, Copy, Debug, PartialEq, Eq, Error)]
@@ -60,6 +60,8 @@ pub fn serve<D: CrashDisk, R: Read, W: Write>(
         (client_of (R.remaining reader.old) (W.contents writer.old)) moment result
         (store_of (D.device store.new.disk) store.new.core store.new.boot)
         (client_of (R.remaining reader.new) (W.contents writer.new)) }
+    ensures stream { IsStream moment (store_of (D.device store.old.disk) store.old.core store.old.boot)
+        (R.remaining reader.old) (W.contents writer.old) result (R.remaining reader.new) (W.contents writer.new) }
 {
     let served = serve_all(alloc, store, reader, writer, moment);
     match served {
@@ -87,6 +89,8 @@ fn serve_all<D: CrashDisk, R: Read, W: Write>(
     requires { IsIdle store.old.core }
     ensures idle { IsIdle store.new.core }
     ensures end { OnOk result (IsAtEnd (R.remaining reader.new)) }
+    ensures stream { IsStream moment (store_of (D.device store.old.disk) store.old.core store.old.boot)
+        (R.remaining reader.old) (W.contents writer.old) result (R.remaining reader.new) (W.contents writer.new) }
 {
     let mut records = Records::new(alloc);
     let mut piece = [0; PIECE_BYTES];
@@ -115,6 +119,11 @@ fn read_piece<R: Read>(reader: &mut R, piece: &mut [u8]) -> Result<Option<usize>
     requires { 0 < length piece.old }
     ensures count { IfOk result (λ o. IfSome o (λ count. count ≤ length piece.new)) }
     ensures end { IfOk result (λ o. IfSome o (λ count. count ≡ 0 → IsAtEnd (R.remaining reader.new))) }
+    ensures some { IfOk result (λ o. IfSome o (λ count. Consumes (R.remaining reader.old) (R.remaining reader.new)
+        (take count piece.new))) }
+    ensures none { IfOk result (λ o. IfNone o (Keeps (R.remaining reader.old) (R.remaining reader.new))) }
+    ensures failed { IfErr result (λ e. (e ≡ SessionFault.Input)
+        × Keeps (R.remaining reader.old) (R.remaining reader.new)) }
 {
     match reader.read(piece) {
         Ok(count) => Ok(Some(count)),
@@ -133,7 +142,12 @@ fn serve_records<D: CrashDisk, W: Write>(
     count: u64,
 ) -> Result<u64, SessionFault>
     requires { IsIdle store.old.core }
-    ensures { IsIdle store.new.core }
+    ensures idle { IsIdle store.new.core }
+    ensures going { (first : Opened) (unwritten : Option (List ℕ)) (read : List ℕ)
+        → IsCourse moment first unwritten read records.old count
+        (store_of (D.device store.old.disk) store.old.core store.old.boot) (W.contents writer.old)
+        → Going moment first unwritten read result records.new
+        (store_of (D.device store.new.disk) store.new.core store.new.boot) (W.contents writer.new) }
 {
     let mut replies = count;
     'records: while let Some(record) = next_record(records)? {
@@ -145,101 +159,18 @@ fn serve_records<D: CrashDisk, W: Write>(
 
 // The next record that has come whole.
 fn next_record(records: &mut Records) -> Result<Option<Bytes>, SessionFault>
-    ensures { IfOk result (λ o. IfSome o (λ _. length records.new < length records.old)) }
+    ensures found { IfOk result (λ o. IfSome o (λ content. (text : List ℕ) × IsRecord text content
+        × (records.old ≡ text ++ records.new))) }
+    ensures shorter { IfOk result (λ o. IfSome o (λ _. length records.new < length records.old)) }
+    ensures nothing { IfOk result (λ o. IfNone o (records.new ≡ records.old)) }
+    ensures unfinished { IfOk result (λ o. IfNone o (IsUnfinished records.old)) }
+    ensures memory { OnErr result (records.new ≡ records.old) }
+    ensures err { IfErr result (λ e. (e ≡ SessionFault.NoMemory)
+        ⊎ ((e ≡ SessionFault.Record) × IsTooLong records.old)) }
 {
     match records.next() {
         Ok(record) => Ok(record),
         Err(RpcFault::NoMemory) => Err(SessionFault::NoMemory),
         Err(RpcFault::TooLong) => Err(SessionFault::Record),
     }
-}
-
-// Answers one record.
-fn serve_record<D: CrashDisk, W: Write>(
-    alloc: Global,
-    store: &mut Store<D>,
-    record: &[u8],
-    writer: &mut W,
-    moment: Moment,
-) -> Result<(), SessionFault>
-    requires { IsIdle store.old.core }
-    ensures { IsIdle store.new.core }
-{
-    match judge(alloc, record) {
-        Err(_) => Err(SessionFault::NoMemory),
-        Ok(Judged::Closed) => Err(SessionFault::Record),
-        Ok(Judged::Refused { xid, refusal }) => put(alloc, writer, xid, RpcReply::Refused(refusal)),
-        Ok(
-            Judged::Call {
-                xid,
-                credential,
-                call,
-            },
-        ) => serve_call(alloc, store, xid, credential, call, writer, moment),
-    }
-}
-
-// Answers one call.
-fn serve_call<D: CrashDisk, W: Write>(
-    alloc: Global,
-    store: &mut Store<D>,
-    xid: u32,
-    credential: Credential,
-    call: ProgramCall,
-    writer: &mut W,
-    moment: Moment,
-) -> Result<(), SessionFault>
-    requires { IsIdle store.old.core }
-    ensures { IsIdle store.new.core }
-{
-    match call {
-        ProgramCall::Nfs(call) => {
-            let verdict = procedure(alloc, store, credential, moment, call);
-            put(alloc, writer, xid, reply_to(&verdict))
-        }
-        ProgramCall::Mount(call) => serve_mount(alloc, xid, &call, writer),
-    }
-}
-
-// Answers one call of MOUNT.
-fn serve_mount<W: Write>(
-    alloc: Global,
-    xid: u32,
-    call: &MountCall,
-    writer: &mut W,
-) -> Result<(), SessionFault> {
-    match mount_reply(alloc, call) {
-        Ok(reply) => put(alloc, writer, xid, RpcReply::Mount(&reply)),
-        Err(_) => put(alloc, writer, xid, RpcReply::Refused(Refusal::SystemError)),
-    }
-}
-
-/// What a call is answered by what came of its procedure: its reply, or a system error where an allocation failed in
-/// the procedure.
-pub fn reply_to(verdict: &Verdict) -> RpcReply<'_>
-    ensures { body_of result ≡ reply_for verdict.now }
-{
-    match verdict {
-        Verdict::Reply(reply) => RpcReply::Nfs(reply),
-        Verdict::NoMemory => RpcReply::Refused(Refusal::SystemError),
-    }
-}
-
-// Writes a reply, or a system error in place of one that is too long for a record.
-fn put<W: Write>(
-    alloc: Global,
-    writer: &mut W,
-    xid: u32,
-    reply: RpcReply<'_>,
-) -> Result<(), SessionFault> {
-    let bytes = match reply_bytes(alloc, xid, reply) {
-        Ok(bytes) => bytes,
-        Err(XdrFault::Length) => {
-            let refused = RpcReply::Refused(Refusal::SystemError);
-            reply_bytes(alloc, xid, refused).map_err(|_| SessionFault::NoMemory)?
-        }
-        Err(_) => return Err(SessionFault::NoMemory),
-    };
-    writer.write_all(&bytes).map_err(|_| SessionFault::Output)?;
-    writer.flush().map_err(|_| SessionFault::Output)
 }

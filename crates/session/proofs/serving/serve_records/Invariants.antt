@@ -1,10 +1,18 @@
--- nothing is out, and each reply took bytes of the stream
-use Rattle.std.proofs.Common.{length}
+-- nothing is out, each reply took bytes of the stream, and its course goes on
+use Rattle.std.proofs.Common.{ℕ, List, Option, length}
+use Rattle.store.specs.Opening.{Opened, store_of}
 use Rattle.store.specs.Settling.{IsIdle}
+use Rattle.session.specs.Streaming.{IsCourse}
 use Rattle.session.proofs.serving.serve_records.Given as goal
 
 abbrev pub invariant-records : goal.invariant-records
 invariant-records g l = IsIdle l.store.core
+    × ((first : Opened) (unwritten : Option (List ℕ)) (read : List ℕ)
+    → IsCourse l.fn.moment first unwritten read l.fn.records l.fn.count
+    (store_of (g.D.CrashDisk.device l.fn.store.disk) l.fn.store.core l.fn.store.boot)
+    (g.W.Write.contents l.fn.writer)
+    → IsCourse l.fn.moment first unwritten read l.records l.replies
+    (store_of (g.D.CrashDisk.device l.store.disk) l.store.core l.store.boot) (g.W.Write.contents l.writer))
 
 abbrev pub decreases-records : goal.decreases-records
 decreases-records g l = length l.records

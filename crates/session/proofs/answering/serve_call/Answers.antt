@@ -1,0 +1,38 @@
+use Rattle.std.proofs.Common.{◌≡◌, refl, sym, subst, List, ℕ}
+use Rattle.nfs_types.specs.declared.program.ProgramCall.{ProgramCall}
+use Rattle.session_wire.specs.declared.message.ReplyBody.{ReplyBody}
+use Rattle.session_wire.specs.Replies.{body_of}
+use Rattle.store.specs.Opening.{store_of}
+use Rattle.session.specs.Replying.{IsCallAnswered, IsMountReply, IsSpelled}
+use Rattle.session.proofs.Courses.{delivers_so}
+use Rattle.session.proofs.answering.serve_call.Goals as goal
+
+pub returns-in-Nfs-clause-serves : goal.returns-in-Nfs-clause-serves
+returns-in-Nfs-clause-serves g c =
+    let device = g.D.CrashDisk.device in
+    let old = store_of (device c.args.store.now.disk) c.args.store.now.core c.args.store.now.boot in
+    let after = c.procedure-verdict.new.store in
+    let new = store_of (device after.disk) after.core after.boot in
+    let xid = c.args.xid in
+    delivers_so (IsSpelled xid (body_of c.reply_to.result))
+    (λ (reply : List ℕ). IsCallAnswered c.args.moment old xid c.args.credential c.args.call reply new) _ _ _
+    (λ reply is. subst
+    (λ (call : ProgramCall). IsCallAnswered c.args.moment old xid c.args.credential call reply new)
+    (sym c.in-Nfs.is) (
+      c.procedure-verdict.result,
+      c.procedure-verdict.ensures.idle,
+      subst (λ (body : ReplyBody). IsSpelled xid body reply) c.reply_to.ensures is,
+    ))
+    c.put-answered.ensures
+
+pub returns-in-Mount-clause-serves : goal.returns-in-Mount-clause-serves
+returns-in-Mount-clause-serves g c =
+    let device = g.D.CrashDisk.device in
+    let old = store_of (device c.args.store.now.disk) c.args.store.now.core c.args.store.now.boot in
+    let xid = c.args.xid in
+    delivers_so (IsMountReply xid c.in-Mount.call)
+    (λ (reply : List ℕ). IsCallAnswered c.args.moment old xid c.args.credential c.args.call reply old) _ _ _
+    (λ reply is. subst
+    (λ (call : ProgramCall). IsCallAnswered c.args.moment old xid c.args.credential call reply old)
+    (sym c.in-Mount.is) (refl, is))
+    c.serve_mount.ensures

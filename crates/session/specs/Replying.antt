@@ -1,0 +1,54 @@
+-- What one message is answered (RFC 5531, section 9).
+use Rattle.std.specs.Prelude.{◌≡◌, ◌⊎◌, ℕ, List}
+use Rattle.model.specs.Mount.{mount_reply}
+use Rattle.nfs_types.specs.declared.call.Call as types
+use Rattle.nfs_types.specs.declared.ctx.Credential.{Credential}
+use Rattle.nfs_types.specs.declared.ctx.Moment.{Moment}
+use Rattle.nfs_types.specs.declared.mount.MountCall.{MountCall}
+use Rattle.nfs_types.specs.declared.program.ProgramCall.{ProgramCall}
+use Rattle.nfs_types.specs.declared.program.ProgramCall.TheVariants as calls
+use Rattle.nfs_types.specs.declared.program.ProgramReply.TheVariants as replies
+use Rattle.rpc.specs.declared.refusal.Refusal.TheVariants.{SystemError}
+use Rattle.rpc.specs.Refused.{refused}
+use Rattle.session_wire.specs.declared.message.Judged.{Judged}
+use Rattle.session_wire.specs.declared.message.Judged.TheVariants.{Closed, Refused, Call}
+use Rattle.session_wire.specs.declared.message.ReplyBody.{ReplyBody}
+use Rattle.session_wire.specs.declared.message.ReplyBody.TheVariants as bodies
+use Rattle.session_wire.specs.Replies.{reply_bytes, IsTooLong}
+use Rattle.store.specs.Opening.{Opened}
+use Rattle.store.specs.Settling.{IsIdle}
+use Rattle.store_promise.specs.declared.answers.Verdict.{Verdict}
+use Rattle.session.specs.Serving.{reply_for}
+
+-- the reply's spelling, or a system error in place of one that is too long for a record
+abbrev pub IsSpelled : ℕ → ReplyBody → List ℕ → Type 0
+IsSpelled xid body bytes = ((bytes ≡ reply_bytes xid body) × (IsTooLong xid body → ⊥))
+    ⊎ (IsTooLong xid body × (bytes ≡ refused xid SystemError))
+
+-- What the procedure of a call comes to, and what it makes of the store. So far `store` tells of it that nothing is
+-- left out; which verdict it comes to, its own contract has to say.
+abbrev pub IsProcedure : Opened → Credential → Moment → types.Call → Verdict → Opened → Type 0
+IsProcedure old credential moment call verdict new = IsIdle new.core
+
+abbrev pub IsSystemError : ℕ → List ℕ → Type 0
+IsSystemError xid bytes = bytes ≡ refused xid SystemError
+
+-- the reply of MOUNT; where memory was refused, a system error
+abbrev pub IsMountReply : ℕ → MountCall → List ℕ → Type 0
+IsMountReply xid call bytes = IsSpelled xid (bodies.Done (replies.Mount (mount_reply call))) bytes
+    ⊎ IsSystemError xid bytes
+
+-- a call of MOUNT touches no store
+abbrev pub IsCallAnswered : Moment → Opened → ℕ → Credential → ProgramCall → List ℕ → Opened → Type 0
+IsCallAnswered moment old xid credential (calls.Nfs call) bytes new = (verdict : Verdict)
+    × IsProcedure old credential moment call verdict new × IsSpelled xid (reply_for verdict) bytes
+IsCallAnswered moment old xid credential (calls.Mount call) bytes new = (new ≡ old)
+    × IsMountReply xid call bytes
+
+-- What a message is answered, by what it is taken for. One on which the connection closes gets no reply. A call for
+-- which memory was refused before it came to its procedure has a system error, and leaves the store.
+abbrev pub IsAnswered : Moment → Opened → Judged → List ℕ → Opened → Type 0
+IsAnswered moment old Closed bytes new = ⊥
+IsAnswered moment old (Refused xid refusal) bytes new = (bytes ≡ refused xid refusal) × (new ≡ old)
+IsAnswered moment old (Call xid credential call) bytes new =
+    IsCallAnswered moment old xid credential call bytes new ⊎ (IsSystemError xid bytes × (new ≡ old))

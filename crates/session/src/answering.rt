@@ -1,0 +1,105 @@
+//! Answering one record.
+ghost use Rattle.std.specs.Prelude.{◌≡◌};
+ghost use Rattle.store.specs.Opening.{store_of};
+ghost use Rattle.store.specs.Settling.{IsIdle};
+ghost use Rattle.session.specs.Serving.{reply_for};
+ghost use Rattle.session.specs.Replying.{IsCallAnswered, IsMountReply};
+ghost use Rattle.session.specs.Streaming.{Delivers, Serves};
+ghost use Rattle.session_wire.specs.Replies.{body_of};
+
+use crate::mounting::mount_reply;
+use crate::serving::SessionFault;
+use crate::writing::put;
+use disk::CrashDisk;
+use nfs_types::{Credential, Moment, MountCall, ProgramCall};
+use rpc::Refusal;
+use session_wire::{Judged, RpcReply, judge};
+use std::alloc::Global;
+use std::io::Write;
+use store::{Store, Verdict, procedure};
+
+/// Answers one record.
+pub fn serve_record<D: CrashDisk, W: Write>(
+    alloc: Global,
+    store: &mut Store<D>,
+    message: &[u8],
+    writer: &mut W,
+    moment: Moment,
+) -> Result<(), SessionFault>
+    requires { IsIdle store.old.core }
+    ensures idle { IsIdle store.new.core }
+    ensures serves { Serves moment (store_of (D.device store.old.disk) store.old.core store.old.boot)
+        (W.contents writer.old) message.now result
+        (store_of (D.device store.new.disk) store.new.core store.new.boot) (W.contents writer.new) }
+{
+    match judge(alloc, message) {
+        Err(_) => Err(SessionFault::NoMemory),
+        Ok(Judged::Closed) => Err(SessionFault::Record),
+        Ok(Judged::Refused { xid, refusal }) => put(alloc, writer, xid, RpcReply::Refused(refusal)),
+        Ok(
+            Judged::Call {
+                xid,
+                credential,
+                call,
+            },
+        ) => serve_call(alloc, store, xid, credential, call, writer, moment),
+    }
+}
+
+// Answers one call.
+fn serve_call<D: CrashDisk, W: Write>(
+    alloc: Global,
+    store: &mut Store<D>,
+    xid: u32,
+    credential: Credential,
+    call: ProgramCall,
+    writer: &mut W,
+    moment: Moment,
+) -> Result<(), SessionFault>
+    requires { IsIdle store.old.core }
+    ensures idle { IsIdle store.new.core }
+    ensures serves { Delivers (λ reply. IsCallAnswered moment
+        (store_of (D.device store.old.disk) store.old.core store.old.boot) xid credential call reply
+        (store_of (D.device store.new.disk) store.new.core store.new.boot))
+        (W.contents writer.old) result (W.contents writer.new) }
+{
+    match call {
+        ProgramCall::Nfs(call) => {
+            let verdict = procedure(alloc, store, credential, moment, call);
+            let answered = put(alloc, writer, xid, reply_to(&verdict));
+            drop(verdict);
+            answered
+        }
+        ProgramCall::Mount(call) => serve_mount(alloc, xid, &call, writer),
+    }
+}
+
+// Answers one call of MOUNT.
+fn serve_mount<W: Write>(
+    alloc: Global,
+    xid: u32,
+    call: &MountCall,
+    writer: &mut W,
+) -> Result<(), SessionFault>
+    ensures { Delivers (λ reply. IsMountReply xid call.now reply) (W.contents writer.old) result (W.contents writer.new) }
+{
+    match mount_reply(alloc, call) {
+        Ok(reply) => {
+            let answered = put(alloc, writer, xid, RpcReply::Mount(&reply));
+            drop(reply);
+            answered
+        }
+        Err(_) => put(alloc, writer, xid, RpcReply::Refused(Refusal::SystemError)),
+    }
+}
+
+/// What a call is answered by what came of its procedure: its reply, or a system error where an allocation failed in
+/// the procedure.
+pub fn reply_to(verdict: &Verdict) -> RpcReply<'_>
+    ensures { body_of result ≡ reply_for verdict.now }
+{
+    match verdict {
+        Verdict::Reply(reply) => RpcReply::Nfs(reply),
+        Verdict::NoMemory => RpcReply::Refused(Refusal::SystemError),
+    }
+}
