@@ -1,8 +1,10 @@
 -- Each item is read as it is spelled: a term for each code.
-use Rattle.std.proofs.Common.{◌≡◌, [], ◌∷◌, refl, arith, inl, inr}
+use Rattle.std.proofs.Common.{◌≡◌, ◌⊎◌, [], ◌∷◌, refl, arith, inl, inr}
 use Rattle.limits.specs.declared.TheConstants.{MOST_HANDLE_BYTES, RECORD_BYTES}
+use Rattle.nfs_types.specs.declared.attributes.DeviceNumber.{DeviceNumber}
 use Rattle.nfs_types.specs.declared.attributes.FileKind.{FileKind}
 use Rattle.nfs_types.specs.declared.attributes.FileKind.TheVariants as kinds
+use Rattle.nfs_types.specs.declared.attributes.NewAttributes.{NewAttributes}
 use Rattle.nfs_types.specs.declared.attributes.SetTime.{SetTime}
 use Rattle.nfs_types.specs.declared.attributes.SetTime.TheVariants.{Unchanged, Server, Client}
 use Rattle.nfs_types.specs.declared.call.CreateHow.{CreateHow}
@@ -12,9 +14,9 @@ use Rattle.nfs_types.specs.declared.call.SpecialFile.TheVariants as specials
 use Rattle.nfs_types.specs.declared.call.Stability.{Stability}
 use Rattle.nfs_types.specs.declared.call.Stability.TheVariants.{Unstable, DataSync, FileSync}
 use Rattle.nfs_types.specs.Fits.{CreateHowFits, SetTimeFits, SpecialFileFits}
-use Rattle.xdr.specs.Codes.{Code, viewed, union, arm_or, arm, nothing, ◌then◌}
+use Rattle.xdr.specs.Codes.{Code, Arms, viewed, union, arm_or, arm, nothing, ◌then◌}
 use Rattle.xdr.proofs.Lawful.{IsCode, words, doubles, opaques, eights, nothings, thens, vieweds, fittings}
-use Rattle.xdr.proofs.Lawful.{optionals, arm_is, or_is, HasNumbers, unions, one_ofs}
+use Rattle.xdr.proofs.Lawful.{optionals, AreArms, arm_is, or_is, HasNumbers, unions, one_ofs}
 use Rattle.nfs_codec.specs.Items.{handle, text, directory_name, moment, verifier, set_time_made, set_time_parts}
 use Rattle.nfs_codec.specs.Items.{set_time, optional_word, optional_double, guard, new_attributes}
 use Rattle.nfs_codec.specs.Items.{create_how_made, create_how_parts, create_how, stability_number, stability}
@@ -198,14 +200,45 @@ special_fitted specials.Link f = f
 special_fitted (specials.Socket a) f = f
 special_fitted (specials.Fifo a) f = f
 
+abbrev special_ends : Arms (NewAttributes ⊎ NewAttributes)
+special_ends = arm_or 6 new_attributes (arm 7 new_attributes)
+
+special_ends_are : AreArms special_ends
+special_ends_are = or_is 6 new_attributes (arm 7 new_attributes) (omega arith) refl new_attributes_is
+    (arm_is 7 new_attributes (omega arith) new_attributes_is)
+
+abbrev special_links : Arms (Unit {0} ⊎ (NewAttributes ⊎ NewAttributes))
+special_links = arm_or 5 nothing special_ends
+
+special_links_are : AreArms special_links
+special_links_are = or_is 5 nothing special_ends (omega arith) refl nothings special_ends_are
+
+abbrev special_device : Code (NewAttributes × DeviceNumber)
+special_device = new_attributes then device
+
+special_devices_are : IsCode special_device
+special_devices_are = thens new_attributes device new_attributes_is devices
+
+abbrev special_devices : Arms ((NewAttributes × DeviceNumber) ⊎ ((NewAttributes × DeviceNumber)
+    ⊎ (Unit {0} ⊎ (NewAttributes ⊎ NewAttributes))))
+special_devices = arm_or 3 special_device (arm_or 4 special_device special_links)
+
+special_devices_arms_are : AreArms special_devices
+special_devices_arms_are = or_is 3 special_device (arm_or 4 special_device special_links) (omega arith) refl
+    special_devices_are (or_is 4 special_device special_links (omega arith) refl special_devices_are special_links_are)
+
+abbrev special_arms : Arms SpecialParts
+special_arms = arm_or 1 nothing (arm_or 2 nothing special_devices)
+
+special_arms_are : AreArms special_arms
+special_arms_are = or_is 1 nothing (arm_or 2 nothing special_devices) (omega arith) refl nothings
+    (or_is 2 nothing special_devices (omega arith) refl nothings special_devices_arms_are)
+
 pub special_files : IsCode special_file
 unfolding special_file
-special_files = fittings _ _ special_fits special_fitted (vieweds _ _ _ special_back special_forth
-    (unions _ (or_is _ _ _ (omega arith) refl nothings (or_is _ _ _ (omega arith) refl nothings
-    (or_is _ _ _ (omega arith) refl (thens _ _ new_attributes_is devices)
-    (or_is _ _ _ (omega arith) refl (thens _ _ new_attributes_is devices)
-    (or_is _ _ _ (omega arith) refl nothings (or_is _ _ _ (omega arith) refl new_attributes_is
-    (arm_is _ _ (omega arith) new_attributes_is)))))))))
+special_files = fittings SpecialFileFits special_code special_fits special_fitted
+    (vieweds special_made special_parts (union special_arms) special_back special_forth
+    (unions special_arms special_arms_are))
 
 -- ---- attributes that a reply tells
 
