@@ -1,7 +1,7 @@
 -- How the course of a stream goes on.
 use Rattle.std.proofs.Common.{◌≡◌, ℕ, ◌+◌, ◌-◌, ◌^◌, true, List, [], ◌∷◌, ◌++◌, length, min, take, drop, Option, Some}
 use Rattle.std.proofs.Common.{None, Result, Ok, Err, refl, sym, ap, subst, ◌∙◌, inl, inr, arith, append_assoc}
-use Rattle.std.proofs.Common.{length-append}
+use Rattle.std.proofs.Common.{length-append, Bool, false, leb, leb→le, le→leb, T, true≢false}
 use Rattle.std.specs.Prelude.{flat_map, ◌⊎◌}
 use Rattle.std.proofs.lemmas.List.{append-nil}
 use Rattle.std.proofs.lemmas.List.Concat.{flat_map-cons, flat_map-append}
@@ -11,6 +11,7 @@ use Rattle.nfs_types.specs.declared.ctx.Moment.{Moment}
 use Rattle.rpc.specs.Records.{fragment, CutsOff, HasBegun, IsRecord, IsTooLong}
 use Rattle.nfs_types.specs.declared.ctx.Credential.{Credential}
 use Rattle.nfs_types.specs.declared.program.ProgramCall.{ProgramCall}
+use Rattle.nfs_types.specs.declared.program.ProgramCall.TheVariants as calls
 use Rattle.rpc.specs.declared.refusal.Refusal.{Refusal}
 use Rattle.rpc.specs.declared.refusal.Refusal.TheVariants.{SystemError}
 use Rattle.rpc.specs.Refused.{refused}
@@ -18,13 +19,15 @@ use Rattle.rpc.proofs.Lengths.{refused-length}
 use Rattle.session_wire.specs.Judging.{judged, Judges}
 use Rattle.session_wire.specs.declared.message.Judged.{Judged}
 use Rattle.session_wire.specs.declared.message.Judged.TheVariants as verdicts
+use Rattle.session_wire.specs.declared.message.ReplyBody.{ReplyBody}
 use Rattle.session_wire.specs.declared.message.ReplyBody.TheVariants as bodies
+use Rattle.session_wire.specs.Replies.{body_too_long, reply_bytes, IsTooLong as IsTooLongReply}
 use Rattle.store.specs.Opening.{Opened}
 use Rattle.session.specs.declared.serving.SessionFault.{SessionFault}
 use Rattle.session.specs.declared.serving.SessionFault.TheVariants as faults
 use Rattle.session.specs.Replying.{IsAnswered, IsCallAnswered, IsSpelled}
-use Rattle.session.specs.Streaming.{Answered, IsCourse, IsUnfinished, BeginsClosed, IsCutShort, StopsAt, EndsAt}
-use Rattle.session.specs.Streaming.{HasStopped, Going, Delivers, Serves, Writes, StreamTold, IsStream}
+use Rattle.session.specs.Streaming.{Answered, IsCourse, IsUnfinished, IsUntouched, BeginsClosed, IsCutShort, StopsAt}
+use Rattle.session.specs.Streaming.{EndsAt, IsCutOff, Delivers, Serves, Writes, IsStream, text_of}
 
 -- ---- known bytes
 
@@ -66,11 +69,62 @@ pub read_none : (a : Option (List ℕ)) → Consumes a a []
 read_none None = tt
 read_none (Some x) = refl
 
+-- ---- what is known while the device keeps its model, it keeps where the device keeps it longer
+
+longer_call : (K L : Type 0) → (L → K) → (moment : Moment) (old : Opened) (xid : ℕ) (credential : Credential)
+    (call : ProgramCall) (bytes : List ℕ) (new : Opened)
+    → IsCallAnswered K moment old xid credential call bytes new
+    → IsCallAnswered L moment old xid credential call bytes new
+longer_call K L so moment old xid credential (calls.Nfs call) bytes new a = (
+  a.0,
+  record {
+    idle = a.1.idle;
+    boot = a.1.boot;
+    answered = λ first last entries keeps timely opened.
+        a.1.answered first last entries (so keeps) timely opened;
+  },
+  a.2,
+)
+longer_call K L so moment old xid credential (calls.Mount call) bytes new a = a
+
+longer_answer : (K L : Type 0) → (L → K) → (moment : Moment) (old : Opened) (j : Judged) (bytes : List ℕ)
+    (new : Opened) → IsAnswered K moment old j bytes new → IsAnswered L moment old j bytes new
+longer_answer K L so moment old verdicts.Closed bytes new a = absurd a
+longer_answer K L so moment old (verdicts.Refused xid refusal) bytes new a = a
+longer_answer K L so moment old (verdicts.Call xid credential call) bytes new (inl a) =
+    inl (longer_call K L so moment old xid credential call bytes new a)
+longer_answer K L so moment old (verdicts.Call xid credential call) bytes new (inr a) = inr a
+
+pub longer_answers : (K L : Type 0) → (L → K) → (moment : Moment) (old : Opened) (messages replies : List (List ℕ))
+    (new : Opened) → Answered K moment old messages replies new → Answered L moment old messages replies new
+longer_answers K L so moment old [] [] new a = a
+longer_answers K L so moment old [] (r ∷ rs) new a = absurd a
+longer_answers K L so moment old (m ∷ ms) [] new a = absurd a
+longer_answers K L so moment old (m ∷ ms) (r ∷ rs) new a = (
+  a.0,
+  longer_answer K L so moment old (judged m) r a.0 a.1,
+  longer_answers K L so moment a.0 ms rs new a.2,
+)
+
+pub longer : (K L : Type 0) → (L → K) → (moment : Moment) (old : Opened) (first : Option (List ℕ))
+    (read left : List ℕ) (count : ℕ) (new : Opened) (written : Option (List ℕ))
+    → IsCourse K moment old first read left count new written
+    → IsCourse L moment old first read left count new written
+longer K L so moment old first read left count new written c = record {
+  messages = c.messages;
+  replies = c.replies;
+  cut = c.cut;
+  answered = longer_answers K L so moment old c.messages c.replies new c.answered;
+  told = c.told;
+  counted = c.counted;
+}
+
 -- ---- a course
 
 -- nothing is read yet
-pub begins : (moment : Moment) (old : Opened) (w : Option (List ℕ)) → IsCourse moment old w [] [] 0 old w
-begins moment old w = record {
+pub begins : (K : Type 0) (moment : Moment) (old : Opened) (w : Option (List ℕ))
+    → IsCourse K moment old w [] [] 0 old w
+begins K moment old w = record {
   messages = [];
   replies = [];
   cut = refl;
@@ -91,11 +145,11 @@ cut_feed read left piece (m ∷ ms) cut = (
 )
 
 -- a piece is read
-pub feeds : (moment : Moment) (old : Opened) (first : Option (List ℕ)) (read left : List ℕ) (count : ℕ)
-    (new : Opened) (written : Option (List ℕ)) (piece : List ℕ)
-    → IsCourse moment old first read left count new written
-    → IsCourse moment old first (read ++ piece) (left ++ piece) count new written
-feeds moment old first read left count new written piece c = record {
+pub feeds : (K : Type 0) (moment : Moment) (old : Opened) (first : Option (List ℕ)) (read left : List ℕ)
+    (count : ℕ) (new : Opened) (written : Option (List ℕ)) (piece : List ℕ)
+    → IsCourse K moment old first read left count new written
+    → IsCourse K moment old first (read ++ piece) (left ++ piece) count new written
+feeds K moment old first read left count new written piece c = record {
   messages = c.messages;
   replies = c.replies;
   cut = cut_feed read left piece c.messages c.cut;
@@ -110,32 +164,32 @@ cut_next read left text m more [] cut e is = (text, more, cut ∙ e, is, refl)
 cut_next read left text m more (n ∷ ns) cut e is =
     (cut.0, cut.1, cut.2, cut.3, cut_next cut.1 left text m more ns cut.4 e is)
 
-answered_next : (moment : Moment) (old middle new : Opened) (messages replies : List (List ℕ)) (m r : List ℕ)
-    → Answered moment old messages replies middle → IsAnswered moment middle (judged m) r new
-    → Answered moment old (messages ++ m ∷ []) (replies ++ r ∷ []) new
-answered_next moment old middle new [] [] m r done next =
-    (new, subst (λ (o : Opened). IsAnswered moment o (judged m) r new) done next, refl)
-answered_next moment old middle new [] (q ∷ qs) m r done next = absurd done
-answered_next moment old middle new (n ∷ ns) [] m r done next = absurd done
-answered_next moment old middle new (n ∷ ns) (q ∷ qs) m r done next =
-    (done.0, done.1, answered_next moment done.0 middle new ns qs m r done.2 next)
+answered_next : (K : Type 0) (moment : Moment) (old middle new : Opened) (messages replies : List (List ℕ))
+    (m r : List ℕ) → Answered K moment old messages replies middle → IsAnswered K moment middle (judged m) r new
+    → Answered K moment old (messages ++ m ∷ []) (replies ++ r ∷ []) new
+answered_next K moment old middle new [] [] m r done next =
+    (new, subst (λ (o : Opened). IsAnswered K moment o (judged m) r new) done next, refl)
+answered_next K moment old middle new [] (q ∷ qs) m r done next = absurd done
+answered_next K moment old middle new (n ∷ ns) [] m r done next = absurd done
+answered_next K moment old middle new (n ∷ ns) (q ∷ qs) m r done next =
+    (done.0, done.1, answered_next K moment done.0 middle new ns qs m r done.2 next)
 
 one_part : (f : List ℕ → List ℕ) (p : List ℕ) → flat_map f (p ∷ []) ≡ f p
 one_part f p = flat_map-cons f p [] ∙ append-nil (f p)
 
 -- a message is answered
-pub answers : (moment : Moment) (old : Opened) (first : Option (List ℕ)) (read left : List ℕ) (count : ℕ)
-    (middle : Opened) (told : Option (List ℕ)) (text m more reply : List ℕ) (next : ℕ) (new : Opened)
-    (written : Option (List ℕ)) → IsCourse moment old first read left count middle told → left ≡ text ++ more
-    → IsRecord text m → IsAnswered moment middle (judged m) reply new
+pub answers : (K : Type 0) (moment : Moment) (old : Opened) (first : Option (List ℕ)) (read left : List ℕ)
+    (count : ℕ) (middle : Opened) (told : Option (List ℕ)) (text m more reply : List ℕ) (next : ℕ) (new : Opened)
+    (written : Option (List ℕ)) → IsCourse K moment old first read left count middle told → left ≡ text ++ more
+    → IsRecord text m → IsAnswered K moment middle (judged m) reply new
     → Appends told written (fragment true reply) → next ≡ min (count + 1) (2 ^ 64 - 1)
-    → IsCourse moment old first read more next new written
-answers moment old first read left count middle told text m more reply next new written c e is answered more_told n =
+    → IsCourse K moment old first read more next new written
+answers K moment old first read left count middle told text m more reply next new written c e is answered more_told n =
     record {
       messages = c.messages ++ m ∷ [];
       replies = c.replies ++ reply ∷ [];
       cut = cut_next read left text m more c.messages c.cut e is;
-      answered = answered_next moment old middle new c.messages c.replies m reply c.answered answered;
+      answered = answered_next K moment old middle new c.messages c.replies m reply c.answered answered;
       told = subst (Appends first written)
           (ap (λ (t : List ℕ). flat_map (fragment true) c.replies ++ t) (sym (one_part (fragment true) reply))
           ∙ sym (flat_map-append (fragment true) c.replies (reply ∷ [])))
@@ -149,7 +203,7 @@ pub delivers_so : (P Q : List ℕ → Type 0) (first : Option (List ℕ)) (resul
     (written : Option (List ℕ)) → ((reply : List ℕ) → P reply → Q reply) → Delivers P first result written
     → Delivers Q first result written
 delivers_so P Q first (Ok x) written so d = (d.0, so d.0 d.1, d.2)
-delivers_so P Q first (Err faults.NoMemory) written so d = d
+delivers_so P Q first (Err faults.NoMemory) written so d = (d.0, so d.0 d.1, d.2)
 delivers_so P Q first (Err faults.Output) written so d = (d.0, d.1, d.2, so d.0 d.3, d.4, d.5)
 delivers_so P Q first (Err faults.Record) written so d = absurd d
 delivers_so P Q first (Err faults.Input) written so d = absurd d
@@ -168,6 +222,22 @@ delivers P reply bytes first (Err faults.Input) written is e w = absurd w
 delivers P reply bytes first (Err faults.Truncated) written is e w = absurd w
 delivers P reply bytes first (Err faults.Device) written is e w = absurd w
 
+-- each body has what it is spelled as
+spelled_by : (xid : ℕ) (body : ReplyBody) (long many : Bool) → body_too_long body ≡ long
+    → leb (2 ^ 31) (length (reply_bytes xid body)) ≡ many → (bytes : List ℕ) × IsSpelled xid body bytes
+spelled_by xid body true many is more = (refused xid SystemError, inr (inl is, refl))
+spelled_by xid body false true is more =
+    (refused xid SystemError, inr (inr (leb→le (2 ^ 31) (length (reply_bytes xid body)) (subst T (sym more) tt)), refl))
+spelled_by xid body false false is more = (reply_bytes xid body, inl (refl, fits))
+  where
+    fits : IsTooLongReply xid body → ⊥
+    fits (inl so) = absurd (true≢false (sym so ∙ is))
+    fits (inr so) = absurd (subst T more (le→leb (2 ^ 31) (length (reply_bytes xid body)) so))
+
+pub has_spelling : (xid : ℕ) (body : ReplyBody) → (bytes : List ℕ) × IsSpelled xid body bytes
+has_spelling xid body =
+    spelled_by xid body (body_too_long body) (leb (2 ^ 31) (length (reply_bytes xid body))) refl refl
+
 -- ---- what a message is taken for
 
 refusal_fits : (xid : ℕ) (refusal : Refusal) (bytes : List ℕ) → IsSpelled xid (bodies.Refused refusal) bytes
@@ -176,42 +246,61 @@ refusal_fits xid refusal bytes (inl e) = e.0
 refusal_fits xid refusal bytes (inr (inl spelled, e)) = absurd (cc spelled)
 refusal_fits xid refusal bytes (inr (inr long, e)) = absurd (omega (arith, long, refused-length xid refusal))
 
-pub judged_refused : (moment : Moment) (old : Opened) (j : Judged) (xid : ℕ) (refusal : Refusal) (bytes : List ℕ)
-    → Judges (verdicts.Refused xid refusal) j → IsSpelled xid (bodies.Refused refusal) bytes
-    → IsAnswered moment old j bytes old
-judged_refused moment old verdicts.Closed xid refusal bytes is spelled = absurd cc
-judged_refused moment old (verdicts.Refused x r) xid refusal bytes is spelled =
-    subst (λ (j : Judged). IsAnswered moment old j bytes old) is (refusal_fits xid refusal bytes spelled, refl)
-judged_refused moment old (verdicts.Call x caller call) xid refusal bytes (inl is) spelled = absurd cc
-judged_refused moment old (verdicts.Call x caller call) xid refusal bytes (inr is) spelled =
+pub judged_refused : (K : Type 0) (moment : Moment) (old : Opened) (j : Judged) (xid : ℕ) (refusal : Refusal)
+    (bytes : List ℕ) → Judges (verdicts.Refused xid refusal) j → IsSpelled xid (bodies.Refused refusal) bytes
+    → IsAnswered K moment old j bytes old
+judged_refused K moment old verdicts.Closed xid refusal bytes is spelled = absurd cc
+judged_refused K moment old (verdicts.Refused x r) xid refusal bytes is spelled =
+    subst (λ (j : Judged). IsAnswered K moment old j bytes old) is (refusal_fits xid refusal bytes spelled, refl)
+judged_refused K moment old (verdicts.Call x caller call) xid refusal bytes (inl is) spelled = absurd cc
+judged_refused K moment old (verdicts.Call x caller call) xid refusal bytes (inr is) spelled =
     let number : xid ≡ x = cc is in
     let error : refusal ≡ SystemError = cc is in
     inr (refusal_fits xid refusal bytes spelled ∙ cc (number, error), refl)
 
-pub judged_call : (moment : Moment) (old new : Opened) (j : Judged) (xid : ℕ) (credential : Credential)
-    (call : ProgramCall) (bytes : List ℕ) → Judges (verdicts.Call xid credential call) j
-    → IsCallAnswered moment old xid credential call bytes new → IsAnswered moment old j bytes new
-judged_call moment old new verdicts.Closed xid credential call bytes is answered = absurd cc
-judged_call moment old new (verdicts.Refused x r) xid credential call bytes is answered = absurd cc
-judged_call moment old new (verdicts.Call x caller c) xid credential call bytes (inl is) answered =
-    subst (λ (j : Judged). IsAnswered moment old j bytes new) is (inl answered)
-judged_call moment old new (verdicts.Call x caller c) xid credential call bytes (inr is) answered = absurd cc
+pub judged_call : (K : Type 0) (moment : Moment) (old new : Opened) (j : Judged) (xid : ℕ)
+    (credential : Credential) (call : ProgramCall) (bytes : List ℕ) → Judges (verdicts.Call xid credential call) j
+    → IsCallAnswered K moment old xid credential call bytes new → IsAnswered K moment old j bytes new
+judged_call K moment old new verdicts.Closed xid credential call bytes is answered = absurd cc
+judged_call K moment old new (verdicts.Refused x r) xid credential call bytes is answered = absurd cc
+judged_call K moment old new (verdicts.Call x caller c) xid credential call bytes (inl is) answered =
+    subst (λ (j : Judged). IsAnswered K moment old j bytes new) is (inl answered)
+judged_call K moment old new (verdicts.Call x caller c) xid credential call bytes (inr is) answered = absurd cc
 
 -- ---- where the records stop
 
-pub stops_reading : (moment : Moment) (fault : SessionFault) (left : List ℕ) (old : Opened) (w : Option (List ℕ))
-    → (fault ≡ faults.NoMemory) ⊎ ((fault ≡ faults.Record) × IsTooLong left) → StopsAt moment fault left old w old w
-stops_reading moment fault left old w (inl e) =
-    subst (λ (f : SessionFault). StopsAt moment f left old w old w) (sym e) (none_more w)
-stops_reading moment fault left old w (inr long) =
-    subst (λ (f : SessionFault). StopsAt moment f left old w old w) (sym long.0) (none_more w, inl long.1)
+pub stops_reading : (K : Type 0) (moment : Moment) (fault : SessionFault) (left : List ℕ) (old : Opened)
+    (w : Option (List ℕ)) → (fault ≡ faults.NoMemory) ⊎ ((fault ≡ faults.Record) × IsTooLong left)
+    → StopsAt K moment fault left old w old w
+stops_reading K moment fault left old w (inl e) =
+    subst (λ (f : SessionFault). StopsAt K moment f left old w old w) (sym e) (inl (refl, none_more w))
+stops_reading K moment fault left old w (inr long) =
+    subst (λ (f : SessionFault). StopsAt K moment f left old w old w) (sym long.0)
+    ((refl, none_more w), inl long.1)
 
-pub stops_serving : (moment : Moment) (fault : SessionFault) (left text m more : List ℕ) (old : Opened)
-    (first : Option (List ℕ)) (new : Opened) (written : Option (List ℕ)) → left ≡ text ++ more → IsRecord text m
-    → Serves moment old first m (Err fault) new written → StopsAt moment fault left old first new written
-stops_serving moment faults.NoMemory left text m more old first new written e is (inl d) = d
-stops_serving moment faults.NoMemory left text m more old first new written e is (inr x) = absurd (cc x.0)
-stops_serving moment faults.Output left text m more old first new written e is (inl d) = record {
+pub stops_serving : (K : Type 0) (moment : Moment) (fault : SessionFault) (left text m more : List ℕ)
+    (old : Opened) (first : Option (List ℕ)) (new : Opened) (written : Option (List ℕ)) → left ≡ text ++ more
+    → IsRecord text m → Serves K moment old first m (Err fault) new written
+    → StopsAt K moment fault left old first new written
+stops_serving K moment faults.NoMemory left text m more old first new written e is (inl d) = inr (
+  record {
+    text = text;
+    message = m;
+    more = more;
+    reply = d.0;
+    part = [];
+    lost = fragment true d.0;
+    cut = e;
+    is = is;
+    answered = d.1;
+    parts = refl;
+    told = d.2;
+  },
+  refl,
+)
+stops_serving K moment faults.NoMemory left text m more old first new written e is (inr (inl x)) = absurd (cc x.0)
+stops_serving K moment faults.NoMemory left text m more old first new written e is (inr (inr x)) = inl x.1
+stops_serving K moment faults.Output left text m more old first new written e is (inl d) = record {
   text = text;
   message = m;
   more = more;
@@ -224,69 +313,158 @@ stops_serving moment faults.Output left text m more old first new written e is (
   parts = d.4;
   told = d.5;
 }
-stops_serving moment faults.Output left text m more old first new written e is (inr x) = absurd (cc x.0)
-stops_serving moment faults.Record left text m more old first new written e is (inl d) = absurd d
-stops_serving moment faults.Record left text m more old first new written e is (inr x) = (
-  x.1,
-  inr (record { text = text; message = m; more = more; cut = e; is = is; closed = x.2 }),
+stops_serving K moment faults.Output left text m more old first new written e is (inr (inl x)) = absurd (cc x.0)
+stops_serving K moment faults.Output left text m more old first new written e is (inr (inr x)) = absurd (cc x.0)
+stops_serving K moment faults.Record left text m more old first new written e is (inl d) = absurd d
+stops_serving K moment faults.Record left text m more old first new written e is (inr (inl x)) = (
+  x.2,
+  inr (record { text = text; message = m; more = more; cut = e; is = is; closed = x.1 }),
 )
-stops_serving moment faults.Input left text m more old first new written e is (inl d) = absurd d
-stops_serving moment faults.Input left text m more old first new written e is (inr x) = absurd (cc x.0)
-stops_serving moment faults.Truncated left text m more old first new written e is (inl d) = absurd d
-stops_serving moment faults.Truncated left text m more old first new written e is (inr x) = absurd (cc x.0)
-stops_serving moment faults.Device left text m more old first new written e is (inl d) = absurd d
-stops_serving moment faults.Device left text m more old first new written e is (inr x) = absurd (cc x.0)
+stops_serving K moment faults.Record left text m more old first new written e is (inr (inr x)) = absurd (cc x.0)
+stops_serving K moment faults.Input left text m more old first new written e is (inl d) = absurd d
+stops_serving K moment faults.Input left text m more old first new written e is (inr (inl x)) = absurd (cc x.0)
+stops_serving K moment faults.Input left text m more old first new written e is (inr (inr x)) = absurd (cc x.0)
+stops_serving K moment faults.Truncated left text m more old first new written e is (inl d) = absurd d
+stops_serving K moment faults.Truncated left text m more old first new written e is (inr (inl x)) = absurd (cc x.0)
+stops_serving K moment faults.Truncated left text m more old first new written e is (inr (inr x)) = absurd (cc x.0)
+stops_serving K moment faults.Device left text m more old first new written e is (inl d) = absurd d
+stops_serving K moment faults.Device left text m more old first new written e is (inr (inl x)) = absurd (cc x.0)
+stops_serving K moment faults.Device left text m more old first new written e is (inr (inr x)) = absurd (cc x.0)
 
 -- a message is served
-pub serves : (moment : Moment) (old : Opened) (first : Option (List ℕ)) (read left : List ℕ) (count : ℕ)
-    (middle : Opened) (told : Option (List ℕ)) (text m more : List ℕ) (next : ℕ) (new : Opened)
-    (written : Option (List ℕ)) → IsCourse moment old first read left count middle told → left ≡ text ++ more
-    → IsRecord text m → Serves moment middle told m (Ok tt) new written → next ≡ min (count + 1) (2 ^ 64 - 1)
-    → IsCourse moment old first read more next new written
-serves moment old first read left count middle told text m more next new written c e is (inl d) n =
-    answers moment old first read left count middle told text m more d.0 next new written c e is d.1 d.2 n
-serves moment old first read left count middle told text m more next new written c e is (inr x) n = absurd (cc x.0)
+pub serves : (K : Type 0) (moment : Moment) (old : Opened) (first : Option (List ℕ)) (read left : List ℕ)
+    (count : ℕ) (middle : Opened) (told : Option (List ℕ)) (text m more : List ℕ) (next : ℕ) (new : Opened)
+    (written : Option (List ℕ)) → IsCourse K moment old first read left count middle told → left ≡ text ++ more
+    → IsRecord text m → Serves K moment middle told m (Ok tt) new written → next ≡ min (count + 1) (2 ^ 64 - 1)
+    → IsCourse K moment old first read more next new written
+serves K moment old first read left count middle told text m more next new written c e is (inl d) n =
+    answers K moment old first read left count middle told text m more d.0 next new written c e is d.1 d.2 n
+serves K moment old first read left count middle told text m more next new written c e is (inr (inl x)) n =
+    absurd (cc x.0)
+serves K moment old first read left count middle told text m more next new written c e is (inr (inr x)) n =
+    absurd (cc x.0)
 
--- ---- where the reading stops
+-- ---- where the stream ends
 
-stops_or_ends : (moment : Moment) (fault : SessionFault) (left : List ℕ) (old : Opened) (first : Option (List ℕ))
-    (new : Opened) (written unread : Option (List ℕ)) → StopsAt moment fault left old first new written
-    → EndsAt moment fault left old first new written unread
-stops_or_ends moment faults.Record left old first new written unread s = s
-stops_or_ends moment faults.NoMemory left old first new written unread s = s
-stops_or_ends moment faults.Output left old first new written unread s = s
-stops_or_ends moment faults.Input left old first new written unread s = absurd s
-stops_or_ends moment faults.Truncated left old first new written unread s = absurd s
-stops_or_ends moment faults.Device left old first new written unread s = absurd s
-
--- a fault while records are answered is one of the stream
-pub stopped : (moment : Moment) (fault : SessionFault) (old : Opened) (first : Option (List ℕ)) (read left : List ℕ)
-    (new : Opened) (written unread : Option (List ℕ)) → Going moment old first read (Err fault) left new written
-    → HasStopped moment fault old first read written unread
-stopped moment fault old first read left new written unread g = record {
-  left = g.0;
-  count = g.1;
-  middle = g.2;
-  told = g.3;
-  new = new;
-  course = g.4;
-  ends = stops_or_ends moment fault g.0 g.2 g.3 new written unread g.5;
+-- between two messages, of which no more was written
+pub ends_between : (K : Type 0) (moment : Moment) (old : Opened) (unread first : Option (List ℕ))
+    (result : Result ℕ SessionFault) (rest written : Option (List ℕ)) (new : Opened) (read left : List ℕ)
+    (count : ℕ) → Consumes unread rest read → (c : IsCourse K moment old first read left count new written)
+    → EndsAt result left rest first written c.replies
+    → IsStream K moment old unread first result rest written new
+ends_between K moment old unread first result rest written new read left count consumed c ends = record {
+  read = read;
+  messages = c.messages;
+  replies = c.replies;
+  left = left;
+  consumed = consumed;
+  cut = c.cut;
+  answered = c.answered;
+  ends = ends;
 }
 
--- a fault between records
-pub ends_between : (moment : Moment) (fault : SessionFault) (old : Opened) (first : Option (List ℕ))
-    (read left : List ℕ) (count : ℕ) (new : Opened) (written unread : Option (List ℕ))
-    → IsCourse moment old first read left count new written
-    → EndsAt moment fault left new written new written unread
-    → HasStopped moment fault old first read written unread
-ends_between moment fault old first read left count new written unread c ends = record {
-  left = left;
-  count = count;
-  middle = new;
-  told = written;
-  new = new;
-  course = c;
-  ends = ends;
+-- at a message whose reply isn't written whole
+ends_short : (K : Type 0) (moment : Moment) (old : Opened) (unread first : Option (List ℕ))
+    (result : Result ℕ SessionFault) (rest written : Option (List ℕ)) (new : Opened) (read left : List ℕ)
+    (count : ℕ) (middle : Opened) (told : Option (List ℕ)) → Consumes unread rest read
+    → (c : IsCourse K moment old first read left count middle told)
+    → (short : IsCutShort K moment left middle told new written)
+    → ((off : IsCutOff first written (c.replies ++ short.reply ∷ [])) → off.part ≡ short.part
+    → EndsAt result short.more rest first written (c.replies ++ short.reply ∷ []))
+    → IsStream K moment old unread first result rest written new
+ends_short K moment old unread first result rest written new read left count middle told consumed c short so =
+    record {
+      read = read;
+      messages = c.messages ++ short.message ∷ [];
+      replies = c.replies ++ short.reply ∷ [];
+      left = short.more;
+      consumed = consumed;
+      cut = cut_next read left short.text short.message short.more c.messages c.cut short.cut short.is;
+      answered = answered_next K moment old middle new c.messages c.replies short.message short.reply c.answered
+          short.answered;
+      ends = so (record {
+        whole = c.replies;
+        last = short.reply;
+        part = short.part;
+        lost = short.lost;
+        is = refl;
+        parts = short.parts;
+        told = then_more first told written (text_of c.replies) short.part c.told short.told;
+      }) refl;
+    }
+
+-- the messages that were answered, though nothing is done at the last
+same_course : (K : Type 0) (moment : Moment) (old : Opened) (first : Option (List ℕ)) (read left : List ℕ)
+    (count : ℕ) (middle : Opened) (told : Option (List ℕ)) (new : Opened) (written : Option (List ℕ))
+    → (c : IsCourse K moment old first read left count middle told) → IsUntouched middle told new written
+    → IsCourse K moment old first read left count new written
+same_course K moment old first read left count middle told new written c is = record {
+  messages = c.messages;
+  replies = c.replies;
+  cut = c.cut;
+  answered = subst (Answered K moment old c.messages c.replies) (sym is.0) c.answered;
+  told = subst (Appends first written) (append-nil (text_of c.replies))
+      (then_more first told written (text_of c.replies) [] c.told is.1);
+  counted = c.counted;
+}
+
+-- a fault while records are answered is one of the stream
+pub stopped : (K : Type 0) (moment : Moment) (old : Opened) (unread first : Option (List ℕ)) (fault : SessionFault)
+    (rest written : Option (List ℕ)) (new : Opened) (read left : List ℕ) (count : ℕ) (middle : Opened)
+    (told : Option (List ℕ)) → Consumes unread rest read
+    → IsCourse K moment old first read left count middle told
+    → StopsAt K moment fault left middle told new written
+    → IsStream K moment old unread first (Err fault) rest written new
+stopped K moment old unread first faults.Record rest written new read left count middle told consumed c stops =
+    let same = same_course K moment old first read left count middle told new written c stops.0 in
+    ends_between K moment old unread first (Err faults.Record) rest written new read left count consumed same
+    (stops.1, same.told)
+stopped K moment old unread first faults.NoMemory rest written new read left count middle told consumed c (inl still) =
+    let same = same_course K moment old first read left count middle told new written c still in
+    ends_between K moment old unread first (Err faults.NoMemory) rest written new read left count consumed same
+    (inl same.told)
+stopped K moment old unread first faults.NoMemory rest written new read left count middle told consumed c (inr short) =
+    ends_short K moment old unread first (Err faults.NoMemory) rest written new read left count middle told consumed c
+    short.0 (λ off same. inr (off, same ∙ short.1))
+stopped K moment old unread first faults.Output rest written new read left count middle told consumed c short =
+    ends_short K moment old unread first (Err faults.Output) rest written new read left count middle told consumed c
+    short (λ off same. off)
+stopped K moment old unread first faults.Input rest written new read left count middle told consumed c stops =
+    absurd stops
+stopped K moment old unread first faults.Truncated rest written new read left count middle told consumed c stops =
+    absurd stops
+stopped K moment old unread first faults.Device rest written new read left count middle told consumed c stops =
+    absurd stops
+
+-- the same stream, where the device kept its model longer
+pub longer_stream : (K L : Type 0) → (L → K) → (moment : Moment) (old : Opened) (unread first : Option (List ℕ))
+    (result : Result ℕ SessionFault) (rest written : Option (List ℕ)) (new : Opened)
+    → IsStream K moment old unread first result rest written new
+    → IsStream L moment old unread first result rest written new
+longer_stream K L so moment old unread first result rest written new s = record {
+  read = s.read;
+  messages = s.messages;
+  replies = s.replies;
+  left = s.left;
+  consumed = s.consumed;
+  cut = s.cut;
+  answered = longer_answers K L so moment old s.messages s.replies new s.answered;
+  ends = s.ends;
+}
+
+-- a stream that has ended, behind which the device failed
+pub failed_behind : (K : Type 0) (moment : Moment) (old : Opened) (unread first : Option (List ℕ)) (count : ℕ)
+    (rest written : Option (List ℕ)) (new : Opened) → IsStream K moment old unread first (Ok count) rest written new
+    → IsStream K moment old unread first (Err faults.Device) rest written new
+failed_behind K moment old unread first count rest written new s = record {
+  read = s.read;
+  messages = s.messages;
+  replies = s.replies;
+  left = s.left;
+  consumed = s.consumed;
+  cut = s.cut;
+  answered = s.answered;
+  ends = (s.ends.0, s.ends.1, s.ends.3);
 }
 
 -- ---- what a write appends

@@ -1,3 +1,4 @@
-pub mod Serving
+pub mod Filing
 pub mod Replying
+pub mod Serving
 pub mod Streaming

@@ -1,7 +1,6 @@
 -- What one message is answered (RFC 5531, section 9).
 use Rattle.std.specs.Prelude.{◌≡◌, ◌⊎◌, ℕ, List}
 use Rattle.model.specs.Mount.{mount_reply}
-use Rattle.nfs_types.specs.declared.call.Call as types
 use Rattle.nfs_types.specs.declared.ctx.Credential.{Credential}
 use Rattle.nfs_types.specs.declared.ctx.Moment.{Moment}
 use Rattle.nfs_types.specs.declared.mount.MountCall.{MountCall}
@@ -15,8 +14,10 @@ use Rattle.session_wire.specs.declared.message.Judged.TheVariants.{Closed, Refus
 use Rattle.session_wire.specs.declared.message.ReplyBody.{ReplyBody}
 use Rattle.session_wire.specs.declared.message.ReplyBody.TheVariants as bodies
 use Rattle.session_wire.specs.Replies.{reply_bytes, IsTooLong}
+use Rattle.store.specs.Calling.{Answers, asked_of}
 use Rattle.store.specs.Opening.{Opened}
 use Rattle.store.specs.Settling.{IsIdle}
+use Rattle.store_promise.specs.Progress.{Job}
 use Rattle.store_promise.specs.declared.answers.Verdict.{Verdict}
 use Rattle.session.specs.Serving.{reply_for}
 
@@ -25,10 +26,13 @@ abbrev pub IsSpelled : ℕ → ReplyBody → List ℕ → Type 0
 IsSpelled xid body bytes = ((bytes ≡ reply_bytes xid body) × (IsTooLong xid body → ⊥))
     ⊎ (IsTooLong xid body × (bytes ≡ refused xid SystemError))
 
--- What the procedure of a call comes to, and what it makes of the store. So far `store` tells of it that nothing is
--- left out; which verdict it comes to, its own contract has to say.
-abbrev pub IsProcedure : Opened → Credential → Moment → types.Call → Verdict → Opened → Type 0
-IsProcedure old credential moment call verdict new = IsIdle new.core
+-- What the procedure of a call comes to, and what it makes of the store: nothing is left out, the boot number stays,
+-- and where the device keeps its model an open store stays open, with the call's entry more or none.
+pub record IsProcedure (keeps_model : Type 0) (old : Opened) (asked : Job) (verdict : Verdict) (new : Opened)
+    : Type 0 where
+  pub idle : IsIdle new.core
+  pub boot : new.boot ≡ old.boot
+  pub answered : Answers keeps_model old asked verdict new
 
 abbrev pub IsSystemError : ℕ → List ℕ → Type 0
 IsSystemError xid bytes = bytes ≡ refused xid SystemError
@@ -39,16 +43,17 @@ IsMountReply xid call bytes = IsSpelled xid (bodies.Done (replies.Mount (mount_r
     ⊎ IsSystemError xid bytes
 
 -- a call of MOUNT touches no store
-abbrev pub IsCallAnswered : Moment → Opened → ℕ → Credential → ProgramCall → List ℕ → Opened → Type 0
-IsCallAnswered moment old xid credential (calls.Nfs call) bytes new = (verdict : Verdict)
-    × IsProcedure old credential moment call verdict new × IsSpelled xid (reply_for verdict) bytes
-IsCallAnswered moment old xid credential (calls.Mount call) bytes new = (new ≡ old)
+abbrev pub IsCallAnswered : Type 0 → Moment → Opened → ℕ → Credential → ProgramCall → List ℕ → Opened → Type 0
+IsCallAnswered keeps_model moment old xid credential (calls.Nfs call) bytes new = (verdict : Verdict)
+    × IsProcedure keeps_model old (asked_of credential moment call) verdict new
+    × IsSpelled xid (reply_for verdict) bytes
+IsCallAnswered keeps_model moment old xid credential (calls.Mount call) bytes new = (new ≡ old)
     × IsMountReply xid call bytes
 
 -- What a message is answered, by what it is taken for. One on which the connection closes gets no reply. A call for
 -- which memory was refused before it came to its procedure has a system error, and leaves the store.
-abbrev pub IsAnswered : Moment → Opened → Judged → List ℕ → Opened → Type 0
-IsAnswered moment old Closed bytes new = ⊥
-IsAnswered moment old (Refused xid refusal) bytes new = (bytes ≡ refused xid refusal) × (new ≡ old)
-IsAnswered moment old (Call xid credential call) bytes new =
-    IsCallAnswered moment old xid credential call bytes new ⊎ (IsSystemError xid bytes × (new ≡ old))
+abbrev pub IsAnswered : Type 0 → Moment → Opened → Judged → List ℕ → Opened → Type 0
+IsAnswered keeps_model moment old Closed bytes new = ⊥
+IsAnswered keeps_model moment old (Refused xid refusal) bytes new = (bytes ≡ refused xid refusal) × (new ≡ old)
+IsAnswered keeps_model moment old (Call xid credential call) bytes new =
+    IsCallAnswered keeps_model moment old xid credential call bytes new ⊎ (IsSystemError xid bytes × (new ≡ old))

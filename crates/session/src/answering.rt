@@ -28,8 +28,10 @@ pub fn serve_record<D: CrashDisk, W: Write>(
 ) -> Result<(), SessionFault>
     requires { IsIdle store.old.core }
     ensures idle { IsIdle store.new.core }
-    ensures serves { Serves moment (store_of (D.device store.old.disk) store.old.core store.old.boot)
-        (W.contents writer.old) message.now result
+    ensures boot { store.new.boot ≡ store.old.boot }
+    ensures model { D.keeps_model store.new.disk → D.keeps_model store.old.disk }
+    ensures serves { Serves (D.keeps_model store.new.disk) moment
+        (store_of (D.device store.old.disk) store.old.core store.old.boot) (W.contents writer.old) message.now result
         (store_of (D.device store.new.disk) store.new.core store.new.boot) (W.contents writer.new) }
 {
     match judge(alloc, message) {
@@ -58,7 +60,9 @@ fn serve_call<D: CrashDisk, W: Write>(
 ) -> Result<(), SessionFault>
     requires { IsIdle store.old.core }
     ensures idle { IsIdle store.new.core }
-    ensures serves { Delivers (λ reply. IsCallAnswered moment
+    ensures boot { store.new.boot ≡ store.old.boot }
+    ensures model { D.keeps_model store.new.disk → D.keeps_model store.old.disk }
+    ensures serves { Delivers (λ reply. IsCallAnswered (D.keeps_model store.new.disk) moment
         (store_of (D.device store.old.disk) store.old.core store.old.boot) xid credential call reply
         (store_of (D.device store.new.disk) store.new.core store.new.boot))
         (W.contents writer.old) result (W.contents writer.new) }

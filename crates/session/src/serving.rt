@@ -1,11 +1,12 @@
 //! Serving a stream: the calls of its records, one after the other, and their replies.
 ghost use Rattle.std.specs.Prelude.{◌≡◌, ◌<◌, ◌≤◌, ◌⊎◌, ◌++◌, [], ℕ, List, Option, IfOk, IfErr, IfSome, IfNone};
-ghost use Rattle.std.specs.Prelude.{OnOk, OnErr, length, take};
+ghost use Rattle.std.specs.Prelude.{OnOk, OnErr, IsErrOf, length, take};
 ghost use Rattle.std.specs.Io.KnownBytes.{Consumes, IsAtEnd, Keeps};
 ghost use Rattle.store.specs.Opening.{Opened, store_of};
 ghost use Rattle.store.specs.Settling.{IsIdle};
 ghost use Rattle.rpc.specs.Records.{HasBegun, IsRecord, IsTooLong};
 ghost use Rattle.session.specs.Serving.{HasServed, client_of};
+ghost use Rattle.session.specs.Filing.{IsServed};
 ghost use Rattle.session.specs.Streaming.{Going, IsCourse, IsStream, IsUnfinished};
 
 use crate::answering::serve_record;
@@ -14,9 +15,10 @@ use disk::CrashDisk;
 use limits::{MOST_READS, PIECE_BYTES};
 use nfs_types::Moment;
 use rpc::{Records, RpcFault};
-use std::alloc::Global;
+use std::alloc::{AllocError, Global};
 use std::io::{ErrorKind, Read, Write};
 use store::{Store, settle};
+use store_promise::a_stop_leaves_a_beginning;
 use thiserror::Error;
 
 /// Why a stream isn't served to its end.
@@ -55,14 +57,19 @@ pub fn serve<D: CrashDisk, R: Read, W: Write>(
 ) -> Result<u64, SessionFault>
     requires { IsIdle store.old.core }
     ensures idle { IsIdle store.new.core }
+    ensures boot { store.new.boot ≡ store.old.boot }
+    ensures model { D.keeps_model store.new.disk → D.keeps_model store.old.disk }
     ensures served { HasServed
         (store_of (D.device store.old.disk) store.old.core store.old.boot)
         (client_of (R.remaining reader.old) (W.contents writer.old)) moment result
         (store_of (D.device store.new.disk) store.new.core store.new.boot)
         (client_of (R.remaining reader.new) (W.contents writer.new)) }
-    ensures stream { IsStream moment (store_of (D.device store.old.disk) store.old.core store.old.boot)
-        (R.remaining reader.old) (W.contents writer.old) result (R.remaining reader.new) (W.contents writer.new) }
+    ensures stream { IsServed (D.keeps_model store.new.disk) moment
+        (store_of (D.device store.old.disk) store.old.core store.old.boot)
+        (R.remaining reader.old) (W.contents writer.old) result (R.remaining reader.new) (W.contents writer.new)
+        (store_of (D.device store.new.disk) store.new.core store.new.boot) }
 {
+    a_stop_leaves_a_beginning();
     let served = serve_all(alloc, store, reader, writer, moment);
     match served {
         Err(SessionFault::Output) => served,
@@ -88,29 +95,67 @@ fn serve_all<D: CrashDisk, R: Read, W: Write>(
 ) -> Result<u64, SessionFault>
     requires { IsIdle store.old.core }
     ensures idle { IsIdle store.new.core }
+    ensures boot { store.new.boot ≡ store.old.boot }
+    ensures model { D.keeps_model store.new.disk → D.keeps_model store.old.disk }
     ensures end { OnOk result (IsAtEnd (R.remaining reader.new)) }
-    ensures stream { IsStream moment (store_of (D.device store.old.disk) store.old.core store.old.boot)
-        (R.remaining reader.old) (W.contents writer.old) result (R.remaining reader.new) (W.contents writer.new) }
+    ensures device { IsErrOf result SessionFault.Device → ⊥ }
+    ensures stream { IsStream (D.keeps_model store.new.disk) moment
+        (store_of (D.device store.old.disk) store.old.core store.old.boot)
+        (R.remaining reader.old) (W.contents writer.old) result (R.remaining reader.new) (W.contents writer.new)
+        (store_of (D.device store.new.disk) store.new.core store.new.boot) }
 {
     let mut records = Records::new(alloc);
     let mut piece = [0; PIECE_BYTES];
     let mut count: u64 = 0;
     'reads: for _ in 0..MOST_READS {
-        let Some(read) = read_piece(reader, &mut piece)? else {
-            continue;
-        };
-        if read == 0 {
-            if records.is_empty() {
-                return Ok(count);
+        match read_piece(reader, &mut piece) {
+            Err(fault) => return Err(fault),
+            Ok(None) => {}
+            Ok(Some(0)) if records.is_empty() => return Ok(count),
+            Ok(Some(0)) => return Err(SessionFault::Truncated),
+            Ok(Some(read)) => {
+                match serve_piece(
+                    alloc,
+                    store,
+                    &mut records,
+                    &piece[..read],
+                    writer,
+                    moment,
+                    count,
+                ) {
+                    Ok(replies) => count = replies,
+                    Err(fault) => return Err(fault),
+                }
             }
-            return Err(SessionFault::Truncated);
         }
-        records
-            .feed(&piece[..read])
-            .map_err(|_| SessionFault::NoMemory)?;
-        count = serve_records(alloc, store, &mut records, writer, moment, count)?;
     }
     Err(SessionFault::Input)
+}
+
+// Answers the records that have come whole with a piece, and counts their replies on.
+fn serve_piece<D: CrashDisk, W: Write>(
+    alloc: Global,
+    store: &mut Store<D>,
+    records: &mut Records,
+    piece: &[u8],
+    writer: &mut W,
+    moment: Moment,
+    count: u64,
+) -> Result<u64, SessionFault>
+    requires { IsIdle store.old.core }
+    ensures idle { IsIdle store.new.core }
+    ensures boot { store.new.boot ≡ store.old.boot }
+    ensures model { D.keeps_model store.new.disk → D.keeps_model store.old.disk }
+    ensures going { (first : Opened) (unwritten : Option (List ℕ)) (read : List ℕ)
+        → IsCourse (D.keeps_model store.old.disk) moment first unwritten read records.old count
+        (store_of (D.device store.old.disk) store.old.core store.old.boot) (W.contents writer.old)
+        → Going (D.keeps_model store.new.disk) moment first unwritten (read ++ piece.now) result records.new
+        (store_of (D.device store.new.disk) store.new.core store.new.boot) (W.contents writer.new) }
+{
+    match records.feed(piece) {
+        Ok(()) => serve_records(alloc, store, records, writer, moment, count),
+        Err(AllocError) => Err(SessionFault::NoMemory),
+    }
 }
 
 // Reads bytes of the input, and tells how many. None is told where the read was interrupted: the next one
@@ -143,18 +188,26 @@ fn serve_records<D: CrashDisk, W: Write>(
 ) -> Result<u64, SessionFault>
     requires { IsIdle store.old.core }
     ensures idle { IsIdle store.new.core }
+    ensures boot { store.new.boot ≡ store.old.boot }
+    ensures model { D.keeps_model store.new.disk → D.keeps_model store.old.disk }
     ensures going { (first : Opened) (unwritten : Option (List ℕ)) (read : List ℕ)
-        → IsCourse moment first unwritten read records.old count
+        → IsCourse (D.keeps_model store.old.disk) moment first unwritten read records.old count
         (store_of (D.device store.old.disk) store.old.core store.old.boot) (W.contents writer.old)
-        → Going moment first unwritten read result records.new
+        → Going (D.keeps_model store.new.disk) moment first unwritten read result records.new
         (store_of (D.device store.new.disk) store.new.core store.new.boot) (W.contents writer.new) }
 {
     let mut replies = count;
-    'records: while let Some(record) = next_record(records)? {
-        serve_record(alloc, store, &record, writer, moment)?;
-        replies = replies.saturating_add(1);
+    'records: loop {
+        let record = match next_record(records) {
+            Ok(Some(record)) => record,
+            Ok(None) => return Ok(replies),
+            Err(fault) => return Err(fault),
+        };
+        match serve_record(alloc, store, &record, writer, moment) {
+            Ok(()) => replies = replies.saturating_add(1),
+            Err(fault) => return Err(fault),
+        }
     }
-    Ok(replies)
 }
 
 // The next record that has come whole.

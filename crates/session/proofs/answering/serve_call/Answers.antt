@@ -11,16 +11,22 @@ pub returns-in-Nfs-clause-serves : goal.returns-in-Nfs-clause-serves
 returns-in-Nfs-clause-serves g c =
     let device = g.D.CrashDisk.device in
     let old = store_of (device c.args.store.now.disk) c.args.store.now.core c.args.store.now.boot in
+    let keeps = g.D.CrashDisk.keeps_model in
     let after = c.procedure-verdict.new.store in
     let new = store_of (device after.disk) after.core after.boot in
     let xid = c.args.xid in
     delivers_so (IsSpelled xid (body_of c.reply_to.result))
-    (λ (reply : List ℕ). IsCallAnswered c.args.moment old xid c.args.credential c.args.call reply new) _ _ _
+    (λ (reply : List ℕ). IsCallAnswered (keeps after.disk) c.args.moment old xid c.args.credential c.args.call reply
+    new) _ _ _
     (λ reply is. subst
-    (λ (call : ProgramCall). IsCallAnswered c.args.moment old xid c.args.credential call reply new)
+    (λ (call : ProgramCall). IsCallAnswered (keeps after.disk) c.args.moment old xid c.args.credential call reply new)
     (sym c.in-Nfs.is) (
       c.procedure-verdict.result,
-      c.procedure-verdict.ensures.idle,
+      record {
+        idle = c.procedure-verdict.ensures.idle;
+        boot = c.procedure-verdict.ensures.boot;
+        answered = c.procedure-verdict.ensures.answered;
+      },
       subst (λ (body : ReplyBody). IsSpelled xid body reply) c.reply_to.ensures is,
     ))
     c.put-answered.ensures
@@ -29,10 +35,11 @@ pub returns-in-Mount-clause-serves : goal.returns-in-Mount-clause-serves
 returns-in-Mount-clause-serves g c =
     let device = g.D.CrashDisk.device in
     let old = store_of (device c.args.store.now.disk) c.args.store.now.core c.args.store.now.boot in
+    let keeps = g.D.CrashDisk.keeps_model c.args.store.now.disk in
     let xid = c.args.xid in
     delivers_so (IsMountReply xid c.in-Mount.call)
-    (λ (reply : List ℕ). IsCallAnswered c.args.moment old xid c.args.credential c.args.call reply old) _ _ _
+    (λ (reply : List ℕ). IsCallAnswered keeps c.args.moment old xid c.args.credential c.args.call reply old) _ _ _
     (λ reply is. subst
-    (λ (call : ProgramCall). IsCallAnswered c.args.moment old xid c.args.credential call reply old)
+    (λ (call : ProgramCall). IsCallAnswered keeps c.args.moment old xid c.args.credential call reply old)
     (sym c.in-Mount.is) (refl, is))
     c.serve_mount.ensures

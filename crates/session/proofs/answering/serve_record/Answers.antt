@@ -13,9 +13,10 @@ returns-in-Ok-Refused-clause-serves g c =
     let old = store_of (device c.args.store.now.disk) c.args.store.now.core c.args.store.now.boot in
     let told = c.in-Ok-Refused in
     let message = c.args.message.now in
+    let keeps = g.D.CrashDisk.keeps_model c.args.store.now.disk in
     inl (delivers_so (IsSpelled told.xid (bodies.Refused told.refusal))
-    (λ (reply : List ℕ). IsAnswered c.args.moment old (judged message) reply old) _ _ _
-    (λ reply is. judged_refused c.args.moment old (judged message) told.xid told.refusal reply
+    (λ (reply : List ℕ). IsAnswered keeps c.args.moment old (judged message) reply old) _ _ _
+    (λ reply is. judged_refused keeps c.args.moment old (judged message) told.xid told.refusal reply
     (subst (λ (j : Judged). Judges j (judged message)) told.field-0-is told.ensures) is)
     c.put.ensures)
 
@@ -27,9 +28,10 @@ returns-in-Ok-Call-clause-serves g c =
     let new = store_of (device after.disk) after.core after.boot in
     let told = c.in-Ok-Call in
     let message = c.args.message.now in
+    let keeps = g.D.CrashDisk.keeps_model after.disk in
     inl (delivers_so
-    (λ (reply : List ℕ). IsCallAnswered c.args.moment old told.xid told.credential told.call reply new)
-    (λ (reply : List ℕ). IsAnswered c.args.moment old (judged message) reply new) _ _ _
-    (λ reply is. judged_call c.args.moment old new (judged message) told.xid told.credential told.call reply
+    (λ (reply : List ℕ). IsCallAnswered keeps c.args.moment old told.xid told.credential told.call reply new)
+    (λ (reply : List ℕ). IsAnswered keeps c.args.moment old (judged message) reply new) _ _ _
+    (λ reply is. judged_call keeps c.args.moment old new (judged message) told.xid told.credential told.call reply
     (subst (λ (j : Judged). Judges j (judged message)) told.field-0-is told.ensures) is)
     c.serve_call.ensures.serves)

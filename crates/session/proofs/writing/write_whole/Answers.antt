@@ -46,8 +46,14 @@ writes-preserved g c =
     let bytes = c.args.bytes.now in
     elim c.match-write.branch [
       | in-Ok w ↦ (
-        omega (arith, w.done-is, c.writes.invariant.0, w.in-Ok.ensures.bound, length-drop done bytes,
-            ap (λ (l : List ℕ). length l) (take_rest bytes done)),
+        omega (
+          arith,
+          w.done-is,
+          c.writes.invariant.0,
+          w.in-Ok.ensures.bound,
+          length-drop done bytes,
+          ap (λ (l : List ℕ). length l) (take_rest bytes done),
+        ),
         subst (λ (d : ℕ). Appends first now (take d bytes)) (sym w.done-is)
             (wrote_some first then now bytes done w.in-Ok.count c.writes.invariant.1
             (subst (λ (l : List ℕ). Appends then now (take w.in-Ok.count l)) (take_rest bytes done)

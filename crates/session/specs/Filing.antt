@@ -1,0 +1,108 @@
+-- What a stream makes of the files of an open store.
+use Rattle.std.specs.Prelude.{◌≡◌, ℕ, ◌⊎◌, true, Option, List, [], ◌∷◌, ◌++◌, option_to_list}
+use Rattle.std.specs.Prelude.{Result, Ok, Err}
+use Rattle.disk.specs.Crash.{Image, IsCrashImage}
+use Rattle.model.specs.After.{Entry}
+use Rattle.model.specs.Sound.{SoundTime}
+use Rattle.model.specs.Tree.{Tree}
+use Rattle.nfs_types.specs.declared.call.Call as types
+use Rattle.nfs_types.specs.declared.ctx.Credential.{Credential}
+use Rattle.nfs_types.specs.declared.ctx.Moment.{Moment}
+use Rattle.nfs_types.specs.declared.program.ProgramCall.TheVariants as calls
+use Rattle.session_wire.specs.declared.message.Judged.{Judged}
+use Rattle.session_wire.specs.declared.message.Judged.TheVariants.{Closed, Refused, Call}
+use Rattle.session_wire.specs.Judging.{judged}
+use Rattle.wal_law.specs.Log.{settled_place}
+use Rattle.txn_law.specs.Core.{CoreState}
+use Rattle.store_promise.specs.OpenSince.{LeavesBeginning}
+use Rattle.store_promise.specs.declared.answers.Verdict.{Verdict}
+use Rattle.store.specs.Calling.{HasAnswered, IsOpenWith, Outset, asked_of}
+use Rattle.store.specs.Opening.{IsSettled, Opened}
+use Rattle.session.specs.declared.serving.SessionFault.{SessionFault}
+use Rattle.session.specs.declared.serving.SessionFault.TheVariants.{Record, Input, Output, NoMemory, Truncated}
+use Rattle.session.specs.declared.serving.SessionFault.TheVariants.{Device}
+use Rattle.session.specs.Replying.{IsSpelled, IsSystemError}
+use Rattle.session.specs.Serving.{reply_for}
+use Rattle.session.specs.Streaming.{IsStream}
+
+-- the files of an open store: they led from the first tree by these entries to the last
+pub record Files : Type 0 where
+  pub first : Tree
+  pub entries : List Entry
+  pub last : Tree
+
+abbrev pub IsOpenFor : Opened → Files → Type 0
+IsOpenFor store files = IsOpenWith store files.first files.entries files.last
+
+-- with an entry more, or none
+abbrev pub filed : Files → Option Entry → Tree → Files
+filed files entry last =
+    record { first = files.first; entries = files.entries ++ option_to_list entry; last = last }
+
+-- what a call begins from
+abbrev pub outset_of : Moment → Opened → Files → Credential → types.Call → Outset
+outset_of moment store files credential call = record {
+  store = store;
+  first = files.first;
+  entries = files.entries;
+  last = files.last;
+  asked = asked_of credential moment call;
+}
+
+-- What a message makes of the files, by what it is taken for. The procedure of a call of NFS was committed as a step
+-- of the sequential server from the files as they were, and its reply is what is answered, once its place is settled
+-- where the call waits for that; or the answer says why there is none, or why it isn't that reply. A call for which
+-- memory was refused before, and each other message, leaves the store and its files.
+abbrev pub IsFiled : Moment → Opened → Files → Judged → List ℕ → Opened → Files → Type 0
+IsFiled moment old files (Call xid credential (calls.Nfs call)) bytes new later = ((verdict : Verdict)
+    × (has : HasAnswered (outset_of moment old files credential call) verdict new)
+    × (later ≡ filed files has.entry has.last) × IsSpelled xid (reply_for verdict) bytes)
+    ⊎ (IsSystemError xid bytes × (new ≡ old) × (later ≡ files))
+IsFiled moment old files (Call xid credential (calls.Mount call)) bytes new later = (new ≡ old) × (later ≡ files)
+IsFiled moment old files (Refused xid refusal) bytes new later = (new ≡ old) × (later ≡ files)
+IsFiled moment old files Closed bytes new later = ⊥
+
+-- so do these messages, one after another
+abbrev pub AreFiled : Moment → Opened → Files → List (List ℕ) → List (List ℕ) → Opened → Files → Type 0
+AreFiled moment old files [] [] new later = (new ≡ old) × (later ≡ files)
+AreFiled moment old files [] (reply ∷ replies) new later = ⊥
+AreFiled moment old files (message ∷ messages) [] new later = ⊥
+AreFiled moment old files (message ∷ messages) (reply ∷ replies) new later = (middle : Opened) × (between : Files)
+    × IsFiled moment old files (judged message) reply middle between
+    × AreFiled moment middle between messages replies new later
+
+-- What a stream has made of the files: each message did what is said above, from the store at the call to the one
+-- behind the last message. The store that is left is open for the files that there are then: those entries, and behind
+-- them the stream's. Whatever a stop then leaves is good, and has the tree after a beginning of them, in which is each
+-- place that is settled.
+pub record HasFiled (moment : Moment) (old : Opened) (files : Files) (messages replies : List (List ℕ))
+    (served new : Opened) : Type 0 where
+  pub later : Files
+  pub each : AreFiled moment old files messages replies served later
+  pub first : later.first ≡ files.first
+  pub made : List Entry
+  pub grown : later.entries ≡ files.entries ++ made
+  pub opened : IsOpenFor new later
+  pub stops : (image : Image) → IsCrashImage new.device new.device.clock image
+      → LeavesBeginning new.device.size new.boot later.first later.entries (settled_place new.core.log) image
+
+-- everything is settled, or the store has broken; where the output failed nothing was settled behind the last message
+abbrev pub IsSettledBehind : Result ℕ SessionFault → CoreState → Type 0
+IsSettledBehind (Ok count) core = IsSettled core
+IsSettledBehind (Err Device) core = core.log.broken ≡ true
+IsSettledBehind (Err Output) core = Unit {0}
+IsSettledBehind (Err Record) core = IsSettled core ⊎ (core.log.broken ≡ true)
+IsSettledBehind (Err Input) core = IsSettled core ⊎ (core.log.broken ≡ true)
+IsSettledBehind (Err NoMemory) core = IsSettled core ⊎ (core.log.broken ≡ true)
+IsSettledBehind (Err Truncated) core = IsSettled core ⊎ (core.log.broken ≡ true)
+
+-- What came of serving a stream of messages at a moment, from a store and a client to what they became: what was
+-- answered and written, and how it ended. And where the device keeps its model, the moment is sound and the store was
+-- open for some files, what it made of them.
+pub record IsServed (keeps_model : Type 0) (moment : Moment) (old : Opened) (unread first : Option (List ℕ))
+    (result : Result ℕ SessionFault) (rest written : Option (List ℕ)) (new : Opened) : Type 0 where
+  pub served : Opened
+  pub stream : IsStream keeps_model moment old unread first result rest written served
+  pub settled : IsSettledBehind result new.core
+  pub files : (files : Files) → keeps_model → SoundTime moment → IsOpenFor old files
+      → HasFiled moment old files stream.messages stream.replies served new
