@@ -1,5 +1,8 @@
 //! Reading items, one after another.
-ghost use Rattle.std.specs.Prelude.{◌≡◌, ◌≤◌, ◌+◌, length, IfOk};
+ghost use Rattle.std.specs.Prelude.{◌≡◌, ◌≤◌, ◌+◌, drop, is_ok, length, nat_eq, take, IfOk, OnErr, OnOk};
+ghost use Rattle.std.specs.List.{list_all};
+ghost use Rattle.plain_items.specs.Items.{behind_optional, behind_string, double_at, flag_at, has, has_flag};
+ghost use Rattle.plain_items.specs.Items.{has_optional, has_string, optional_at, padding, string_at, word_at};
 
 use crate::ItemFault;
 use std::marker::Model;
@@ -30,6 +33,11 @@ impl<'a> ItemReader<'a> {
     pub fn take(&mut self, count: usize) -> Result<&'a [u8], ItemFault>
         ensures taken { IfOk result (λ bytes. length bytes.now ≡ count) }
         ensures rest { IfOk result (λ _. length self.new + count ≡ length self.old) }
+
+        ensures is { IfOk result (λ bytes. bytes.now ≡ take count self.old) }
+        ensures behind { OnOk result (self.new ≡ drop count self.old) }
+        ensures known { is_ok result ≡ has count self.old }
+        ensures kept { OnErr result (self.new ≡ self.old) }
     {
         if self.rest.len() < count {
             return Err(ItemFault::Unreadable);
@@ -41,7 +49,11 @@ impl<'a> ItemReader<'a> {
 
     /// A number of four bytes.
     pub fn word(&mut self) -> Result<u32, ItemFault>
-        ensures { IfOk result (λ _. length self.new + 4 ≡ length self.old) }
+        ensures rest { IfOk result (λ _. length self.new + 4 ≡ length self.old) }
+
+        ensures is { IfOk result (λ word. word ≡ word_at self.old) }
+        ensures behind { OnOk result (self.new ≡ drop 4 self.old) }
+        ensures known { is_ok result ≡ has 4 self.old }
     {
         let four = self.take(4)?;
         Ok(u32::from_be_bytes([four[0], four[1], four[2], four[3]]))
@@ -49,14 +61,22 @@ impl<'a> ItemReader<'a> {
 
     /// A number of eight bytes.
     pub fn double(&mut self) -> Result<u64, ItemFault>
-        ensures { IfOk result (λ _. length self.new + 8 ≡ length self.old) }
+        ensures rest { IfOk result (λ _. length self.new + 8 ≡ length self.old) }
+
+        ensures is { IfOk result (λ double. double ≡ double_at self.old) }
+        ensures behind { OnOk result (self.new ≡ drop 8 self.old) }
+        ensures known { is_ok result ≡ has 8 self.old }
     {
         Ok(u64::from_be_bytes(self.eight()?))
     }
 
     /// Eight bytes as they stand there.
     pub fn eight(&mut self) -> Result<[u8; 8], ItemFault>
-        ensures { IfOk result (λ _. length self.new + 8 ≡ length self.old) }
+        ensures rest { IfOk result (λ _. length self.new + 8 ≡ length self.old) }
+
+        ensures is { IfOk result (λ eight. eight ≡ take 8 self.old) }
+        ensures behind { OnOk result (self.new ≡ drop 8 self.old) }
+        ensures known { is_ok result ≡ has 8 self.old }
     {
         let eight = self.take(8)?;
         Ok([
@@ -66,7 +86,11 @@ impl<'a> ItemReader<'a> {
 
     /// True or false: 1 or 0.
     pub fn flag(&mut self) -> Result<bool, ItemFault>
-        ensures { IfOk result (λ _. length self.new + 4 ≡ length self.old) }
+        ensures rest { IfOk result (λ _. length self.new + 4 ≡ length self.old) }
+
+        ensures is { IfOk result (λ flag. flag ≡ flag_at self.old) }
+        ensures behind { OnOk result (self.new ≡ drop 4 self.old) }
+        ensures known { is_ok result ≡ has_flag self.old }
     {
         match self.word()? {
             0 => Ok(false),
@@ -77,33 +101,40 @@ impl<'a> ItemReader<'a> {
 
     /// A string of at most `bound` bytes behind its length, with zeros up to a multiple of four.
     pub fn opaque(&mut self, bound: usize) -> Result<&'a [u8], ItemFault>
-        ensures { IfOk result (λ bytes. length bytes.now ≤ bound) }
+        ensures bound { IfOk result (λ bytes. length bytes.now ≤ bound) }
+
+        ensures is { IfOk result (λ bytes. bytes.now ≡ string_at self.old) }
+        ensures behind { OnOk result (self.new ≡ drop (padding (word_at self.old)) (behind_string self.old)) }
+        ensures known { is_ok result ≡ has_string bound self.old }
     {
         let length = self.word()? as usize;
         if length > bound {
             return Err(ItemFault::Unreadable);
         }
         let bytes = self.take(length)?;
-        let padding = match length % 4 {
-            1 => 3,
-            2 => 2,
-            3 => 1,
-            _ => 0,
-        };
-        let zeros = self.take(padding)?;
-        if zeros.iter().any(|byte| *byte != 0) {
-            return Err(ItemFault::Unreadable);
+        let zeros = self.take(padding(length))?;
+        if are_zeros(zeros) {
+            Ok(bytes)
+        } else {
+            Err(ItemFault::Unreadable)
         }
-        Ok(bytes)
     }
 
     /// A string of any length.
-    pub fn string(&mut self) -> Result<&'a [u8], ItemFault> {
+    pub fn string(&mut self) -> Result<&'a [u8], ItemFault>
+        ensures is { IfOk result (λ bytes. bytes.now ≡ string_at self.old) }
+        ensures behind { OnOk result (self.new ≡ drop (padding (word_at self.old)) (behind_string self.old)) }
+        ensures known { is_ok result ≡ has_string usize.MAX self.old }
+    {
         self.opaque(usize::MAX)
     }
 
     /// A number that may be left out.
-    pub fn optional_word(&mut self) -> Result<Option<u32>, ItemFault> {
+    pub fn optional_word(&mut self) -> Result<Option<u32>, ItemFault>
+        ensures is { IfOk result (λ word. word ≡ optional_at word_at self.old) }
+        ensures behind { OnOk result (self.new ≡ behind_optional 4 self.old) }
+        ensures known { is_ok result ≡ has_optional 4 self.old }
+    {
         if self.flag()? {
             Ok(Some(self.word()?))
         } else {
@@ -112,7 +143,11 @@ impl<'a> ItemReader<'a> {
     }
 
     /// A number of eight bytes that may be left out.
-    pub fn optional_double(&mut self) -> Result<Option<u64>, ItemFault> {
+    pub fn optional_double(&mut self) -> Result<Option<u64>, ItemFault>
+        ensures is { IfOk result (λ double. double ≡ optional_at double_at self.old) }
+        ensures behind { OnOk result (self.new ≡ behind_optional 8 self.old) }
+        ensures known { is_ok result ≡ has_optional 8 self.old }
+    {
         if self.flag()? {
             Ok(Some(self.double()?))
         } else {
@@ -129,7 +164,7 @@ impl<'a> ItemReader<'a> {
 
     /// Nothing, where nothing is left.
     pub fn end(&self) -> Result<(), ItemFault>
-        ensures { IfOk result (λ _. length self.now ≡ 0) }
+        ensures { is_ok result ≡ nat_eq (length self.now) 0 }
     {
         if self.rest.is_empty() {
             Ok(())
@@ -137,4 +172,17 @@ impl<'a> ItemReader<'a> {
             Err(ItemFault::Unreadable)
         }
     }
+}
+
+// How many zeros stand behind a string of so many bytes.
+fn padding(count: usize) -> usize
+    ensures { result ≡ padding count }
+{
+    (4 - count % 4) % 4
+}
+
+fn are_zeros(bytes: &[u8]) -> bool
+    ensures { result ≡ list_all (λ byte. nat_eq byte 0) bytes.now }
+{
+    bytes.iter().all(|byte| *byte == 0)
 }

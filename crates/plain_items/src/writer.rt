@@ -1,6 +1,8 @@
 //! Writing items, each behind what is written.
-ghost use Rattle.std.specs.Prelude.{◌≡◌, ◌++◌, OnOk};
+ghost use Rattle.std.specs.Prelude.{◌≡◌, ◌≤◌, ◌++◌, ◌^◌, length, OnOk, IfErr, Err};
 ghost use Rattle.std.specs.Int.{w32, w64, to_be_bytes};
+ghost use Rattle.plain_items.specs.Items.{spelled_flag, spelled_string};
+ghost use Rattle.plain_items.specs.declared.fault.ItemFault.TheVariants as fault;
 
 use crate::ItemFault;
 use std::alloc::AllocError;
@@ -20,12 +22,16 @@ pub fn put_double(out: &mut Vec<u8>, double: u64) -> Result<(), AllocError>
 }
 
 /// Eight bytes as they are.
-pub fn put_eight(out: &mut Vec<u8>, eight: &[u8; 8]) -> Result<(), AllocError> {
+pub fn put_eight(out: &mut Vec<u8>, eight: &[u8; 8]) -> Result<(), AllocError>
+    ensures { OnOk result (out.new.items ≡ out.old.items ++ eight.now) }
+{
     out.extend_from_slice(eight)
 }
 
 /// True or false: 1 or 0.
-pub fn put_flag(out: &mut Vec<u8>, flag: bool) -> Result<(), AllocError> {
+pub fn put_flag(out: &mut Vec<u8>, flag: bool) -> Result<(), AllocError>
+    ensures { OnOk result (out.new.items ≡ out.old.items ++ spelled_flag flag) }
+{
     if flag {
         put_word(out, 1)
     } else {
@@ -34,7 +40,11 @@ pub fn put_flag(out: &mut Vec<u8>, flag: bool) -> Result<(), AllocError> {
 }
 
 /// A string behind its length, with zeros up to a multiple of four.
-pub fn put_opaque(out: &mut Vec<u8>, bytes: &[u8]) -> Result<(), ItemFault> {
+pub fn put_opaque(out: &mut Vec<u8>, bytes: &[u8]) -> Result<(), ItemFault>
+    ensures written { OnOk result (out.new.items ≡ out.old.items ++ spelled_string bytes.now) }
+    ensures unread { result ≡ Err fault.Unreadable → ⊥ }
+    ensures long { result ≡ Err fault.TooLong → 2 ^ 32 ≤ length bytes.now }
+{
     let length = u32::try_from(bytes.len()).or(Err(ItemFault::TooLong))?;
     put_word(out, length)?;
     out.extend_from_slice(bytes)?;

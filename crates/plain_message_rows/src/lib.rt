@@ -9,4 +9,6 @@ mod calls;
 #[cfg(test)]
 mod files;
 #[cfg(test)]
+mod items;
+#[cfg(test)]
 mod streams;

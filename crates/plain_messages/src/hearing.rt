@@ -1,4 +1,9 @@
 //! Reading a record as a call message (RFC 5531, section 9), with the tests of its header in their order.
+ghost use Rattle.std.specs.Prelude.{◌≡◌, IfOk, drop, false, is_ok, true};
+ghost use Rattle.plain_items.specs.Items.{word_at};
+ghost use Rattle.plain_messages.specs.Refused.{IsNumbered, is_call};
+ghost use Rattle.plain_messages.specs.declared.hearing.Heard.TheVariants as heard;
+ghost use Rattle.plain_messages.specs.declared.hearing.PlainRefusal.TheVariants as refusal;
 
 use crate::arguments::read_nfs_call;
 use crate::mounting::read_mount_call;
@@ -49,8 +54,13 @@ struct Header<'a> {
 
 /// What a record is. The tests come in this order: the first three words, the version of RPC, whether the
 /// header can be read, the credential, the program, its version, the procedure, the arguments.
-pub fn hear(alloc: Global, record: &[u8]) -> Heard {
-    let mut reader = ItemReader::new(record);
+pub fn hear(alloc: Global, message: &[u8]) -> Heard
+    ensures number { IsNumbered message.now result }
+    ensures closed { is_call message.now ≡ false → result ≡ heard.Closed }
+    ensures version { is_call message.now ≡ true → (word_at (drop 8 message.now) ≡ 2 → ⊥)
+        → result ≡ heard.Refused (word_at message.now) refusal.RpcVersion }
+{
+    let mut reader = ItemReader::new(message);
     let Ok((xid, version)) = read_opening(&mut reader) else {
         return Heard::Closed;
     };
@@ -72,7 +82,11 @@ pub fn hear(alloc: Global, record: &[u8]) -> Heard {
 }
 
 // The number of the message and the version of RPC. What isn't a call is unreadable.
-fn read_opening(reader: &mut ItemReader<'_>) -> Result<(u32, u32), ItemFault> {
+fn read_opening(reader: &mut ItemReader<'_>) -> Result<(u32, u32), ItemFault>
+    ensures is { IfOk result (λ opening. (opening.0 ≡ word_at reader.old)
+        × (opening.1 ≡ word_at (drop 8 reader.old))) }
+    ensures known { is_ok result ≡ is_call reader.old }
+{
     let xid = reader.word()?;
     let kind = reader.word()?;
     let version = reader.word()?;

@@ -1,4 +1,7 @@
 //! Writing a reply message behind its mark (RFC 5531, sections 9 and 11).
+ghost use Rattle.std.specs.Prelude.{◌≡◌, ◌∷◌, ◌++◌, [], length, IfOk, IfErr, OnOk};
+ghost use Rattle.plain_items.specs.declared.fault.ItemFault.TheVariants.{NoMemory};
+ghost use Rattle.plain_messages.specs.Refused.{accepted, denied, recorded, refusing, words};
 
 use crate::hearing::PlainRefusal;
 use crate::mounting::put_mount_result;
@@ -22,7 +25,9 @@ pub fn done(alloc: Global, xid: u32, reply: &ProgramReply) -> Result<Vec<u8>, It
 }
 
 /// The record that answers a call with a refusal.
-pub fn refused(alloc: Global, xid: u32, refusal: PlainRefusal) -> Result<Vec<u8>, ItemFault> {
+pub fn refused(alloc: Global, xid: u32, refusal: PlainRefusal) -> Result<Vec<u8>, ItemFault>
+    ensures { IfOk result (λ whole. whole.items ≡ recorded (words (xid ∷ refusing refusal))) }
+{
     let mut message = Vec::new(alloc);
     match refusal {
         PlainRefusal::RpcVersion => put_denied(&mut message, xid, &[0, 2, 2])?,
@@ -41,25 +46,33 @@ pub fn refused(alloc: Global, xid: u32, refusal: PlainRefusal) -> Result<Vec<u8>
 }
 
 // The beginning of a reply to a call that is accepted: a verifier without bytes, and what came of the call.
-fn put_accepted(message: &mut Vec<u8>, xid: u32, state: u32) -> Result<(), ItemFault> {
+fn put_accepted(message: &mut Vec<u8>, xid: u32, state: u32) -> Result<(), ItemFault>
+    ensures { OnOk result (message.new.items ≡ message.old.items ++ words (xid ∷ accepted (state ∷ []))) }
+{
     put_words(message, &[xid, 1, 0, 0, 0, state])
 }
 
 // A reply to a call that is denied, with what it is denied for.
-fn put_denied(message: &mut Vec<u8>, xid: u32, cause: &[u32]) -> Result<(), ItemFault> {
+fn put_denied(message: &mut Vec<u8>, xid: u32, cause: &[u32]) -> Result<(), ItemFault>
+    ensures { OnOk result (message.new.items ≡ message.old.items ++ words (xid ∷ denied cause.now)) }
+{
     put_words(message, &[xid, 1, 1])?;
     put_words(message, cause)
 }
 
-fn put_words(message: &mut Vec<u8>, words: &[u32]) -> Result<(), ItemFault> {
-    for word in words {
-        put_word(message, *word)?;
+fn put_words(message: &mut Vec<u8>, numbers: &[u32]) -> Result<(), ItemFault>
+    ensures { OnOk result (message.new.items ≡ message.old.items ++ words numbers.now) }
+{
+    for number in numbers {
+        put_word(message, *number)?;
     }
     Ok(())
 }
 
 // A message as the one fragment of a record.
-fn marked(alloc: Global, message: &[u8]) -> Result<Vec<u8>, ItemFault> {
+fn marked(alloc: Global, message: &[u8]) -> Result<Vec<u8>, ItemFault>
+    ensures { IfOk result (λ whole. whole.items ≡ recorded message.now) }
+{
     let length = u32::try_from(message.len()).or(Err(ItemFault::TooLong))?;
     if length >= LAST {
         return Err(ItemFault::TooLong);

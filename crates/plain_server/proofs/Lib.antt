@@ -1,4 +1,5 @@
 pub mod Few
 pub mod Found
 pub mod Placed
+pub mod Rising
 pub mod Steps

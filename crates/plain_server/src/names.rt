@@ -1,10 +1,10 @@
 //! The names in a directory (RFC 1813, section 3.2).
-ghost use Rattle.std.specs.Prelude.{◌≡◌, IfSome, IfNone, OnOk, OnErr, Some, None, filter, map, not, position};
+ghost use Rattle.std.specs.Prelude.{◌≡◌, IfSome, IfNone, OnOk, OnErr, Some, None, filter, is_some, map, not, position};
 ghost use Rattle.std.specs.Cmp.Lexicographic.{slice_cmp};
 ghost use Rattle.std.specs.FinMap as finmap;
 ghost use Rattle.std.specs.FinMap.{put};
-ghost use Rattle.std.specs.Ordering.{eq_by_cmp, is_le, nat_cmp};
-ghost use Rattle.plain_server.specs.Named.{entry_of, place_of};
+ghost use Rattle.std.specs.Ordering.{eq_by_cmp, is_le, is_lt, nat_cmp};
+ghost use Rattle.plain_server.specs.Named.{are_sorted, entry_of, place_of};
 
 use nfs_types::Octets;
 use std::alloc::{AllocError, Global};
@@ -59,6 +59,18 @@ impl PlainNames {
         }
     }
 
+    /// The names of these entries, where each is greater than the one before it.
+    pub fn of_rising(entries: Vec<PlainEntry>) -> Option<PlainNames>
+        ensures some { IfSome result (λ names. finmap.entries names ≡ map entry_of entries.items) }
+        ensures rising { is_some result ≡ are_sorted entries.items }
+    {
+        if do_names_rise(&entries) {
+            Some(PlainNames { entries })
+        } else {
+            None
+        }
+    }
+
     /// The entries by rising names.
     pub fn as_slice(&self) -> &[PlainEntry]
         ensures { map entry_of result.now ≡ finmap.entries self.now }
@@ -109,6 +121,19 @@ fn is_at_most(one: &[u8], other: &[u8]) -> bool
     ensures { result ≡ is_le (slice_cmp nat_cmp one.now other.now) }
 {
     one.cmp(other).is_le()
+}
+
+fn is_below(one: &[u8], other: &[u8]) -> bool
+    ensures { result ≡ is_lt (slice_cmp nat_cmp one.now other.now) }
+{
+    one.cmp(other).is_lt()
+}
+
+// Whether each name is below the one behind it.
+fn do_names_rise(entries: &[PlainEntry]) -> bool
+    ensures { result ≡ are_sorted entries.now }
+{
+    entries.is_sorted_by(|one, next| is_below(one.name.as_slice(), next.name.as_slice()))
 }
 
 // Where the entry of a name stands.

@@ -1,8 +1,9 @@
 //! The sequential server with all its procedures computed over a tree in memory: one call after another,
-//! each proved
-//! to be a step.
+//! each proved to be a step.
 #![tactic(auto)]
 
 mod answering;
+mod changing;
+mod telling;
 
 pub use answering::{answer, answer_changing, answer_reading};

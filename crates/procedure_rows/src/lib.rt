@@ -4,6 +4,8 @@
 #[cfg(test)]
 mod changes;
 #[cfg(test)]
+mod crowded;
+#[cfg(test)]
 mod listings;
 #[cfg(test)]
 mod renames;

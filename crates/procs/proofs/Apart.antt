@@ -80,18 +80,18 @@ module _ (g : Geometry) (handle : List ℕ) where
     lies_apart k object is (inode n names at) (inode m others there) over =
         never (sym (one_inode n m addr object.addr (one_number n m names others) at there)
         ∙ not_seen objects addr k object is new)
-    lies_apart k object is (inode n names at) (indirect m other block others before so some whole) over =
+    lies_apart k object is (inode n names at) (indirect m other block others before bears so some whole) over =
         let below = in_table n addr names.within at in
         let from = (is_data_block g handle (take k objects) object.addr m other block before so some whole).0 in
         let same : addr.block.0 ≡ object.addr.block.0 = ap (λ (b : BlockNo). b.0) over.0 in
         omega (arith, below, from, same)
-    lies_apart k object is (indirect n one block names read so some whole) (inode m others there) over =
+    lies_apart k object is (indirect n one block names read bears so some whole) (inode m others there) over =
         let below = in_table m object.addr others.within there in
         let from = (is_data_block g handle objects addr n one block read so some whole).0 in
         let same : addr.block.0 ≡ object.addr.block.0 = ap (λ (b : BlockNo). b.0) over.0 in
         omega (arith, below, from, same)
-    lies_apart k object is (indirect n one block names read so some whole)
-        (indirect m other block' others before' so' some' whole') over =
+    lies_apart k object is (indirect n one block names read bears so some whole)
+        (indirect m other block' others before' bears' so' some' whole') over =
         never (sym (is_same addr object.addr (ap (λ (b : BlockNo). b.0) over.0) (whole.1 ∙ sym whole'.1)
         (whole.2 ∙ sym whole'.2))
         ∙ not_seen objects addr k object is new)

@@ -1,5 +1,5 @@
 -- What a plan stops for is what its call asks for, and lies among the homes of the image.
-use Rattle.std.proofs.Common.{◌≡◌, ℕ, ◌<◌, ◌≤◌, sym, ap, ◌∙◌, refl, subst, List, true, false}
+use Rattle.std.proofs.Common.{◌≡◌, ◌≢◌, ℕ, ◌<◌, ◌≤◌, sym, ap, ◌∙◌, refl, subst, List, true, false}
 use Rattle.std.proofs.Common.{arith, Ok, Err, Bool, cond, ◌&&◌, Option, Some, None, nat_eq, nat_le, nat_lt}
 use Rattle.std.specs.List.{list_all}
 use Rattle.std.proofs.lemmas.Bool.Decides.{nat_tests}
@@ -24,26 +24,30 @@ use Rattle.layout.specs.declared.inode.Inode.{Inode}
 use Rattle.procs.proofs.AllTests.{all_two, is_less, no_more}
 use Rattle.layout.proofs.AllNumbers.{map_is}
 use Rattle.procs.proofs.InodeThere.{data_of}
-use Rattle.procs.specs.Asks.{Asks, AsksOfFile, IsAskedInode, IsAskedOfFile, IsAskedWhole, WasReadInode}
+use Rattle.procs.specs.Asks.{Asks, AsksOfFile, IsAskedInode, IsAskedOfFile, IsAskedWhole, NamesInode}
+use Rattle.procs.specs.Asks.{WasReadInode}
 use Rattle.procs.specs.Asks.{inode, indirect}
 use Rattle.procs.specs.declared.snap.Snap.{Snap}
 use Rattle.procs.specs.declared.stop.Stop.{Stop}
 use Rattle.procs.specs.declared.stop.Stop.TheVariants.{Need, Io, NoMemory}
 
 module _ (snap : Snap) (handle : List ℕ) (number : ℕ) (stamp : Stamp)
-    (spelled : handle ≡ handle_bytes number stamp) (within : number < snap.geometry.inodes) where
-  pub asks_inode : (why : Stop) → IsAskedInode snap.geometry number why → IsAskedOfFile snap handle why
-  asks_inode (Need addr) at = inode number (record { stamp = stamp; spelled = spelled; within = within }) at
-  asks_inode Io at = tt
-  asks_inode NoMemory at = tt
+    (spelled : handle ≡ handle_bytes number stamp) (some : number ≢ 0) (within : number < snap.geometry.inodes)
+  where
+    abbrev names : NamesInode snap.geometry handle number
+    names = record { stamp = stamp; spelled = spelled; some = some; within = within }
 
-  pub asks_indirect : (one : Inode) → WasReadInode snap.geometry snap.objects.items number one
-      → (why : Stop) → IsAskedWhole one.indirect why → IsAskedOfFile snap handle why
-  asks_indirect one read (Need addr) at =
-      indirect number one at.0 (record { stamp = stamp; spelled = spelled; within = within }) read at.1
-      (λ none. at.2 (sym at.1 ∙ none)) at.3
-  asks_indirect one read Io at = tt
-  asks_indirect one read NoMemory at = tt
+    pub asks_inode : (why : Stop) → IsAskedInode snap.geometry number why → IsAskedOfFile snap handle why
+    asks_inode (Need addr) at = inode number names at
+    asks_inode Io at = tt
+    asks_inode NoMemory at = tt
+
+    pub asks_indirect : (one : Inode) → WasReadInode snap.geometry snap.objects.items number one
+        → one.stamp ≡ stamp → (why : Stop) → IsAskedWhole one.indirect why → IsAskedOfFile snap handle why
+    asks_indirect one read bears (Need addr) at =
+        indirect number one at.0 names read bears at.1 (λ none. at.2 (sym at.1 ∙ none)) at.3
+    asks_indirect one read bears Io at = tt
+    asks_indirect one read bears NoMemory at = tt
 
 -- ---- an inode that was read names data blocks
 
@@ -104,7 +108,7 @@ module _ (g : Geometry) (handle : List ℕ) (objects : List ObjectBytes) (addr :
   of_file_is_home (inode number names at) =
       let rules = g.lawful.1 in
       (omega (arith, at.block), omega (arith, at.block, names.within, rules.2, rules.3))
-  of_file_is_home (indirect number one block names read is some whole) =
+  of_file_is_home (indirect number one block names read bears is some whole) =
       let lies = is_data_block number one block read is some whole in
       let from = lies.0 in
       (omega (arith, from), lies.1)

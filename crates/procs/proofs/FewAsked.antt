@@ -36,14 +36,14 @@ still_read objects more addr bytes was = record {
 still_of_file : (g : Geometry) (handle : List ℕ) (objects more : List ObjectBytes) (addr : Addr)
     → AsksOfFile g handle objects addr → AsksOfFile g handle (objects ++ more) addr
 still_of_file g handle objects more addr (inode number names at) = inode number names at
-still_of_file g handle objects more addr (indirect number one block names was is some whole) =
+still_of_file g handle objects more addr (indirect number one block names was bears is some whole) =
     indirect number one block names (record {
       addr = was.addr;
       at = was.at;
       bytes = was.bytes;
       read = still_read objects more was.addr was.bytes was.read;
       is_inode = was.is_inode;
-    }) is some whole
+    }) bears is some whole
 
 pub stays : (g : Geometry) (asked : Call) (objects more : List ObjectBytes) (addr : Addr)
     → Asks g asked objects addr → Asks g asked (objects ++ more) addr
@@ -143,7 +143,7 @@ module _ (g : Geometry) (handle : List ℕ) where
   first_asked : (addr : Addr) → AsksOfFile g handle [] addr → (number : ℕ) × NamesInode g handle number
       × IsInodeAddr g number addr
   first_asked addr (inode number names at) = (number, names, at)
-  first_asked addr (indirect number one block names was is some whole) =
+  first_asked addr (indirect number one block names was bears is some whole) =
       let less = was.read.there.1 in absurd (omega (arith, less))
 
   -- it is asked for once
@@ -187,7 +187,7 @@ module _ (g : Geometry) (handle : List ℕ) where
       second_asked (inode m others there) =
           let begins = first_asked a.addr first in
           absurd (no_second begins.0 m a.addr b.addr begins.1 others begins.2 there new)
-      second_asked (indirect m one block others was is some whole) =
+      second_asked (indirect m one block others was bears is some whole) =
           (one, block, inode_in m one was, is, whole)
 
       -- and there is no third
@@ -196,7 +196,7 @@ module _ (g : Geometry) (handle : List ℕ) where
       no_third c other another second (inode m others there) =
           let begins = first_asked a.addr first in
           no_second begins.0 m a.addr c.addr begins.1 others begins.2 there other
-      no_third c other another second (indirect m one block others was is some whole) =
+      no_third c other another second (indirect m one block others was bears is some whole) =
           let before = second_asked second in
           let same : before.0 ≡ one =
           some_same before.0 one (sym before.2 ∙ inode_in_two b before.1 before.4 m one was) in

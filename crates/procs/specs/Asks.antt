@@ -24,10 +24,11 @@ pub record IsInodeAddr (g : Geometry) (number : ℕ) (addr : Addr) : Type 0 wher
   pub offset : addr.offset ≡ inode_offset number
   pub len : addr.len ≡ INODE_BYTES
 
--- the handle has the form of one that names the inode of this number
+-- the handle has the form of one that names the inode of this number; no inode has the number 0
 pub record NamesInode (g : Geometry) (handle : List ℕ) (number : ℕ) : Type 0 where
   pub stamp : Stamp
   pub spelled : handle ≡ handle_bytes number stamp
+  pub some : number ≢ 0
   pub within : number < g.inodes
 
 -- these bytes were read at the address
@@ -46,12 +47,13 @@ pub record WasReadInode (g : Geometry) (objects : List ObjectBytes) (number : �
     pub read : WasRead objects addr bytes
     pub is_inode : read_inode g bytes ≡ Ok (Some inode)
 
--- Of the file that a handle names, the inode is asked for, and then the indirect block that the inode names.
+-- Of the file that a handle names, the inode is asked for, and then the indirect block that the inode names, if
+-- the inode bears the stamp of the handle.
 pub data AsksOfFile (g : Geometry) (handle : List ℕ) (objects : List ObjectBytes) (addr : Addr) : Type 0 where
   inode : (number : ℕ) → NamesInode g handle number → IsInodeAddr g number addr
       → AsksOfFile g handle objects addr
-  indirect : (number : ℕ) (inode : Inode) (block : BlockNo) → NamesInode g handle number
-      → WasReadInode g objects number inode
+  indirect : (number : ℕ) (inode : Inode) (block : BlockNo) (names : NamesInode g handle number)
+      → WasReadInode g objects number inode → inode.stamp ≡ names.stamp
       → block.0 ≡ inode.indirect → block.0 ≢ 0 → IsWhole block addr → AsksOfFile g handle objects addr
 
 -- what a call may ask to read; one without rules asks for nothing

@@ -4,3 +4,4 @@ pub mod Behind
 pub mod CallLaws
 pub mod ReplyLaws
 pub mod ServedStreams
+pub mod CountedReplies

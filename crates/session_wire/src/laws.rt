@@ -1,6 +1,6 @@
 //! Laws of the spelling of messages and of the cutting of records. Nothing runs here: each contract is what
 //! the definitions entail.
-ghost use Rattle.std.specs.Prelude.{◌≡◌, ◌<◌, ◌≤◌, ◌↔◌, ◌++◌, ◌∷◌, [], ℕ, List, Ok, true, length};
+ghost use Rattle.std.specs.Prelude.{◌≡◌, ◌<◌, ◌≤◌, ◌↔◌, ◌^◌, ◌++◌, ◌∷◌, [], ℕ, List, Ok, true, length};
 ghost use Rattle.std.specs.Prelude.{slice_index};
 ghost use Rattle.nfs_types.specs.declared.ctx.Credential.{Credential};
 ghost use Rattle.nfs_types.specs.declared.program.ProgramCall.{ProgramCall};
@@ -8,7 +8,8 @@ ghost use Rattle.nfs_types.specs.declared.program.ProgramProcedure.{ProgramProce
 ghost use Rattle.session_wire.specs.declared.message.CallMessage.{CallMessage};
 ghost use Rattle.session_wire.specs.Calls.{SpellsCall, caller_of};
 ghost use Rattle.session_wire.specs.declared.message.ReplyMessage.{ReplyMessage};
-ghost use Rattle.session_wire.specs.Replies.{SpellsReply};
+ghost use Rattle.session_wire.specs.declared.message.ReplyBody.{ReplyBody};
+ghost use Rattle.session_wire.specs.Replies.{BodyFits, IsTooLong, SpellsReply, reply_bytes};
 ghost use Rattle.session_wire.specs.ReadingReplies.{reply_of};
 ghost use Rattle.session_wire.specs.Judging.{judged};
 
@@ -55,4 +56,12 @@ pub fn replies_share_no_spelling()
 pub fn spelled_replies_are_read()
     ensures { (p : ProgramProcedure) (bytes : List ℕ) (m : ReplyMessage) → ((i : ℕ) → slice_index bytes i < 256)
         → (SpellsReply p bytes m ↔ (reply_of p bytes ≡ Ok m)) }
+{}
+
+/// A reply that fits is too long for a record exactly where it has 2^31 bytes or more: it has no length that four bytes
+/// can't tell.
+#[tactic(auto, using(crate::proofs::CountedReplies::long_by_bytes))]
+pub fn what_fits_is_too_long_by_its_bytes_alone()
+    ensures { (xid : ℕ) (body : ReplyBody) → BodyFits body
+        → (IsTooLong xid body ↔ (2 ^ 31 ≤ length (reply_bytes xid body))) }
 {}

@@ -13,7 +13,7 @@ pub use judging::judge;
 pub use laws::{
     calls_have_one_spelling, calls_share_no_spelling, judged_calls_are_spelled,
     replies_have_one_spelling, replies_share_no_spelling, spelled_calls_are_judged_so,
-    spelled_replies_are_read,
+    spelled_replies_are_read, what_fits_is_too_long_by_its_bytes_alone,
 };
 pub use message::{
     CallMessage, Judged, MessageCredential, MessageVerifier, ReplyBody, ReplyMessage, RpcReply,

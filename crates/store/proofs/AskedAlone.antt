@@ -29,17 +29,17 @@ module _ (g : Geometry) (handle : List ℕ) (objects : List ObjectBytes) (a b : 
   of_file : AsksOfFile g handle objects a → AsksOfFile g handle objects b → Overlap a b → a ≡ b
   of_file (inode n names at) (inode m others there) over =
       one_inode n m (one_number g handle n m names others) at there
-  of_file (inode n names at) (indirect m one block others read is some whole) over =
+  of_file (inode n names at) (indirect m one block others read bears is some whole) over =
       let below = in_table n a names.within at in
       let from = (is_data_block g handle objects b m one block read is some whole).0 in
       let same : a.block.0 ≡ b.block.0 = ap (λ (k : BlockNo). k.0) over.0 in
       absurd (omega (arith, below, from, same))
-  of_file (indirect n one block names read is some whole) (inode m others there) over =
+  of_file (indirect n one block names read bears is some whole) (inode m others there) over =
       let below = in_table m b others.within there in
       let from = (is_data_block g handle objects a n one block read is some whole).0 in
       let same : a.block.0 ≡ b.block.0 = ap (λ (k : BlockNo). k.0) over.0 in
       absurd (omega (arith, below, from, same))
-  of_file (indirect n one block names read is some whole) (indirect m two other others here also more all) over =
+  of_file (indirect n one block names read bears is some whole) (indirect m two other others here too also more all) over =
       same_addr a b (ap (λ (k : BlockNo). k.0) over.0) (whole.1 ∙ sym all.1) (whole.2 ∙ sym all.2)
 
 pub asked_same : (g : Geometry) (asked : Call) (objects : List ObjectBytes) (a b : Addr) → Asks g asked objects a

@@ -20,7 +20,7 @@ use Rattle.store_promise.specs.declared.answers.Verdict.{Verdict}
 use Rattle.store_promise.specs.declared.events.Step.{Step}
 use Rattle.store_promise.specs.declared.events.Step.TheVariants as step
 use Rattle.store.specs.AtWork.{IsCoreAtWork, fetches_in, fetches_of}
-use Rattle.store.specs.Calling.{HasAnswered, HasStepped, IsCalling, IsOpenAt, IsOpenWith, IsSoFar, Outset}
+use Rattle.store.specs.Calling.{GoesTo, HasAnswered, HasStepped, IsCalling, IsOpenAt, IsOpenWith, IsSoFar, Outset}
 use Rattle.store.specs.Calling.{StandsWith, Tells}
 use Rattle.store.specs.Further.{LeavesOpen, RunsOn}
 use Rattle.store.specs.Opening.{Opened, store_of}
@@ -43,7 +43,7 @@ use Rattle.store.proofs.CallSteps.{open_of, runs_of, setting_of}
 use Rattle.store.proofs.DrivenAlone.{starts_alone}
 use Rattle.store.proofs.GoingOn.{still_at_work}
 use Rattle.store.proofs.HowFar.{some_of}
-use Rattle.store.proofs.StillOpen.{same_further}
+use Rattle.store.proofs.StillOpen.{further_then, same_further}
 
 -- ---- a call begins
 
@@ -75,6 +75,7 @@ begins o worker timely idle is with opened = record {
   });
   so_far = subst (λ (w : State). IsSoFar o None o.store (progress_of w)) (sym is) (refl, refl);
   counted = omega arith;
+  further = same_further o.store.core;
   broken = λ broken. inl broken;
 }
 
@@ -147,6 +148,7 @@ module _ (o : Outset) (now : Opened) (device : Device) (worker : State) (calling
     so_far = subst (IsSoFar o calling.entry later) (sym (tells.progress now.core.log.broken))
         (so_far_by now.core.log.broken (progress_of worker) tells.may calling.so_far);
     counted = let was = calling.counted in let more = after.failures in omega (arith, was, more);
+    further = calling.further;
     broken = λ is. failed_then o now later after (calling.broken is);
   }
 
@@ -189,6 +191,7 @@ module _ (o : Outset) (now : Opened) (device : Device) (core : CoreState) (worke
           calling.at_work;
       so_far = so_far_still o now settled still_after calling.entry (progress_of worker) calling.so_far;
       counted = let was = calling.counted in let more = opens.failures in omega (arith, was, more);
+      further = further_then o.store.core now.core core calling.further opens.further;
       broken = λ is. from (opens.failed is);
     }
 
@@ -208,6 +211,22 @@ settled_step o now device core worker opens stepped with = record {
       stepped.calling.entry worker.work.answer stepped.answer;
 }
 
+-- one store led to another, and that to a third
+gone_on : (a b c : Opened) → GoesTo a b → GoesTo b c → GoesTo a c
+gone_on a b c one two = record {
+  failures = let x = one.failures in let y = two.failures in omega (arith, x, y);
+  further = further_then a.core b.core c.core one.further two.further;
+  failed = λ broken. since (two.failed broken);
+}
+  where
+    since : HasFailed b.core.log b.device c.device → HasFailed a.core.log a.device c.device
+    since (inl broken) = before (one.failed broken)
+      where
+        before : HasFailed a.core.log a.device b.device → HasFailed a.core.log a.device c.device
+        before (inl was) = inl was
+        before (inr more) = inr (let y = two.failures in omega (arith, more, y))
+    since (inr more) = inr (let x = one.failures in omega (arith, more, x))
+
 -- the store once a call was answered
 pub settled_answer : (o : Outset) (verdict : Verdict) (now : Opened) (device : Device) (core : CoreState)
     (opens : LeavesOpen now.device now.core device core) → HasAnswered o verdict now
@@ -226,6 +245,8 @@ settled_answer o verdict now device core opens has =
         opened = open_of (setting_of has.opened.base now [] o.first entries has.last at) next.home
             (store_of device core now.boot) [] o.first entries has.last next.running;
       };
+      goes = gone_on o.store now (store_of device core now.boot) has.goes
+          (record { failures = opens.failures; further = opens.further; failed = opens.failed });
       tells = tells_still o now (store_of device core now.boot)
           (record { failures = opens.failures; further = opens.further }) has.entry verdict has.tells;
     }
@@ -278,6 +299,7 @@ again_goes o now worker stepped planning with =
             (begun_of worker.begun.tx (seen_in worker.work.snap) worker.asked.fetched) worker.asked)) planning
             was.so_far);
         counted = was.counted;
+        further = was.further;
         broken = was.broken;
       };
       ends = λ some. ends_again worker.work.job
@@ -375,6 +397,7 @@ answered o now worker ready stepped is =
             fetched = All-nil (IsFetchOver was.base now.core);
           };
         };
+        goes = record { failures = was.counted; further = was.further; failed = was.broken };
         tells = subst (λ (o2 : Option CallAnswer). IfSome o2 (λ ready. Tells o was.entry ready.verdict now)) (sym is)
             stepped.answer;
       },

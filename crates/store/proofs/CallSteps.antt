@@ -1,16 +1,22 @@
 -- A call that is under way stays so with each step of its worker, or is answered by it.
-use Rattle.std.proofs.Common.{arith, ◌≡◌, ◌∙◌, refl, sym, ap, subst, true≢false, ℕ, ◌+◌, ◌-◌, ◌≤◌, inr}
+use Rattle.std.proofs.Common.{arith, ◌≡◌, ◌∙◌, refl, sym, ap, subst, true≢false, ℕ, suc, ◌+◌, ◌-◌, ◌≤◌, inr}
 use Rattle.std.proofs.Common.{Bool, true, false, not, ◌&&◌, Option, Some, None, IfSome, Ok, is_some}
-use Rattle.std.proofs.Common.{List, [], ◌∷◌, ◌++◌, length, map, option_to_list}
+use Rattle.std.proofs.Common.{List, [], ◌∷◌, ◌++◌, drop, length, map, option_to_list}
+use Rattle.std.specs.Prelude.{nat_eq, if◌then◌else◌}
+use Rattle.std.proofs.lemmas.Bool.Decides.{nat_tests}
 use Rattle.std.proofs.lemmas.List.{append-nil}
 use Rattle.disk.specs.Crash.{Image}
+use Rattle.disk.specs.Device.{Content}
+use Rattle.disk.specs.declared.block.BlockNo.{BlockNo}
 use Rattle.model.specs.After.{Entry}
 use Rattle.model.specs.Calls.{is_answered_stable}
 use Rattle.model.specs.Step as model
 use Rattle.model.specs.Tree.{Tree}
 use Rattle.txn_law.specs.Fetch.{Fetch}
 use Rattle.wal_law.specs.Calls.{idle}
-use Rattle.wal_law.specs.Log.{Log, installed_place, settled_place}
+use Rattle.wal_law.specs.Grows.{GrowsBy}
+use Rattle.wal_law.specs.Log.{Log, installed_place, place_before, settled_place}
+use Rattle.wal_law.specs.declared.change.LogChange.{LogChange}
 use Rattle.wal_law.specs.declared.outcomes.Seq.{Seq}
 use Rattle.store_promise.specs.History.{ctx_of}
 use Rattle.store_promise.specs.OpenSince.{StandsBeside, blocks_after, file_blocks}
@@ -31,7 +37,7 @@ use Rattle.store_promise.proofs.ToldLog.{settled_is}
 use Rattle.store.specs.AtWork.{GoesOnWith, IsCoreAtWork, entry_by, fetches_of, has_committed, with_core}
 use Rattle.store.specs.Calling.{ComesTo, HasStepped, IsCalling, IsMadeFor, IsOpenAt, IsSoFar, Outset}
 use Rattle.store.specs.Calling.{Tells}
-use Rattle.store.specs.Further.{end_of}
+use Rattle.store.specs.Further.{IsFurther, end_of}
 use Rattle.store.specs.Opening.{Opened}
 use Rattle.store.specs.Stages.{IsWorkerAt, progress_of}
 use Rattle.store.specs.Telling.{told}
@@ -43,6 +49,7 @@ use Rattle.store.proofs.AtWorkStays.{some_of}
 use Rattle.store.proofs.CallStages.{IsAfter, IsStepFrom, made_so_far, made_tells, next_ok, noted, same_entries}
 use Rattle.store.proofs.CallStages.{so_far_still, so_far_then, tells_of, told_by}
 use Rattle.store.proofs.GoingWork.{has_replies}
+use Rattle.store.proofs.StillOpen.{further_then}
 
 -- ---- an open store as a run that goes on
 
@@ -160,6 +167,25 @@ begun_then : (told : Told) (made : Option Step) → told.begun ≤ (told_after t
 begun_then told None = omega arith
 begun_then told (Some made) = begun_more told.begun made
 
+some_more : (n : ℕ) → nat_eq (suc n) 0 ≡ false
+some_more n = grind (arith, nat_tests)
+
+-- a group more takes no settled place back
+settled_before : (changes : List LogChange) (none : Bool) (places : ℕ) → place_before changes places
+    ≤ (if nat_eq (length changes) 0 && none then places + 1 else place_before changes places)
+settled_before [] true places = omega arith
+settled_before [] false places = omega arith
+settled_before (change ∷ later) none places =
+    subst (λ b. place_before (change ∷ later) places ≤ (if b && none then places + 1
+    else place_before (change ∷ later) places)) (sym (some_more (length later))) (omega arith)
+
+settled_grows : (old new : Log) (group : List (BlockNo × Content)) → GrowsBy old group new
+    → settled_place old ≤ settled_place new
+settled_grows old new group grown =
+    subst (λ n. settled_place old ≤ place_before (drop n new.changes) new.places) (sym grown.logged)
+    (subst (λ n. settled_place old ≤ n) (sym (grown.place old.logged (omega arith)))
+    (settled_before (drop old.logged old.changes) (nat_eq (length group) 0) old.places))
+
 same_at : (a b : Job) (s r : Stage) → At a s ≡ At b r → (a ≡ b) × (s ≡ r)
 same_at a b s r same = (cc, cc)
 
@@ -260,6 +286,7 @@ module _ (o : Outset) (now : Opened) (worker : State) (new : Side) (made : Optio
         so_far = subst (IsSoFar o calling.entry later) (sym progress_is)
             (so_far_by made (progress_of worker) uncommitted calling.so_far may);
         counted = calling.counted;
+        further = further_then o.store.core now.core new.core calling.further after.further;
         broken = λ is. calling.broken (sym (ap (λ (l : Log). l.broken) log_is) ∙ is);
       }
 
@@ -365,6 +392,20 @@ module _ (o : Outset) (now : Opened) (worker : State) (new : Side) (made : Optio
         broken_is = ap (λ l. l.broken) (sym told_then.log)
             ∙ ap (λ (m : Option Step). (told_after t (event.Work 0) m).log.broken) commit.made_is
 
+        longer : end_of new.core.log - 0 ≡ end_of now.core.log - 0 + commit.added
+        longer = ap (λ l. l.appended) (sym told_then.log)
+            ∙ ap (λ (m : Option Step). (told_after t (event.Work 0) m).log.appended) commit.made_is
+
+        further_made : IsFurther now.core new.core
+        further_made = record {
+          begun = let more = begun_then t made in let is = told_then.begun in omega (arith, more, is);
+          places = let one = goes_with.taken.took.places in omega (arith, one);
+          positions = let is = longer in omega (arith, is);
+          settled = settled_grows now.core.log new.core.log goes_with.taken.took.group.group
+              goes_with.taken.took.group.grown;
+          broken = λ is. broken_is ∙ is;
+        }
+
         calling_made : IsCalling o later (told new.worker)
         calling_made = record {
           entry = Some e;
@@ -383,6 +424,7 @@ module _ (o : Outset) (now : Opened) (worker : State) (new : Side) (made : Optio
           so_far = subst (IsSoFar o (Some e) later) (sym progress_then)
               (made_so_far o later e is_of.begun commit.place place_is);
           counted = calling.counted;
+          further = further_then o.store.core now.core new.core calling.further further_made;
           broken = λ is. calling.broken (sym broken_is ∙ is);
         }
 

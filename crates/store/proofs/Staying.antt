@@ -1,5 +1,5 @@
 -- A store that stays open from one device call to the next, and what each stop leaves of it.
-use Rattle.std.proofs.Common.{arith, ◌≡◌, sym, subst, ℕ, ◌≤◌, inl, inr, List}
+use Rattle.std.proofs.Common.{arith, ◌≡◌, refl, sym, subst, ℕ, ◌≤◌, inl, inr, List, [], ◌∷◌, ◌++◌}
 use Rattle.std.proofs.lemmas.Bool.{cases_order}
 use Rattle.disk.specs.Crash.{Image, IsCrashImage}
 use Rattle.disk.specs.Device.{Device}
@@ -11,7 +11,7 @@ use Rattle.wal_law.specs.Calls.{Pending, idle}
 use Rattle.wal_law.specs.Log.{settled_place}
 use Rattle.disk.specs.Blocks.{AreBlocks}
 use Rattle.store_promise.specs.OpenSince.{HasKeptFiles, IsOpenSince, KeepsFiles, LeavesBeginning}
-use Rattle.store.specs.SettlingStops.{KeepsPrefixes, StayOpen}
+use Rattle.store.specs.SettlingStops.{AfterCall, GoesByCalls, KeepsPrefixes, StayOpen}
 use Rattle.store.proofs.Later.{earlier, past_more, past_none, some_image}
 
 -- nothing was left yet
@@ -25,6 +25,8 @@ still_open d core = λ base boot first last entries since. record {
   past = past_none d;
   left = none_left d boot first entries _;
   further = omega arith;
+  calls = [];
+  by_calls = (refl, refl);
   base = base;
   since = since;
 }
@@ -63,6 +65,18 @@ kept_along before mid later boot settled more first entries one two few was then
           (then_ clock image (omega (arith, after)) below is)
     ]
 
+-- later calls behind earlier ones
+calls_along : (boot : ℕ) (first : Tree) (entries : List Entry) (last : Tree) (before : Device) (old : CoreState)
+    (calls : List AfterCall) (mid : Device) (core : CoreState) (more : List AfterCall) (later : Device)
+    (new : CoreState) → GoesByCalls boot first entries last before old calls mid core
+    → GoesByCalls boot first entries last mid core more later new
+    → GoesByCalls boot first entries last before old (calls ++ more) later new
+calls_along boot first entries last before old [] mid core more later new one two =
+    subst (λ (d : Device). GoesByCalls boot first entries last d old more later new) one.0
+    (subst (λ (c : CoreState). GoesByCalls boot first entries last mid c more later new) one.1 two)
+calls_along boot first entries last before old (after ∷ calls) mid core more later new one two =
+    (one.0, calls_along boot first entries last after.device after.core calls mid core more later new one.1 two)
+
 pub stay_along : (before mid later : Device) (old core new : CoreState) → StayOpen before old mid core
     → StayOpen mid core later new → StayOpen before old later new
 stay_along before mid later old core new one two = λ base boot first last entries since.
@@ -73,6 +87,9 @@ stay_along before mid later old core new one two = λ base boot first last entri
       left = kept_along before mid later boot _ _ first entries first_part.past second.past first_part.further
           first_part.left second.left;
       further = omega (arith, first_part.further, second.further);
+      calls = first_part.calls ++ second.calls;
+      by_calls = calls_along boot first entries last before old first_part.calls mid core second.calls later new
+          first_part.by_calls second.by_calls;
       base = second.base;
       since = second.since;
     }
@@ -98,6 +115,8 @@ prefixes_kept before later old new blocks now stop stays = λ base boot first la
           is.further;
       ended = λ image crash. stop is.base later new idle idle boot first last entries image is.since crash;
       further = is.further;
+      calls = is.calls;
+      by_calls = is.by_calls;
       base = is.base;
       since = is.since;
     }

@@ -29,7 +29,7 @@ use Rattle.store_promise.specs.declared.answers.Verdict.TheVariants as verdict
 use Rattle.store_promise.specs.declared.events.Cause.{Cause}
 use Rattle.store_promise.specs.declared.events.Cause.TheVariants as cause
 use Rattle.store.specs.AtWork.{IsCoreAtWork, fetches_of}
-use Rattle.store.specs.Further.{end_of}
+use Rattle.store.specs.Further.{IsFurther, end_of}
 use Rattle.store.specs.Opening.{Opened}
 use Rattle.store.specs.Settling.{HasFailed}
 use Rattle.store.specs.Stages.{IsWorkerAt, progress_of}
@@ -50,6 +50,13 @@ pub record IsOpenAt (base : Image) (store : Opened) (fetches : List Fetch) (firs
 pub record IsOpenWith (store : Opened) (first : Tree) (entries : List Entry) (last : Tree) : Type 0 where
   pub base : Image
   pub opened : IsOpenAt base store [] first entries last
+
+-- One store led to another: no failure is taken back, what is settled stays settled, no number is given back, and it
+-- breaks only with a device call that failed.
+pub record GoesTo (old new : Opened) : Type 0 where
+  pub failures : old.device.failures ≤ new.device.failures
+  pub further : IsFurther old.core new.core
+  pub failed : new.core.log.broken ≡ true → HasFailed old.core.log old.device new.device
 
 -- ---- a call
 
@@ -123,12 +130,14 @@ Tells o (Some entry) told now = IsReplyOf o entry told now ⊎ IsUnsettled o tol
 Tells o None told now = IsUnserved o told ⊎ IsRefusal o told now
 
 -- What comes of a call: the store is open with the entries that there were, and with the call's, where its procedure
--- was committed; and the answer is that procedure's, or says why there is none.
+-- was committed; it led on from the store that there was; and the answer is that procedure's, or says why there is
+-- none.
 pub record HasAnswered (o : Outset) (told : Verdict) (now : Opened) : Type 0 where
   pub entry : Option Entry
   pub last : Tree
   pub comes : ComesTo o entry last
   pub opened : IsOpenWith now o.first (o.entries ++ option_to_list entry) last
+  pub goes : GoesTo o.store now
   pub tells : Tells o entry told now
 
 -- so it does of any call that is handed over at a sound time, to a store that is open with any entries
@@ -170,6 +179,7 @@ pub record IsCalling (o : Outset) (now : Opened) (worker : State) : Type 0 where
   pub at_work : IsCoreAtWork worker now.core
   pub so_far : IsSoFar o entry now (progress_of worker)
   pub counted : o.store.device.failures ≤ now.device.failures
+  pub further : IsFurther o.store.core now.core
   pub broken : now.core.log.broken ≡ true → HasFailed o.store.core.log o.store.device now.device
 
 -- So it is after a step of the worker's own, once its entry and its answer are taken; and its answer, if it gave one,

@@ -5,6 +5,7 @@ pub mod BringingHome
 pub mod Calling
 pub mod Counts
 pub mod Driving
+pub mod Ended
 pub mod Fetches
 pub mod FormattedRun
 pub mod Formatting

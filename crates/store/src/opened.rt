@@ -62,7 +62,8 @@ pub fn close<D: CrashDisk>(store: Store<D>) -> D
 /// behind its settled start for the changes that wait, or where more than MOST_KEPT_COMMITS commits are kept;
 /// what is left, the next opening brings home. It fails only where a device call fails in it, or where a
 /// write or a barrier failed since the opening. Whatever comes of it, a store that is open for some entries stays
-/// open for them, and each stop leaves the files after a beginning of them, in which is what was settled before.
+/// open for them, and each stop leaves the files after a beginning of them, in which is what was settled before,
+/// and behind each device call what is settled by then.
 pub fn settle<D: CrashDisk>(store: &mut Store<D>) -> Result<(), Failed>
     requires { IsQuiet store.old.core.log }
     ensures out { store.new.core.out ≡ store.old.core.out }
@@ -119,6 +120,7 @@ fn log_one<D: CrashDisk>(store: &mut Store<D>) -> bool
     ensures stays { StayOpen (D.device store.old.disk) store.old.core (D.device store.new.disk) store.new.core }
     ensures model { D.keeps_model store.new.disk → D.keeps_model store.old.disk }
 {
+    a_stop_leaves_a_beginning();
     the_logger_leaves_the_store_open();
     an_open_store_keeps_its_files();
     a_device_counts_the_calls_of_its_steps();
@@ -153,6 +155,7 @@ fn install_one<D: CrashDisk>(store: &mut Store<D>) -> bool
     ensures stays { StayOpen (D.device store.old.disk) store.old.core (D.device store.new.disk) store.new.core }
     ensures model { D.keeps_model store.new.disk → D.keeps_model store.old.disk }
 {
+    a_stop_leaves_a_beginning();
     the_installer_leaves_the_store_open();
     an_open_store_keeps_its_files();
     a_device_counts_the_calls_of_its_steps();

@@ -39,6 +39,7 @@ impl Worker {
     ghost use Rattle.txn.specs.Core.{CoreState};
     ghost use Rattle.store.specs.declared.workers.parts.Phase.TheVariants.{Again, Idle, Planning, Reading};
     ghost use Rattle.store.specs.Counts.{SameFrame};
+    ghost use Rattle.store.specs.Ended.{GivesAllBack};
     ghost use Rattle.store.specs.Fetches.{FetchesOnly};
     ghost use Rattle.layout.specs.Geometry.{IsLawful};
     ghost use Rattle.store.specs.Phases.{block_due};
@@ -177,13 +178,15 @@ impl Worker {
         self.state.work.answer.take()
     }
 
-    /// Ends the worker, and what it has begun.
+    /// Ends the worker, and gives back what it has begun: its transaction, and the read that is due or was made.
+    /// What it was to answer is lost; what it committed stays, and so does what other transactions have.
     pub fn end(self, core: &mut Core<Done>)
         requires { Fits self core.old }
         ensures frame { SameFrame core.old core.new }
         ensures ended { core.new.out ≡ [] }
         ensures fetches { FetchesOnly self.state.begun.io core.old → FetchesOnly None core.new }
         ensures idle { self.state.phase ≡ Idle → core.new ≡ core.old }
+        ensures gives_back { GivesAllBack self.state.begun core.old core.new }
     {
         let Worker { state } = self;
         let State {

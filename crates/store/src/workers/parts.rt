@@ -2,6 +2,7 @@
 ghost use Rattle.std.specs.Prelude.{◌≡◌, None, []};
 ghost use Rattle.txn.specs.Out.{listed};
 ghost use Rattle.store.specs.Counts.{SameFrame};
+ghost use Rattle.store.specs.Ended.{GivesFetchBack, GivesTransactionBack};
 ghost use Rattle.store.specs.Fetches.{FetchesOnly, KeepsFetches};
 
 use super::asked::Asked;
@@ -70,6 +71,7 @@ impl Begun {
     ghost use Rattle.std.specs.Prelude.{◌≡◌, Some, None, true, is_some, []};
     ghost use Rattle.txn.specs.Out.{listed};
     ghost use Rattle.store.specs.Counts.{SameFrame};
+    ghost use Rattle.store.specs.Ended.{GivesAllBack};
     ghost use Rattle.store.specs.Fetches.{FetchesOnly};
 
     // Takes the transaction that is out.
@@ -103,6 +105,7 @@ impl Begun {
         ensures ended { core.new.out ≡ [] }
         ensures fetches { FetchesOnly self.io core.old → FetchesOnly None core.new }
         ensures none { self.tx ≡ None → self.io ≡ None → core.new ≡ core.old }
+        ensures gives_back { GivesAllBack self core.old core.new }
     {
         let Begun { tx, io } = self;
         give_up(io, core);
@@ -116,6 +119,7 @@ fn give_up(io: Option<FetchIo>, core: &mut Core<Done>)
     ensures out { core.new.out ≡ core.old.out }
     ensures fetches { FetchesOnly io core.old → FetchesOnly None core.new }
     ensures none { io ≡ None → core.new ≡ core.old }
+    ensures gives { GivesFetchBack io core.old core.new }
 {
     if let Some(io) = io {
         core.fetch_failed(io);
@@ -129,6 +133,7 @@ fn leave(tx: Option<Tx>, core: &mut Core<Done>)
     ensures ended { core.new.out ≡ [] }
     ensures fetches { KeepsFetches core.old core.new }
     ensures none { tx ≡ None → core.new ≡ core.old }
+    ensures leaves { GivesTransactionBack tx core.old core.new }
 {
     if let Some(tx) = tx {
         core.abort(tx);

@@ -53,7 +53,8 @@ returns-in_err-inode-clause-asks c =
     let same : c.from_residual.result ≡ Err c.in_err-inode.field-0.0 = search rules in
     let asks : IsAskedOfFile c.args.snap.now c.args.handle.now.bytes c.in_err-inode.field-0.0 =
     asks_inode c.args.snap.now c.args.handle.now.bytes c.in-Some.number c.in-Some.stamp
-    c.in-Some.ensures.some (omega (arith, c.if-number-snap.false)) c.in_err-inode.field-0.0
+    c.in-Some.ensures.some (omega (arith, c.if-number-eq0.false)) (omega (arith, c.if-number-snap.false))
+    c.in_err-inode.field-0.0
     c.in_err-inode.ensures.asks in
     subst (λ r. IfErr r (λ why. IsAskedOfFile c.args.snap.now c.args.handle.now.bytes why)) (sym same) asks
 
@@ -62,8 +63,9 @@ returns-in_err-used-clause-asks c =
     let same : c.from_residual-in_err-used.result ≡ Err c.in_err-used.field-0.0 = search rules in
     let asks : IsAskedOfFile c.args.snap.now c.args.handle.now.bytes c.in_err-used.field-0.0 =
     asks_indirect c.args.snap.now c.args.handle.now.bytes c.in-Some.number c.in-Some.stamp
-    c.in-Some.ensures.some (omega (arith, c.if-number-snap.false)) c.in-Some-2.inode
-    (rw c.in-Some-2.is at c.in_ok-inode.ensures.read)
+    c.in-Some.ensures.some (omega (arith, c.if-number-eq0.false)) (omega (arith, c.if-number-snap.false))
+    c.in-Some-2.inode (rw c.in-Some-2.is at c.in_ok-inode.ensures.read)
+    (stamps_same c.in-Some-2.inode.stamp c.in-Some.stamp (sym c.ne.ensures ∙ c.if-ne.false))
     c.in_err-used.field-0.0 c.in_err-used.ensures.asks in
     subst (λ r. IfErr r (λ why. IsAskedOfFile c.args.snap.now c.args.handle.now.bytes why)) (sym same) asks
 

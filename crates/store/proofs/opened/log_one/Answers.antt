@@ -1,4 +1,4 @@
-use Rattle.std.proofs.Common.{◌≡◌, ◌∙◌, ◌≤◌, ap, refl, rules, subst, sym, is_ok, Some, true, arith}
+use Rattle.std.proofs.Common.{◌≡◌, ◌∙◌, ◌≤◌, ap, refl, rules, subst, sym, is_ok, Some, true, arith, [], ◌∷◌}
 use Rattle.store_promise.specs.OpenSince.{IsOpenSince}
 use Rattle.store_promise.specs.Running.{IsLogStep, KeepsTransactions, at_rest, side}
 use Rattle.store_promise.specs.declared.events.Step.TheVariants as step
@@ -160,6 +160,21 @@ returns-clause-stays g c = λ base boot first last entries since.
       left = c.an_open_store_keeps_its_files.ensures.call d d e base core idle idle boot (settled_place core.log) first
           last entries (none_left d boot first entries (settled_place core.log)) since (omega arith) later;
       further = omega (arith, one, two);
+      calls = record { device = e; core = new } ∷ [];
+      by_calls = (
+        record {
+          call = later;
+          further = omega (arith, one, two);
+          so = record {
+            base = base;
+            since = given;
+            stops = λ image crash.
+                c.a_stop_leaves_a_beginning.ensures.files (base) e new idle idle boot first last entries image given
+                crash;
+          };
+        },
+        (refl, refl),
+      );
       base = base;
       since = given;
     }

@@ -2,8 +2,8 @@ use Rattle.std.proofs.Common.{arith, rules, ◌∙◌, refl, subst, sym, true≢
 use Rattle.procs.specs.Finished.{HasPlan}
 use Rattle.store.specs.Further.{LeavesOpen}
 use Rattle.store.proofs.CallsLeft.{stuck}
-use Rattle.store.proofs.Staying.{prefixes_kept, stay_along}
-use Rattle.store.proofs.StillOpen.{open_then}
+use Rattle.store.proofs.Staying.{prefixes_kept, stay_along, still_open}
+use Rattle.store.proofs.StillOpen.{open_then, same_open}
 use Rattle.store.specs.SettlingStops.{StayOpen}
 use Rattle.store.proofs.opened.settle.Goals.{else-is_settled-via-then-is_settled+else-not-keeps_too_many}
 use Rattle.store.proofs.opened.settle.Goals.{else-is_settled-via-else-is_settled}
@@ -35,6 +35,22 @@ returns-then-not-keeps_too_many-clause-keeps g c = λ keeps.
     prefixes_kept (g.D.CrashDisk.device c.args.store.now.disk) (g.D.CrashDisk.device c.calls.store.disk)
     c.args.store.now.core c.calls.store.core (g.met.D.CrashDisk.whole c.calls.store.disk keeps)
     c.an_open_store_keeps_its_files.ensures.now c.a_stop_leaves_a_beginning.ensures.files c.calls.invariant.9
+
+pub calls-init : goal.calls-init
+calls-init g c =
+    let device = g.D.CrashDisk.device c.args.store.now.disk in
+    let core = c.args.store.now.core in (
+      search rules,
+      search rules,
+      search rules,
+      search rules,
+      search rules,
+      search rules,
+      search rules,
+      search rules,
+      same_open device core,
+      still_open device core,
+    )
 
 pub calls-preserved : goal.calls-preserved
 calls-preserved g c =

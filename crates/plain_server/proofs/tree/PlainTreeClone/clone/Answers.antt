@@ -1,4 +1,4 @@
-use Rattle.std.proofs.Common.{ap, ◌∙◌}
+use Rattle.std.proofs.Common.{ap}
 use Rattle.std.specs.FinMap.{from_entries}
 use Rattle.plain_server.proofs.Found.{same_files}
 use Rattle.plain_server.proofs.tree.PlainTreeClone.clone.Goals as goal

@@ -1,0 +1,46 @@
+-- The records that refuse a call, and what the first words of a call's record tell (RFC 5531, sections 9 and 11).
+use Rattle.std.specs.Prelude.{◌≡◌, ⊤, ℕ, ◌+◌, ◌&&◌, nat_eq, Bool, List, [], ◌∷◌, ◌++◌, length, drop}
+use Rattle.std.specs.Int.{w32, to_be_bytes}
+use Rattle.plain_items.specs.Items.{has, word_at}
+use Rattle.plain_messages.specs.declared.hearing.Heard.{Heard}
+use Rattle.plain_messages.specs.declared.hearing.Heard.TheVariants as heard
+use Rattle.plain_messages.specs.declared.hearing.PlainRefusal.{PlainRefusal}
+use Rattle.plain_messages.specs.declared.hearing.PlainRefusal.TheVariants as refusal
+
+-- numbers of four bytes, one behind another
+abbrev pub words : List ℕ → List ℕ
+words [] = []
+words (n ∷ ns) = to_be_bytes w32 n ++ words ns
+
+-- a message as the one fragment of a record: behind a mark of its length, with the highest bit
+abbrev pub recorded : List ℕ → List ℕ
+recorded message = to_be_bytes w32 (2147483648 + length message) ++ message
+
+-- a reply to a call that is denied, and to one that is accepted with an empty verifier
+abbrev pub denied : List ℕ → List ℕ
+denied why = 1 ∷ 1 ∷ why
+
+abbrev pub accepted : List ℕ → List ℕ
+accepted state = 1 ∷ 0 ∷ 0 ∷ 0 ∷ state
+
+-- what stands behind the number of the message: for a version of RPC also the least and the greatest one, and so
+-- for a version of the program
+abbrev pub refusing : PlainRefusal → List ℕ
+refusing refusal.RpcVersion = denied (0 ∷ 2 ∷ 2 ∷ [])
+refusing refusal.BadCredential = denied (1 ∷ 1 ∷ [])
+refusing refusal.RejectedCredential = denied (1 ∷ 2 ∷ [])
+refusing refusal.Program = accepted (1 ∷ [])
+refusing refusal.Version = accepted (2 ∷ 3 ∷ 3 ∷ [])
+refusing refusal.Procedure = accepted (3 ∷ [])
+refusing refusal.Arguments = accepted (4 ∷ [])
+refusing refusal.System = accepted (5 ∷ [])
+
+-- a record that begins as a call: its number, 0, and the version of RPC
+abbrev pub is_call : List ℕ → Bool
+is_call bytes = has 12 bytes && nat_eq (word_at (drop 4 bytes)) 0
+
+-- what is heard has the number of the message
+abbrev pub IsNumbered : List ℕ → Heard → Type 0
+IsNumbered bytes heard.Closed = ⊤
+IsNumbered bytes (heard.Refused xid refusal) = xid ≡ word_at bytes
+IsNumbered bytes (heard.Call xid credential call) = xid ≡ word_at bytes
