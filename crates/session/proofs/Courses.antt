@@ -2,7 +2,7 @@
 use Rattle.std.proofs.Common.{◌≡◌, ℕ, ◌+◌, ◌-◌, ◌^◌, true, List, [], ◌∷◌, ◌++◌, length, min, take, drop, Option, Some}
 use Rattle.std.proofs.Common.{None, Result, Ok, Err, refl, sym, ap, subst, ◌∙◌, inl, inr, arith, append_assoc}
 use Rattle.std.proofs.Common.{length-append, Bool, false, leb, leb→le, le→leb, T, true≢false}
-use Rattle.std.specs.Prelude.{flat_map, ◌⊎◌}
+use Rattle.std.specs.Prelude.{flat_map, ◌⊎◌, ◌==◌}
 use Rattle.std.proofs.lemmas.List.{append-nil}
 use Rattle.std.proofs.lemmas.List.Concat.{flat_map-cons, flat_map-append}
 use Rattle.std.proofs.Math.Seq.{take-add}
@@ -345,6 +345,11 @@ serves K moment old first read left count middle told text m more next new writt
     absurd (cc x.0)
 
 -- ---- where the stream ends
+
+-- what is left isn't empty, and no whole record is there
+pub begun_of : (left : List ℕ) → IsUnfinished left → (length left == 0) ≡ false → HasBegun left
+begun_of left (inl none) some = absurd (true≢false (ap (λ (l : List ℕ). length l == 0) (sym none) ∙ some))
+begun_of left (inr begun) some = begun
 
 -- between two messages, of which no more was written
 pub ends_between : (K : Type 0) (moment : Moment) (old : Opened) (unread first : Option (List ℕ))

@@ -110,10 +110,14 @@ fn serve_all<D: CrashDisk, R: Read, W: Write>(
     'reads: for _ in 0..MOST_READS {
         match read_piece(reader, &mut piece) {
             Err(fault) => return Err(fault),
-            Ok(None) => {}
-            Ok(Some(0)) if records.is_empty() => return Ok(count),
-            Ok(Some(0)) => return Err(SessionFault::Truncated),
+            Ok(None) => continue,
             Ok(Some(read)) => {
+                if read == 0 {
+                    if records.is_empty() {
+                        return Ok(count);
+                    }
+                    return Err(SessionFault::Truncated);
+                }
                 match serve_piece(
                     alloc,
                     store,

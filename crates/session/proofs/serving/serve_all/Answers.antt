@@ -1,0 +1,150 @@
+-- Before each read the bytes so far are messages that were answered and what is left; so they are where it ends.
+use Rattle.std.proofs.Common.{rules, ◌≡◌, ◌∙◌, ◌++◌, [], ℕ, List, Option, Err, Ok, Some, IfOk, IfSome, IfNone, refl, subst, sym, inl, take}
+use Rattle.std.proofs.lemmas.List.{append-nil}
+use Rattle.std.specs.Io.KnownBytes.{Consumes, IsAtEnd, Keeps}
+use Rattle.store.specs.Opening.{Opened, store_of}
+use Rattle.session.specs.Streaming.{IsCourse, IsStream, StopsAt}
+use Rattle.session.specs.declared.serving.SessionFault.{SessionFault}
+use Rattle.session.specs.declared.serving.SessionFault.TheVariants as faults
+use Rattle.session.proofs.Courses.{begins, begun_of, ends_between, read_kept, read_more, read_none, stopped}
+use Rattle.session.proofs.serving.serve_all.Goals as goal
+
+pub reads-init : goal.reads-init
+reads-init g c =
+    let was = c.args.store.now in
+    let keeps = g.D.CrashDisk.keeps_model was.disk in
+    let old = store_of (g.D.CrashDisk.device was.disk) was.core was.boot in
+    let written = g.W.Write.contents c.args.writer.now in (
+      c.requires,
+      inl c.new-records.ensures,
+      refl,
+      λ keeps. keeps,
+      (
+        [],
+        read_none (g.R.Read.remaining c.args.reader.now),
+        subst (λ (left : List ℕ). IsCourse keeps c.args.moment old written [] left 0 old written)
+            (sym c.new-records.ensures) (begins keeps c.args.moment old written),
+      ),
+    )
+
+pub returns-in-Err-clause-stream : goal.returns-in-Err-clause-stream
+returns-in-Err-clause-stream g c =
+    let was = c.args.store.now in
+    let now = c.reads.store in
+    let keeps = g.D.CrashDisk.keeps_model now.disk in
+    let old = store_of (g.D.CrashDisk.device was.disk) was.core was.boot in
+    let new = store_of (g.D.CrashDisk.device now.disk) now.core now.boot in
+    let unread = g.R.Read.remaining c.args.reader.now in
+    let rest = g.R.Read.remaining c.read_piece.new.reader in
+    let first = g.W.Write.contents c.args.writer.now in
+    let written = g.W.Write.contents c.reads.writer in
+    let failed = c.in-Err.ensures.failed in
+    let course = c.reads.invariant.4.2 in
+    subst (λ (fault : SessionFault). IsStream keeps c.args.moment old unread first (Err fault) rest written new)
+    (sym failed.0)
+    (ends_between keeps c.args.moment old unread first (Err faults.Input) rest written new c.reads.invariant.4.0
+    c.reads.records c.reads.count
+    (read_kept unread (g.R.Read.remaining c.reads.reader) rest c.reads.invariant.4.0 c.reads.invariant.4.1 failed.1) course
+    (c.reads.invariant.1, course.told))
+
+pub returns-in-Err-serve_piece-clause-device : goal.returns-in-Err-serve_piece-clause-device
+returns-in-Err-serve_piece-clause-device g c = λ is.
+    let was = c.args.store.now in
+    let now = c.serve_piece.new.store in
+    let old = store_of (g.D.CrashDisk.device was.disk) was.core was.boot in
+    let going = c.in-Err-serve_piece.ensures.going old (g.W.Write.contents c.args.writer.now) c.reads.invariant.4.0
+    c.reads.invariant.4.2 in
+    let same : c.in-Err-serve_piece.fault ≡ faults.Device = cc is in
+    subst (λ (fault : SessionFault). StopsAt (g.D.CrashDisk.keeps_model now.disk) c.args.moment fault going.0 going.2
+    going.3 (store_of (g.D.CrashDisk.device now.disk) now.core now.boot)
+    (g.W.Write.contents c.serve_piece.new.writer)) same going.5
+
+pub returns-in-Err-serve_piece-clause-stream : goal.returns-in-Err-serve_piece-clause-stream
+returns-in-Err-serve_piece-clause-stream g c =
+    let was = c.args.store.now in
+    let now = c.serve_piece.new.store in
+    let old = store_of (g.D.CrashDisk.device was.disk) was.core was.boot in
+    let new = store_of (g.D.CrashDisk.device now.disk) now.core now.boot in
+    let unread = g.R.Read.remaining c.args.reader.now in
+    let rest = g.R.Read.remaining c.read_piece.new.reader in
+    let first = g.W.Write.contents c.args.writer.now in
+    let read = c.reads.invariant.4.0 in
+    let going = c.in-Err-serve_piece.ensures.going old first read c.reads.invariant.4.2 in
+    stopped (g.D.CrashDisk.keeps_model now.disk) c.args.moment old unread first c.in-Err-serve_piece.fault rest
+    (g.W.Write.contents c.serve_piece.new.writer) new _ going.0 going.1 going.2 going.3
+    (read_more unread (g.R.Read.remaining c.reads.reader) rest read _ c.reads.invariant.4.1
+    (subst (λ o. IfSome o (λ count. Consumes (g.R.Read.remaining c.reads.reader) rest
+    (take count c.read_piece.new.piece))) c.in-Ok-Some.field-0-is c.in-Ok-Some.ensures.some)) going.4 going.5
+
+pub reads-preserved-in-Ok-None : goal.reads-preserved-in-Ok-None
+reads-preserved-in-Ok-None g c = (
+  c.reads.invariant.0,
+  c.reads.invariant.1,
+  c.reads.invariant.2,
+  c.reads.invariant.3,
+  (
+    c.reads.invariant.4.0,
+    read_kept (g.R.Read.remaining c.args.reader.now) (g.R.Read.remaining c.reads.reader)
+        (g.R.Read.remaining c.read_piece.new.reader) c.reads.invariant.4.0 c.reads.invariant.4.1
+        (subst (λ o. IfNone o (Keeps (g.R.Read.remaining c.reads.reader)
+        (g.R.Read.remaining c.read_piece.new.reader))) c.in-Ok-None.field-0-is c.in-Ok-None.ensures.none),
+    c.reads.invariant.4.2,
+  ),
+)
+
+pub reads-preserved : goal.reads-preserved
+reads-preserved g c =
+    let was = c.args.store.now in
+    let old = store_of (g.D.CrashDisk.device was.disk) was.core was.boot in
+    let mid = g.R.Read.remaining c.reads.reader in
+    let rest = g.R.Read.remaining c.read_piece.new.reader in
+    let read = c.reads.invariant.4.0 in
+    let going = c.in-Ok.ensures.going old (g.W.Write.contents c.args.writer.now) read c.reads.invariant.4.2 in (
+      c.serve_piece.ensures.idle,
+      going.1,
+      c.serve_piece.ensures.boot ∙ c.reads.invariant.2,
+      λ keeps. c.reads.invariant.3 (c.serve_piece.ensures.model keeps),
+      (
+        read ++ take c.in-Ok-Some.read c.read_piece.new.piece,
+        read_more (g.R.Read.remaining c.args.reader.now) mid rest read _ c.reads.invariant.4.1
+            (subst (λ o. IfSome o (λ count. Consumes mid rest (take count c.read_piece.new.piece)))
+            c.in-Ok-Some.field-0-is c.in-Ok-Some.ensures.some),
+        going.0,
+      ),
+    )
+
+pub returns-then-read-eq0-clause-stream : goal.returns-then-read-eq0-clause-stream
+returns-then-read-eq0-clause-stream g c =
+    let was = c.args.store.now in
+    let now = c.reads.store in
+    let keeps = g.D.CrashDisk.keeps_model now.disk in
+    let old = store_of (g.D.CrashDisk.device was.disk) was.core was.boot in
+    let new = store_of (g.D.CrashDisk.device now.disk) now.core now.boot in
+    let unread = g.R.Read.remaining c.args.reader.now in
+    let mid = g.R.Read.remaining c.reads.reader in
+    let rest = g.R.Read.remaining c.read_piece.new.reader in
+    let piece = c.read_piece.new.piece in
+    let read = c.reads.invariant.4.0 in
+    let course = c.reads.invariant.4.2 in
+    let some = subst (λ o. IfSome o (λ count. Consumes mid rest (take count piece))) c.in-Ok-Some.field-0-is
+    c.in-Ok-Some.ensures.some in
+    let none = subst (λ n. Consumes mid rest (take n piece)) c.if-read-eq0.true some in
+    let at_end = subst (λ o. IfSome o (λ count. count ≡ 0 → IsAtEnd rest)) c.in-Ok-Some.field-0-is
+    c.in-Ok-Some.ensures.end c.if-read-eq0.true in
+    ends_between keeps c.args.moment old unread (g.W.Write.contents c.args.writer.now) (Err faults.Truncated) rest
+    (g.W.Write.contents c.reads.writer) new read c.reads.records c.reads.count
+    (subst (Consumes unread rest) (append-nil read) (read_more unread mid rest read [] c.reads.invariant.4.1 none)) course
+    (begun_of c.reads.records c.reads.invariant.1 (sym c.is_empty.ensures ∙ c.if-is_empty.false), at_end, course.told)
+
+pub returns-clause-stream : goal.returns-clause-stream
+returns-clause-stream g c =
+    let was = c.args.store.now in
+    let now = c.reads.store in
+    let keeps = g.D.CrashDisk.keeps_model now.disk in
+    let old = store_of (g.D.CrashDisk.device was.disk) was.core was.boot in
+    let new = store_of (g.D.CrashDisk.device now.disk) now.core now.boot in
+    let course = c.reads.invariant.4.2 in
+    ends_between keeps c.args.moment old (g.R.Read.remaining c.args.reader.now)
+    (g.W.Write.contents c.args.writer.now) (Err faults.Input) (g.R.Read.remaining c.reads.reader)
+    (g.W.Write.contents c.reads.writer) new c.reads.invariant.4.0 c.reads.records c.reads.count c.reads.invariant.4.1 course
+    (c.reads.invariant.1, course.told)
