@@ -6,7 +6,7 @@ use Rattle.std.specs.Prelude.{flat_map, ◌⊎◌, ◌==◌}
 use Rattle.std.proofs.lemmas.List.{append-nil}
 use Rattle.std.proofs.lemmas.List.Concat.{flat_map-cons, flat_map-append}
 use Rattle.std.proofs.Math.Seq.{take-add}
-use Rattle.std.specs.Io.KnownBytes.{Appends, Consumes, Keeps, IsAtEnd, WriteAppends}
+use Rattle.std.specs.Io.KnownBytes.{Appends, Consumes, Keeps, WriteAppends}
 use Rattle.nfs_types.specs.declared.ctx.Moment.{Moment}
 use Rattle.rpc.specs.Records.{fragment, CutsOff, HasBegun, IsRecord, IsTooLong}
 use Rattle.nfs_types.specs.declared.ctx.Credential.{Credential}
@@ -26,7 +26,7 @@ use Rattle.store.specs.Opening.{Opened}
 use Rattle.session.specs.declared.serving.SessionFault.{SessionFault}
 use Rattle.session.specs.declared.serving.SessionFault.TheVariants as faults
 use Rattle.session.specs.Replying.{IsAnswered, IsCallAnswered, IsSpelled}
-use Rattle.session.specs.Streaming.{Answered, IsCourse, IsUnfinished, IsUntouched, BeginsClosed, IsCutShort, StopsAt}
+use Rattle.session.specs.Streaming.{Answered, IsCourse, IsUnfinished, IsUntouched, IsCutShort, StopsAt}
 use Rattle.session.specs.Streaming.{EndsAt, IsCutOff, Delivers, Serves, Writes, IsStream, text_of}
 
 -- ---- known bytes
@@ -440,22 +440,6 @@ stopped K moment old unread first faults.Truncated rest written new read left co
     absurd stops
 stopped K moment old unread first faults.Device rest written new read left count middle told consumed c stops =
     absurd stops
-
--- the same stream, where the device kept its model longer
-pub longer_stream : (K L : Type 0) → (L → K) → (moment : Moment) (old : Opened) (unread first : Option (List ℕ))
-    (result : Result ℕ SessionFault) (rest written : Option (List ℕ)) (new : Opened)
-    → IsStream K moment old unread first result rest written new
-    → IsStream L moment old unread first result rest written new
-longer_stream K L so moment old unread first result rest written new s = record {
-  read = s.read;
-  messages = s.messages;
-  replies = s.replies;
-  left = s.left;
-  consumed = s.consumed;
-  cut = s.cut;
-  answered = longer_answers K L so moment old s.messages s.replies new s.answered;
-  ends = s.ends;
-}
 
 -- a stream that has ended, behind which the device failed
 pub failed_behind : (K : Type 0) (moment : Moment) (old : Opened) (unread first : Option (List ℕ)) (count : ℕ)

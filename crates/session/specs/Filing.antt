@@ -16,7 +16,7 @@ use Rattle.wal_law.specs.Log.{settled_place}
 use Rattle.txn_law.specs.Core.{CoreState}
 use Rattle.store_promise.specs.OpenSince.{LeavesBeginning}
 use Rattle.store_promise.specs.declared.answers.Verdict.{Verdict}
-use Rattle.store.specs.Calling.{HasAnswered, IsOpenWith, Outset, asked_of}
+use Rattle.store.specs.Calling.{GoesTo, HasAnswered, IsOpenWith, Outset, asked_of}
 use Rattle.store.specs.Opening.{IsSettled, Opened}
 use Rattle.session.specs.declared.serving.SessionFault.{SessionFault}
 use Rattle.session.specs.declared.serving.SessionFault.TheVariants.{Record, Input, Output, NoMemory, Truncated}
@@ -72,13 +72,14 @@ AreFiled moment old files (message ∷ messages) (reply ∷ replies) new later =
     × AreFiled moment middle between messages replies new later
 
 -- What a stream has made of the files: each message did what is said above, from the store at the call to the one
--- behind the last message. The store that is left is open for the files that there are then: those entries, and behind
--- them the stream's. Whatever a stop then leaves is good, and has the tree after a beginning of them, in which is each
--- place that is settled.
+-- behind the last message, and none took back a failure, a number or a settled place. The store that is left is open
+-- for the files that there are then: those entries, and behind them the stream's. Whatever a stop leaves once the call
+-- has returned is good, and has the tree after a beginning of them, in which is each place that is settled.
 pub record HasFiled (moment : Moment) (old : Opened) (files : Files) (messages replies : List (List ℕ))
     (served new : Opened) : Type 0 where
   pub later : Files
   pub each : AreFiled moment old files messages replies served later
+  pub goes : GoesTo old served
   pub first : later.first ≡ files.first
   pub made : List Entry
   pub grown : later.entries ≡ files.entries ++ made
@@ -97,12 +98,13 @@ IsSettledBehind (Err NoMemory) core = IsSettled core ⊎ (core.log.broken ≡ tr
 IsSettledBehind (Err Truncated) core = IsSettled core ⊎ (core.log.broken ≡ true)
 
 -- What came of serving a stream of messages at a moment, from a store and a client to what they became: what was
--- answered and written, and how it ended. And where the device keeps its model, the moment is sound and the store was
+-- answered and written, how it ended, and what the settling behind the last message led to. And where the device keeps its model, the moment is sound and the store was
 -- open for some files, what it made of them.
 pub record IsServed (keeps_model : Type 0) (moment : Moment) (old : Opened) (unread first : Option (List ℕ))
     (result : Result ℕ SessionFault) (rest written : Option (List ℕ)) (new : Opened) : Type 0 where
   pub served : Opened
   pub stream : IsStream keeps_model moment old unread first result rest written served
+  pub goes : GoesTo served new
   pub settled : IsSettledBehind result new.core
   pub files : (files : Files) → keeps_model → SoundTime moment → IsOpenFor old files
       → HasFiled moment old files stream.messages stream.replies served new

@@ -1,5 +1,5 @@
 -- What comes of serving a stream.
-use Rattle.std.specs.Prelude.{◌≡◌, ⊤, ℕ, List, Option, Result, Ok, Err}
+use Rattle.std.specs.Prelude.{⊤, ℕ, List, Option, Result, Ok, Err}
 use Rattle.std.specs.Io.KnownBytes.{IsAtEnd}
 use Rattle.nfs_types.specs.declared.ctx.Moment.{Moment}
 use Rattle.nfs_types.specs.declared.program.ProgramReply.TheVariants as replies

@@ -4,7 +4,6 @@ use Rattle.std.specs.Prelude.{Result, Ok, Err}
 use Rattle.std.specs.Io.KnownBytes.{Appends, Consumes, IsAtEnd}
 use Rattle.nfs_types.specs.declared.ctx.Moment.{Moment}
 use Rattle.rpc.specs.Records.{fragment, CutsOff, HasBegun, IsRecord, IsTooLong}
-use Rattle.session_wire.specs.declared.message.Judged.{Judged}
 use Rattle.session_wire.specs.declared.message.Judged.TheVariants.{Closed}
 use Rattle.session_wire.specs.Judging.{judged}
 use Rattle.store.specs.Opening.{Opened}

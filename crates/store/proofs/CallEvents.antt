@@ -212,7 +212,7 @@ settled_step o now device core worker opens stepped with = record {
 }
 
 -- one store led to another, and that to a third
-gone_on : (a b c : Opened) → GoesTo a b → GoesTo b c → GoesTo a c
+pub gone_on : (a b c : Opened) → GoesTo a b → GoesTo b c → GoesTo a c
 gone_on a b c one two = record {
   failures = let x = one.failures in let y = two.failures in omega (arith, x, y);
   further = further_then a.core b.core c.core one.further two.further;

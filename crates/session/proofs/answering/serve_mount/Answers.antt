@@ -1,4 +1,4 @@
-use Rattle.std.proofs.Common.{◌≡◌, inl, subst, List, ℕ}
+use Rattle.std.proofs.Common.{inl, subst}
 use Rattle.nfs_types.specs.declared.mount.MountReply.{MountReply}
 use Rattle.nfs_types.specs.declared.program.ProgramReply.TheVariants as replies
 use Rattle.session_wire.specs.declared.message.ReplyBody.TheVariants as bodies

@@ -1,4 +1,4 @@
-use Rattle.std.proofs.Common.{◌≡◌, inl, subst, List, ℕ}
+use Rattle.std.proofs.Common.{inl, subst, List, ℕ}
 use Rattle.session_wire.specs.declared.message.ReplyBody.TheVariants as bodies
 use Rattle.session_wire.specs.Judging.{judged, Judges}
 use Rattle.session_wire.specs.declared.message.Judged.{Judged}

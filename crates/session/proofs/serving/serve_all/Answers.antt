@@ -1,8 +1,8 @@
 -- Before each read the bytes so far are messages that were answered and what is left; so they are where it ends.
-use Rattle.std.proofs.Common.{rules, ◌≡◌, ◌∙◌, ◌++◌, [], ℕ, List, Option, Err, Ok, Some, IfOk, IfSome, IfNone, refl, subst, sym, inl, take}
+use Rattle.std.proofs.Common.{◌≡◌, ◌∙◌, ◌++◌, [], ℕ, List, Err, IfSome, IfNone, refl, subst, sym, inl, take}
 use Rattle.std.proofs.lemmas.List.{append-nil}
 use Rattle.std.specs.Io.KnownBytes.{Consumes, IsAtEnd, Keeps}
-use Rattle.store.specs.Opening.{Opened, store_of}
+use Rattle.store.specs.Opening.{store_of}
 use Rattle.session.specs.Streaming.{IsCourse, IsStream, StopsAt}
 use Rattle.session.specs.declared.serving.SessionFault.{SessionFault}
 use Rattle.session.specs.declared.serving.SessionFault.TheVariants as faults

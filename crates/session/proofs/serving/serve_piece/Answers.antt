@@ -1,4 +1,4 @@
-use Rattle.std.proofs.Common.{◌≡◌, ◌++◌, refl, inl, ℕ, List, subst, sym}
+use Rattle.std.proofs.Common.{◌++◌, refl, inl, ℕ, List, subst, sym}
 use Rattle.store.specs.Opening.{store_of}
 use Rattle.session.specs.Streaming.{IsCourse}
 use Rattle.session.proofs.Courses.{feeds, none_more}

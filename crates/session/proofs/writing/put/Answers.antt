@@ -1,4 +1,4 @@
-use Rattle.std.proofs.Common.{◌≡◌, inl, inr, List, ℕ}
+use Rattle.std.proofs.Common.{inl, inr}
 use Rattle.session_wire.specs.Replies.{body_of}
 use Rattle.session.specs.Replying.{IsSpelled, IsSystemError}
 use Rattle.session.proofs.Courses.{delivers_so, has_spelling, none_more}

@@ -1,4 +1,4 @@
-use Rattle.std.proofs.Common.{◌≡◌, ◌≤◌, ◌+◌, ◌++◌, length, take, drop, sym, ap, subst, arith, ◌∙◌, List, ℕ}
+use Rattle.std.proofs.Common.{length, take, drop, sym, ap, subst, arith, List, ℕ}
 use Rattle.std.proofs.lemmas.List.{take-append-drop, length-drop, take_rest}
 use Rattle.std.specs.Io.KnownBytes.{Appends}
 use Rattle.session.proofs.Courses.{then_kept, wrote_none, wrote_some}

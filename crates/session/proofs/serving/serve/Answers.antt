@@ -1,0 +1,99 @@
+-- What the stream came to, and what was settled behind it.
+use Rattle.std.proofs.Common.{rules, ◌≡◌, ◌∙◌, Err, ap, refl, subst, sym}
+use Rattle.store.proofs.StillOpen.{same_open}
+use Rattle.store.specs.Opening.{store_of}
+use Rattle.store.specs.Settling.{IsIdle}
+use Rattle.session.specs.Serving.{IsEnded, client_of, has_served}
+use Rattle.session.specs.Filing.{IsSettledBehind}
+use Rattle.session.specs.declared.serving.SessionFault.{SessionFault}
+use Rattle.session.specs.declared.serving.SessionFault.TheVariants as faults
+use Rattle.session.proofs.Courses.{failed_behind}
+use Rattle.session.proofs.Filed.{served_behind, settled_after}
+use Rattle.session.proofs.serving.serve.Goals as goal
+
+pub returns-in-Err-Output-clause-stream : goal.returns-in-Err-Output-clause-stream
+returns-in-Err-Output-clause-stream g c =
+    let was = c.args.store.now in
+    let served = c.serve_all-served.new.store in
+    let device = g.D.CrashDisk.device in
+    let keeps = g.D.CrashDisk.keeps_model served.disk in
+    let output : c.serve_all-served.result ≡ Err faults.Output = search rules in
+    served_behind keeps keeps (λ kept. kept) c.args.moment (store_of (device was.disk) was.core was.boot)
+    (g.R.Read.remaining c.args.reader.now) (g.W.Write.contents c.args.writer.now) c.serve_all-served.result
+    (g.R.Read.remaining c.serve_all-served.new.reader) (g.W.Write.contents c.serve_all-served.new.writer)
+    (store_of (device served.disk) served.core served.boot) (device served.disk) served.core served.boot
+    (same_open (device served.disk) served.core) refl c.serve_all-served.ensures.stream
+    (subst (λ r. IsSettledBehind r served.core) (sym output) tt)
+    c.a_stop_leaves_a_beginning.ensures.files
+
+pub returns-in-Err : goal.returns-in-Err
+returns-in-Err g c =
+    let was = c.args.store.now in
+    let now = c.settle.new.store in
+    let device = g.D.CrashDisk.device in
+    let idle : IsIdle now.core = search rules in
+    record {
+      idle = idle;
+      boot = c.settle.ensures.boot ∙ c.serve_all-served.ensures.boot;
+      model = λ kept. c.serve_all-served.ensures.model (c.settle.ensures.model kept);
+      served = has_served (store_of (device was.disk) was.core was.boot)
+          (client_of (g.R.Read.remaining c.args.reader.now) (g.W.Write.contents c.args.writer.now)) c.args.moment
+          c.serve_all-served.result (store_of (device now.disk) now.core now.boot)
+          (client_of (g.R.Read.remaining c.serve_all-served.new.reader) (g.W.Write.contents c.serve_all-served.new.writer))
+          (record {
+            idle = idle;
+            ended = subst (λ r. IsEnded r (store_of (device now.disk) now.core now.boot)
+                (client_of (g.R.Read.remaining c.serve_all-served.new.reader)
+                (g.W.Write.contents c.serve_all-served.new.writer))) (sym c.in-Err.is) tt;
+          });
+      stream =
+          let served = c.serve_all-served.new.store in
+          let keeps = g.D.CrashDisk.keeps_model in
+          let fault = c.in-Err.field-0 in
+          served_behind (keeps served.disk) (keeps now.disk) c.settle.ensures.model c.args.moment
+          (store_of (device was.disk) was.core was.boot) (g.R.Read.remaining c.args.reader.now)
+          (g.W.Write.contents c.args.writer.now) c.serve_all-served.result
+          (g.R.Read.remaining c.serve_all-served.new.reader) (g.W.Write.contents c.serve_all-served.new.writer)
+          (store_of (device served.disk) served.core served.boot) (device now.disk) now.core now.boot
+          c.settle.ensures.open c.settle.ensures.boot c.serve_all-served.ensures.stream
+          (subst (λ r. IsSettledBehind r now.core) (sym c.in-Err.is)
+          (settled_after fault now.core c.settle.result
+          (λ is. c.serve_all-served.ensures.device (c.in-Err.is ∙ ap (λ (f : SessionFault). Err f) is))
+          c.settle.ensures.settled c.settle.ensures.broken))
+          c.a_stop_leaves_a_beginning.ensures.files;
+    }
+
+pub returns-in-Ok-settle-clause-stream : goal.returns-in-Ok-settle-clause-stream
+returns-in-Ok-settle-clause-stream g c =
+    let was = c.args.store.now in
+    let served = c.serve_all-served.new.store in
+    let now = c.settle-in-Ok.new.store in
+    let device = g.D.CrashDisk.device in
+    let keeps = g.D.CrashDisk.keeps_model in
+    served_behind (keeps served.disk) (keeps now.disk) c.settle-in-Ok.ensures.model c.args.moment
+    (store_of (device was.disk) was.core was.boot) (g.R.Read.remaining c.args.reader.now)
+    (g.W.Write.contents c.args.writer.now) c.serve_all-served.result
+    (g.R.Read.remaining c.serve_all-served.new.reader) (g.W.Write.contents c.serve_all-served.new.writer)
+    (store_of (device served.disk) served.core served.boot) (device now.disk) now.core now.boot
+    c.settle-in-Ok.ensures.open c.settle-in-Ok.ensures.boot c.serve_all-served.ensures.stream
+    (subst (λ r. IsSettledBehind r now.core) (sym c.in-Ok.is) c.in-Ok-settle.ensures.settled)
+    c.a_stop_leaves_a_beginning.ensures.files
+
+pub returns-in-Err-settle-clause-stream : goal.returns-in-Err-settle-clause-stream
+returns-in-Err-settle-clause-stream g c =
+    let was = c.args.store.now in
+    let served = c.serve_all-served.new.store in
+    let now = c.settle-in-Ok.new.store in
+    let device = g.D.CrashDisk.device in
+    let keeps = g.D.CrashDisk.keeps_model in
+    let old = store_of (device was.disk) was.core was.boot in
+    let mid = store_of (device served.disk) served.core served.boot in
+    let unread = g.R.Read.remaining c.args.reader.now in
+    let first = g.W.Write.contents c.args.writer.now in
+    let rest = g.R.Read.remaining c.serve_all-served.new.reader in
+    let written = g.W.Write.contents c.serve_all-served.new.writer in
+    served_behind (keeps served.disk) (keeps now.disk) c.settle-in-Ok.ensures.model c.args.moment old unread first
+    (Err faults.Device) rest written mid (device now.disk) now.core now.boot c.settle-in-Ok.ensures.open
+    c.settle-in-Ok.ensures.boot
+    (failed_behind (keeps served.disk) c.args.moment old unread first c.in-Ok.field-0 rest written mid
+    c.in-Ok.ensures.stream) c.in-Err-settle.ensures.broken c.a_stop_leaves_a_beginning.ensures.files
