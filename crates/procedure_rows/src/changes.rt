@@ -13,7 +13,7 @@ use plain_steps::answer;
 use std::alloc::{AllocError, Global};
 
 // The number and the mode of what was made, or why nothing was.
-pub(crate) type Made = Result<(u64, u32), Status>;
+type Made = Result<(u64, u32), Status>;
 
 pub(crate) fn root(alloc: Global) -> Result<Handle, AllocError> {
     handle_of(alloc, 1, 0)
@@ -190,11 +190,7 @@ fn the_handle_of_a_removed_file_is_stale(rt: HostRuntime) -> Result<(), AllocErr
     Ok(())
 }
 
-pub(crate) fn directory_made(
-    alloc: Global,
-    tree: &mut PlainTree,
-    name: &[u8],
-) -> Result<Made, AllocError> {
+fn directory_made(alloc: Global, tree: &mut PlainTree, name: &[u8]) -> Result<Made, AllocError> {
     let ctx = called_by(alloc, 0);
     let place = in_root(alloc, name)?;
     Ok(made(make_directory(alloc, tree, &ctx, &place, &NOTHING_WANTED)?))
@@ -320,7 +316,7 @@ fn no_special_file_is_made(rt: HostRuntime) -> Result<(), AllocError> {
 }
 
 // What a LINK of a file to a name in the root is answered, and the size and the used bytes of the root.
-pub(crate) fn linked(
+fn linked(
     alloc: Global,
     tree: &mut PlainTree,
     file: &Handle,
@@ -332,7 +328,7 @@ pub(crate) fn linked(
     Ok((answer.outcome, sizes(&answer.directory)))
 }
 
-pub(crate) fn sizes(told: &WeakCacheData) -> Option<(u64, u64)> {
+fn sizes(told: &WeakCacheData) -> Option<(u64, u64)> {
     told.after
         .map(|attributes| (attributes.size, attributes.used))
 }

@@ -4,8 +4,6 @@
 #[cfg(test)]
 mod changes;
 #[cfg(test)]
-mod crowded;
-#[cfg(test)]
 mod listings;
 #[cfg(test)]
 mod renames;

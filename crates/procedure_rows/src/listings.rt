@@ -1,9 +1,10 @@
 //! READDIR and READDIRPLUS on the small tree of `tests`, whose root lists `.`, `..` and `a`.
 
-use crate::changes::{directory_made, handle_of_new, link_names, removed, root};
-use crate::tests::{called_by, handle_of, tree};
-use nfs_types::{Handle, ListedEntryPlus, Status, Verifier};
+use crate::changes::{handle_of_new, in_root, link_names, removed, root};
+use crate::tests::{NOTHING_WANTED, called_by, handle_of, tree};
+use nfs_types::{Status, Verifier};
 use plain_listing::{read_directory, read_directory_plus};
+use plain_naming::make_directory;
 use plain_server::PlainTree;
 use std::alloc::{AllocError, Global};
 
@@ -12,7 +13,7 @@ const ZEROS: Verifier = Verifier { bytes: [0; 8] };
 const ONES: Verifier = Verifier { bytes: [1; 8] };
 
 // How many entries user 8 gets of the root, the cookie of the last, and whether none is left; or why none is given.
-pub(crate) type Given = Result<(usize, u64, bool), Status>;
+type Given = Result<(usize, u64, bool), Status>;
 
 fn listed_from(
     alloc: Global,
@@ -33,7 +34,7 @@ fn listed_from(
     }
 }
 
-pub(crate) fn listed(alloc: Global, tree: &PlainTree, count: u32) -> Result<Given, AllocError> {
+fn listed(alloc: Global, tree: &PlainTree, count: u32) -> Result<Given, AllocError> {
     listed_from(alloc, tree, 0, &ZEROS, count)
 }
 
@@ -143,40 +144,35 @@ fn why_a_directory_is_not_listed(rt: HostRuntime) -> Result<(), AllocError> {
     Ok(())
 }
 
-// The numbers of the files that a directory lists, each with that of the attributes that are told of it.
-fn told_numbers(
-    alloc: Global,
-    tree: &PlainTree,
-    directory: &Handle,
-) -> Result<Vec<(u64, Option<u64>)>, AllocError> {
-    let ctx = called_by(alloc, 0);
-    let answer = read_directory_plus(alloc, tree, &ctx, directory, 0, &ZEROS, 512, 512)?;
-    match &answer.outcome {
-        Ok(listed) => numbers_of(alloc, listed.entries.as_slice()),
-        Err(_) => Ok(Vec::new(alloc)),
-    }
-}
-
-fn numbers_of(
-    alloc: Global,
-    entries: &[ListedEntryPlus],
-) -> Result<Vec<(u64, Option<u64>)>, AllocError> {
-    let mut numbers = Vec::new(alloc);
-    for entry in entries {
-        let told = entry.attributes.map(|attributes| attributes.number);
-        numbers.push((entry.number, told))?;
-    }
-    Ok(numbers)
-}
-
 #[test]
 fn what_is_told_of_listed_files(rt: HostRuntime) -> Result<(), AllocError> {
     let alloc = rt.alloc();
     let mut tree = tree(alloc, 64)?;
-    assert_eq!(rt; directory_made(alloc, &mut tree, b"d")?, Ok((3, 493)));
+    let ctx = called_by(alloc, 0);
+    let made = make_directory(
+        alloc,
+        &mut tree,
+        &ctx,
+        &in_root(alloc, b"d")?,
+        &NOTHING_WANTED,
+    )?;
+    drop(made);
     // directory 3 lists itself and its parent, which is the root
-    let numbers = told_numbers(alloc, &tree, &handle_of_new(alloc, 3)?)?;
-    assert!(rt; numbers.as_slice() == [(3, Some(3)), (1, Some(1))].as_slice());
+    let directory = handle_of_new(alloc, 3)?;
+    let answer = read_directory_plus(alloc, &tree, &ctx, &directory, 0, &ZEROS, 512, 512)?;
+    let Ok(listed) = answer.outcome else {
+        assert!(rt; false);
+        return Ok(());
+    };
+    let entries = listed.entries.as_slice();
+    assert_eq!(rt; entries.len(), 2);
+    for entry in entries {
+        let told = entry.attributes.map(|attributes| attributes.number);
+        assert_eq!(rt; told, Some(entry.number));
+    }
+    let itself = entries.first().map(|entry| entry.number);
+    let parent = entries.last().map(|entry| entry.number);
+    assert_eq!(rt; (itself, parent), (Some(3), Some(1)));
     Ok(())
 }
 

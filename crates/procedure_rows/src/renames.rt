@@ -2,11 +2,11 @@
 //! slot, of the
 //! file 2.
 
-use crate::changes::{handle_of_new, in_root, linked, root};
+use crate::changes::{handle_of_new, in_root, root};
 use crate::tests::{NOTHING_WANTED, called_by, handle_of, tree};
-use nfs_types::{Ctx, DirectoryName, Handle, ListedEntry, Moment, Octets, Status, WeakCacheData};
+use nfs_types::{Ctx, DirectoryName, Handle, Moment, Octets, Status};
 use plain_listing::read_directory;
-use plain_naming::make_directory;
+use plain_naming::{link, make_directory};
 use plain_procedures::{found, look_up};
 use plain_renaming::rename;
 use plain_server::{NumberedNode, PlainTree};
@@ -83,17 +83,15 @@ fn cookie_of(alloc: Global, tree: &PlainTree, name: &[u8]) -> Result<Option<u64>
     let ctx = called_by(alloc, 0);
     let zeros = nfs_types::Verifier { bytes: [0; 8] };
     let answer = read_directory(alloc, tree, &ctx, &root(alloc)?, 0, &zeros, 4096)?;
-    match &answer.outcome {
-        Ok(listed) => Ok(cookie_in(listed.entries.as_slice(), name)),
-        Err(_) => Ok(None),
+    let Ok(listed) = answer.outcome else {
+        return Ok(None);
+    };
+    for entry in listed.entries.as_slice() {
+        if entry.name.as_slice() == name {
+            return Ok(Some(entry.cookie));
+        }
     }
-}
-
-fn cookie_in(entries: &[ListedEntry], name: &[u8]) -> Option<u64> {
-    entries
-        .iter()
-        .find(|entry| entry.name.as_slice() == name)
-        .map(|entry| entry.cookie)
+    Ok(None)
 }
 
 #[test]
@@ -131,25 +129,6 @@ fn why_no_name_is_changed(rt: HostRuntime) -> Result<(), AllocError> {
     Ok(())
 }
 
-// How many parts are told of a directory.
-fn parts(told: &WeakCacheData) -> u32 {
-    let before = if told.before.is_some() { 1 } else { 0 };
-    let after = if told.after.is_some() { 1 } else { 0 };
-    before + after
-}
-
-// What a RENAME by user 0 is answered, and how many parts are told of either directory.
-fn renamed_telling(
-    alloc: Global,
-    tree: &mut PlainTree,
-    source: &DirectoryName,
-    target: &DirectoryName,
-) -> Result<(Result<(), Status>, u32, u32), AllocError> {
-    let ctx = called_by(alloc, 0);
-    let answer = rename(alloc, tree, &ctx, source, target)?;
-    Ok((answer.outcome, parts(&answer.source), parts(&answer.target)))
-}
-
 #[test]
 fn each_handle_is_tested_before_the_next(rt: HostRuntime) -> Result<(), AllocError> {
     let alloc = rt.alloc();
@@ -157,34 +136,41 @@ fn each_handle_is_tested_before_the_next(rt: HostRuntime) -> Result<(), AllocErr
     let in_file = place(alloc, handle_of(alloc, 2, 1)?, b"")?;
     let in_stale = place(alloc, handle_of(alloc, 2, 0)?, b"a")?;
     let in_none = place(alloc, handle_of(alloc, 64, 0)?, b"a")?;
-    let first = renamed_telling(alloc, &mut tree, &in_stale, &in_none)?;
-    assert_eq!(rt; first, (Err(Status::Stale), 0, 0));
+    let here = in_root(alloc, b"")?;
+    let ctx = called_by(alloc, 0);
+    let first = rename(alloc, &mut tree, &ctx, &in_stale, &in_none)?;
+    assert_eq!(rt; first.outcome, Err(Status::Stale));
+    assert!(rt; first.source.before.is_none() && first.target.before.is_none());
     // what the first handle names is told of where the second names nothing
-    let second = renamed_telling(alloc, &mut tree, &in_file, &in_none)?;
-    assert_eq!(rt; second, (Err(Status::BadHandle), 2, 0));
+    let second = rename(alloc, &mut tree, &ctx, &in_file, &in_none)?;
+    assert_eq!(rt; second.outcome, Err(Status::BadHandle));
+    assert!(rt; second.source.before.is_some() && second.source.after.is_some());
+    assert!(rt; second.target.before.is_none() && second.target.after.is_none());
+    // both directories are looked at before any name
+    assert_eq!(rt;
+        renamed_by(alloc, &mut tree, 0, &in_file, &here)?,
+        Err(Status::NotDir)
+    );
+    assert_eq!(rt;
+        renamed_by(alloc, &mut tree, 0, &here, &in_file)?,
+        Err(Status::NotDir)
+    );
     Ok(())
 }
 
 #[test]
-fn both_directories_are_looked_at_before_any_name(rt: HostRuntime) -> Result<(), AllocError> {
+fn a_link_over_itself_changes_nothing(rt: HostRuntime) -> Result<(), AllocError> {
     let alloc = rt.alloc();
     let mut tree = tree(alloc, 64)?;
-    let in_file = place(alloc, handle_of(alloc, 2, 1)?, b"")?;
-    let here = in_root(alloc, b"")?;
-    let source = renamed_by(alloc, &mut tree, 0, &in_file, &here)?;
-    assert_eq!(rt; source, Err(Status::NotDir));
-    let target = renamed_by(alloc, &mut tree, 0, &here, &in_file)?;
-    assert_eq!(rt; target, Err(Status::NotDir));
-    Ok(())
-}
-
-// What a RENAME within the root at second 9000 is answered, and the root's times then.
-fn renamed_later(
-    alloc: Global,
-    tree: &mut PlainTree,
-    name: &[u8],
-    new_name: &[u8],
-) -> Result<(Result<(), Status>, Option<(u32, u32)>), AllocError> {
+    let ctx = called_by(alloc, 0);
+    let answer = link(
+        alloc,
+        &mut tree,
+        &ctx,
+        &handle_of(alloc, 2, 1)?,
+        &in_root(alloc, b"b")?,
+    )?;
+    assert_eq!(rt; answer.outcome, Ok(()));
     let later = Ctx {
         moment: Moment {
             seconds: 9000,
@@ -192,25 +178,16 @@ fn renamed_later(
         },
         ..called_by(alloc, 0)
     };
-    let source = in_root(alloc, name)?;
-    let target = in_root(alloc, new_name)?;
-    let answer = rename(alloc, tree, &later, &source, &target)?;
-    let told = answer
+    let source = in_root(alloc, b"a")?;
+    let target = in_root(alloc, b"b")?;
+    let over = rename(alloc, &mut tree, &later, &source, &target)?;
+    assert_eq!(rt; over.outcome, Ok(()));
+    // LINK was at second 2000, and nothing has changed since
+    let told = over
         .target
         .after
         .map(|root| (root.mtime.seconds, root.ctime.seconds));
-    Ok((answer.outcome, told))
-}
-
-#[test]
-fn a_link_over_itself_changes_nothing(rt: HostRuntime) -> Result<(), AllocError> {
-    let alloc = rt.alloc();
-    let mut tree = tree(alloc, 64)?;
-    let made = linked(alloc, &mut tree, &handle_of(alloc, 2, 1)?, b"b")?.0;
-    assert_eq!(rt; made, Ok(()));
-    // LINK was at second 2000, and nothing has changed since
-    let over = renamed_later(alloc, &mut tree, b"a", b"b")?;
-    assert_eq!(rt; over, (Ok(()), Some((2000, 2000))));
+    assert_eq!(rt; told, Some((2000, 2000)));
     assert_eq!(rt; links(&tree, 2), Some(2));
     assert_eq!(rt; number_of(alloc, &tree, root(alloc)?, b"a")?, Some(2));
     assert_eq!(rt; number_of(alloc, &tree, root(alloc)?, b"b")?, Some(2));

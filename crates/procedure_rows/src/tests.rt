@@ -56,7 +56,7 @@ pub(crate) fn handle_of(alloc: Global, number: u32, boot: u64) -> Result<Handle,
 }
 
 // An empty file that its owner may read and write, its group read, and others nothing.
-pub(crate) fn empty_file(alloc: Global) -> PlainNode {
+fn empty_file(alloc: Global) -> PlainNode {
     PlainNode {
         mode: 0o640,
         uid: 7,

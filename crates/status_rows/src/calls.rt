@@ -5,7 +5,7 @@
 
 use nfs_types::{
     Call, CreateHow, Credential, Ctx, DirectoryName, Handle, Moment, NewAttributes, NumberList,
-    Octets, Procedure, Reply, SetTime, Stability, Stamp, Status, Verifier,
+    Octets, Reply, SetTime, Stability, Stamp, Status, Verifier,
 };
 use plain_server::{MappedIndexes, NumberedNode, PlainBody, PlainNames, PlainNode, PlainTree};
 use plain_steps::answer;
@@ -149,7 +149,7 @@ pub(crate) fn asked(
     alloc: Global,
     tree: &mut PlainTree,
     uid: u32,
-    call: Call,
+    call: &Call,
 ) -> Result<Option<Status>, AllocError> {
     let ctx = Ctx {
         credential: Credential {
@@ -164,7 +164,7 @@ pub(crate) fn asked(
         boot: 1,
         transaction: 9,
     };
-    match answer(alloc, tree, &ctx, &call)? {
+    match answer(alloc, tree, &ctx, call)? {
         Some(reply) => Ok(status_of(&reply)),
         None => Ok(Some(Status::ServerFault)),
     }
@@ -174,7 +174,7 @@ pub(crate) fn asked(
 pub(crate) fn asked_once(
     alloc: Global,
     uid: u32,
-    call: Call,
+    call: &Call,
 ) -> Result<Option<Status>, AllocError> {
     let mut tree = tree(alloc, 64)?;
     asked(alloc, &mut tree, uid, call)
@@ -221,32 +221,4 @@ pub(crate) fn pointed(
         attributes,
         target: Octets::copied(alloc, target)?,
     })
-}
-
-/// A call with one name in a directory. It is NULL for the procedures that take none.
-pub(crate) fn call_with(
-    alloc: Global,
-    procedure: Procedure,
-    name: DirectoryName,
-) -> Result<Call, AllocError> {
-    match procedure {
-        Procedure::Lookup => Ok(Call::Lookup { name }),
-        Procedure::Create => Ok(guarded(name, NOTHING)),
-        Procedure::MkDir => Ok(Call::MkDir {
-            name,
-            attributes: NOTHING,
-        }),
-        Procedure::SymLink => pointed(alloc, name, NOTHING, b"t"),
-        Procedure::Remove => Ok(Call::Remove { name }),
-        Procedure::RmDir => Ok(Call::RmDir { name }),
-        Procedure::Rename => Ok(Call::Rename {
-            source: name,
-            target: place(alloc, 1, b"b")?,
-        }),
-        Procedure::Link => Ok(Call::Link {
-            file: handle(alloc, 2)?,
-            name,
-        }),
-        _ => Ok(Call::Null),
-    }
 }

@@ -11,16 +11,7 @@ fn set_by(
     number: u32,
     attributes: NewAttributes,
 ) -> Result<Option<Status>, AllocError> {
-    asked_once(alloc, uid, set(handle(alloc, number)?, attributes, None))
-}
-
-// What a SETATTR of file 2 by user 8 is answered, under this guard.
-fn guarded_by(
-    alloc: Global,
-    attributes: NewAttributes,
-    guard: Moment,
-) -> Result<Option<Status>, AllocError> {
-    asked_once(alloc, 8, set(handle(alloc, 2)?, attributes, Some(guard)))
+    asked_once(alloc, uid, &set(handle(alloc, number)?, attributes, None))
 }
 
 #[test]
@@ -35,11 +26,10 @@ fn why_no_attribute_is_set(rt: HostRuntime) -> Result<(), AllocError> {
         seconds: 999,
         nanoseconds: 0,
     };
-    assert_eq!(rt;
-        guarded_by(alloc, timed(NO_TIME), other)?,
-        Some(Status::NotSync)
-    );
-    assert_eq!(rt; guarded_by(alloc, NOTHING, MADE)?, None);
+    let unguarded = set(handle(alloc, 2)?, timed(NO_TIME), Some(other));
+    assert_eq!(rt; asked_once(alloc, 8, &unguarded)?, Some(Status::NotSync));
+    let kept = set(handle(alloc, 2)?, NOTHING, Some(MADE));
+    assert_eq!(rt; asked_once(alloc, 8, &kept)?, None);
     assert_eq!(rt; set_by(alloc, 8, 2, timed(NO_TIME))?, Some(Status::Inval));
     assert_eq!(rt; set_by(alloc, 8, 3, sized(0))?, Some(Status::Inval));
     let mode = NewAttributes {
@@ -68,7 +58,7 @@ fn link_of(alloc: Global, number: u32) -> Result<Option<Status>, AllocError> {
     let call = Call::ReadLink {
         link: handle(alloc, number)?,
     };
-    asked_once(alloc, 8, call)
+    asked_once(alloc, 8, &call)
 }
 
 #[test]
@@ -91,11 +81,20 @@ fn read(alloc: Global, number: u32) -> Result<Call, AllocError> {
 #[test]
 fn why_no_byte_is_read(rt: HostRuntime) -> Result<(), AllocError> {
     let alloc = rt.alloc();
-    assert_eq!(rt; asked_once(alloc, 8, read(alloc, 3)?)?, Some(Status::Inval));
-    assert_eq!(rt; asked_once(alloc, 8, read(alloc, 4)?)?, Some(Status::Inval));
+    assert_eq!(rt;
+        asked_once(alloc, 8, &read(alloc, 3)?)?,
+        Some(Status::Inval)
+    );
+    assert_eq!(rt;
+        asked_once(alloc, 8, &read(alloc, 4)?)?,
+        Some(Status::Inval)
+    );
     // mode 640: others have no right, and the owner may always
-    assert_eq!(rt; asked_once(alloc, 8, read(alloc, 2)?)?, Some(Status::Acces));
-    assert_eq!(rt; asked_once(alloc, 7, read(alloc, 2)?)?, None);
+    assert_eq!(rt;
+        asked_once(alloc, 8, &read(alloc, 2)?)?,
+        Some(Status::Acces)
+    );
+    assert_eq!(rt; asked_once(alloc, 7, &read(alloc, 2)?)?, None);
     Ok(())
 }
 
@@ -103,23 +102,29 @@ fn why_no_byte_is_read(rt: HostRuntime) -> Result<(), AllocError> {
 fn why_no_byte_is_written(rt: HostRuntime) -> Result<(), AllocError> {
     let alloc = rt.alloc();
     let wrote = |number, offset, count| written(alloc, handle(alloc, number)?, offset, count);
-    assert_eq!(rt; asked_once(alloc, 8, wrote(3, 0, 1)?)?, Some(Status::Inval));
-    assert_eq!(rt; asked_once(alloc, 8, wrote(2, 0, 2)?)?, Some(Status::Inval));
     assert_eq!(rt;
-        asked_once(alloc, 8, wrote(2, 4_227_072, 1)?)?,
+        asked_once(alloc, 8, &wrote(3, 0, 1)?)?,
+        Some(Status::Inval)
+    );
+    assert_eq!(rt;
+        asked_once(alloc, 8, &wrote(2, 0, 2)?)?,
+        Some(Status::Inval)
+    );
+    assert_eq!(rt;
+        asked_once(alloc, 8, &wrote(2, 4_227_072, 1)?)?,
         Some(Status::Acces)
     );
     assert_eq!(rt;
-        asked_once(alloc, 7, wrote(2, 4_227_072, 1)?)?,
+        asked_once(alloc, 7, &wrote(2, 4_227_072, 1)?)?,
         Some(Status::FBig)
     );
     // the root and the link have both blocks
     let mut small = tree(alloc, 2)?;
     assert_eq!(rt;
-        asked(alloc, &mut small, 7, wrote(2, 0, 1)?)?,
+        asked(alloc, &mut small, 7, &wrote(2, 0, 1)?)?,
         Some(Status::NoSpc)
     );
-    assert_eq!(rt; asked_once(alloc, 7, wrote(2, 0, 1)?)?, None);
+    assert_eq!(rt; asked_once(alloc, 7, &wrote(2, 0, 1)?)?, None);
     Ok(())
 }
 
@@ -133,10 +138,10 @@ fn why_nothing_is_committed(rt: HostRuntime) -> Result<(), AllocError> {
             count: 4_294_967_295,
         })
     };
-    assert_eq!(rt; asked_once(alloc, 0, commit(3)?)?, Some(Status::Inval));
-    assert_eq!(rt; asked_once(alloc, 8, commit(4)?)?, Some(Status::Inval));
-    assert_eq!(rt; asked_once(alloc, 8, commit(2)?)?, Some(Status::Acces));
-    assert_eq!(rt; asked_once(alloc, 7, commit(2)?)?, None);
+    assert_eq!(rt; asked_once(alloc, 0, &commit(3)?)?, Some(Status::Inval));
+    assert_eq!(rt; asked_once(alloc, 8, &commit(4)?)?, Some(Status::Inval));
+    assert_eq!(rt; asked_once(alloc, 8, &commit(2)?)?, Some(Status::Acces));
+    assert_eq!(rt; asked_once(alloc, 7, &commit(2)?)?, None);
     Ok(())
 }
 
@@ -146,23 +151,23 @@ fn what_any_file_answers(rt: HostRuntime) -> Result<(), AllocError> {
     let object = Call::GetAttr {
         object: handle(alloc, 4)?,
     };
-    assert_eq!(rt; asked_once(alloc, 8, object)?, None);
+    assert_eq!(rt; asked_once(alloc, 8, &object)?, None);
     let space = Call::FsStat {
         object: handle(alloc, 2)?,
     };
-    assert_eq!(rt; asked_once(alloc, 8, space)?, None);
+    assert_eq!(rt; asked_once(alloc, 8, &space)?, None);
     let info = Call::FsInfo {
         object: handle(alloc, 3)?,
     };
-    assert_eq!(rt; asked_once(alloc, 8, info)?, None);
+    assert_eq!(rt; asked_once(alloc, 8, &info)?, None);
     let limits = Call::PathConf {
         object: handle(alloc, 4)?,
     };
-    assert_eq!(rt; asked_once(alloc, 8, limits)?, None);
+    assert_eq!(rt; asked_once(alloc, 8, &limits)?, None);
     let rights = Call::Access {
         object: handle(alloc, 2)?,
         bits: 0,
     };
-    assert_eq!(rt; asked_once(alloc, 8, rights)?, None);
+    assert_eq!(rt; asked_once(alloc, 8, &rights)?, None);
     Ok(())
 }

@@ -1,36 +1,10 @@
 //! Each procedure on a handle that names no file.
 
-use crate::calls::{NOTHING, ZEROS, again, asked_once, call_with, handle, place, set, written};
-use nfs_types::{Call, DirectoryName, Handle, Octets, Procedure, SpecialFile, Status};
+use crate::calls::{
+    NOTHING, ZEROS, again, asked_once, guarded, handle, place, pointed, set, written,
+};
+use nfs_types::{Call, DirectoryName, Handle, Octets, SpecialFile, Status};
 use std::alloc::{AllocError, Global};
-
-// The procedures on one file, but those of names.
-const ON_FILES: [Procedure; 10] = [
-    Procedure::GetAttr,
-    Procedure::SetAttr,
-    Procedure::Access,
-    Procedure::ReadLink,
-    Procedure::Read,
-    Procedure::Write,
-    Procedure::FsStat,
-    Procedure::FsInfo,
-    Procedure::PathConf,
-    Procedure::Commit,
-];
-
-// Those on one directory, which they test for being one.
-const IN_DIRECTORIES: [Procedure; 10] = [
-    Procedure::Lookup,
-    Procedure::Create,
-    Procedure::MkDir,
-    Procedure::SymLink,
-    Procedure::Remove,
-    Procedure::RmDir,
-    Procedure::Rename,
-    Procedure::Link,
-    Procedure::ReadDir,
-    Procedure::ReadDirPlus,
-];
 
 fn under(alloc: Global, directory: &Handle) -> Result<DirectoryName, AllocError> {
     Ok(DirectoryName {
@@ -39,127 +13,139 @@ fn under(alloc: Global, directory: &Handle) -> Result<DirectoryName, AllocError>
     })
 }
 
-// A call on one file by this handle. It is NULL for the procedures on directories.
-fn call_on(alloc: Global, procedure: Procedure, file: Handle) -> Result<Call, AllocError> {
-    match procedure {
-        Procedure::GetAttr => Ok(Call::GetAttr { object: file }),
-        Procedure::SetAttr => Ok(set(file, NOTHING, None)),
-        Procedure::Access => Ok(Call::Access {
-            object: file,
-            bits: 63,
-        }),
-        Procedure::ReadLink => Ok(Call::ReadLink { link: file }),
-        Procedure::Read => Ok(Call::Read {
-            file,
-            offset: 0,
-            count: 1,
-        }),
-        Procedure::Write => written(alloc, file, 0, 1),
-        Procedure::FsStat => Ok(Call::FsStat { object: file }),
-        Procedure::FsInfo => Ok(Call::FsInfo { object: file }),
-        Procedure::PathConf => Ok(Call::PathConf { object: file }),
-        Procedure::Commit => Ok(Call::Commit {
-            file,
-            offset: 0,
-            count: 0,
-        }),
-        _ => Ok(Call::Null),
-    }
+// The calls on one file, but those of names.
+fn calls_on(alloc: Global, file: &Handle) -> Result<Vec<Call>, AllocError> {
+    let mut calls = Vec::new(alloc);
+    calls.push(Call::GetAttr {
+        object: again(file)?,
+    })?;
+    calls.push(set(again(file)?, NOTHING, None))?;
+    calls.push(Call::Access {
+        object: again(file)?,
+        bits: 63,
+    })?;
+    calls.push(Call::ReadLink { link: again(file)? })?;
+    calls.push(Call::Read {
+        file: again(file)?,
+        offset: 0,
+        count: 1,
+    })?;
+    calls.push(written(alloc, again(file)?, 0, 1)?)?;
+    calls.push(Call::FsStat {
+        object: again(file)?,
+    })?;
+    calls.push(Call::FsInfo {
+        object: again(file)?,
+    })?;
+    calls.push(Call::PathConf {
+        object: again(file)?,
+    })?;
+    calls.push(Call::Commit {
+        file: again(file)?,
+        offset: 0,
+        count: 0,
+    })?;
+    Ok(calls)
 }
 
-// A call on one directory by this handle.
-fn call_in(alloc: Global, procedure: Procedure, directory: &Handle) -> Result<Call, AllocError> {
-    match procedure {
-        Procedure::ReadDir => Ok(Call::ReadDir {
-            directory: again(directory)?,
-            cookie: 0,
-            verifier: ZEROS,
-            count: 0,
-        }),
-        Procedure::ReadDirPlus => Ok(Call::ReadDirPlus {
-            directory: again(directory)?,
-            cookie: 0,
-            verifier: ZEROS,
-            directory_count: 0,
-            greatest_count: 0,
-        }),
-        _ => call_with(alloc, procedure, under(alloc, directory)?),
-    }
-}
-
-// The other way to give RENAME a handle, and LINK and MKNOD.
-fn renamed_into(alloc: Global, directory: &Handle) -> Result<Call, AllocError> {
-    Ok(Call::Rename {
+// The calls on one directory.
+fn calls_in(alloc: Global, directory: &Handle) -> Result<Vec<Call>, AllocError> {
+    let mut calls = Vec::new(alloc);
+    calls.push(Call::Lookup {
+        name: under(alloc, directory)?,
+    })?;
+    calls.push(guarded(under(alloc, directory)?, NOTHING))?;
+    calls.push(Call::MkDir {
+        name: under(alloc, directory)?,
+        attributes: NOTHING,
+    })?;
+    calls.push(pointed(alloc, under(alloc, directory)?, NOTHING, b"t")?)?;
+    calls.push(Call::Remove {
+        name: under(alloc, directory)?,
+    })?;
+    calls.push(Call::RmDir {
+        name: under(alloc, directory)?,
+    })?;
+    calls.push(Call::Rename {
+        source: under(alloc, directory)?,
+        target: place(alloc, 1, b"b")?,
+    })?;
+    calls.push(Call::Rename {
         source: place(alloc, 1, b"a")?,
         target: under(alloc, directory)?,
-    })
-}
-
-fn linked(alloc: Global, file: &Handle) -> Result<Call, AllocError> {
-    Ok(Call::Link {
-        file: again(file)?,
-        name: place(alloc, 1, b"")?,
-    })
-}
-
-fn special(alloc: Global, directory: &Handle) -> Result<Call, AllocError> {
-    Ok(Call::MkNod {
+    })?;
+    calls.push(Call::Link {
+        file: handle(alloc, 2)?,
         name: under(alloc, directory)?,
+    })?;
+    calls.push(Call::ReadDir {
+        directory: again(directory)?,
+        cookie: 0,
+        verifier: ZEROS,
+        count: 0,
+    })?;
+    calls.push(Call::ReadDirPlus {
+        directory: again(directory)?,
+        cookie: 0,
+        verifier: ZEROS,
+        directory_count: 0,
+        greatest_count: 0,
+    })?;
+    Ok(calls)
+}
+
+// Whether each of the calls by user 0 is answered so.
+fn all_answer(alloc: Global, calls: &[Call], status: Status) -> Result<bool, AllocError> {
+    for call in calls {
+        if asked_once(alloc, 0, call)? != Some(status) {
+            return Ok(false);
+        }
+    }
+    Ok(true)
+}
+
+// Whether each procedure answers so to a handle.
+fn each_answers(alloc: Global, handle: &Handle, status: Status) -> Result<bool, AllocError> {
+    let on = all_answer(alloc, calls_on(alloc, handle)?.as_slice(), status)?;
+    let within = all_answer(alloc, calls_in(alloc, handle)?.as_slice(), status)?;
+    let special = Call::MkNod {
+        name: under(alloc, handle)?,
         special: SpecialFile::Regular,
-    })
-}
-
-// Whether each of the procedures on files answers so to user 0.
-fn all_on_answer(alloc: Global, file: &Handle, status: Status) -> Result<bool, AllocError> {
-    for procedure in &ON_FILES {
-        let call = call_on(alloc, *procedure, again(file)?)?;
-        if asked_once(alloc, 0, call)? != Some(status) {
-            return Ok(false);
-        }
-    }
-    Ok(asked_once(alloc, 0, linked(alloc, file)?)? == Some(status))
-}
-
-// Whether each of those on directories does.
-fn all_in_answer(alloc: Global, directory: &Handle, status: Status) -> Result<bool, AllocError> {
-    for procedure in &IN_DIRECTORIES {
-        let call = call_in(alloc, *procedure, directory)?;
-        if asked_once(alloc, 0, call)? != Some(status) {
-            return Ok(false);
-        }
-    }
-    Ok(asked_once(alloc, 0, renamed_into(alloc, directory)?)? == Some(status))
-}
-
-// Whether each procedure answers so to the handle of a number.
-fn each_answers(alloc: Global, number: u32, status: Status) -> Result<bool, AllocError> {
-    let handle = handle(alloc, number)?;
-    let made = asked_once(alloc, 0, special(alloc, &handle)?)? == Some(status);
-    Ok(made && all_on_answer(alloc, &handle, status)? && all_in_answer(alloc, &handle, status)?)
+    };
+    let linked = Call::Link {
+        file: again(handle)?,
+        name: place(alloc, 1, b"")?,
+    };
+    let made = asked_once(alloc, 0, &special)? == Some(status);
+    let named = asked_once(alloc, 0, &linked)? == Some(status);
+    Ok(on && within && made && named)
 }
 
 #[test]
 fn a_free_number_is_stale(rt: HostRuntime) -> Result<(), AllocError> {
     let alloc = rt.alloc();
-    assert!(rt; each_answers(alloc, 5, Status::Stale)?);
+    assert!(rt; each_answers(alloc, &handle(alloc, 5)?, Status::Stale)?);
     Ok(())
 }
 
 #[test]
 fn a_number_that_no_file_has_is_bad(rt: HostRuntime) -> Result<(), AllocError> {
     let alloc = rt.alloc();
-    assert!(rt; each_answers(alloc, 0, Status::BadHandle)?);
-    assert!(rt; each_answers(alloc, 64, Status::BadHandle)?);
+    assert!(rt; each_answers(alloc, &handle(alloc, 0)?, Status::BadHandle)?);
+    assert!(rt; each_answers(alloc, &handle(alloc, 64)?, Status::BadHandle)?);
     Ok(())
 }
 
 #[test]
 fn a_file_is_no_directory(rt: HostRuntime) -> Result<(), AllocError> {
     let alloc = rt.alloc();
-    let file = handle(alloc, 2)?;
-    assert!(rt; all_in_answer(alloc, &file, Status::NotDir)?);
+    let calls = calls_in(alloc, &handle(alloc, 2)?)?;
+    assert!(rt; all_answer(alloc, calls.as_slice(), Status::NotDir)?);
     // MKNOD looks at nothing but the handle
-    let made = asked_once(alloc, 0, special(alloc, &file)?)?;
-    assert_eq!(rt; made, Some(Status::NotSupp));
+    let special = Call::MkNod {
+        name: place(alloc, 2, b"")?,
+        special: SpecialFile::Regular,
+    };
+    assert_eq!(rt; asked_once(alloc, 0, &special)?, Some(Status::NotSupp));
     Ok(())
 }
