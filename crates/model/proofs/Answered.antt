@@ -1,29 +1,21 @@
--- Steps exist, and keep trees sound.
+-- A SETATTR has an answer, and keeps trees sound.
 use Rattle.std.proofs.Common.{◌≡◌, ℕ, Bool, true, false, cond, ◌&&◌, nat_eq, List, length, ap, ◌∙◌, sym}
 use Rattle.std.proofs.Common.{subst, refl, Option, Some, None, Result, Ok, Err}
 use Rattle.nfs_types.specs.declared.attributes.NewAttributes.{NewAttributes}
 use Rattle.nfs_types.specs.declared.attributes.WeakCacheData.{WeakCacheData}
-use Rattle.nfs_types.specs.declared.call.Call.{Call}
-use Rattle.nfs_types.specs.declared.call.Call.TheVariants as call
 use Rattle.nfs_types.specs.declared.ctx.Ctx.{Ctx}
 use Rattle.nfs_types.specs.declared.ctx.Moment.{Moment}
-use Rattle.nfs_types.specs.declared.handle.Handle.{Handle}
-use Rattle.nfs_types.specs.declared.reply.Reply.{Reply}
-use Rattle.nfs_types.specs.declared.reply.Reply.TheVariants as reply
 use Rattle.limits.specs.declared.TheConstants.{HANDLE_BYTES}
 use Rattle.nfs_types.specs.declared.handle.Stamp.{Stamp}
 use Rattle.nfs_types.specs.declared.status.Status.{Status}
 use Rattle.nfs_types.specs.declared.status.Status.TheVariants as status
-use Rattle.nfs_types.specs.Fits.{CallFits, NewAttributesFit}
+use Rattle.nfs_types.specs.Fits.{NewAttributesFit}
 use Rattle.model.specs.Node.{Node}
 use Rattle.model.specs.Tree.{Tree, node_at, with_node}
 use Rattle.model.specs.Attributes.{change_of, untold}
-use Rattle.model.specs.Calls.{has_rules}
 use Rattle.model.specs.Find.{find_file, stamped, same_stamp, is_number, number_in, stamp_in}
-use Rattle.model.specs.GetAttr.{attributes_found}
-use Rattle.model.specs.SetAttr.{SetOrLeft, SetFound, with_attributes, refusal}
-use Rattle.model.specs.Sound.{Sound, SoundCtx, SoundTime}
-use Rattle.model.specs.Step.{step}
+use Rattle.model.specs.SetAttr.{SetAttrStep, SetOrLeft, SetFound, with_attributes, refusal}
+use Rattle.model.specs.Sound.{Sound, SoundTime}
 use Rattle.model.proofs.Attributed.{shape, sound_node}
 use Rattle.model.proofs.Replaced as replaced
 
@@ -83,36 +75,26 @@ module _ (tree next : Tree) (ctx : Ctx) (handle : List ℕ) (wanted : NewAttribu
       set_or_left found.0 found.1 (refusal ctx wanted guard found.1) (found-stands tree handle found is) refl
       set
 
-stays_sound : (tree next : Tree) (ctx : Ctx) (object : Handle) (wanted : NewAttributes)
-    (guard : Option Moment) (answer : Reply)
+-- a SETATTR keeps a sound tree sound
+pub stays_sound : (tree next : Tree) (ctx : Ctx) (handle : List ℕ) (wanted : NewAttributes)
+    (guard : Option Moment) (outcome : Result (Unit {0}) Status) (told : WeakCacheData)
     → Sound tree → SoundTime ctx.moment → NewAttributesFit wanted
-    → step tree ctx (call.SetAttr object wanted guard) answer next → Sound next
-stays_sound tree next ctx object wanted guard (reply.SetAttr outcome told) good now fits taken_step =
-    set_found tree next ctx object.bytes wanted guard outcome told good now fits (find_file tree object.bytes)
-    refl taken_step
-stays_sound tree next ctx object wanted guard _ good now fits none = absurd none
+    → SetAttrStep tree ctx handle wanted guard outcome told next → Sound next
+stays_sound tree next ctx handle wanted guard outcome told good now fits step =
+    set_found tree next ctx handle wanted guard outcome told good now fits (find_file tree handle) refl step
 
-pub steps_sound : (tree next : Tree) (ctx : Ctx) (asked : Call) (answer : Reply) → Sound tree → SoundCtx ctx
-    → CallFits asked → step tree ctx asked answer next → Sound next
-steps_sound tree next ctx (call.GetAttr object) (reply.GetAttr outcome) good now fits taken_step =
-    subst Sound (sym taken_step.unchanged) good
-steps_sound tree next ctx (call.SetAttr object wanted guard) (reply.SetAttr outcome told) good now fits
-    taken_step =
-    stays_sound tree next ctx object wanted guard (reply.SetAttr outcome told) good now.moment fits.1 taken_step
-steps_sound tree next ctx _ _ good now fits none = absurd none
-
--- some answer to a SETATTR
-record Answer (tree : Tree) (ctx : Ctx) (wanted : NewAttributes) (guard : Option Moment)
+-- the answer to a SETATTR
+pub record SetAnswer (tree : Tree) (ctx : Ctx) (wanted : NewAttributes) (guard : Option Moment)
     (found : Result (ℕ × Node) Status) : Type 0 where
-  outcome : Result (Unit {0}) Status
-  told : WeakCacheData
-  next : Tree
-  is : SetFound tree ctx wanted guard found outcome told next
+  pub outcome : Result (Unit {0}) Status
+  pub told : WeakCacheData
+  pub next : Tree
+  pub is : SetFound tree ctx wanted guard found outcome told next
 
-answer_by : (tree : Tree) (ctx : Ctx) (wanted : NewAttributes) (guard : Option Moment) (found : ℕ
-    × Node) (test : Option Status) → refusal ctx wanted guard found.1 ≡ test
-    → Answer tree ctx wanted guard (Ok found)
-answer_by tree ctx wanted guard found None tested =
+set_tested : (tree : Tree) (ctx : Ctx) (wanted : NewAttributes) (guard : Option Moment) (found : ℕ × Node)
+    (test : Option Status) → refusal ctx wanted guard found.1 ≡ test
+    → SetAnswer tree ctx wanted guard (Ok found)
+set_tested tree ctx wanted guard found None tested =
     let new : Node = with_attributes ctx.moment wanted found.1 in
     let step : SetOrLeft tree found.0 found.1 new None (Ok tt) (change_of found.0 found.1 new)
     (with_node tree found.0 new) = record { done = refl; parts = refl; changed = refl } in
@@ -123,7 +105,7 @@ answer_by tree ctx wanted guard found None tested =
       is = subst (λ test. SetOrLeft tree found.0 found.1 new test (Ok tt) (change_of found.0 found.1 new)
           (with_node tree found.0 new)) (sym tested) step;
     }
-answer_by tree ctx wanted guard found (Some status) tested =
+set_tested tree ctx wanted guard found (Some status) tested =
     let new : Node = with_attributes ctx.moment wanted found.1 in
     let step : SetOrLeft tree found.0 found.1 new (Some status) (Err status)
     (change_of found.0 found.1 found.1) tree =
@@ -136,30 +118,13 @@ answer_by tree ctx wanted guard found (Some status) tested =
           (change_of found.0 found.1 found.1) tree) (sym tested) step;
     }
 
-answer : (tree : Tree) (ctx : Ctx) (wanted : NewAttributes) (guard : Option Moment)
-    (found : Result (ℕ × Node) Status) → Answer tree ctx wanted guard found
-answer tree ctx wanted guard (Ok found) =
-    answer_by tree ctx wanted guard found (refusal ctx wanted guard found.1) refl
-answer tree ctx wanted guard (Err status) = record {
+pub set_answer : (tree : Tree) (ctx : Ctx) (wanted : NewAttributes) (guard : Option Moment)
+    (found : Result (ℕ × Node) Status) → SetAnswer tree ctx wanted guard found
+set_answer tree ctx wanted guard (Ok found) =
+    set_tested tree ctx wanted guard found (refusal ctx wanted guard found.1) refl
+set_answer tree ctx wanted guard (Err status) = record {
   outcome = Err status;
   told = untold;
   next = tree;
   is = record { refused = refl; parts = refl; unchanged = refl };
 }
-
-pub set_answered : (tree : Tree) (ctx : Ctx) (object : Handle) (wanted : NewAttributes)
-    (guard : Option Moment) → (given : Reply) × (next : Tree)
-    × step tree ctx (call.SetAttr object wanted guard) given next
-set_answered tree ctx object wanted guard =
-    let a = answer tree ctx wanted guard (find_file tree object.bytes) in
-    (reply.SetAttr a.outcome a.told, a.next, a.is)
-
-pub answered : (tree : Tree) (ctx : Ctx) (served : Call) → Sound tree → has_rules served ≡ true
-    → (answer : Reply) × (next : Tree) × step tree ctx served answer next
-answered tree ctx (call.GetAttr object) good rules = (
-  reply.GetAttr (attributes_found (find_file tree object.bytes)),
-  tree,
-  record { told = refl; unchanged = refl },
-)
-answered tree ctx (call.SetAttr object wanted guard) good rules = set_answered tree ctx object wanted guard
-answered tree ctx _ good rules = cc

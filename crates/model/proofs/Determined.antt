@@ -2,18 +2,12 @@
 use Rattle.std.proofs.Common.{◌≡◌, sym, ◌∙◌, ℕ, Option, Some, None, Result, Ok, Err}
 use Rattle.nfs_types.specs.declared.attributes.NewAttributes.{NewAttributes}
 use Rattle.nfs_types.specs.declared.attributes.WeakCacheData.{WeakCacheData}
-use Rattle.nfs_types.specs.declared.call.Call.TheVariants as call
 use Rattle.nfs_types.specs.declared.ctx.Ctx.{Ctx}
 use Rattle.nfs_types.specs.declared.ctx.Moment.{Moment}
-use Rattle.nfs_types.specs.declared.handle.Handle.{Handle}
-use Rattle.nfs_types.specs.declared.reply.Reply.{Reply}
-use Rattle.nfs_types.specs.declared.reply.Reply.TheVariants as reply
 use Rattle.nfs_types.specs.declared.status.Status.{Status}
 use Rattle.model.specs.Node.{Node}
 use Rattle.model.specs.Tree.{Tree}
-use Rattle.model.specs.Find.{find_file}
 use Rattle.model.specs.SetAttr.{SetOrLeft, SetFound, with_attributes, refusal}
-use Rattle.model.specs.Step.{step}
 
 -- what two answers to one call have in common
 pub record Same (outcome other : Result (Unit {0}) Status) (told tells : WeakCacheData)
@@ -39,7 +33,7 @@ set_or_left tree number node new (Some status) outcome other told tells next las
       next_is = a.unchanged ∙ sym b.unchanged;
     }
 
-set_found : (tree : Tree) (ctx : Ctx) (wanted : NewAttributes) (guard : Option Moment)
+pub set_found : (tree : Tree) (ctx : Ctx) (wanted : NewAttributes) (guard : Option Moment)
     (found : Result (ℕ × Node) Status) (outcome other : Result (Unit {0}) Status) (told tells : WeakCacheData)
     (next last : Tree)
     → SetFound tree ctx wanted guard found outcome told next
@@ -53,16 +47,3 @@ set_found tree ctx wanted guard (Err status) outcome other told tells next last 
       told_is = a.parts ∙ sym b.parts;
       next_is = a.unchanged ∙ sym b.unchanged;
     }
-
-pub determined : (tree next other : Tree) (ctx : Ctx) (object : Handle) (wanted : NewAttributes)
-    (guard : Option Moment) (one another : Reply)
-    → step tree ctx (call.SetAttr object wanted guard) one next
-    → step tree ctx (call.SetAttr object wanted guard) another other → (one ≡ another) × (next ≡ other)
-determined tree next other ctx object wanted guard (reply.SetAttr outcome told) (reply.SetAttr result tells) a
-    b =
-    let same : Same outcome result told tells next other =
-    set_found tree ctx wanted guard (find_file tree object.bytes) outcome result told tells next other a
-    b in
-    (λ i. reply.SetAttr (same.outcome_is i) (same.told_is i), same.next_is)
-determined tree next other ctx object wanted guard (reply.SetAttr outcome told) _ a b = absurd b
-determined tree next other ctx object wanted guard _ _ a b = absurd a

@@ -1,11 +1,9 @@
--- NOTSUPP, IO and SERVERFAULT are no statuses of a step.
-use Rattle.std.proofs.Common.{◌≡◌, ◌≢◌, ℕ, sym, Bool, true, false, cond, ◌&&◌, nat_eq, nat_lt, List, [], ◌∷◌}
+-- NOTSUPP, IO and SERVERFAULT are no statuses of a SETATTR.
+use Rattle.std.proofs.Common.{◌≡◌, ◌≢◌, ℕ, sym, subst, Bool, true, false, cond, ◌&&◌, nat_eq, nat_lt, List, [], ◌∷◌}
 use Rattle.std.proofs.Common.{length, Option, Some, None, Result, Ok, Err}
 use Rattle.limits.specs.declared.TheConstants.{HANDLE_BYTES, LARGEST_FILE}
 use Rattle.nfs_types.specs.declared.attributes.NewAttributes.{NewAttributes}
 use Rattle.nfs_types.specs.declared.attributes.WeakCacheData.{WeakCacheData}
-use Rattle.nfs_types.specs.declared.call.Call.{Call}
-use Rattle.nfs_types.specs.declared.call.Call.TheVariants as call
 use Rattle.nfs_types.specs.declared.ctx.Ctx.{Ctx}
 use Rattle.nfs_types.specs.declared.ctx.Moment.{Moment}
 use Rattle.nfs_types.specs.declared.handle.Stamp.{Stamp}
@@ -13,13 +11,9 @@ use Rattle.nfs_types.specs.declared.status.Status.{Status}
 use Rattle.nfs_types.specs.declared.status.Status.TheVariants as status
 use Rattle.model.specs.Node.{Node}
 use Rattle.model.specs.Tree.{Tree, node_at}
-use Rattle.model.specs.Attributes.{untold}
 use Rattle.model.specs.Find.{find_file, stamped, same_stamp, is_number, number_in, stamp_in}
-use Rattle.model.specs.GetAttr.{attributes_found}
-use Rattle.model.specs.Refused.{refused}
-use Rattle.model.specs.SetAttr.{SetFound, SetOrLeft, with_attributes, refusal, first_of_tests, fails_guard}
+use Rattle.model.specs.SetAttr.{SetAttrStep, SetFound, SetOrLeft, with_attributes, refusal, first_of_tests, fails_guard}
 use Rattle.model.specs.SetAttr.{is_invalid, is_not_permitted, is_no_access, given}
-use Rattle.model.specs.Step.{step}
 
 -- a status that no test answers
 pub record IsUntested (s : Status) : Type 0 where
@@ -116,10 +110,6 @@ module _ (s : Status) (other : IsUntested s) where
       (is_not_permitted ctx.credential wanted node) (is_no_access ctx.credential wanted node)
       (given wanted.size (λ size. nat_lt LARGEST_FILE size))
 
-  told-not : (found : Result (ℕ × Node) Status) → found ≢ Err s → attributes_found found ≢ Err s
-  told-not (Ok found) not e = cc
-  told-not (Err t) not e = let same : t ≡ s = failed_is t s e in not (λ i. Err (same i))
-
   left-not : (tree next : Tree) (number : ℕ) (node new : Node) (told : WeakCacheData) (test : Option Status)
       → test ≢ Some s → SetOrLeft tree number node new test (Err s) told next → ⊥
   left-not tree next number node new told None not set = let no = set.done in cc
@@ -137,10 +127,9 @@ module _ (s : Status) (other : IsUntested s) where
       let same : s ≡ t = failed_is s t refused.refused in
       not (λ i. Err (sym same i))
 
-  pub no_step : (tree next : Tree) (ctx : Ctx) (asked : Call) → step tree ctx asked (refused s asked) next → ⊥
-  no_step tree next ctx (call.GetAttr object) taken =
-      told-not (find_file tree object.bytes) (found-not tree object.bytes) (sym taken.told)
-  no_step tree next ctx (call.SetAttr object wanted guard) taken =
-      set-not tree next ctx wanted guard untold (find_file tree object.bytes) (found-not tree object.bytes)
-      taken
-  no_step tree next ctx _ none = none
+  pub no_answer : (tree next : Tree) (ctx : Ctx) (handle : List ℕ) (wanted : NewAttributes)
+      (guard : Option Moment) (outcome : Result (Unit {0}) Status) (told : WeakCacheData)
+      → SetAttrStep tree ctx handle wanted guard outcome told next → outcome ≢ Err s
+  no_answer tree next ctx handle wanted guard outcome told step is =
+      set-not tree next ctx wanted guard told (find_file tree handle) (found-not tree handle)
+      (subst (λ o. SetAttrStep tree ctx handle wanted guard o told next) is step)

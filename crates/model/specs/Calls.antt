@@ -27,31 +27,6 @@ sets_only_mode wanted =
     is_none wanted.uid && is_none wanted.gid && is_none wanted.size && is_unchanged wanted.atime
     && is_unchanged wanted.mtime
 
--- the calls that the sequential server has a step for so far
-abbrev pub has_step : Call → Bool
-has_step (call.GetAttr _) = true
-has_step (call.SetAttr _ _ _) = true
-has_step call.Null = false
-has_step (call.Lookup _) = false
-has_step (call.Access _ _) = false
-has_step (call.ReadLink _) = false
-has_step (call.Read _ _ _) = false
-has_step (call.Write _ _ _ _ _) = false
-has_step (call.Create _ _) = false
-has_step (call.MkDir _ _) = false
-has_step (call.SymLink _ _ _) = false
-has_step (call.MkNod _ _) = false
-has_step (call.Remove _) = false
-has_step (call.RmDir _) = false
-has_step (call.Rename _ _) = false
-has_step (call.Link _ _) = false
-has_step (call.ReadDir _ _ _ _) = false
-has_step (call.ReadDirPlus _ _ _ _ _) = false
-has_step (call.FsStat _) = false
-has_step (call.FsInfo _) = false
-has_step (call.PathConf _) = false
-has_step (call.Commit _ _ _) = false
-
 -- The calls that are served so far: each begins a transaction of its own. NULL has no rules, as it does
 -- nothing.
 abbrev pub has_rules : Call → Bool

@@ -1,7 +1,7 @@
-pub mod After
 pub mod Attributes
 pub mod Calls
 pub mod Cost
+pub mod Entry
 pub mod Find
 pub mod Format
 pub mod GetAttr
@@ -12,5 +12,4 @@ pub mod Permissions
 pub mod Refused
 pub mod SetAttr
 pub mod Sound
-pub mod Step
 pub mod Tree

@@ -1,29 +1,28 @@
 -- The one answer to a call where the number of a new file is known: it is a step, and each step is it.
 use Rattle.std.proofs.Common.{◌≡◌, ◌≢◌, ℕ, sym, ap, subst, ◌∙◌, refl, List, Option, Some, None, Result, Ok}
-use Rattle.std.proofs.Common.{Err}
+use Rattle.std.proofs.Common.{false, Err}
 use Rattle.nfs_types.specs.declared.attributes.Attributes.{Attributes}
 use Rattle.nfs_types.specs.declared.attributes.WeakCacheData.{WeakCacheData}
-use Rattle.nfs_types.specs.declared.attributes.NewAttributes.{NewAttributes}
 use Rattle.nfs_types.specs.declared.call.Call.{Call}
 use Rattle.nfs_types.specs.declared.call.Call.TheVariants as call
 use Rattle.nfs_types.specs.declared.ctx.Ctx.{Ctx}
-use Rattle.nfs_types.specs.declared.ctx.Moment.{Moment}
 use Rattle.nfs_types.specs.declared.reply.Reply.{Reply}
 use Rattle.nfs_types.specs.declared.reply.Reply.TheVariants as reply
 use Rattle.nfs_types.specs.declared.status.Status.{Status}
 use Rattle.nfs_types.specs.declared.status.Status.TheVariants as status
-use Rattle.model.specs.Attributes.{change_of, untold}
 use Rattle.model.specs.Find.{find_file}
 use Rattle.model.specs.GetAttr.{attributes_found}
 use Rattle.model.specs.Node.{Node}
-use Rattle.model.specs.SetAttr.{SetFound, SetOrLeft, refusal, with_attributes}
-use Rattle.model.specs.Tree.{Tree, with_node}
+use Rattle.model.specs.Tree.{Tree}
+use Rattle.model.proofs.Answered.{set_answer}
+use Rattle.model.proofs.Determined.{set_found}
 use Rattle.procedures.specs.Access.{granted}
 use Rattle.procedures.specs.Commit.{commit}
 use Rattle.procedures.specs.Create.{create}
 use Rattle.procedures.specs.FirstTests.{after_first, found_then}
 use Rattle.procedures.specs.FsInfo.{file_system_info}
 use Rattle.procedures.specs.FsStat.{space_of}
+use Rattle.procedures.specs.Kinds.{may_make_file}
 use Rattle.procedures.specs.Link.{linking}
 use Rattle.procedures.specs.Lookup.{look_up}
 use Rattle.procedures.specs.MkDir.{make_directory}
@@ -37,7 +36,7 @@ use Rattle.procedures.specs.Rename.{renaming}
 use Rattle.procedures.specs.RmDir.{remove_directory}
 use Rattle.procedures.specs.SymLink.{make_link}
 use Rattle.procedures.specs.Told.{Acts, Effect, Tells, answer_of, change_told, told_in, tree_after}
-use Rattle.procedures.specs.WholeStep.{numbered_step}
+use Rattle.procedures.specs.Step.{numbered_step}
 use Rattle.procedures.specs.Write.{write}
 
 module _ {A : Type 0} (tree : Tree) (handle : List ℕ) where
@@ -74,81 +73,6 @@ module _ {A : Type 0} (tree : Tree) (handle : List ℕ) where
       Acts tree handle act (answer_of result) (change_told (tree_after tree result) (find_file tree handle))
       (tree_after tree result)
   acts act = record { answered = refl; leads = refl; parts = refl }
-
--- the answer to a SETATTR
-pub record SetAnswer (tree : Tree) (ctx : Ctx) (wanted : NewAttributes) (guard : Option Moment)
-    (found : Result (ℕ × Node) Status) : Type 0 where
-  pub outcome : Result (Unit {0}) Status
-  pub told : WeakCacheData
-  pub next : Tree
-  pub is : SetFound tree ctx wanted guard found outcome told next
-
-set_tested : (tree : Tree) (ctx : Ctx) (wanted : NewAttributes) (guard : Option Moment) (found : ℕ × Node)
-    (test : Option Status) → refusal ctx wanted guard found.1 ≡ test
-    → SetAnswer tree ctx wanted guard (Ok found)
-set_tested tree ctx wanted guard found None tested =
-    let new : Node = with_attributes ctx.moment wanted found.1 in
-    let step : SetOrLeft tree found.0 found.1 new None (Ok tt) (change_of found.0 found.1 new)
-    (with_node tree found.0 new) = record { done = refl; parts = refl; changed = refl } in
-    record {
-      outcome = Ok tt;
-      told = change_of found.0 found.1 new;
-      next = with_node tree found.0 new;
-      is = subst (λ test. SetOrLeft tree found.0 found.1 new test (Ok tt) (change_of found.0 found.1 new)
-          (with_node tree found.0 new)) (sym tested) step;
-    }
-set_tested tree ctx wanted guard found (Some status) tested =
-    let new : Node = with_attributes ctx.moment wanted found.1 in
-    let step : SetOrLeft tree found.0 found.1 new (Some status) (Err status)
-    (change_of found.0 found.1 found.1) tree =
-    record { refused = refl; parts = refl; unchanged = refl } in
-    record {
-      outcome = Err status;
-      told = change_of found.0 found.1 found.1;
-      next = tree;
-      is = subst (λ test. SetOrLeft tree found.0 found.1 new test (Err status)
-          (change_of found.0 found.1 found.1) tree) (sym tested) step;
-    }
-
-pub set_answer : (tree : Tree) (ctx : Ctx) (wanted : NewAttributes) (guard : Option Moment)
-    (found : Result (ℕ × Node) Status) → SetAnswer tree ctx wanted guard found
-set_answer tree ctx wanted guard (Ok found) =
-    set_tested tree ctx wanted guard found (refusal ctx wanted guard found.1) refl
-set_answer tree ctx wanted guard (Err status) = record {
-  outcome = Err status;
-  told = untold;
-  next = tree;
-  is = record { refused = refl; parts = refl; unchanged = refl };
-}
-
--- two answers to one SETATTR are one
-set_tested_same : (tree : Tree) (number : ℕ) (node new : Node) (test : Option Status)
-    (outcome other : Result (Unit {0}) Status) (told tells : WeakCacheData) (next last : Tree)
-    → SetOrLeft tree number node new test outcome told next
-    → SetOrLeft tree number node new test other tells last
-    → ◌≡◌ {A = Reply × Tree} (reply.SetAttr outcome told, next) (reply.SetAttr other tells, last)
-set_tested_same tree number node new None outcome other told tells next last a b =
-    λ i. (reply.SetAttr ((a.done ∙ sym b.done) i) ((a.parts ∙ sym b.parts) i), (a.changed ∙ sym b.changed) i)
-set_tested_same tree number node new (Some status) outcome other told tells next last a b =
-    λ i. (
-      reply.SetAttr ((a.refused ∙ sym b.refused) i) ((a.parts ∙ sym b.parts) i),
-      (a.unchanged ∙ sym b.unchanged) i,
-    )
-
-set_same : (tree : Tree) (ctx : Ctx) (wanted : NewAttributes) (guard : Option Moment)
-    (found : Result (ℕ × Node) Status) (outcome other : Result (Unit {0}) Status)
-    (told tells : WeakCacheData) (next last : Tree)
-    → SetFound tree ctx wanted guard found outcome told next
-    → SetFound tree ctx wanted guard found other tells last
-    → ◌≡◌ {A = Reply × Tree} (reply.SetAttr outcome told, next) (reply.SetAttr other tells, last)
-set_same tree ctx wanted guard (Ok found) outcome other told tells next last a b =
-    set_tested_same tree found.0 found.1 (with_attributes ctx.moment wanted found.1)
-    (refusal ctx wanted guard found.1) outcome other told tells next last a b
-set_same tree ctx wanted guard (Err status) outcome other told tells next last a b =
-    λ i. (
-      reply.SetAttr ((a.refused ∙ sym b.refused) i) ((a.parts ∙ sym b.parts) i),
-      (a.unchanged ∙ sym b.unchanged) i,
-    )
 
 module _ (tree : Tree) (ctx : Ctx) (new : Option ℕ) where
   -- the reply and the next tree; NULL has neither
@@ -239,8 +163,9 @@ module _ (tree : Tree) (ctx : Ctx) (new : Option ℕ) where
       λ i. (reply.GetAttr (s.told i), s.unchanged i)
   is_answer (call.SetAttr object wanted guard) (reply.SetAttr outcome told) next s =
       let set = set_answer tree ctx wanted guard (find_file tree object.bytes) in
-      set_same tree ctx wanted guard (find_file tree object.bytes) outcome set.outcome told set.told next
-      set.next s set.is
+      let same = set_found tree ctx wanted guard (find_file tree object.bytes) outcome set.outcome told set.told
+      next set.next s set.is in
+      λ i. (reply.SetAttr (same.outcome_is i) (same.told_is i), same.next_is i)
   is_answer (call.Lookup name) (reply.Lookup outcome told) next s =
       is_told tree name.directory.bytes reply.Lookup
       (look_up tree ctx.credential name.name) outcome told next s
@@ -294,3 +219,11 @@ module _ (tree : Tree) (ctx : Ctx) (new : Option ℕ) where
       let directory_parts = s.directory_parts ∙ ap (λ n. change_told n other) s.leads in
       λ i. (reply.Link (s.answered i) (parts i) (directory_parts i), s.leads i)
   is_answer _ _ next s = absurd s
+
+-- Where no file may be made, the number of a new one makes no difference.
+pub any_number : (tree : Tree) (ctx : Ctx) (one other : Option ℕ) (asked : Call) → may_make_file asked ≡ false
+    → answer tree ctx one asked ≡ answer tree ctx other asked
+any_number tree ctx one other (call.Create name how) none = cc
+any_number tree ctx one other (call.MkDir name wanted) none = cc
+any_number tree ctx one other (call.SymLink name wanted target) none = cc
+any_number tree ctx one other _ none = refl

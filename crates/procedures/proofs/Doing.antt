@@ -58,7 +58,7 @@ use Rattle.procedures.specs.Rename.{rename_file, renaming, with_moved}
 use Rattle.procedures.specs.RmDir.{is_found_filled, remove_directory, rmdir_refusal}
 use Rattle.procedures.specs.SymLink.{make_link}
 use Rattle.procedures.specs.Told.{Acts, Effect, tree_after}
-use Rattle.procedures.specs.WholeStep.{numbered_step}
+use Rattle.procedures.specs.Step.{numbered_step}
 use Rattle.procedures.specs.Write.{write, write_refusal, written, written_reply}
 use Rattle.procedures.proofs.Deeds.{Deed, Placed, leaves, links, makes, named_is, passed, removes, renames, sets}
 use Rattle.procedures.proofs.Deeds.{writes}

@@ -1,4 +1,4 @@
--- No procedure answers IO or SERVERFAULT.
+-- No procedure answers IO or SERVERFAULT, and none but MKNOD NOTSUPP.
 use Rattle.std.proofs.Common.{◌≡◌, ℕ, ap, ◌∙◌, refl, ◌+◌, ◌||◌, is_none, Bool, true, false, cond, not, ◌&&◌}
 use Rattle.std.proofs.Common.{List, [], ◌∷◌, ◌++◌, length, map}
 use Rattle.std.proofs.Common.{Option, Some, None, Result, Ok, Err, nat_eq, nat_lt}
@@ -22,15 +22,19 @@ use Rattle.nfs_types.specs.declared.verifier.Verifier.{Verifier}
 use Rattle.nfs_types.specs.declared.ctx.Ctx.{Ctx}
 use Rattle.nfs_types.specs.declared.ctx.Moment.{Moment}
 use Rattle.nfs_types.specs.declared.handle.Stamp.{Stamp}
+use Rattle.nfs_types.specs.declared.reply.Created.{Created}
 use Rattle.nfs_types.specs.declared.reply.Reply.{Reply}
 use Rattle.nfs_types.specs.declared.reply.Reply.TheVariants as reply
 use Rattle.nfs_types.specs.declared.status.Status.{Status}
 use Rattle.nfs_types.specs.declared.status.Status.TheVariants as status
+use Rattle.model.specs.Attributes.{untold}
+use Rattle.model.specs.Calls.{is_answered_stable, unsupported}
 use Rattle.model.specs.Find.{find_file, is_number, number_in, same_stamp, stamp_in, stamped}
 use Rattle.model.specs.GetAttr.{attributes_found}
 use Rattle.model.specs.Node.{Node, Body, DirectoryEntry, Regular, Directory, Link}
 use Rattle.model.specs.Names.{is_directory}
 use Rattle.model.specs.Permissions.{may_write_file}
+use Rattle.model.specs.Refused.{refused}
 use Rattle.model.specs.SetAttr.{fails_guard, is_invalid, is_no_access, is_not_permitted}
 use Rattle.model.specs.SetAttr.{SetFound, SetOrLeft, first_of_tests, given, is_regular, refusal}
 use Rattle.model.specs.SetAttr.{with_attributes}
@@ -43,7 +47,7 @@ use Rattle.procedures.specs.FirstTests.{found_then, is_long, is_no_directory, is
 use Rattle.procedures.specs.FirstTests.{may_list}
 use Rattle.procedures.specs.FirstTests.{may_search, place_tests, unless}
 use Rattle.procedures.specs.Fresh.{fresh, make, made, new_entry, nothing_given, with_new, without_size}
-use Rattle.procedures.specs.Kinds.{fails, is_failure, tells_failure}
+use Rattle.procedures.specs.Kinds.{fails_with, is_failure, tells_failure, tells_one_of}
 use Rattle.procedures.specs.Link.{link, link_refusal, linking, with_link}
 use Rattle.procedures.specs.Lookup.{found_under, looked}
 use Rattle.procedures.specs.MkDir.{is_full, is_there}
@@ -61,21 +65,36 @@ use Rattle.procedures.specs.ReadLink.{target_of}
 use Rattle.procedures.specs.Rename.{Place, file_in, move, move_refusal, new_slot, places_refusal, rename}
 use Rattle.procedures.specs.Rename.{goes_below_itself, has_no_link, is_other_sort, rename_file, renaming}
 use Rattle.procedures.specs.Rename.{with_moved}
-use Rattle.procedures.specs.Told.{Acts, Effect, Tells, answer_of}
-use Rattle.procedures.specs.WholeStep.{numbered_step}
+use Rattle.procedures.specs.Told.{Acts, Effect, Tells, answer_of, change_told}
+use Rattle.procedures.specs.Step.{numbered_step}
+
+abbrev is_unsupported : Status → Bool
+is_unsupported status.NotSupp = true
+is_unsupported _ = false
+
+-- a status that no test answers
+abbrev is_untested : Status → Bool
+is_untested s = is_failure s || is_unsupported s
+
+abbrev fails : {A : Type 0} → Result A Status → Bool
+fails outcome = fails_with is_untested outcome
+
+abbrev is_mknod : Call → Bool
+is_mknod (call.MkNod _ _) = true
+is_mknod _ = false
 
 fails_test : Option Status → Bool
 fails_test None = false
-fails_test (Some status) = is_failure status
+fails_test (Some status) = is_untested status
 
-chosen : (b : Bool) (s : Status) (rest : Option Status) → is_failure s ≡ false → fails_test rest ≡ false
+chosen : (b : Bool) (s : Status) (rest : Option Status) → is_untested s ≡ false → fails_test rest ≡ false
     → fails_test (cond b (Some s) rest) ≡ false
 unfolding fails_test
 chosen true s rest one two = one
 chosen false s rest one two = two
 
 abbrev are_fine : List (Bool × Status) → Bool
-are_fine tests = list_all (λ test. not (is_failure test.1)) tests
+are_fine tests = list_all (λ test. not (is_untested test.1)) tests
 
 first_of : (a b : Bool) → (a && b) ≡ true → a ≡ true
 first_of true b e = refl
@@ -199,7 +218,7 @@ target_fine (Regular bytes mapped) = refl
 target_fine (Directory named span parent) = refl
 target_fine (Link target) = refl
 
-ok_or_fine : {A : Type 0} (o : Option A) (s : Status) → is_failure s ≡ false → fails (ok_or o s) ≡ false
+ok_or_fine : {A : Type 0} (o : Option A) (s : Status) → is_untested s ≡ false → fails (ok_or o s) ≡ false
 ok_or_fine None s e = e
 ok_or_fine (Some x) s e = refl
 
@@ -305,51 +324,52 @@ listing_fine caller cookie verifier count directory left some = by_tests (
     ∷ (is_too_small count left some, status.TooSmall)
     ∷ []) refl
 
-pub no_failure : (tree next : Tree) (ctx : Ctx) (new : Option ℕ) (asked : Call) (answered : Reply)
-    → numbered_step tree ctx new asked answered next → tells_failure answered ≡ false
-no_failure tree next ctx new (call.GetAttr object) (reply.GetAttr outcome) s =
+pub untested : (tree next : Tree) (ctx : Ctx) (new : Option ℕ) (asked : Call) (answered : Reply)
+    → is_mknod asked ≡ false → numbered_step tree ctx new asked answered next
+    → tells_one_of is_untested answered ≡ false
+untested tree next ctx new (call.GetAttr object) (reply.GetAttr outcome) e s =
     ap fails s.told ∙ attributes_fine (find_file tree object.bytes) (find_fine tree object.bytes)
-no_failure tree next ctx new (call.SetAttr object wanted guard) (reply.SetAttr outcome told) s =
+untested tree next ctx new (call.SetAttr object wanted guard) (reply.SetAttr outcome told) e s =
     set_fine tree next ctx wanted guard (find_file tree object.bytes) outcome told
     (find_fine tree object.bytes) s
-no_failure tree next ctx new (call.Lookup name) (reply.Lookup outcome told) s =
+untested tree next ctx new (call.Lookup name) (reply.Lookup outcome told) e s =
     told_fine tree next _ _ outcome told s (λ number directory. by_unless
     (first_of_tests (place_tests (may_search ctx.credential directory) directory name.name))
     (ok_or (option_map looked (found_under tree number directory name.name)) status.NoEnt) (by_tests
     (place_tests (may_search ctx.credential directory) directory name.name) refl)
     (ok_or_fine _ status.NoEnt refl))
-no_failure tree next ctx new (call.Access object bits) (reply.Access outcome told) s =
+untested tree next ctx new (call.Access object bits) (reply.Access outcome told) e s =
     told_fine tree next _ _ outcome told s (λ _ _. refl)
-no_failure tree next ctx new (call.ReadLink link) (reply.ReadLink outcome told) s =
+untested tree next ctx new (call.ReadLink link) (reply.ReadLink outcome told) e s =
     told_fine tree next _ _ outcome told s (λ _ node. target_fine node.body)
-no_failure tree next ctx new (call.Read file offset count) (reply.Read outcome told) s =
+untested tree next ctx new (call.Read file offset count) (reply.Read outcome told) e s =
     told_fine tree next _ _ outcome told s (λ number node. by_unless (read_refusal ctx.credential node)
     (Ok (read_bytes offset (bytes_of node.body) (piece offset count (bytes_of node.body)))) (by_tests (
     (not (is_regular node.body), status.Inval)
     ∷ (not (may_read_file ctx.credential node), status.Acces)
     ∷ []) refl) refl)
-no_failure tree next ctx new (call.ReadDir directory cookie verifier count) (reply.ReadDir outcome told) s =
+untested tree next ctx new (call.ReadDir directory cookie verifier count) (reply.ReadDir outcome told) e s =
     told_fine tree next _ _ outcome told s (λ number node.
     let left = listed_behind cookie number node.body in
     let some = fitting entry_bytes (entry_room count) left in
     by_ok (listing_refusal ctx.credential cookie verifier count node left some)
     (record { verifier = listing_verifier; entries = some; eof = is_end left some })
     (listing_fine ctx.credential cookie verifier count node left some))
-no_failure tree next ctx new (call.ReadDirPlus directory cookie verifier names_count count)
-    (reply.ReadDirPlus outcome told) s =
+untested tree next ctx new (call.ReadDirPlus directory cookie verifier names_count count)
+    (reply.ReadDirPlus outcome told) e s =
     told_fine tree next _ _ outcome told s (λ number node.
     let left = listed_behind cookie number node.body in
     let some = fitting_both names_count (entry_room count) left in
     by_ok (listing_refusal ctx.credential cookie verifier count node left some)
     (record { verifier = listing_verifier; entries = map (plus tree) some; eof = is_end left some })
     (listing_fine ctx.credential cookie verifier count node left some))
-no_failure tree next ctx new (call.FsStat object) (reply.FsStat outcome told) s =
+untested tree next ctx new (call.FsStat object) (reply.FsStat outcome told) e s =
     told_fine tree next _ _ outcome told s (λ _ _. refl)
-no_failure tree next ctx new (call.FsInfo object) (reply.FsInfo outcome told) s =
+untested tree next ctx new (call.FsInfo object) (reply.FsInfo outcome told) e s =
     told_fine tree next _ _ outcome told s (λ _ _. refl)
-no_failure tree next ctx new (call.PathConf object) (reply.PathConf outcome told) s =
+untested tree next ctx new (call.PathConf object) (reply.PathConf outcome told) e s =
     told_fine tree next _ _ outcome told s (λ _ _. refl)
-no_failure tree next ctx new (call.Write file offset count stability text) (reply.Write outcome told) s =
+untested tree next ctx new (call.Write file offset count stability text) (reply.Write outcome told) e s =
     acted_fine tree next _ _ outcome told s (λ number node. by_unless
     (write_refusal ctx.credential offset count text node)
     (if_room tree (record {
@@ -362,7 +382,7 @@ no_failure tree next ctx new (call.Write file offset count stability text) (repl
     ∷ (nat_lt LARGEST_FILE (offset + count), status.FBig)
     ∷ []) refl)
     (by_room tree _))
-no_failure tree next ctx new (call.Create name how) (reply.Create outcome told) s =
+untested tree next ctx new (call.Create name how) (reply.Create outcome told) e s =
     acted_fine tree next _ _ outcome told s (λ at directory. by_unless
     (first_of_tests (place_tests (may_change ctx.credential directory) directory name.name
     ++ (is_own_name name.name, status.Exist) ∷ []))
@@ -370,7 +390,7 @@ no_failure tree next ctx new (call.Create name how) (reply.Create outcome told) 
     (may_change ctx.credential directory) directory name.name
     ((is_own_name name.name, status.Exist) ∷ []) refl)
     (at_fine tree ctx how new at directory name.name (named_file tree directory name.name)))
-no_failure tree next ctx new (call.MkDir name wanted) (reply.MkDir outcome told) s =
+untested tree next ctx new (call.MkDir name wanted) (reply.MkDir outcome told) e s =
     acted_fine tree next _ _ outcome told s (λ at directory. by_unless
     (first_of_tests (place_tests (may_change ctx.credential directory) directory name.name
     ++ (is_there tree directory name.name, status.Exist) ∷ (is_full directory, status.MLink) ∷ []))
@@ -380,7 +400,7 @@ no_failure tree next ctx new (call.MkDir name wanted) (reply.MkDir outcome told)
     ((is_there tree directory name.name, status.Exist) ∷ (is_full directory, status.MLink) ∷ []) refl)
     (make_fine tree ctx new at directory name.name (without_size wanted)
     (fresh ctx NEW_DIRECTORY_MODE None (Directory map.empty 0 at))))
-no_failure tree next ctx new (call.SymLink name wanted target) (reply.SymLink outcome told) s =
+untested tree next ctx new (call.SymLink name wanted target) (reply.SymLink outcome told) e s =
     acted_fine tree next _ _ outcome told s (λ at directory. by_unless
     (first_of_tests (place_tests (may_change ctx.credential directory) directory name.name
     ++ (is_there tree directory name.name, status.Exist) ∷ (nat_eq (length target) 0, status.Inval)
@@ -392,9 +412,8 @@ no_failure tree next ctx new (call.SymLink name wanted target) (reply.SymLink ou
     ∷ (nat_lt TARGET_BYTES (length target), status.NameTooLong) ∷ []) refl)
     (make_fine tree ctx new at directory name.name (without_size wanted)
     (fresh ctx NEW_LINK_MODE None (Link target))))
-no_failure tree next ctx new (call.MkNod name special) (reply.MkNod outcome told) s =
-    acted_fine tree next _ _ outcome told s (λ _ _. refl)
-no_failure tree next ctx new (call.Remove name) (reply.Remove outcome told) s =
+untested tree next ctx new (call.MkNod name special) (reply.MkNod outcome told) e s = cc
+untested tree next ctx new (call.Remove name) (reply.Remove outcome told) e s =
     acted_fine tree next _ _ outcome told s (λ at directory. by_ok
     (remove_refusal ctx.credential directory name.name (named_file tree directory name.name))
     (record {
@@ -405,7 +424,7 @@ no_failure tree next ctx new (call.Remove name) (reply.Remove outcome told) s =
     ∷ (is_none (named_file tree directory name.name), status.NoEnt)
     ∷ (is_found_directory (named_file tree directory name.name), status.IsDir)
     ∷ []) refl))
-no_failure tree next ctx new (call.RmDir name) (reply.RmDir outcome told) s =
+untested tree next ctx new (call.RmDir name) (reply.RmDir outcome told) e s =
     acted_fine tree next _ _ outcome told s (λ at directory. by_ok
     (rmdir_refusal ctx.credential directory name.name (named_file tree directory name.name))
     (record {
@@ -417,13 +436,13 @@ no_failure tree next ctx new (call.RmDir name) (reply.RmDir outcome told) s =
     ∷ (is_found_other (named_file tree directory name.name), status.NotDir)
     ∷ (is_found_filled (named_file tree directory name.name), status.NotEmpty)
     ∷ []) refl))
-no_failure tree next ctx new (call.Commit file offset count) (reply.Commit outcome told) s =
+untested tree next ctx new (call.Commit file offset count) (reply.Commit outcome told) e s =
     acted_fine tree next _ _ outcome told s (λ number node. by_ok (commit_refusal ctx.credential node)
     (record { answer = boot_verifier ctx.boot; next = tree }) (by_tests (
     (not (is_regular node.body), status.Inval)
     ∷ (not (may_write_file ctx.credential node), status.Acces)
     ∷ []) refl))
-no_failure tree next ctx new (call.Rename source target) (reply.Rename outcome told told_too) s =
+untested tree next ctx new (call.Rename source target) (reply.Rename outcome told told_too) e s =
     ap fails s.answered
     ∙ by_answer (renaming tree ctx source.directory.bytes source.name target.directory.bytes target.name)
     (by_found (find_file tree source.directory.bytes) (λ number directory. found_then
@@ -438,7 +457,7 @@ no_failure tree next ctx new (call.Rename source target) (reply.Rename outcome t
     (λ other parent. rename_fine tree ctx
     (record { number = number; directory = directory; name = source.name })
     (record { number = other; directory = parent; name = target.name }))))
-no_failure tree next ctx new (call.Link file name) (reply.Link outcome told told_too) s =
+untested tree next ctx new (call.Link file name) (reply.Link outcome told told_too) e s =
     ap fails s.answered
     ∙ by_answer (linking tree ctx file.bytes name.directory.bytes name.name)
     (by_found (find_file tree file.bytes) (λ number node. found_then (find_file tree name.directory.bytes)
@@ -446,4 +465,90 @@ no_failure tree next ctx new (call.Link file name) (reply.Link outcome told told
     (λ number node. by_found (find_file tree name.directory.bytes) (link tree ctx name.name number node)
     (find_fine tree name.directory.bytes)
     (λ at directory. link_fine tree ctx name.name number node at directory)))
-no_failure tree next ctx new _ _ s = absurd s
+untested tree next ctx new _ _ e s = absurd s
+
+-- ---- MKNOD is refused whatever it names
+
+first_is : (a b : Bool) → (a || b) ≡ false → a ≡ false
+first_is true b e = cc
+first_is false b e = refl
+
+mknod_fine : (found : Result (ℕ × Node) Status) → fails found ≡ false
+    → fails_with is_failure (answer_of {A = Created} (found_then found (λ _ _. Err status.NotSupp))) ≡ false
+mknod_fine (Ok found) e = refl
+mknod_fine (Err s) e = first_is (is_failure s) (is_unsupported s) e
+
+mknod_told : (tree next : Tree) (ctx : Ctx) (new : Option ℕ) (asked : Call) (answered : Reply)
+    → is_mknod asked ≡ true → numbered_step tree ctx new asked answered next → tells_failure answered ≡ false
+mknod_told tree next ctx new (call.MkNod name special) (reply.MkNod outcome told) e s =
+    ap (fails_with is_failure) s.answered
+    ∙ mknod_fine (find_file tree name.directory.bytes) (find_fine tree name.directory.bytes)
+mknod_told tree next ctx new (call.MkNod name special) _ e s = absurd s
+mknod_told tree next ctx new _ _ e s = cc
+
+mknod_untold : (next : Tree) (found : Result (ℕ × Node) Status) → fails found ≡ false
+    → Err status.NotSupp ≡ answer_of {A = Created} (found_then found (λ _ _. Err status.NotSupp))
+    → untold ≡ change_told next found → ⊥
+mknod_untold next (Ok found) e answered parts = let no = ap (λ (told : WeakCacheData). told.before) parts in cc
+mknod_untold next (Err s) e answered parts = let no : true ≡ false = ap fails answered ∙ e in cc
+
+-- ---- no step tells of a failure
+
+outcome_fine : {A : Type 0} (outcome : Result A Status) → fails outcome ≡ false
+    → fails_with is_failure outcome ≡ false
+outcome_fine (Ok answer) e = refl
+outcome_fine (Err s) e = first_is (is_failure s) (is_unsupported s) e
+
+reply_fine : (given : Reply) → tells_one_of is_untested given ≡ false → tells_failure given ≡ false
+reply_fine reply.Null e = refl
+reply_fine (reply.GetAttr outcome) e = outcome_fine outcome e
+reply_fine (reply.SetAttr outcome _) e = outcome_fine outcome e
+reply_fine (reply.Lookup outcome _) e = outcome_fine outcome e
+reply_fine (reply.Access outcome _) e = outcome_fine outcome e
+reply_fine (reply.ReadLink outcome _) e = outcome_fine outcome e
+reply_fine (reply.Read outcome _) e = outcome_fine outcome e
+reply_fine (reply.Write outcome _) e = outcome_fine outcome e
+reply_fine (reply.Create outcome _) e = outcome_fine outcome e
+reply_fine (reply.MkDir outcome _) e = outcome_fine outcome e
+reply_fine (reply.SymLink outcome _) e = outcome_fine outcome e
+reply_fine (reply.MkNod outcome _) e = outcome_fine outcome e
+reply_fine (reply.Remove outcome _) e = outcome_fine outcome e
+reply_fine (reply.RmDir outcome _) e = outcome_fine outcome e
+reply_fine (reply.Rename outcome _ _) e = outcome_fine outcome e
+reply_fine (reply.Link outcome _ _) e = outcome_fine outcome e
+reply_fine (reply.ReadDir outcome _) e = outcome_fine outcome e
+reply_fine (reply.ReadDirPlus outcome _) e = outcome_fine outcome e
+reply_fine (reply.FsStat outcome _) e = outcome_fine outcome e
+reply_fine (reply.FsInfo outcome _) e = outcome_fine outcome e
+reply_fine (reply.PathConf outcome _) e = outcome_fine outcome e
+reply_fine (reply.Commit outcome _) e = outcome_fine outcome e
+
+by_kind : (tree next : Tree) (ctx : Ctx) (new : Option ℕ) (asked : Call) (answered : Reply) (kind : Bool)
+    → is_mknod asked ≡ kind → numbered_step tree ctx new asked answered next → tells_failure answered ≡ false
+by_kind tree next ctx new asked answered true e s = mknod_told tree next ctx new asked answered e s
+by_kind tree next ctx new asked answered false e s =
+    reply_fine answered (untested tree next ctx new asked answered e s)
+
+pub no_failure : (tree next : Tree) (ctx : Ctx) (new : Option ℕ) (asked : Call) (answered : Reply)
+    → numbered_step tree ctx new asked answered next → tells_failure answered ≡ false
+no_failure tree next ctx new asked answered s = by_kind tree next ctx new asked answered (is_mknod asked) refl s
+
+-- a call that is answered stable has a status, and so the reply with such a status tells of it
+pub told_stable : (failure : Status) (asked : Call) → is_failure failure ≡ true
+    → is_answered_stable asked ≡ true → tells_failure (refused failure asked) ≡ true
+told_stable failure call.Null fails stable = cc
+told_stable failure _ fails stable = fails
+
+-- ---- what isn't served is no step
+
+never : true ≡ false → ⊥
+never e = cc
+
+pub unsupported_never : (tree next : Tree) (ctx : Ctx) (new : Option ℕ) (asked : Call)
+    → numbered_step tree ctx new asked (unsupported asked) next → ⊥
+unsupported_never tree next ctx new call.Null s = s
+unsupported_never tree next ctx new (call.MkNod name special) s =
+    mknod_untold next (find_file tree name.directory.bytes) (find_fine tree name.directory.bytes) s.answered
+    s.parts
+unsupported_never tree next ctx new asked s =
+    never (untested tree next ctx new asked (unsupported asked) refl s)

@@ -4,6 +4,7 @@ pub mod Deeds
 pub mod Doing
 pub mod Entering
 pub mod Failures
+pub mod Joined
 pub mod Keeping
 pub mod Lacking
 pub mod Naming

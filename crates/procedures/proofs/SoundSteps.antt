@@ -6,7 +6,7 @@ use Rattle.nfs_types.specs.Fits.{CallFits}
 use Rattle.nfs_types.specs.declared.call.Call.{Call}
 use Rattle.nfs_types.specs.declared.ctx.Ctx.{Ctx}
 use Rattle.nfs_types.specs.declared.reply.Reply.{Reply}
-use Rattle.model.specs.After.{Entry}
+use Rattle.model.specs.Entry.{Entry}
 use Rattle.model.specs.Names.{ancestor, is_directory, parent_in, parent_of}
 use Rattle.model.specs.Node.{Node, Body, Regular, Directory, Link}
 use Rattle.model.specs.Sound.{Sound, SoundCtx}
@@ -17,8 +17,9 @@ use Rattle.procedures.proofs.Deeds.{Deed, leaves, links, makes, removes, renames
 use Rattle.procedures.proofs.Renaming.{rename_sound}
 use Rattle.procedures.proofs.Soundness.{link_sound, make_sound, remove_sound, set_sound, write_sound}
 use Rattle.procedures.proofs.Within.{along, zero_stays}
-use Rattle.procedures.specs.Histories.{SoundHistory, whole_after}
-use Rattle.procedures.specs.WholeStep.{WholeStep}
+use Rattle.procedures.specs.After.{after}
+use Rattle.procedures.specs.Histories.{SoundHistory}
+use Rattle.procedures.specs.Step.{step}
 
 deed_sound : (tree next : Tree) (ctx : Ctx) (fits : Type 0) → Sound tree → SoundCtx ctx → fits
     → Deed tree ctx fits next → Sound next
@@ -31,13 +32,13 @@ deed_sound tree next ctx fits good now f (removes d) = remove_sound tree ctx fit
 deed_sound tree next ctx fits good now f (renames d) = rename_sound tree ctx fits next good now f d
 
 pub step_sound : (tree next : Tree) (ctx : Ctx) (asked : Call) (given : Reply) → Sound tree → SoundCtx ctx
-    → CallFits asked → WholeStep tree ctx asked given next → Sound next
+    → CallFits asked → step tree ctx asked given next → Sound next
 step_sound tree next ctx asked given good now fits step =
     deed_sound tree next ctx (CallFits asked) good now fits
     (what_is_done tree next ctx step.new asked given step.is_new step.leads)
 
 pub history_sound : (tree next : Tree) (entries : List Entry) → Sound tree → SoundHistory entries
-    → whole_after tree entries next → Sound next
+    → after tree entries next → Sound next
 history_sound tree next [] good each same = subst Sound (sym same) good
 history_sound tree next (entry ∷ entries) good each leads =
     history_sound leads.0 next entries

@@ -14,7 +14,7 @@ use Rattle.nfs_types.specs.declared.handle.Stamp.{Stamp}
 use Rattle.nfs_types.specs.declared.reply.Reply.{Reply}
 use Rattle.nfs_types.specs.declared.status.Status.{Status}
 use Rattle.nfs_types.specs.declared.status.Status.TheVariants as status
-use Rattle.model.specs.After.{Entry}
+use Rattle.model.specs.Entry.{Entry}
 use Rattle.model.specs.Find.{find_file, is_number, number_in, same_stamp, stamp_in, stamped}
 use Rattle.model.specs.Node.{Node}
 use Rattle.model.specs.Sound.{IsMadeBy}
@@ -26,10 +26,11 @@ use Rattle.procedures.proofs.Deeds.{writes}
 use Rattle.procedures.proofs.Lacking.{equal_or_not, gone_change, put_change}
 use Rattle.procedures.specs.Changes.{changed_at, departed, is_last_name, with_file, without_name}
 use Rattle.procedures.specs.Changes.{without_node}
-use Rattle.procedures.specs.Histories.{IsEarlier, IsMadeUpTo, Rising, stamp_of, whole_after}
+use Rattle.procedures.specs.After.{after}
+use Rattle.procedures.specs.Histories.{IsEarlier, IsMadeUpTo, Rising, stamp_of}
 use Rattle.procedures.specs.Link.{linked}
 use Rattle.procedures.specs.Rename.{file_in, moved}
-use Rattle.procedures.specs.WholeStep.{WholeStep}
+use Rattle.procedures.specs.Step.{step}
 use Rattle.procedures.specs.Write.{with_text, written}
 
 -- What a handle tells of the file that it names.
@@ -226,14 +227,14 @@ module _ (tree next : Tree) (ctx : Ctx) (fits : Type 0) where
 
 -- A step gives no other stamp than that of its context.
 pub step_follows : (tree next : Tree) (ctx : Ctx) (asked : Call) (given : Reply)
-    → WholeStep tree ctx asked given next → Follows tree next (stamp_of ctx)
+    → step tree ctx asked given next → Follows tree next (stamp_of ctx)
 step_follows tree next ctx asked given step =
     deed_follows tree next ctx (CallFits asked)
     (what_is_done tree next ctx step.new asked given step.is_new step.leads)
 
 -- No step gives the stamp of a later boot.
 pub no_later : (boot : ℕ) (tree next : Tree) (ctx : Ctx) (asked : Call) (given : Reply) → IsMadeBy boot tree
-    → ctx.boot ≤ boot → WholeStep tree ctx asked given next → IsMadeBy boot next
+    → ctx.boot ≤ boot → step tree ctx asked given next → IsMadeBy boot next
 no_later boot tree next ctx asked given made now step number node is =
     elim ((step_follows tree next ctx asked given step).stamps number node is) [
       | inl old ↦ subst (λ s. s.boot ≤ boot) old.2 (made number old.0 old.1)
@@ -259,7 +260,7 @@ not_itself a b (inr x) same =
 
 -- Files made up to one stamp are, after a step, made up to that of its context.
 pub made_up_to : (tree next : Tree) (from : Stamp) (ctx : Ctx) (asked : Call) (given : Reply)
-    → IsMadeUpTo from tree → IsEarlier from (stamp_of ctx) → WholeStep tree ctx asked given next
+    → IsMadeUpTo from tree → IsEarlier from (stamp_of ctx) → step tree ctx asked given next
     → IsMadeUpTo (stamp_of ctx) next
 made_up_to tree next from ctx asked given made rises step number node is =
     elim ((step_follows tree next ctx asked given step).stamps number node is) [
@@ -329,7 +330,7 @@ stale_too tree next handle same stale never =
 
 step_stale : (tree next : Tree) (ctx : Ctx) (asked : Call) (given : Reply) (handle : List ℕ)
     → find_file tree handle ≡ Err status.Stale → IsEarlier (stamp_in handle) (stamp_of ctx)
-    → WholeStep tree ctx asked given next → find_file next handle ≡ Err status.Stale
+    → step tree ctx asked given next → find_file next handle ≡ Err status.Stale
 step_stale tree next ctx asked given handle stale before step =
     let follows = step_follows tree next ctx asked given step in
     stale_too tree next handle follows.geometry stale (λ found is.
@@ -350,7 +351,7 @@ step_stale tree next ctx asked given handle stale before step =
 
 pub history_stale : (tree next : Tree) (entries : List Entry) (handle : List ℕ)
     → find_file tree handle ≡ Err status.Stale → Rising (stamp_in handle) entries
-    → whole_after tree entries next
+    → after tree entries next
     → find_file next handle ≡ Err status.Stale
 history_stale tree next [] handle stale rises same = ap (λ t. find_file t handle) same ∙ stale
 history_stale tree next (entry ∷ entries) handle stale rises leads =
@@ -359,13 +360,13 @@ history_stale tree next (entry ∷ entries) handle stale rises leads =
     (rising_for (stamp_in handle) (stamp_of entry.ctx) entries (inl rises.0) rises.1) leads.2
 
 -- A handle that named a file, and is stale, names none again.
-pub named_then_stale : (first middle last : Tree) (from : Stamp) (before after : List Entry) (handle : List ℕ)
-    (found : ℕ × Node) → IsMadeUpTo from first → Rising from (before ++ after)
-    → find_file first handle ≡ Ok found → whole_after middle after last
+pub named_then_stale : (first middle last : Tree) (from : Stamp) (before later : List Entry) (handle : List ℕ)
+    (found : ℕ × Node) → IsMadeUpTo from first → Rising from (before ++ later)
+    → find_file first handle ≡ Ok found → after middle later last
     → find_file middle handle ≡ Err status.Stale → find_file last handle ≡ Err status.Stale
-named_then_stale first middle last from before after handle found made rises named leads stale =
+named_then_stale first middle last from before later handle found made rises named leads stale =
     let f = found_is first handle found named in
     let mine = stamps_are (stamp_in handle) found.1.stamp f.stamp in
-    history_stale middle last after handle stale
-    (rising_behind (stamp_in handle) from before after
+    history_stale middle last later handle stale
+    (rising_behind (stamp_in handle) from before later
     (subst (λ s. IsEarlier s from ⊎ (s ≡ from)) (sym mine) (made found.0 found.1 f.there)) rises) leads

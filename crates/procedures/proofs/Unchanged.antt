@@ -23,7 +23,7 @@ use Rattle.procedures.specs.Kinds.{is_refusal, only_tells}
 use Rattle.procedures.specs.Link.{linking}
 use Rattle.procedures.specs.Rename.{renaming}
 use Rattle.procedures.specs.Told.{Acts, Effect, answer_of, tree_after}
-use Rattle.procedures.specs.WholeStep.{numbered_step}
+use Rattle.procedures.specs.Step.{numbered_step}
 
 -- a result without an answer leaves the tree
 refused_leaves : {A : Type 0} (tree : Tree) (result : Result (Effect A) Status)

@@ -1,19 +1,12 @@
--- Histories of whole steps: what they lead to, and which transactions made them.
+-- Histories whose calls can be spelled, and the transactions that made them.
 use Rattle.std.specs.Prelude.{◌≡◌, ◌⊎◌, ℕ, ◌<◌, List, [], ◌∷◌, Some}
 use Rattle.nfs_types.specs.declared.ctx.Ctx.{Ctx}
 use Rattle.nfs_types.specs.declared.handle.Stamp.{Stamp}
 use Rattle.nfs_types.specs.Fits.{CallFits}
-use Rattle.model.specs.After.{Entry}
+use Rattle.model.specs.Entry.{Entry}
 use Rattle.model.specs.Node.{Node}
 use Rattle.model.specs.Sound.{SoundCtx}
 use Rattle.model.specs.Tree.{Tree, node_at}
-use Rattle.procedures.specs.WholeStep.{WholeStep}
-
--- the entries of a history, one whole step after another, lead from a tree to a tree
-abbrev pub whole_after : Tree → List Entry → Tree → Type 0
-whole_after tree [] next = next ≡ tree
-whole_after tree (entry ∷ entries) next = (middle : Tree)
-    × WholeStep tree entry.ctx entry.call entry.reply middle × whole_after middle entries next
 
 -- a call that can be spelled, in a context that there may be
 pub record SoundEntry (entry : Entry) : Type 0 where

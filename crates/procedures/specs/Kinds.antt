@@ -1,4 +1,4 @@
--- Which calls only tell something, and which replies are refusals or tell of a failure.
+-- Which calls only tell something or may make a file, and which replies are refusals or tell of a failure.
 use Rattle.std.specs.Prelude.{Bool, true, false, is_err, Result, Ok, Err}
 use Rattle.nfs_types.specs.declared.call.Call.{Call}
 use Rattle.nfs_types.specs.declared.call.Call.TheVariants as call
@@ -31,6 +31,31 @@ only_tells (call.Remove _) = false
 only_tells (call.RmDir _) = false
 only_tells (call.Rename _ _) = false
 only_tells (call.Link _ _) = false
+
+-- the calls that may make a file, which gets a number of its own
+abbrev pub may_make_file : Call → Bool
+may_make_file (call.Create _ _) = true
+may_make_file (call.MkDir _ _) = true
+may_make_file (call.SymLink _ _ _) = true
+may_make_file call.Null = false
+may_make_file (call.GetAttr _) = false
+may_make_file (call.SetAttr _ _ _) = false
+may_make_file (call.Lookup _) = false
+may_make_file (call.Access _ _) = false
+may_make_file (call.ReadLink _) = false
+may_make_file (call.Read _ _ _) = false
+may_make_file (call.Write _ _ _ _ _) = false
+may_make_file (call.MkNod _ _) = false
+may_make_file (call.Remove _) = false
+may_make_file (call.RmDir _) = false
+may_make_file (call.Rename _ _) = false
+may_make_file (call.Link _ _) = false
+may_make_file (call.ReadDir _ _ _ _) = false
+may_make_file (call.ReadDirPlus _ _ _ _ _) = false
+may_make_file (call.FsStat _) = false
+may_make_file (call.FsInfo _) = false
+may_make_file (call.PathConf _) = false
+may_make_file (call.Commit _ _ _) = false
 
 -- a reply with another status than OK
 abbrev pub is_refusal : Reply → Bool
@@ -80,32 +105,36 @@ is_failure status.BadCookie = false
 is_failure status.NotSupp = false
 is_failure status.TooSmall = false
 
--- an outcome with such a status
-abbrev pub fails : {A : Type 0} → Result A Status → Bool
-fails (Ok answer) = false
-fails (Err status) = is_failure status
+-- an outcome with a status of these
+abbrev pub fails_with : {A : Type 0} → (Status → Bool) → Result A Status → Bool
+fails_with among (Ok answer) = false
+fails_with among (Err status) = among status
 
 -- a reply with such an outcome
+abbrev pub tells_one_of : (Status → Bool) → Reply → Bool
+tells_one_of among reply.Null = false
+tells_one_of among (reply.GetAttr outcome) = fails_with among outcome
+tells_one_of among (reply.SetAttr outcome _) = fails_with among outcome
+tells_one_of among (reply.Lookup outcome _) = fails_with among outcome
+tells_one_of among (reply.Access outcome _) = fails_with among outcome
+tells_one_of among (reply.ReadLink outcome _) = fails_with among outcome
+tells_one_of among (reply.Read outcome _) = fails_with among outcome
+tells_one_of among (reply.Write outcome _) = fails_with among outcome
+tells_one_of among (reply.Create outcome _) = fails_with among outcome
+tells_one_of among (reply.MkDir outcome _) = fails_with among outcome
+tells_one_of among (reply.SymLink outcome _) = fails_with among outcome
+tells_one_of among (reply.MkNod outcome _) = fails_with among outcome
+tells_one_of among (reply.Remove outcome _) = fails_with among outcome
+tells_one_of among (reply.RmDir outcome _) = fails_with among outcome
+tells_one_of among (reply.Rename outcome _ _) = fails_with among outcome
+tells_one_of among (reply.Link outcome _ _) = fails_with among outcome
+tells_one_of among (reply.ReadDir outcome _) = fails_with among outcome
+tells_one_of among (reply.ReadDirPlus outcome _) = fails_with among outcome
+tells_one_of among (reply.FsStat outcome _) = fails_with among outcome
+tells_one_of among (reply.FsInfo outcome _) = fails_with among outcome
+tells_one_of among (reply.PathConf outcome _) = fails_with among outcome
+tells_one_of among (reply.Commit outcome _) = fails_with among outcome
+
+-- a reply that the store failed
 abbrev pub tells_failure : Reply → Bool
-tells_failure reply.Null = false
-tells_failure (reply.GetAttr outcome) = fails outcome
-tells_failure (reply.SetAttr outcome _) = fails outcome
-tells_failure (reply.Lookup outcome _) = fails outcome
-tells_failure (reply.Access outcome _) = fails outcome
-tells_failure (reply.ReadLink outcome _) = fails outcome
-tells_failure (reply.Read outcome _) = fails outcome
-tells_failure (reply.Write outcome _) = fails outcome
-tells_failure (reply.Create outcome _) = fails outcome
-tells_failure (reply.MkDir outcome _) = fails outcome
-tells_failure (reply.SymLink outcome _) = fails outcome
-tells_failure (reply.MkNod outcome _) = fails outcome
-tells_failure (reply.Remove outcome _) = fails outcome
-tells_failure (reply.RmDir outcome _) = fails outcome
-tells_failure (reply.Rename outcome _ _) = fails outcome
-tells_failure (reply.Link outcome _ _) = fails outcome
-tells_failure (reply.ReadDir outcome _) = fails outcome
-tells_failure (reply.ReadDirPlus outcome _) = fails outcome
-tells_failure (reply.FsStat outcome _) = fails outcome
-tells_failure (reply.FsInfo outcome _) = fails outcome
-tells_failure (reply.PathConf outcome _) = fails outcome
-tells_failure (reply.Commit outcome _) = fails outcome
+tells_failure reply = tells_one_of is_failure reply

@@ -1,4 +1,5 @@
 pub mod Access
+pub mod After
 pub mod Changes
 pub mod Commit
 pub mod Create
@@ -22,7 +23,7 @@ pub mod ReadLink
 pub mod Remove
 pub mod Rename
 pub mod RmDir
+pub mod Step
 pub mod SymLink
 pub mod Told
-pub mod WholeStep
 pub mod Write

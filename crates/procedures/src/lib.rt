@@ -1,13 +1,15 @@
 //! The procedures of NFS version 3 over trees, as definitions: what each may answer and which tree it leads
 //! to
-//! (RFC 1813, section 3.3). They stand in `specs/`, one file a procedure; the functions here have laws about
-//! them as their contracts.
+//! (RFC 1813, section 3.3), and the step of the sequential server over all of them. They stand in `specs/`, one
+//! file a procedure; the functions here have laws about them as their contracts.
 #![tactic(auto)]
 
 mod bits;
+mod calls;
 mod cookies;
 mod files;
 mod handles;
+mod histories;
 mod steps;
 mod trees;
 
@@ -15,6 +17,7 @@ pub use bits::{
     ACCESS_DELETE, ACCESS_EXECUTE, ACCESS_EXTEND, ACCESS_LOOKUP, ACCESS_MODIFY, ACCESS_READ,
     HAS_LINKS, HAS_SYMBOLIC_LINKS, IS_HOMOGENEOUS, SETS_TIMES,
 };
+pub use calls::{an_unsupported_call_is_no_step, no_stable_answer_tells_a_failure};
 pub use cookies::{FIRST_SLOT_COOKIE, ITSELF_COOKIE, PARENT_COOKIE};
 pub use files::{
     a_commit_bears_the_verifier_of_what_was_written, a_hole_is_zeros,
@@ -26,9 +29,11 @@ pub use files::{
 pub use handles::{
     a_handle_once_stale_names_no_file_again, a_stale_handle_stays_stale, steps_give_their_own_stamp,
 };
+pub use histories::{an_empty_history_leads_nowhere, histories_join};
 pub use steps::{
-    a_numbered_step_is_determined, a_refusal_leaves_the_tree, each_call_has_a_step,
-    no_step_makes_a_later_stamp, no_step_tells_a_failure, what_only_tells_leaves_the_tree,
+    a_numbered_step_is_determined, a_refusal_leaves_the_tree,
+    a_step_that_makes_no_file_is_determined, each_call_has_a_step, no_step_makes_a_later_stamp,
+    no_step_tells_a_failure, what_only_tells_leaves_the_tree,
 };
 pub use trees::{
     histories_keep_trees_sound, no_step_makes_a_file_its_own_ancestor, steps_keep_trees_sound,

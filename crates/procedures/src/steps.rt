@@ -6,8 +6,8 @@ ghost use Rattle.nfs_types.specs.declared.ctx.Ctx.{Ctx};
 ghost use Rattle.nfs_types.specs.declared.reply.Reply.{Reply};
 ghost use Rattle.model.specs.Sound.{IsMadeBy};
 ghost use Rattle.model.specs.Tree.{Tree};
-ghost use Rattle.procedures.specs.Kinds.{is_refusal, only_tells, tells_failure};
-ghost use Rattle.procedures.specs.WholeStep.{WholeStep, numbered_step};
+ghost use Rattle.procedures.specs.Kinds.{is_refusal, may_make_file, only_tells, tells_failure};
+ghost use Rattle.procedures.specs.Step.{numbered_step, step};
 
 /// Where the number of a new file is known, a call has one reply and one next tree.
 pub fn a_numbered_step_is_determined()
@@ -16,33 +16,40 @@ pub fn a_numbered_step_is_determined()
         → (reply ≡ another) × (next ≡ other) }
 {}
 
+/// A call that may make no file has one reply and one next tree.
+pub fn a_step_that_makes_no_file_is_determined()
+    ensures { (tree next other : Tree) (ctx : Ctx) (asked : Call) (reply another : Reply)
+        → may_make_file asked ≡ false → step tree ctx asked reply next → step tree ctx asked another other
+        → (reply ≡ another) × (next ≡ other) }
+{}
+
 /// Each call but NULL has a reply and a next tree, whatever the tree is.
 pub fn each_call_has_a_step()
     ensures { (tree : Tree) (ctx : Ctx) (asked : Call) → asked ≢ call.Null
-        → (reply : Reply) × (next : Tree) × WholeStep tree ctx asked reply next }
+        → (reply : Reply) × (next : Tree) × step tree ctx asked reply next }
 {}
 
 /// A call that is refused changes nothing.
 pub fn a_refusal_leaves_the_tree()
     ensures { (tree next : Tree) (ctx : Ctx) (asked : Call) (reply : Reply)
-        → WholeStep tree ctx asked reply next → is_refusal reply ≡ true → next ≡ tree }
+        → step tree ctx asked reply next → is_refusal reply ≡ true → next ≡ tree }
 {}
 
 /// A call that only tells something changes nothing.
 pub fn what_only_tells_leaves_the_tree()
     ensures { (tree next : Tree) (ctx : Ctx) (asked : Call) (reply : Reply)
-        → WholeStep tree ctx asked reply next → only_tells asked ≡ true → next ≡ tree }
+        → step tree ctx asked reply next → only_tells asked ≡ true → next ≡ tree }
 {}
 
 /// No step replies IO or SERVERFAULT: those tell that the store failed, and not what the procedure found.
 pub fn no_step_tells_a_failure()
     ensures { (tree next : Tree) (ctx : Ctx) (asked : Call) (reply : Reply)
-        → WholeStep tree ctx asked reply next → tells_failure reply ≡ false }
+        → step tree ctx asked reply next → tells_failure reply ≡ false }
 {}
 
 /// A step makes no file with a later boot in its stamp: where none has one above a bound and the store's boot
 /// isn't above it, none has afterwards.
 pub fn no_step_makes_a_later_stamp()
     ensures { (boot : ℕ) (tree next : Tree) (ctx : Ctx) (asked : Call) (reply : Reply)
-        → IsMadeBy boot tree → ctx.boot ≤ boot → WholeStep tree ctx asked reply next → IsMadeBy boot next }
+        → IsMadeBy boot tree → ctx.boot ≤ boot → step tree ctx asked reply next → IsMadeBy boot next }
 {}

@@ -1,5 +1,5 @@
-use Rattle.model.proofs.Joined.{join, split}
-use Rattle.model.proofs.histories.histories_join.Goals as goal
+use Rattle.procedures.proofs.Joined.{join, split}
+use Rattle.procedures.proofs.histories.histories_join.Goals as goal
 
 pub returns : goal.returns
 returns c tree next first second =

@@ -1,8 +1,9 @@
 -- On histories one after the other.
 use Rattle.std.proofs.Common.{subst, refl, List, [], ◌∷◌, ◌++◌}
+use Rattle.model.specs.Entry.{Entry}
 use Rattle.model.specs.Tree.{Tree}
-use Rattle.model.specs.After.{Entry, after}
-use Rattle.model.specs.Step.{step}
+use Rattle.procedures.specs.After.{after}
+use Rattle.procedures.specs.Step.{step}
 
 pub join : (tree middle next : Tree) (first second : List Entry) → after tree first middle
     → after middle second next → after tree (first ++ second) next

@@ -1,7 +1,8 @@
 //! Laws on histories.
 ghost use Rattle.std.specs.Prelude.{◌≡◌, ◌↔◌, [], ◌++◌, List};
+ghost use Rattle.model.specs.Entry.{Entry};
 ghost use Rattle.model.specs.Tree.{Tree};
-ghost use Rattle.model.specs.After.{after, Entry};
+ghost use Rattle.procedures.specs.After.{after};
 
 /// A history without entries leads from each tree to itself, and nowhere else.
 pub fn an_empty_history_leads_nowhere()

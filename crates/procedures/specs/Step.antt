@@ -1,5 +1,4 @@
--- The sequential server with all its procedures (RFC 1813, section 3.3): which replies it may give to a
--- call, and
+-- The sequential server, over all procedures (RFC 1813, section 3.3): which replies it may give to a call, and
 -- which tree it then has.
 use Rattle.std.specs.Prelude.{ℕ, Option}
 use Rattle.nfs_types.specs.declared.call.Call.{Call}
@@ -31,8 +30,7 @@ use Rattle.procedures.specs.RmDir.{RmDirStep}
 use Rattle.procedures.specs.SymLink.{SymLinkStep}
 use Rattle.procedures.specs.Write.{WriteStep}
 
--- What a call may answer and lead to, where a new file would get this number. A call gets the reply of its
--- own
+-- What a call may answer and lead to, where a new file would get this number. A call gets the reply of its own
 -- procedure and no other.
 abbrev pub numbered_step : Tree → Ctx → Option ℕ → Call → Reply → Tree → Type 0
 numbered_step tree ctx new (call.GetAttr object) (reply.GetAttr outcome) next =
@@ -82,8 +80,9 @@ numbered_step tree ctx new (call.Commit file offset count) (reply.Commit outcome
     CommitStep tree ctx file.bytes outcome told next
 numbered_step tree ctx new _ _ next = ⊥
 
--- A step of the server: a new file may get any unused number.
-pub record WholeStep (tree : Tree) (ctx : Ctx) (asked : Call) (reply : Reply) (next : Tree) : Type 0 where
+-- From a tree, a call in this context may get this reply and lead to the next tree. A new file may get any
+-- unused number.
+pub record step (tree : Tree) (ctx : Ctx) (asked : Call) (reply : Reply) (next : Tree) : Type 0 where
   pub new : Option ℕ
   pub is_new : IsNewNumber tree new
   pub leads : numbered_step tree ctx new asked reply next
