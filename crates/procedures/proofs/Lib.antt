@@ -14,6 +14,7 @@ pub mod Parts
 pub mod Removed
 pub mod Renaming
 pub mod Room
+pub mod Served
 pub mod SoundSteps
 pub mod Soundness
 pub mod Stale
