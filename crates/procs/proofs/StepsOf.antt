@@ -22,9 +22,10 @@ use Rattle.model.specs.GetAttr.{attributes_found}
 use Rattle.model.specs.Node.{Node, Body}
 use Rattle.model.specs.SetAttr.{refusal, with_attributes, SetFound, SetOrLeft}
 use Rattle.model.specs.Sound.{SoundTime}
-use Rattle.model.specs.Step.{step}
+use Rattle.procedures.specs.Step.{step}
 use Rattle.model.specs.Tree.{Tree}
 use Rattle.model.proofs.Answered.{found-stands}
+use Rattle.procedures.proofs.Served.{getattr_is_step, setattr_is_step}
 use Rattle.layout.specs.declared.geometry.Geometry.{Geometry}
 use Rattle.layout.specs.declared.inode.Inode.{Inode}
 use Rattle.layout.specs.Decode.{node_with}
@@ -61,15 +62,16 @@ told_is g blocks tree ctx object (Ok f) (Ok attributes) stands is told =
     let node_is : node_with f.inode is.0.body ≡ is.0 =
     node_of g blocks tree f.number f.inode is.0 stands
     (found-stands tree object.bytes (f.number, is.0) is.1) is.2 in
-    record {
+    getattr_is_step tree tree ctx object (Ok attributes) (record {
       told = ap (λ (a : Attributes). Ok a) (told is.0.body is.3 ∙ ap (attributes_of f.number) node_is)
           ∙ sym (ap attributes_found is.1);
       unchanged = refl;
-    }
-told_is g blocks tree ctx object (Err found) (Err status) stands is told = record {
-  told = ap (λ (s : Status). Err s) told ∙ sym (ap attributes_found is);
-  unchanged = refl;
-}
+    })
+told_is g blocks tree ctx object (Err found) (Err status) stands is told =
+    getattr_is_step tree tree ctx object (Err status) (record {
+      told = ap (λ (s : Status). Err s) told ∙ sym (ap attributes_found is);
+      unchanged = refl;
+    })
 told_is g blocks tree ctx object (Ok f) (Err status) stands is told = absurd told
 told_is g blocks tree ctx object (Err found) (Ok attributes) stands is told = absurd told
 
@@ -79,8 +81,9 @@ pub not_found : (tree : Tree) (ctx : Ctx) (object : Handle) (wanted : NewAttribu
     (status : Status) (told : WeakCacheData) → told ≡ untold → find_file tree object.bytes ≡ Err status
     → step tree ctx (call.SetAttr object wanted guard) (reply.SetAttr (Err status) told) tree
 not_found tree ctx object wanted guard status told none found =
-    subst (λ f. SetFound tree ctx wanted guard f (Err status) told tree) (sym found)
-    (record { refused = refl; parts = none; unchanged = refl })
+    setattr_is_step tree tree ctx object wanted guard (Err status) told
+    (subst (λ f. SetFound tree ctx wanted guard f (Err status) told tree) (sym found)
+    (record { refused = refl; parts = none; unchanged = refl }))
 
 module _ (g : Geometry) (blocks : Image) (tree : Tree) (ctx : Ctx) (object : Handle) (wanted : NewAttributes)
     (guard : Option Moment) (f : FoundFile) (stands : Stands g blocks tree)
@@ -98,14 +101,15 @@ module _ (g : Geometry) (blocks : Image) (tree : Tree) (ctx : Ctx) (object : Han
       → told ≡ change_of f.number (node_with f.inode body) (node_with f.inode body))
       → step tree ctx (call.SetAttr object wanted guard) (reply.SetAttr (Err status) told) tree
   left_alone status told refused tells =
-      subst (λ one. SetFound tree ctx wanted guard one (Err status) told tree) (sym is.1)
+      setattr_is_step tree tree ctx object wanted guard (Err status) told
+      (subst (λ one. SetFound tree ctx wanted guard one (Err status) told tree) (sym is.1)
       (subst (λ test. SetOrLeft tree f.number node (with_attributes ctx.moment wanted node) test (Err status)
       told tree) (refused node.body ∙ ap (refusal ctx wanted guard) node_is)
       (record {
         refused = refl;
         parts = tells node.body is.3 is.3 ∙ (λ i. change_of f.number (node_is i) (node_is i));
         unchanged = refl;
-      }))
+      })))
 
   pub written : (new : FoundFile) (told : Reply) (object_is : ObjectBytes)
       → SoundTime ctx.moment → sets_only_mode wanted ≡ true

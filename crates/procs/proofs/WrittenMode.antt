@@ -17,9 +17,10 @@ use Rattle.model.specs.Find.{find_file}
 use Rattle.model.specs.Node.{Node}
 use Rattle.model.specs.SetAttr.{refusal, with_attributes, SetFound, SetOrLeft}
 use Rattle.model.specs.Sound.{SoundTime, SoundNode}
-use Rattle.model.specs.Step.{step}
+use Rattle.procedures.specs.Step.{step}
 use Rattle.model.specs.Tree.{Tree, node_at, with_node}
 use Rattle.model.proofs.Answered.{found-stands}
+use Rattle.procedures.proofs.Served.{setattr_is_step}
 use Rattle.model.proofs.Attributed.{sound_node}
 use Rattle.layout.specs.declared.geometry.Geometry.{Geometry}
 use Rattle.layout.specs.declared.inode.Inode.{Inode}
@@ -159,7 +160,9 @@ module _ (g : Geometry) (blocks : Image) (tree : Tree) (ctx : Ctx) (object : Han
       × Stands g (with_objects blocks (written ∷ [])) next
   is_step = (
     with_node tree number (node_with new node.body),
-    subst (λ one. SetFound tree ctx wanted guard one (Ok tt) (change_of number node (node_with new node.body))
-        (with_node tree number (node_with new node.body))) (sym found) set_step,
+    setattr_is_step tree (with_node tree number (node_with new node.body)) ctx object wanted guard (Ok tt)
+        (change_of number node (node_with new node.body))
+        (subst (λ one. SetFound tree ctx wanted guard one (Ok tt) (change_of number node (node_with new node.body))
+        (with_node tree number (node_with new node.body))) (sym found) set_step),
     stands_now,
   )

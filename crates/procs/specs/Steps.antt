@@ -7,7 +7,7 @@ use Rattle.nfs_types.specs.declared.call.Call.{Call}
 use Rattle.nfs_types.specs.declared.ctx.Ctx.{Ctx}
 use Rattle.model.specs.Attributes.{attributes_of}
 use Rattle.model.specs.Sound.{SoundTime}
-use Rattle.model.specs.Step.{step}
+use Rattle.procedures.specs.Step.{step}
 use Rattle.layout.specs.Fields.{numbers_at}
 use Rattle.disk.specs.Crash.{Image}
 use Rattle.nfs_types.specs.declared.attributes.NewAttributes.{NewAttributes}

@@ -13,7 +13,7 @@ ghost use Rattle.model.specs.Find.{find_file};
 ghost use Rattle.model.specs.Node.{Node};
 ghost use Rattle.model.specs.SetAttr.{refusal};
 ghost use Rattle.model.specs.Sound.{SoundTime};
-ghost use Rattle.model.specs.Step.{step};
+ghost use Rattle.procedures.specs.Step.{step};
 ghost use Rattle.model.specs.Tree.{Tree};
 ghost use Rattle.layout.specs.declared.geometry.Geometry.{Geometry};
 ghost use Rattle.layout.specs.declared.inode.Inode.{Inode};
