@@ -1,3 +1,4 @@
+pub mod Answered
 pub mod Indexes
 pub mod Named
 pub mod Plain

@@ -1,10 +1,10 @@
 //! One call after another.
 ghost use Rattle.std.specs.Prelude.{◌≡◌, ◌↔◌, false, IfOk, OnErr, IsErrOf};
-ghost use Rattle.model.specs.Calls.{has_step};
 ghost use Rattle.model.specs.Find.{find_file};
 ghost use Rattle.model.specs.GetAttr.{attributes_found};
 ghost use Rattle.model.specs.SetAttr.{SetAttrStep};
-ghost use Rattle.model.specs.Step.{step};
+ghost use Rattle.procedures.specs.Step.{step};
+ghost use Rattle.plain_server.specs.Answered.{is_answered};
 ghost use Rattle.plain_server.specs.Plain.{tree_of};
 
 use crate::PlainTree;
@@ -32,11 +32,11 @@ pub struct SetReply {
     pub object: WeakCacheData,
 }
 
-/// One step of the sequential server. An error leaves the tree as it was.
+/// One step of the sequential server, of a call that is answered here. An error leaves the tree as it was.
 pub fn serve(tree: &mut PlainTree, ctx: &Ctx, call: &Call) -> Result<Reply, PlainFault>
     ensures step { IfOk result (λ reply. step (tree_of tree.old) ctx.now call.now reply (tree_of tree.new)) }
     ensures err { OnErr result (tree_of tree.new ≡ tree_of tree.old) }
-    ensures unserved { IsErrOf result PlainFault.NoRules ↔ (has_step call.now ≡ false) }
+    ensures unserved { IsErrOf result PlainFault.NoRules ↔ (is_answered call.now ≡ false) }
 {
     match call {
         Call::GetAttr { object } => Ok(Reply::GetAttr {

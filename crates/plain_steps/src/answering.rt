@@ -1,6 +1,6 @@
 //! One call after another.
 ghost use Rattle.std.specs.Prelude.{◌≡◌, IfOk, IfSome, IfNone, OnErr, is_some, not};
-ghost use Rattle.procedures.specs.WholeStep.{WholeStep, numbered_step};
+ghost use Rattle.procedures.specs.Step.{step, numbered_step};
 ghost use Rattle.plain_server.specs.Plain.{tree_of};
 ghost use Rattle.plain_procedures.specs.Listed.{least_unused};
 ghost use Rattle.plain_steps.specs.Computed.{is_change, is_null, is_read};
@@ -66,7 +66,7 @@ pub fn answer(
     ctx: &Ctx,
     call: &Call,
 ) -> Result<Option<Reply>, AllocError>
-    ensures step { IfOk result (λ r. IfSome r (λ reply. WholeStep (tree_of tree.old) ctx.now call.now reply
+    ensures step { IfOk result (λ r. IfSome r (λ reply. step (tree_of tree.old) ctx.now call.now reply
         (tree_of tree.new))) }
     ensures known { IfOk result (λ r. is_some r ≡ not (is_null call.now)) }
     ensures unknown { IfOk result (λ r. IfNone r (tree_of tree.new ≡ tree_of tree.old)) }

@@ -1,7 +1,7 @@
 //! Calls that may change the tree, by what they change. Each function gives the other calls no answer. An error
 //! leaves the tree as it was.
 ghost use Rattle.std.specs.Prelude.{◌≡◌, IfOk, IfSome, IfNone, OnErr, is_some};
-ghost use Rattle.procedures.specs.WholeStep.{numbered_step};
+ghost use Rattle.procedures.specs.Step.{numbered_step};
 ghost use Rattle.plain_server.specs.Plain.{tree_of};
 ghost use Rattle.plain_procedures.specs.Listed.{least_unused};
 ghost use Rattle.plain_steps.specs.Computed.{changes_file, changes_name, makes_file};

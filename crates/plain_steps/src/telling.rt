@@ -1,7 +1,7 @@
 //! Calls that only tell something, by what they tell of. Each function gives the other calls no answer.
 ghost use Rattle.std.specs.Prelude.{◌≡◌, IfOk, IfSome, is_some};
 ghost use Rattle.nfs_types.specs.declared.ctx.Ctx.{Ctx};
-ghost use Rattle.procedures.specs.WholeStep.{numbered_step};
+ghost use Rattle.procedures.specs.Step.{numbered_step};
 ghost use Rattle.plain_server.specs.Plain.{tree_of};
 ghost use Rattle.plain_procedures.specs.Listed.{least_unused};
 ghost use Rattle.plain_steps.specs.Computed.{tells_of_directory, tells_of_file, tells_of_system};

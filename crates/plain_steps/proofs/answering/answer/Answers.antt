@@ -1,5 +1,5 @@
 use Rattle.std.proofs.Common.{◌≡◌, refl, sym, ap, subst, ◌∙◌, is_some, Option, Some, None, IfSome, IfNone}
-use Rattle.procedures.specs.WholeStep.{WholeStep}
+use Rattle.procedures.specs.Step.{step}
 use Rattle.plain_server.specs.Plain.{tree_of}
 use Rattle.plain_procedures.specs.Listed.{least_unused}
 use Rattle.plain_procedures.proofs.Ranges.{least_is_new}
@@ -26,7 +26,7 @@ pub returns-in-Ok-Some-answer_reading-clause-step : goal.returns-in-Ok-Some-answ
 returns-in-Ok-Some-answer_reading-clause-step c =
     let next = tree_of c.answer_changing.new.tree in
     let read = c.in-Ok-Some-answer_reading in
-    subst (λ tree. WholeStep tree c.args.ctx.now c.args.call.now read.reply next)
+    subst (λ tree. step tree c.args.ctx.now c.args.call.now read.reply next)
     (untold c.in-Ok-None.field-0 _ c.in-Ok-None.field-0-is c.in-Ok-None.ensures.unknown)
     (record {
       new = least_unused next;
