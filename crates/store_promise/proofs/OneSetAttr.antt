@@ -13,7 +13,7 @@ use Rattle.store_promise.specs.declared.events.Step.{Step}
 use Rattle.store_promise.specs.declared.events.Step.TheVariants as step
 use Rattle.nfs_types.specs.declared.reply.Reply.{Reply}
 use Rattle.layout.specs.Stands.{Stands}
-use Rattle.model.specs.Step as server
+use Rattle.procedures.specs.Step as server
 use Rattle.model.specs.Tree.{Tree}
 use Rattle.store_promise.specs.Headline.{StandsAfter}
 use Rattle.store_promise.specs.OneSetAttr.{OneSetAttr, asked, blocks_at, ctx_in, events_of, setting_of}

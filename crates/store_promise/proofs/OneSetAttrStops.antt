@@ -7,7 +7,7 @@ use Rattle.std.proofs.lemmas.Bool.Decides.{nat_tests}
 use Rattle.disk.specs.Crash.{Image, IsCrashImage}
 use Rattle.disk.specs.Device.{Device}
 use Rattle.nfs_types.specs.declared.reply.Reply.{Reply}
-use Rattle.model.specs.Step.{step}
+use Rattle.procedures.specs.Step.{step}
 use Rattle.model.specs.Tree.{Tree}
 use Rattle.store_promise.specs.declared.transcript.Answer.{Answer}
 use Rattle.store_promise.specs.declared.transcript.Committed.{Committed}

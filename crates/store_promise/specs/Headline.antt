@@ -6,7 +6,8 @@ use Rattle.disk.specs.Device.{Device}
 use Rattle.layout.specs.declared.geometry.Geometry.{Geometry}
 use Rattle.layout.specs.Homes.{homes_of}
 use Rattle.layout.specs.Stands.{Stands}
-use Rattle.model.specs.After.{Entry, after}
+use Rattle.model.specs.Entry.{Entry}
+use Rattle.procedures.specs.After.{after}
 use Rattle.model.specs.Tree.{Tree}
 use Rattle.wal_law.specs.Overlay.{over}
 use Rattle.store_promise.specs.declared.fault.OpenFault.{OpenFault}

@@ -2,7 +2,8 @@
 use Rattle.std.specs.Prelude.{◌≡◌, ℕ, ◌-◌, ◌<◌, ◌≤◌, List, length, take, drop}
 use Rattle.disk.specs.Crash.{Image, IsCrashImage}
 use Rattle.disk.specs.Device.{Device}
-use Rattle.model.specs.After.{Entry, after}
+use Rattle.model.specs.Entry.{Entry}
+use Rattle.procedures.specs.After.{after}
 use Rattle.model.specs.Sound.{SoundTime}
 use Rattle.model.specs.Tree.{Tree}
 use Rattle.layout.specs.declared.geometry.Geometry.{Geometry}

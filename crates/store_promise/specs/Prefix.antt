@@ -1,7 +1,8 @@
 -- What a stop is to leave: the files after a beginning of what was done.
 use Rattle.std.specs.Prelude.{ℕ, ◌≤◌, List, take}
 use Rattle.disk.specs.Crash.{Image}
-use Rattle.model.specs.After.{Entry, after}
+use Rattle.model.specs.Entry.{Entry}
+use Rattle.procedures.specs.After.{after}
 use Rattle.model.specs.Tree.{Tree}
 use Rattle.store_promise.specs.GoodImage.{IsGoodImage}
 

@@ -1,7 +1,7 @@
 -- What a run tells, as lists.
 use Rattle.std.specs.Prelude.{ℕ, zero, suc, ◌+◌, Bool, true, false, not, List, map, take, count_by, slice_get}
 use Rattle.std.specs.Prelude.{Option, Some, None, nat_le}
-use Rattle.model.specs.After.{Entry}
+use Rattle.model.specs.Entry.{Entry}
 use Rattle.store_promise.specs.declared.events.Step.{Step}
 use Rattle.store_promise.specs.declared.events.Step.TheVariants as step
 use Rattle.store_promise.specs.declared.transcript.Answer.{Answer}

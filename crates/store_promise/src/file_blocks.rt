@@ -3,7 +3,7 @@
 ghost use Rattle.std.specs.Prelude.{◌≡◌, ℕ, ◌+◌, ◌-◌, ◌≤◌, Bool, List, if◌then◌else◌, length};
 ghost use Rattle.disk.specs.Crash.{Image};
 ghost use Rattle.disk.specs.Device.{Device};
-ghost use Rattle.model.specs.After.{Entry};
+ghost use Rattle.model.specs.Entry.{Entry};
 ghost use Rattle.model.specs.Tree.{Tree};
 ghost use Rattle.txn.specs.Outcomes.{TakesPlace};
 ghost use Rattle.txn_law.specs.Commit.{IsReadBy, Planned};

@@ -3,7 +3,7 @@ ghost use Rattle.std.specs.Prelude.{◌≡◌, ◌+◌, ◌^◌, ◌<◌, ◌≤
 ghost use Rattle.disk.specs.Crash.{Image, IsCrashImage};
 ghost use Rattle.disk.specs.Device.{Device};
 ghost use Rattle.model.specs.Calls.{sets_only_mode};
-ghost use Rattle.model.specs.Step.{step};
+ghost use Rattle.procedures.specs.Step.{step};
 ghost use Rattle.model.specs.Tree.{Tree};
 ghost use Rattle.nfs_types.specs.declared.reply.Reply.{Reply};
 ghost use Rattle.layout.specs.declared.geometry.Geometry.{Geometry};

@@ -7,8 +7,8 @@ ghost use Rattle.std.specs.Prelude.{true};
 ghost use Rattle.disk.specs.Crash.{Image, IsCrashImage};
 ghost use Rattle.disk.specs.Device.{Device, HasRead, OneLater};
 ghost use Rattle.disk.specs.declared.device.Failed.{Failed};
-ghost use Rattle.model.specs.After.{Entry};
-ghost use Rattle.model.specs.Step.{step};
+ghost use Rattle.model.specs.Entry.{Entry};
+ghost use Rattle.procedures.specs.Step.{step};
 ghost use Rattle.model.specs.Tree.{Tree};
 ghost use Rattle.txn.specs.Outcomes.{TakesPlace};
 ghost use Rattle.txn_law.specs.Commit.{Planned};
@@ -53,7 +53,7 @@ pub fn a_commit_leaves_the_store_open()
         × IsOpenSince base d new logging installing boot first (entries ++ entry ∷ []) next }
 {
     layout::counts_make_one_geometry();
-    model::no_step_makes_a_later_stamp();
+    procedures::no_step_makes_a_later_stamp();
     txn_law::steps_keep_what_may_be_read();
 }
 

@@ -3,7 +3,7 @@ ghost use Rattle.std.specs.Prelude.{◌≡◌, ℕ, ◌+◌, ◌≤◌, List, []
 ghost use Rattle.limits.specs.declared.TheConstants.{BLOCK_BYTES, SUPER_BLOCK};
 ghost use Rattle.disk.specs.Crash.{Image, IsCrashImage};
 ghost use Rattle.disk.specs.Device.{Content, Device};
-ghost use Rattle.model.specs.After.{Entry};
+ghost use Rattle.model.specs.Entry.{Entry};
 ghost use Rattle.model.specs.Tree.{Tree};
 ghost use Rattle.layout.specs.declared.super_block.Super.{Super};
 ghost use Rattle.layout.specs.SuperForm.{IsSuper};

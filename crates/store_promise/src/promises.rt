@@ -3,7 +3,7 @@ ghost use Rattle.std.specs.Prelude.{◌≡◌, ◌≢◌, ◌+◌, ◌<◌, ◌�
 ghost use Rattle.std.specs.Prelude.{count_by, length, take};
 ghost use Rattle.disk.specs.Crash.{Image, IsCrashImage};
 ghost use Rattle.disk.specs.Device.{Device};
-ghost use Rattle.model.specs.After.{after};
+ghost use Rattle.procedures.specs.After.{after};
 ghost use Rattle.model.specs.Tree.{Tree};
 ghost use Rattle.layout.specs.Homes.{homes_of};
 ghost use Rattle.wal_law.specs.Overlay.{over};

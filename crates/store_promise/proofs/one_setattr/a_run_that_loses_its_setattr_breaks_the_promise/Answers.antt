@@ -2,8 +2,8 @@
 -- itself.
 use Rattle.std.proofs.Common.{◌≡◌, ℕ, zero, suc, ◌+◌, ◌≤◌, [], ◌∷◌, refl, subst, sym, arith, take}
 use Rattle.nfs_types.specs.declared.reply.Reply.{Reply}
-use Rattle.model.specs.After.{after}
-use Rattle.model.specs.Step.{step}
+use Rattle.procedures.specs.After.{after}
+use Rattle.procedures.specs.Step.{step}
 use Rattle.model.specs.Tree.{Tree}
 use Rattle.store_promise.specs.OneSetAttr.{OneSetAttr, answer_at, asked, ctx_in, entry_in, events_of, told_of}
 use Rattle.store_promise.specs.Transcript.{entry_of}

@@ -1,7 +1,8 @@
 -- No procedure is committed by then, so the prefix is empty.
 use Rattle.std.proofs.Common.{◌≡◌, ℕ, [], ◌∷◌, ◌+◌, ◌≤◌, cond, nat_le, false, subst, arith, take}
 use Rattle.std.proofs.lemmas.Bool.Decides.{nat_tests}
-use Rattle.model.specs.After.{after, Entry}
+use Rattle.model.specs.Entry.{Entry}
+use Rattle.procedures.specs.After.{after}
 use Rattle.model.specs.Tree.{Tree}
 use Rattle.store_promise.specs.GoodImage.{IsGoodImage}
 use Rattle.store_promise.proofs.one_setattr.a_setattr_that_shows_too_early_breaks_the_promise.Goals as goal

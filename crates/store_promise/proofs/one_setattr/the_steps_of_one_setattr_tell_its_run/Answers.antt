@@ -2,8 +2,8 @@
 use Rattle.std.proofs.Common.{◌≡◌, ℕ, ◌+◌, List, [], ◌∷◌, map, ap, sym, ◌∙◌, subst}
 use Rattle.nfs_types.specs.declared.reply.Reply.{Reply}
 use Rattle.disk.specs.Device.{Device}
-use Rattle.model.specs.After.{after}
-use Rattle.model.specs.Step.{step}
+use Rattle.procedures.specs.After.{after}
+use Rattle.procedures.specs.Step.{step}
 use Rattle.model.specs.Tree.{Tree}
 use Rattle.store_promise.specs.declared.transcript.Answer.{Answer}
 use Rattle.store_promise.specs.declared.transcript.Committed.{Committed}

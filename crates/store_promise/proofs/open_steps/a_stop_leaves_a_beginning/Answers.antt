@@ -4,7 +4,7 @@ use Rattle.std.proofs.lemmas.List.{length-drop}
 use Rattle.disk.specs.Crash.{Image}
 use Rattle.disk.specs.Device.{Device}
 use Rattle.layout.specs.Homes.{homes_of}
-use Rattle.model.specs.After.{Entry}
+use Rattle.model.specs.Entry.{Entry}
 use Rattle.model.specs.Tree.{Tree}
 use Rattle.txn_law.specs.Core.{CoreState}
 use Rattle.wal_law.specs.Calls.{Pending}

@@ -6,7 +6,8 @@ use Rattle.std.proofs.lemmas.List.{take-append-le}
 use Rattle.std.specs.Prelude.{Contains}
 use Rattle.disk.specs.Crash.{Image, IsCrashImage}
 use Rattle.disk.specs.Device.{Content, Device, OneLater}
-use Rattle.model.specs.After.{Entry, after}
+use Rattle.model.specs.Entry.{Entry}
+use Rattle.procedures.specs.After.{after}
 use Rattle.model.specs.Tree.{Tree}
 use Rattle.wal_law.specs.Log.{settled_place}
 use Rattle.store_promise.specs.OpenSince.{HasKeptFiles, LeavesBeginning}

@@ -2,7 +2,8 @@
 use Rattle.std.proofs.Common.{◌≡◌, ℕ, ◌-◌, ◌≤◌, inl, sym, refl, subst, arith, List, length, take}
 use Rattle.limits.specs.declared.TheConstants.{SUPER_BLOCK}
 use Rattle.disk.specs.Crash.{Image}
-use Rattle.model.specs.After.{Entry, after}
+use Rattle.model.specs.Entry.{Entry}
+use Rattle.procedures.specs.After.{after}
 use Rattle.model.specs.Tree.{Tree}
 use Rattle.layout.specs.Homes.{homes_of}
 use Rattle.layout.specs.Stands.{Stands}
