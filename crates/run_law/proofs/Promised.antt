@@ -7,10 +7,11 @@ use Rattle.nfs_types.specs.declared.call.Call.{Call}
 use Rattle.nfs_types.specs.declared.ctx.Ctx.{Ctx}
 use Rattle.nfs_types.specs.declared.reply.Reply.{Reply}
 use Rattle.nfs_types.specs.declared.status.Status.TheVariants as status
-use Rattle.model.specs.After.{Entry, after}
+use Rattle.model.specs.Entry.{Entry}
+use Rattle.procedures.specs.After.{after}
 use Rattle.model.specs.Calls.{is_answered_stable}
 use Rattle.model.specs.Refused.{refused}
-use Rattle.model.specs.Step as model
+use Rattle.procedures.specs.Step as procedures
 use Rattle.model.specs.Tree.{Tree}
 use Rattle.wal_law.specs.declared.outcomes.Seq.{Seq}
 use Rattle.store_promise.specs.declared.answers.Verdict.TheVariants as verdict
@@ -75,11 +76,11 @@ told_of t asked a (Waiting place) _ has = absurd has
 -- ---- each procedure was a step
 
 step_of : (tree last : Tree) (entries : List Entry) (index : ℕ) (e : Entry) → after tree entries last
-    → slice_get entries index ≡ Some e → (one next : Tree) × model.step one e.ctx e.call e.reply next
+    → slice_get entries index ≡ Some e → (one next : Tree) × procedures.step one e.ctx e.call e.reply next
 step_of tree last [] index e leads is = cc
 step_of tree last (first ∷ others) zero e leads is =
     let same : first ≡ e = cc in
-    (tree, leads.0, subst (λ (e : Entry). model.step tree e.ctx e.call e.reply leads.0) same leads.1)
+    (tree, leads.0, subst (λ (e : Entry). procedures.step tree e.ctx e.call e.reply leads.0) same leads.1)
 step_of tree last (first ∷ others) (suc index) e leads is = step_of leads.0 last others index e leads.2 is
 
 entry_there : (cs : List Committed) (index : ℕ) (c : Committed) → slice_get cs index ≡ Some c
@@ -108,7 +109,7 @@ module _ (o : Setting) (workers : ℕ) (events : Schedule) (t : Transcript) (tre
     (taken : AreTaken o workers events t.steps) (history : IsHistory events t) (answers : AreAnswers events t)
     (leads : after tree (entries_of t) last)
     (never : (tree next : Tree) (ctx : Ctx) (asked : Call) → is_answered_stable asked ≡ true
-    → model.step tree ctx asked (refused status.Io asked) next → ⊥) where
+    → procedures.step tree ctx asked (refused status.Io asked) next → ⊥) where
   module _ (a : Answer) (place : ℕ) (answer : IsAnswer events t a) (stable : IsStableAnswer t a place) where
     step_there : slice_get t.steps a.event ≡ Some (Some answer.step)
     step_there = step_is t a.event answer.step answer.made
@@ -152,7 +153,7 @@ module _ (o : Setting) (workers : ℕ) (events : Schedule) (t : Transcript) (tre
         let led = step_of tree last (entries_of t) index.0 (entry_of stable.entry) leads
         (entry_there t.history index.0 stable.entry index.1) in
         never led.0 led.1 stable.entry.ctx stable.entry.call stable.waits
-        (subst (λ (r : Reply). model.step led.0 stable.entry.ctx stable.entry.call r led.1)
+        (subst (λ (r : Reply). procedures.step led.0 stable.entry.ctx stable.entry.call r led.1)
         (reply_is ∙ ap (refused status.Io) (sym call_is)) led.2)
 
     by_told : Told t answer.job.call a answer.stage answer.step → IsSettled

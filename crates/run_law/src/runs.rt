@@ -52,5 +52,5 @@ pub fn a_run_keeps_its_promise()
 {
     store_promise::a_stop_leaves_a_beginning();
     store_promise::what_is_settled_is_told();
-    model::no_stable_answer_tells_a_failure();
+    procedures::no_stable_answer_tells_a_failure();
 }

@@ -1,7 +1,7 @@
 -- Nothing is told yet, and each stop so far has left the tree.
 use Rattle.std.proofs.Common.{◌≡◌, ℕ, zero, suc, ◌+◌, refl, sym, ap, ◌∙◌, arith, [], Some, None, take}
 use Rattle.disk.specs.Crash.{Image}
-use Rattle.model.specs.After.{after}
+use Rattle.procedures.specs.After.{after}
 use Rattle.model.specs.Tree.{Tree}
 use Rattle.model.specs.Tree as model
 use Rattle.store_promise.specs.OpenSince.{file_blocks}
