@@ -1,7 +1,8 @@
 -- The served stream, message by message.
-use Rattle.std.proofs.Common.{◌≡◌, ℕ, ◌+◌, ◌^◌, ◌<◌, ◌≤◌, ◌⊎◌, inl, inr, Bool, true, false, List, [], ◌∷◌, ◌++◌, length}
+use Rattle.std.proofs.Common.{◌≡◌, ◌≢◌, ℕ, ◌+◌, ◌^◌, ◌<◌, ◌≤◌, ◌⊎◌, inl, inr, Bool, true, false, List, [], ◌∷◌, ◌++◌, length}
 use Rattle.std.proofs.Common.{refl, sym, ap, subst, ◌∙◌, arith}
 use Rattle.nfs_types.specs.declared.call.Call as types
+use Rattle.nfs_types.specs.declared.call.Call.TheVariants.{Null as null}
 use Rattle.nfs_types.specs.declared.ctx.Credential.{Credential}
 use Rattle.nfs_types.specs.declared.ctx.Ctx.{Ctx}
 use Rattle.nfs_types.specs.declared.program.ProgramCall.{ProgramCall}
@@ -9,7 +10,8 @@ use Rattle.nfs_types.specs.declared.program.ProgramCall.TheVariants as program_c
 use Rattle.nfs_types.specs.Fits.{CallFits, ProgramCallFits}
 use Rattle.model.specs.Calls.{has_rules, plain_reply}
 use Rattle.model.specs.Sound.{Sound, SoundCtx}
-use Rattle.model.proofs.Answered.{answered, steps_sound}
+use Rattle.procedures.proofs.Served.{some_step}
+use Rattle.procedures.proofs.SoundSteps.{step_sound}
 use Rattle.session_wire.specs.declared.message.Judged.{Judged}
 use Rattle.session_wire.specs.declared.message.Judged.TheVariants.{Closed, Refused, Call}
 use Rattle.session_wire.specs.declared.message.MessageCredential.{MessageCredential}
@@ -121,6 +123,12 @@ later s old new (message ∷ messages) (reply ∷ replies) all =
 
 -- ---- there are replies
 
+-- NULL has no rules
+not_null : (call : types.Call) → has_rules call ≡ true → call ≢ null
+not_null call is same =
+    let no : false ≡ true = subst (λ c. has_rules c ≡ true) same is in
+    cc
+
 -- some answer to a message, with which the tree stays sound
 record Answered (s : Serving) (old : Standing) (j : Judged) : Type 0 where
   bytes : List ℕ
@@ -145,7 +153,7 @@ module _ (s : Serving) (old : Standing) (xid : ℕ) (credential : Credential) (g
   stepped : (call : types.Call) (rules : Bool) → has_rules call ≡ rules → SoundCtx ctx → CallFits call
       → Stepped s old rules xid credential call
   stepped call true is now fits =
-      let a = answered old.tree ctx call good is in
+      let a = some_step old.tree ctx call (not_null call is) in
       let new : Standing = record old { tree = a.1; number = old.number + 1 } in
       let on : IsLater old new = record {
         numbers = omega arith;
@@ -164,7 +172,7 @@ module _ (s : Serving) (old : Standing) (xid : ℕ) (credential : Credential) (g
           rising = omega arith;
           step = a.2;
         }) refl;
-        sound = steps_sound old.tree a.1 ctx call a.0 good now fits a.2;
+        sound = step_sound old.tree a.1 ctx call a.0 good now fits a.2;
         number = omega arith;
       }
   stepped call false is now fits = record {

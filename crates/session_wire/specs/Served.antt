@@ -15,7 +15,7 @@ use Rattle.nfs_types.specs.Fits.{AreBytes}
 use Rattle.model.specs.Calls.{has_rules, is_answered_stable, plain_reply}
 use Rattle.model.specs.Refused as model
 use Rattle.model.specs.Sound.{Sound, SoundTime}
-use Rattle.model.specs.Step.{step}
+use Rattle.procedures.specs.Step.{step}
 use Rattle.model.specs.Tree.{Tree}
 use Rattle.session_wire.specs.declared.message.Judged.{Judged}
 use Rattle.session_wire.specs.declared.message.Judged.TheVariants.{Closed, Refused, Call}
