@@ -151,7 +151,7 @@ module _ (old new : Side) (boot number : ℕ) (entries : List Committed) where
   }
 
   -- what was read and claimed
-  seen_of : Snap → Seen
+  abbrev seen_of : Snap → Seen
   seen_of snap = record { geometry = snap.geometry; objects = snap.objects.items; claims = snap.claims.items }
 
   was_seen : (snap : Snap) (object : ObjectBytes) → IsWritable snap object → IsSeenIn (seen_of snap) object

@@ -465,6 +465,7 @@ module _ (b : Beginning) (clock : ℕ) (store : StoreSide) (worker new : State) 
         → ((g h : Geometry) → g.blocks ≡ h.blocks → g.inodes ≡ h.inodes → g ≡ h)
         → o.blocks (length t.history) ≡ file_blocks going.base store.core
         → (n : Noting boot clock (progress_of worker) made before mid) → Left (entry_part n).entry
+    unfolding entry_part entry_of_one
     left_by still took one_geometry before_it (with_one added place made_is n) =
         let goes = took (ap has_committed made_is) in
         committed goes.0 goes.1 one_geometry before_it n.committed

@@ -78,7 +78,7 @@ module _ (addr : Addr) where
   at_same : (object other : Addr) → same_addr object other ≡ true → Overlap object addr → keeps_off wished (alone other) ≡ true
   at_same object other same over =
       let (front, lens) = and_parts (nat_eq object.block.0 other.block.0 && nat_eq object.offset other.offset)
-          (nat_eq object.len other.len) same in
+      (nat_eq object.len other.len) same in
       let (blocks, offsets) = and_parts (nat_eq object.block.0 other.block.0) (nat_eq object.offset other.offset) front in
       let block_is = eqb-true object.block.0 other.block.0 blocks in
       let offset_is = eqb-true object.offset other.offset offsets in
@@ -97,24 +97,29 @@ module _ (addr : Addr) where
   among_read : (object : Addr) (objects : List ObjectBytes) → is_seen object objects ≡ true → Overlap object addr
       → list_any (keeps_off wished) (map (λ (o : ObjectBytes). alone o.addr) objects) ≡ true
   among_read object [] seen over = absurd (true≢false (sym seen))
-  among_read object (o ∷ os) seen over = by (same_addr object o.addr) refl
+  among_read object (o ∷ os) seen over =
+      by (same_addr object o.addr) refl (λ later. among_read object os later over)
     where
-      by : (t : Bool) → same_addr object o.addr ≡ t
+      by : (t : Bool) → same_addr object o.addr ≡ t → (is_seen object os ≡ true
+          → list_any (keeps_off wished) (map (λ (o : ObjectBytes). alone o.addr) os) ≡ true)
           → list_any (keeps_off wished) (map (λ (o : ObjectBytes). alone o.addr) (o ∷ os)) ≡ true
-      by true same = or_left (keeps_off wished (alone o.addr)) _ (at_same object o.addr same over)
-      by false other = or_right (keeps_off wished (alone o.addr)) _
-          (among_read object os (sym (ap (λ (t : Bool). t || is_seen object os) other) ∙ seen) over)
+      by true same rest = or_left (keeps_off wished (alone o.addr)) _ (at_same object o.addr same over)
+      by false other rest = or_right (keeps_off wished (alone o.addr)) _
+          (rest (sym (ap (λ (t : Bool). t || is_seen object os) other) ∙ seen))
 
   among_claimed : (block : BlockNo) (claims : List BlockNo) → is_claimed block claims ≡ true → block.0 ≡ addr.block.0
       → list_any (λ (claim : BlockNo). nat_eq claim.0 addr.block.0) claims ≡ true
   among_claimed block [] claimed at = absurd (true≢false (sym claimed))
-  among_claimed block (c ∷ cs) claimed at = by (nat_eq block.0 c.0) refl
+  among_claimed block (c ∷ cs) claimed at =
+      by (nat_eq block.0 c.0) refl (λ later. among_claimed block cs later at)
     where
-      by : (t : Bool) → nat_eq block.0 c.0 ≡ t → list_any (λ (claim : BlockNo). nat_eq claim.0 addr.block.0) (c ∷ cs) ≡ true
-      by true same = or_left (nat_eq c.0 addr.block.0) _
+      by : (t : Bool) → nat_eq block.0 c.0 ≡ t → (is_claimed block cs ≡ true
+          → list_any (λ (claim : BlockNo). nat_eq claim.0 addr.block.0) cs ≡ true)
+          → list_any (λ (claim : BlockNo). nat_eq claim.0 addr.block.0) (c ∷ cs) ≡ true
+      by true same rest = or_left (nat_eq c.0 addr.block.0) _
           (eq-eqb c.0 addr.block.0 (sym (eqb-true block.0 c.0 same) ∙ at))
-      by false other = or_right (nat_eq c.0 addr.block.0) _
-          (among_claimed block cs (sym (ap (λ (t : Bool). t || is_claimed block cs) other) ∙ claimed) at)
+      by false other rest = or_right (nat_eq c.0 addr.block.0) _
+          (rest (sym (ap (λ (t : Bool). t || is_claimed block cs) other) ∙ claimed))
 
   module _ (b : Begun) (seen : Seen) (held : b.held ≡ held_in (Some seen)) (claims : b.claimed ≡ seen.claims)
       (free : takes wished b ≡ false) where
