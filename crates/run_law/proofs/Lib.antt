@@ -1,4 +1,5 @@
 pub mod ToldGrows
+pub mod ChangesGrow
 pub mod ToldPlaces
 pub mod ToldTaken
 pub mod ToldMoves

@@ -1,20 +1,23 @@
 -- What holds of a run between two events, from its opening on.
-use Rattle.std.specs.Prelude.{◌≡◌, ℕ, ◌+◌, ◌≤◌, List, length, slice_get, Some, take}
+use Rattle.std.specs.Prelude.{◌≡◌, ℕ, ◌+◌, ◌≤◌, List, length, slice_get, Option, Some, None, take}
 use Rattle.disk.specs.Crash.{Image}
 use Rattle.disk.specs.Device.{Device}
 use Rattle.procedures.specs.After.{after}
 use Rattle.model.specs.Tree.{Tree}
 use Rattle.txn_law.specs.Fetch.{Fetch}
 use Rattle.store_promise.specs.declared.events.Event.{Event}
+use Rattle.store_promise.specs.declared.transcript.Committed.{Committed}
+use Rattle.store_promise.specs.Changes.{ChangeTheirOwn, KeepsOthers}
 use Rattle.store_promise.specs.Headline.{IsGeometryOf, StandsAfter}
 use Rattle.store_promise.specs.History.{IsHistory}
 use Rattle.store_promise.specs.Openings.{IsOpened}
+use Rattle.store_promise.specs.Progress.{At, Begun, Job, Planning}
 use Rattle.store_promise.specs.Running.{IsMovedAlong, IsMovedBy, IsRunningOver, IsTold, StoreSide}
 use Rattle.store_promise.specs.Schedule.{AreTaken, IsTaken, Schedule, Setting, told_after}
 use Rattle.store_promise.specs.Transcript.{Transcript, entries_of}
 use Rattle.store_promise.specs.Verdicts.{AreAnswers}
 use Rattle.run_law.specs.Ledger.{HasLedger}
-use Rattle.run_law.specs.Noting.{Noted, TellsOfEvent, told_now, with_noted}
+use Rattle.run_law.specs.Noting.{Noted, TellsOfEvent, progress_now, told_now, with_noted}
 use Rattle.run_law.specs.Past.{HasLeft}
 
 -- what a run began with: its device before the opening and after it, the tree, the boot number before, how many
@@ -46,8 +49,21 @@ pub record IsRun (b : Beginning) (o : Setting) (t : Transcript) (base : Image) (
   pub boot : t.boot ≡ b.first + 1
   pub leads : after b.tree (entries_of t) last
   pub files : (place : ℕ) → StandsAfter o.geometry b.tree (take place (entries_of t)) (o.blocks place)
+  pub changes : ChangeTheirOwn b.opened.size b.events t o.blocks
   pub well : IsToldWell b o t
   pub past : HasLeft b.before b.opened.size b.first b.tree b.events b.opened.clock t o.blocks side.device
+
+-- the procedure that an event commits changes the blocks only in what its transaction has taken
+pub record ChangesOwn (size : ℕ) (events : Schedule) (t : Transcript) (blocks : ℕ → Image) (c : Committed) : Type 0
+  where
+    pub job : Job
+    pub begun : Begun
+    pub planned : progress_now events t c.worker ≡ At job (Planning begun)
+    pub others : KeepsOthers size begun (blocks (length t.history)) (blocks (length t.history + 1))
+
+abbrev pub ChangesOwnIn : ℕ → Schedule → Transcript → (ℕ → Image) → Option Committed → Type 0
+ChangesOwnIn size events t blocks None = Unit {0}
+ChangesOwnIn size events t blocks (Some c) = ChangesOwn size events t blocks c
 
 -- An event was taken: its step is one that may be made, moved the device so far, left the run going, with one entry
 -- more where it committed one, in a setting with the same blocks up to the places so far; and what is told with it
@@ -66,3 +82,4 @@ pub record GoesOn (b : Beginning) (o : Setting) (t : Transcript) (side : StoreSi
   pub leads : after b.tree (entries_of (with_noted t noted)) last
   pub files : (place : ℕ) → StandsAfter later.geometry b.tree (take place (entries_of (with_noted t noted)))
       (later.blocks place)
+  pub changes : ChangesOwnIn b.opened.size b.events t later.blocks noted.entry

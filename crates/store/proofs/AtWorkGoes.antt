@@ -1,15 +1,17 @@
 -- A worker's step leaves the run going: with the entries that there were, or, where it took a place, with its own.
-use Rattle.std.proofs.Common.{◌≡◌, ◌∙◌, refl, sym, ap, subst, true≢false, ℕ, Bool, true, false, Option, Some}
+use Rattle.std.proofs.Common.{◌≡◌, ◌∙◌, ◌⊎◌, inl, inr, refl, sym, ap, subst, true≢false, ℕ, Bool, true, false, Option, Some}
 use Rattle.std.proofs.Common.{None, List, [], All}
 use Rattle.std.specs.Prelude.{IsSomeAnd}
-use Rattle.std.proofs.lemmas.List.Elements.{All-head}
+use Rattle.std.proofs.lemmas.List.Elements.{All-head, All-weaker}
 use Rattle.disk.specs.Crash.{Image}
 use Rattle.model.specs.After.{Entry as Committed}
 use Rattle.model.specs.Calls.{is_answered_stable}
 use Rattle.nfs_types.specs.declared.reply.Reply.{Reply}
+use Rattle.procs.specs.Asks.{IsWritable}
 use Rattle.procs.specs.Outcome.{Outcome}
 use Rattle.procs.specs.Steps.{IsStepOf}
 use Rattle.procs.specs.declared.next.Plan.TheVariants as plan
+use Rattle.procs.specs.declared.snap.Snap.{Snap}
 use Rattle.wal_law.specs.Log.{IsLawful, added_blocks}
 use Rattle.wal_law.specs.declared.outcomes.Seq.{Seq}
 use Rattle.txn.specs.Outcomes.{IsCommit}
@@ -21,6 +23,7 @@ use Rattle.txn_law.specs.Core.{CoreState}
 use Rattle.txn_law.specs.CoreWindow.{IsHomeOf}
 use Rattle.txn_law.specs.Fetch.{Fetch}
 use Rattle.txn_law.specs.Group.{blocks_of}
+use Rattle.txn_law.specs.Object.{ObjectBytes}
 use Rattle.txn_law.specs.Tidy.{AreTidy}
 use Rattle.store_promise.specs.OpenSince.{IsSoundCore, TellsOf}
 use Rattle.store_promise.specs.Running.{IsFetchOver}
@@ -29,7 +32,8 @@ use Rattle.store_promise.specs.declared.events.Step.{Step}
 use Rattle.store_promise.specs.declared.events.Step.TheVariants as step
 use Rattle.store.proofs.AtWorkStays.{some_of}
 use Rattle.store.proofs.WorkCases.{Cases, by_cases}
-use Rattle.store.specs.AtWork.{HasTakenPlace, entry_by, fetches_in, fetches_of, has_committed}
+use Rattle.store.specs.AtWork.{HasTakenPlace, IsSeenIn, entry_by, fetches_in, fetches_of, has_committed}
+use Rattle.store.specs.Seen.{Seen, seen_in}
 use Rattle.store.specs.Stages.{IsJobIn, IsWorkerAt, StandsAt}
 use Rattle.store.specs.WorkerAnswers.{after_commit, begun_wanted, committing_of, phase_wanted, told_of, with_answer}
 use Rattle.store.specs.WorkerAnswers.{with_entry}
@@ -146,6 +150,14 @@ module _ (old new : Side) (boot number : ℕ) (entries : List Committed) where
     step = subst (λ (j : Job). IsStepOf next.snap.geometry j.ctx j.call done) same next.is_step;
   }
 
+  -- what was read and claimed
+  abbrev seen_of : Snap → Seen
+  seen_of snap = record { geometry = snap.geometry; objects = snap.objects.items; claims = snap.claims.items }
+
+  was_seen : (snap : Snap) (object : ObjectBytes) → IsWritable snap object → IsSeenIn (seen_of snap) object
+  was_seen snap object (inl read) = inl read
+  was_seen snap object (inr claimed) = inr claimed.0
+
   place_taken : (job : Job) (tx : ℕ) (done : Outcome) (base : State) (answer : Commit Outcome) (added : ℕ)
       → IsNext old.worker (plan.Done done) → old.worker.work.job ≡ Some job
       → IsCommit old.core tx (planned_of done) done answer new.core
@@ -160,6 +172,9 @@ module _ (old new : Side) (boot number : ℕ) (entries : List Committed) where
     ready = ap (λ (w : State). w.work.entry) is;
     tells = tells job done next (some_same next.job job (sym next.job_is ∙ job_is))
         (some_of (λ (j : Job). IsJobIn boot old.worker.begun.tx j) old.worker.work.job job job_is stands);
+    own = subst (λ (seen : Option Seen). IsSomeAnd seen (λ seen. All (IsSeenIn seen) done.written)) (sym next.snap_is)
+        (All-weaker (IsWritable next.snap) (IsSeenIn (seen_of next.snap)) (was_seen next.snap) done.written
+        next.plan.0.writable);
   }
   place_taken job tx done base (commit.Full back change) added next job_is took is stands has =
       absurd (true≢false (sym has))

@@ -336,6 +336,7 @@ module _ (b : Beginning) (now : Event) (old new : StoreSide) (made : Option Step
     leads = subst (λ (es : List Entry). leads_to b.tree es going.last) (sym (same_entries t made)) going.run.leads;
     files = λ place. subst (λ (es : List Entry). StandsAfter o.geometry b.tree (take place es) (o.blocks place))
         (sym (same_entries t made)) (going.run.files place);
+    changes = tt;
   }
 
   pub goes_on : IsRun b o (with_noted t (step_alone made)) home new (fetches_of worker) going.last

@@ -4,7 +4,9 @@ use Rattle.std.proofs.Common.{Bool, true, false, not, ◌&&◌, if◌then◌else
 use Rattle.std.proofs.Common.{Option, Some, None, length-append}
 use Rattle.std.proofs.lemmas.Bool.{le-leb, lt-leb, leb-true, leb-false}
 use Rattle.std.proofs.lemmas.List.{append-nil, length-map, map-append, take-append-le, take_all}
+use Rattle.std.specs.Prelude.{All, IsSomeAnd}
 use Rattle.disk.specs.Crash.{Image}
+use Rattle.limits.specs.declared.TheConstants.{BLOCK_BYTES}
 use Rattle.layout.specs.declared.geometry.Geometry.{Geometry}
 use Rattle.layout.specs.Stands.{Stands}
 use Rattle.model.specs.After.{Entry, after as leads_to}
@@ -19,10 +21,11 @@ use Rattle.store_promise.specs.declared.events.Step.TheVariants as step
 use Rattle.store_promise.specs.declared.transcript.Answer.{Answer}
 use Rattle.store_promise.specs.declared.transcript.Committed.{Committed}
 use Rattle.store_promise.specs.declared.transcript.Run.{Run}
+use Rattle.store_promise.specs.Changes.{KeepsOthers}
 use Rattle.store_promise.specs.Headline.{StandsAfter}
 use Rattle.store_promise.specs.History.{ctx_of}
 use Rattle.store_promise.specs.OpenSince.{HasFileBlocks, file_blocks}
-use Rattle.store_promise.specs.Progress.{Again, At, Called, Idle, Job, Planning, Progress, Read, Reading}
+use Rattle.store_promise.specs.Progress.{Again, At, Begun, Called, Idle, Job, Planning, Progress, Read, Reading}
 use Rattle.store_promise.specs.Progress.{Refused, Stage, Waiting, is_idle, progressed}
 use Rattle.store_promise.specs.Running.{IsMovedBy, IsRunningOver, IsTold, StoreSide, with_blocks}
 use Rattle.model.specs.Calls.{has_rules}
@@ -31,16 +34,18 @@ use Rattle.store_promise.specs.ToldOf.{log_told}
 use Rattle.store_promise.specs.Transcript.{Transcript, calls_device, entries_of, entry_of, transcript_of}
 use Rattle.run_law.specs.Noting.{IsAnswerOf, IsEntryOf, Noted, TellsOfEvent, clock_now}
 use Rattle.run_law.specs.Noting.{commits, ends, listed, progress_now, told_now, with_noted}
-use Rattle.run_law.specs.Run.{Beginning, GoesOn, IsRun}
-use Rattle.store.specs.AtWork.{GoesOnWith, IsCoreAtWork, entry_by, fetches_of, has_committed, with_core}
+use Rattle.run_law.specs.Run.{Beginning, ChangesOwn, ChangesOwnIn, GoesOn, IsRun}
+use Rattle.store.specs.AtWork.{GoesOnWith, IsCoreAtWork, IsSeenIn, entry_by, fetches_of, has_committed, with_core}
 use Rattle.store.specs.Going.{IsGoing, IsNextEvent, KeepsCore, NotesStep}
 use Rattle.store.specs.Noting.{NotesAnswers, NotesHistory, NotesProcedure, NotesWork}
-use Rattle.store.specs.Stages.{IsWorkerAt, progress_of}
+use Rattle.store.specs.Seen.{Seen, seen_in}
+use Rattle.store.specs.Stages.{IsWorkerAt, claimed_in, held_in, progress_of}
 use Rattle.store.specs.Telling.{HasWorked, entries_told, told}
 use Rattle.store.specs.WorkTells.{HasReplies, progress_after}
 use Rattle.store.specs.WorkerSteps.{Side, side}
 use Rattle.store.specs.declared.workers.parts.State.{State}
 use Rattle.store.proofs.GoingOn.{goes_on_with}
+use Rattle.store.proofs.OwnChanges.{keeps_others, planned_has}
 
 -- ---- a step of work is no call of the device
 
@@ -276,7 +281,7 @@ module _ (b : Beginning) (clock : ℕ) (store : StoreSide) (worker new : State) 
   abbrev then_store : StoreSide
   then_store = with_core store core
 
-  pub record Left : Type 0 where
+  pub record Left (entry : Option Committed) : Type 0 where
     pub later : Setting
     pub next : Tree
     pub setting : later ≡ record o { blocks = later.blocks }
@@ -286,8 +291,9 @@ module _ (b : Beginning) (clock : ℕ) (store : StoreSide) (worker new : State) 
     pub leads : leads_to b.tree (entries_of (transcript_of mid)) next
     pub files : (place : ℕ) → StandsAfter later.geometry b.tree (take place (entries_of (transcript_of mid)))
         (later.blocks place)
+    pub changes : ChangesOwnIn b.opened.size b.events t later.blocks entry
 
-  module _ (left : Left) (told_then : IsTold o then_told then_store)
+  module _ (left : Left e.entry) (told_then : IsTold o then_told then_store)
       (moved : calls_device made ≡ false → IsMovedBy store.device made store.device) where
     pub goes : GoesOn b o t store noted left.later going.base then_store (fetches_of new) left.next
     goes = record {
@@ -308,6 +314,7 @@ module _ (b : Beginning) (clock : ℕ) (store : StoreSide) (worker new : State) 
       leads = subst (λ (es : List Entry). leads_to b.tree es left.next) (sym entries_are) left.leads;
       files = λ place. subst (λ (es : List Entry). StandsAfter left.later.geometry b.tree (take place es)
           (left.later.blocks place)) (sym entries_are) (left.files place);
+      changes = left.changes;
     }
 
     pub goes_on : IsRun b left.later (with_noted t noted) going.base then_store (fetches_of new) left.next
@@ -325,7 +332,7 @@ module _ (b : Beginning) (clock : ℕ) (store : StoreSide) (worker new : State) 
     same_fetches = ap fetches_of state_is
 
     beside : has_committed made ≡ false → mid.history.items ≡ before.history.items
-        → IsRunningOver o going.base then_store (fetches_of worked.state) boot b.tree (entries_of t) going.last → Left
+        → IsRunningOver o going.base then_store (fetches_of worked.state) boot b.tree (entries_of t) going.last → Left None
     beside uncommitted history running = record {
       later = o;
       next = going.last;
@@ -339,12 +346,14 @@ module _ (b : Beginning) (clock : ℕ) (store : StoreSide) (worker new : State) 
           going.run.leads;
       files = λ place. subst (λ (cs : List Committed). StandsAfter o.geometry b.tree (take place (map entry_of cs))
           (o.blocks place)) (sym history) (going.run.files place);
+      changes = tt;
     }
 
     module _ (goes_with : GoesOnWith o going.base store step_to boot 0 b.tree (entries_of t) going.last
         (side worker store.core))
         (has_files : HasFileBlocks going.base core goes_with.left)
-        (one_geometry : (g h : Geometry) → g.blocks ≡ h.blocks → g.inodes ≡ h.inodes → g ≡ h) where
+        (one_geometry : (g h : Geometry) → g.blocks ≡ h.blocks → g.inodes ≡ h.inodes → g ≡ h)
+        (before_it : o.blocks (length t.history) ≡ file_blocks going.base store.core) where
       abbrev entry : Entry
       entry = entry_by 0 goes_with.taken.entry
 
@@ -399,8 +408,40 @@ module _ (b : Beginning) (clock : ℕ) (store : StoreSide) (worker new : State) 
             stands = subst (λ (image : Image). Stands o.geometry image goes_with.left) (sym (late place past)) stands_now;
           }
 
-      pub committed : Left
-      committed = record {
+      -- the blocks that it changed
+      counted : length (entries_of t) ≡ length t.history
+      counted = length-map before.history.items entry_of
+
+      others : (j : Job) (begun : Begun) → progress_of worker ≡ At j (Planning begun) → (seen : Option Seen)
+          → seen_in worker.work.snap ≡ seen → IsSomeAnd seen (λ seen. All (IsSeenIn seen) goes_with.taken.plan.written)
+          → KeepsOthers b.opened.size begun (file_blocks going.base store.core) now
+      others j begun planned None is own = absurd own
+      others j begun planned (Some seen) is own =
+          let has = planned_has worker j begun planned in
+          let had = going.run.files (length t.history) in
+          subst (λ (image : Image). KeepsOthers b.opened.size begun (file_blocks going.base store.core) image)
+          (sym goes_with.writes)
+          (keeps_others b.opened.size begun seen (file_blocks going.base store.core) goes_with.taken.plan.written
+          (has.0 ∙ ap held_in is) (has.1 ∙ ap claimed_in is) own goes_with.taken.took.group.sizes
+          (λ block within. subst (λ (image : Image). length (image block) ≡ BLOCK_BYTES) before_it
+          (had.stands.bytes block (let same = going.run.geometry.blocks in omega (arith, within, same))).0))
+
+      changes : (committed : Committed) (j : Job) (begun : Begun) → committed.worker ≡ 0
+          → progress_of worker ≡ At j (Planning begun)
+          → ChangesOwn b.opened.size b.events t later.blocks committed
+      changes committed j begun worker_is planned = record {
+        job = j;
+        begun = begun;
+        planned = ap (λ (w : ℕ). progress_now b.events t w) worker_is ∙ going.progress ∙ planned;
+        others = subst (λ (next : Image). KeepsOthers b.opened.size begun (later.blocks (length t.history)) next)
+            (sym (late (length t.history + 1) (let same = counted in omega (arith, same))))
+            (subst (λ (here : Image). KeepsOthers b.opened.size begun here now)
+            (sym (early (length t.history) (let same = counted in omega (arith, same)) ∙ before_it))
+            (others j begun planned (seen_in worker.work.snap) refl goes_with.taken.own));
+      }
+
+      pub committed : (n : Committed) → ChangesOwn b.opened.size b.events t later.blocks n → Left (Some n)
+      committed n changed = record {
         later = later;
         next = goes_with.left;
         setting = refl;
@@ -413,6 +454,7 @@ module _ (b : Beginning) (clock : ℕ) (store : StoreSide) (worker new : State) 
         leads = subst (λ (es : List Entry). leads_to b.tree es goes_with.left) (sym entries_then) leads;
         files = λ place. subst (λ (es : List Entry). StandsAfter o.geometry b.tree (take place es) (later.blocks place))
             (sym entries_then) (files_by place (nat_le place (length (entries_of t))) refl);
+        changes = changed;
       }
 
     -- by whether it took a place
@@ -421,7 +463,12 @@ module _ (b : Beginning) (clock : ℕ) (store : StoreSide) (worker new : State) 
         → (has_committed made ≡ true → (goes : GoesOnWith o going.base store step_to boot 0 b.tree (entries_of t) going.last
         (side worker store.core)) × HasFileBlocks going.base core goes.left)
         → ((g h : Geometry) → g.blocks ≡ h.blocks → g.inodes ≡ h.inodes → g ≡ h)
-        → Noting boot clock (progress_of worker) made before mid → Left
-    left_by still took one_geometry (with_one added place made_is n) =
-        let goes = took (ap has_committed made_is) in committed goes.0 goes.1 one_geometry
-    left_by still took one_geometry (with_none uncommitted no_commit same) = beside uncommitted same (still uncommitted)
+        → o.blocks (length t.history) ≡ file_blocks going.base store.core
+        → (n : Noting boot clock (progress_of worker) made before mid) → Left (entry_part n).entry
+    unfolding entry_part entry_of_one
+    left_by still took one_geometry before_it (with_one added place made_is n) =
+        let goes = took (ap has_committed made_is) in
+        committed goes.0 goes.1 one_geometry before_it n.committed
+        (changes goes.0 goes.1 one_geometry before_it n.committed n.job n.begun n.worker n.planned)
+    left_by still took one_geometry before_it (with_none uncommitted no_commit same) =
+        beside uncommitted same (still uncommitted)

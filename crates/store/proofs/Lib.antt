@@ -22,6 +22,7 @@ pub mod FormattedRun
 pub mod GoingBeside
 pub mod GoingCall
 pub mod GoingOn
+pub mod OwnChanges
 pub mod GoingRead
 pub mod GoingWork
 pub mod HowFar

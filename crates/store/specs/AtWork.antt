@@ -1,6 +1,6 @@
 -- What the steps of a worker that is alone rest on: the blocks that were fetched for its transaction, and those that
 -- stand for the files after each place.
-use Rattle.std.specs.Prelude.{◌≡◌, ℕ, ◌+◌, ◌++◌, ◌∷◌, Bool, true, false, Option, Some, is_some, IsSomeAnd}
+use Rattle.std.specs.Prelude.{◌≡◌, ◌⊎◌, ℕ, ◌+◌, ◌++◌, ◌∷◌, Bool, true, false, Option, Some, is_some, IsSomeAnd}
 use Rattle.std.specs.Prelude.{List, [], All, length, option_to_list}
 use Rattle.disk.specs.Crash.{Image}
 use Rattle.disk.specs.Device.{Content}
@@ -8,11 +8,14 @@ use Rattle.objects.specs.declared.addr.Addr.{Addr}
 use Rattle.model.specs.After.{Entry as Committed}
 use Rattle.model.specs.Step as model
 use Rattle.model.specs.Tree.{Tree}
+use Rattle.procs.specs.Snap.{is_claimed, is_seen}
 use Rattle.txn.specs.Outcomes.{TakesPlace}
 use Rattle.txn_law.specs.Commit.{Planned}
 use Rattle.txn_law.specs.Core.{CoreState}
 use Rattle.txn_law.specs.Fetch.{Fetch}
 use Rattle.txn_law.specs.Leaves.{in_memory, taken_by}
+use Rattle.txn_law.specs.Object.{ObjectBytes}
+use Rattle.txn_law.specs.Window.{with_objects}
 use Rattle.store_promise.specs.OpenSince.{TellsOf, file_blocks}
 use Rattle.store_promise.specs.Running.{IsRunningOver, StoreSide, with_blocks}
 use Rattle.store_promise.specs.Schedule.{Setting}
@@ -22,6 +25,7 @@ use Rattle.store_promise.specs.declared.events.Step.{Step}
 use Rattle.store_promise.specs.declared.events.Step.TheVariants as step
 use Rattle.store.specs.Alone.{IsAlone}
 use Rattle.store.specs.Asked.{Asking}
+use Rattle.store.specs.Seen.{Seen, seen_in}
 use Rattle.store.specs.Worker.{GoesWith}
 use Rattle.store.specs.WorkerSteps.{Side}
 use Rattle.store.specs.declared.workers.parts.Phase.{Phase}
@@ -98,8 +102,13 @@ has_committed _ = false
 abbrev pub entry_by : ℕ → Entry → Committed
 entry_by number entry = record { worker = number; ctx = entry.ctx; call = entry.call; reply = entry.reply }
 
+-- the object was read for the call, or its block was claimed
+abbrev pub IsSeenIn : Seen → ObjectBytes → Type 0
+IsSeenIn seen object = (is_seen object.addr seen.objects ≡ true)
+    ⊎ (is_claimed object.addr.block seen.claims ≡ true)
+
 -- What a worker's plan ended in took a place, and lies ready as an entry, which tells of a step of the sequential
--- server.
+-- server. It writes what was read and claimed for it.
 pub record HasTakenPlace (boot number : ℕ) (old new : Side) : Type 0 where
   pub tx : ℕ
   pub plan : Planned
@@ -108,9 +117,11 @@ pub record HasTakenPlace (boot number : ℕ) (old new : Side) : Type 0 where
   pub took : TakesPlace old.core tx plan place new.core
   pub ready : new.worker.work.entry ≡ Some entry
   pub tells : TellsOf boot plan (entry_by number entry)
+  pub own : IsSomeAnd (seen_in old.worker.work.snap) (λ seen. All (IsSeenIn seen) plan.written)
 
 -- A place was taken, the next one. In the setting that has from it on the blocks that stand for the files then, the
--- run goes on with the place's entry, a step of the sequential server from the files as they were.
+-- run goes on with the place's entry, a step of the sequential server from the files as they were; and those blocks are
+-- the old ones with what was written.
 pub record GoesOnWith (o : Setting) (base : Image) (store : StoreSide) (new : Side) (boot number : ℕ) (first : Tree)
     (entries : List Committed) (last : Tree) (old : Side) : Type 0 where
   pub taken : HasTakenPlace boot number old new
@@ -119,3 +130,4 @@ pub record GoesOnWith (o : Setting) (base : Image) (store : StoreSide) (new : Si
   pub goes : model.step last taken.entry.ctx taken.entry.call taken.entry.reply left
   pub runs : IsRunningOver (with_blocks o (length entries) (file_blocks base new.core)) base (with_core store new.core)
       (fetches_of new.worker) boot first (entries ++ entry_by number taken.entry ∷ []) left
+  pub writes : file_blocks base new.core ≡ with_objects (file_blocks base old.core) taken.plan.written

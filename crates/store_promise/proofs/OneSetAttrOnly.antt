@@ -12,13 +12,13 @@ use Rattle.store_promise.specs.declared.transcript.Answer.{Answer}
 use Rattle.store_promise.specs.declared.transcript.Committed.{Committed}
 use Rattle.store_promise.specs.History.{IsHistory, WasCommitted, ctx_of}
 use Rattle.store_promise.specs.OneSetAttr.{OneSetAttr, answer_at, asked, ctx_in, entry_in, events_of}
-use Rattle.store_promise.specs.OneSetAttr.{steps_of}
+use Rattle.store_promise.specs.OneSetAttr.{steps_of, with_read}
 use Rattle.store_promise.specs.Progress.{is_idle, At, Begun, Job, Planning, Stage, Waiting}
 use Rattle.store_promise.specs.Schedule.{progress_before}
 use Rattle.store_promise.specs.Transcript.{Transcript, committed_at, device_calls, made}
 use Rattle.store_promise.specs.Verdicts.{AreAnswers, HasVerdict, IsAnswer, IsReplyAt}
 use Rattle.store_promise.proofs.OneSetAttrAlong.{is_one, no-one}
-use Rattle.store_promise.proofs.OneSetAttrTold.{end_at, job_of, place_is, with_read}
+use Rattle.store_promise.proofs.OneSetAttrTold.{end_at, job_of, place_is}
 use Rattle.store_promise.proofs.Told.{step_is}
 
 -- ---- a list of which no two indexes differ

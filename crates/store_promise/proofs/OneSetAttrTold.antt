@@ -14,11 +14,12 @@ use Rattle.store_promise.specs.declared.events.Step.{Step}
 use Rattle.store_promise.specs.declared.events.Step.TheVariants as step
 use Rattle.store_promise.specs.declared.transcript.Answer.{Answer}
 use Rattle.store_promise.specs.declared.transcript.Committed.{Committed}
+use Rattle.disk.specs.Crash.{Image}
+use Rattle.store_promise.specs.Changes.{ChangeTheirOwn, ChangesItsOwn, KeepsOthers}
 use Rattle.store_promise.specs.History.{IsHistory, WasCommitted}
 use Rattle.store_promise.specs.LogTold.{settled_told}
 use Rattle.store_promise.specs.OneSetAttr.{OneSetAttr, answer_at, asked, entry_in, events_of, steps_of}
-use Rattle.store_promise.specs.OneSetAttr.{told_of}
-use Rattle.objects.specs.declared.mode.Mode.TheVariants as modes
+use Rattle.store_promise.specs.OneSetAttr.{told_of, with_read}
 use Rattle.store_promise.specs.Progress.{is_idle, Begun, Job, Taken, Waiting}
 use Rattle.store_promise.specs.Schedule.{Told, at_first, told_after, told_before, worker_of}
 use Rattle.store_promise.specs.Transcript.{Transcript, committed_at, device_calls, made}
@@ -77,14 +78,6 @@ ends_there false false there passed busy idle = cc
 -- what the worker is handed
 abbrev pub job_of : OneSetAttr → Job
 job_of one = record { credential = one.credential; moment = one.moment; call = asked one }
-
--- the object, taken alone
-abbrev pub taken_of : OneSetAttr → Taken
-taken_of one = record { addr = one.addr; mode = modes.Exclusive }
-
--- the first transaction, which has read the object
-abbrev pub with_read : OneSetAttr → Begun
-with_read one = record { number = 1; held = taken_of one ∷ []; fetched = taken_of one ∷ []; claimed = [] }
 
 -- the steps alone
 abbrev bare : OneSetAttr → Transcript
@@ -233,3 +226,13 @@ module _ (boot : ℕ) (one : OneSetAttr) (reply : Reply) where
       end_at one index worker e is_event less own busy idle,
     );
   }
+
+-- its procedure changed only what its transaction had
+pub changes : (size boot : ℕ) (one : OneSetAttr) (reply : Reply) (blocks : ℕ → Image)
+    → KeepsOthers size (with_read one) (blocks 0) (blocks 1)
+    → ChangeTheirOwn size (events_of one) (told_of boot one reply) blocks
+changes size boot one reply blocks others index c is =
+    let (first, same) = only (entry_in boot one reply) c index is in
+    subst (λ (n : ℕ). ChangesItsOwn size (events_of one) (told_of boot one reply) blocks n c) (sym first)
+    (subst (λ (c : Committed). ChangesItsOwn size (events_of one) (told_of boot one reply) blocks 0 c) same
+    (record { job = job_of one; begun = with_read one; planned = refl; others = others }))

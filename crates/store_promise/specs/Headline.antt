@@ -12,6 +12,7 @@ use Rattle.model.specs.Tree.{Tree}
 use Rattle.wal_law.specs.Overlay.{over}
 use Rattle.store_promise.specs.declared.fault.OpenFault.{OpenFault}
 use Rattle.store_promise.specs.declared.transcript.Answer.{Answer}
+use Rattle.store_promise.specs.Changes.{ChangeTheirOwn}
 use Rattle.store_promise.specs.GoodImage.{IsGoodImage}
 use Rattle.store_promise.specs.History.{IsHistory}
 use Rattle.store_promise.specs.LogTold.{settled_told}
@@ -85,8 +86,10 @@ pub record KeepsPromise (before later : Device) (tree : Tree) (first workers : �
   pub answers : AreAnswers events t
   -- every event is taken,
   pub taken : AreTaken setting workers events t.steps
-  -- by what the files are after the procedures that were committed by then
+  -- by what the files are after the procedures that were committed by then, each of which changed only what its
+  -- transaction had taken
   pub files : (place : ℕ) → StandsAfter setting.geometry tree (take place (entries_of t)) (setting.blocks place)
+  pub changes : ChangeTheirOwn later.size events t setting.blocks
 
 -- What a run stands on: the device keeps its model, is at rest, and holds a good image with this tree and this
 -- boot number; there is one worker; and calls are handed over at moments below a second.

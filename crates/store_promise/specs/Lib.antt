@@ -8,6 +8,7 @@ pub mod Schedule
 pub mod History
 pub mod Verdicts
 pub mod Prefix
+pub mod Changes
 pub mod Headline
 pub mod Room
 pub mod OneSetAttr

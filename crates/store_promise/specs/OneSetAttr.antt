@@ -32,6 +32,7 @@ use Rattle.store_promise.specs.declared.transcript.Answer.{Answer}
 use Rattle.store_promise.specs.declared.transcript.Committed.{Committed}
 use Rattle.store_promise.specs.GoodImage.{IsGoodImage}
 use Rattle.store_promise.specs.Openings.{IsLater, LeavesImages}
+use Rattle.store_promise.specs.Progress.{Begun, Taken}
 use Rattle.store_promise.specs.Schedule.{Schedule, Setting}
 use Rattle.store_promise.specs.Transcript.{Transcript}
 
@@ -57,6 +58,14 @@ ctx_in boot one = record {
   boot = boot;
   transaction = 1;
 }
+
+-- its object, taken alone
+abbrev pub taken_of : OneSetAttr → Taken
+taken_of one = record { addr = one.addr; mode = modes.Exclusive }
+
+-- the first transaction, once it has read the object
+abbrev pub with_read : OneSetAttr → Begun
+with_read one = record { number = 1; held = taken_of one ∷ []; fetched = taken_of one ∷ []; claimed = [] }
 
 -- ---- the events, and what each makes
 

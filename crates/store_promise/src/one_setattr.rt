@@ -9,11 +9,12 @@ ghost use Rattle.nfs_types.specs.declared.reply.Reply.{Reply};
 ghost use Rattle.layout.specs.declared.geometry.Geometry.{Geometry};
 ghost use Rattle.layout.specs.Stands.{Stands};
 ghost use Rattle.procs.specs.Asks.{Asks};
+ghost use Rattle.store_promise.specs.Changes.{KeepsOthers};
 ghost use Rattle.store_promise.specs.GoodImage.{IsGoodImage};
 ghost use Rattle.store_promise.specs.Headline.{IsGeometryOf, KeepsPromise};
 ghost use Rattle.store_promise.specs.OneSetAttr.{OneSetAttr, asked, ctx_in, events_of, steps_of};
 ghost use Rattle.store_promise.specs.OneSetAttr.{events_without_log, steps_without_log};
-ghost use Rattle.store_promise.specs.OneSetAttr.{told_of, told_too_early, LeavesTrees, WentOnByFive};
+ghost use Rattle.store_promise.specs.OneSetAttr.{told_of, told_too_early, with_read, LeavesTrees, WentOnByFive};
 ghost use Rattle.store_promise.specs.Openings.{IsOpened};
 ghost use Rattle.store_promise.specs.Transcript.{Transcript};
 
@@ -28,6 +29,7 @@ pub fn a_run_of_one_setattr_keeps_the_promise()
         → Stands g blocks tree → Stands g changed next
         → one.position + 1 < 2 ^ 64 → WentOnByFive opened later
         → LeavesTrees opened later (first + 1) tree next blocks changed
+        → KeepsOthers later.size (with_read one) blocks changed
         → sets_only_mode one.attributes ≡ true → Asks g (asked one) [] one.addr
         → step tree (ctx_in (first + 1) one) (asked one) reply next
         → KeepsPromise before later tree first 1 (events_of one) (told_of (first + 1) one reply) }

@@ -16,6 +16,7 @@ ghost use Rattle.txn_law.specs.CoreWindow.{IsPending};
 ghost use Rattle.txn_law.specs.Fetch.{Fetch};
 ghost use Rattle.txn_law.specs.HomeRead.{HasContents};
 ghost use Rattle.txn_law.specs.Leaves.{is_fetching, with_fetch};
+ghost use Rattle.txn_law.specs.Window.{with_objects};
 ghost use Rattle.store_promise.specs.declared.events.Step.{Step};
 ghost use Rattle.store_promise.specs.OpenSince.{IsOpenSince, IsSoundCore, StandsBeside, TellsOf, file_blocks};
 ghost use Rattle.store_promise.specs.OpenStore.{IsNewOver};
@@ -98,6 +99,11 @@ pub fn a_worker_keeps_the_run_going()
         → (next : Tree) × step last entry.ctx entry.call entry.reply next
         × IsRunningOver (with_blocks o (length entries) (file_blocks base new)) base (side d new logging installing)
         left boot first (entries ++ entry ∷ []) next }
+    ensures writes { (o : Setting) (base : Image) (d : Device) (old new : CoreState) (logging installing : Pending)
+        (fetches : List Fetch) (boot : ℕ) (first last : Tree) (entries : List Entry) (tx place : ℕ) (plan : Planned)
+        → IsRunningOver o base (side d old logging installing) fetches boot first entries last
+        → TakesPlace old tx plan place new
+        → file_blocks base new ≡ with_objects (file_blocks base old) plan.written }
 {
     crate::a_commit_leaves_the_store_open();
     crate::a_transaction_leaves_the_store_open();

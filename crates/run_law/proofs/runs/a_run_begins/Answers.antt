@@ -66,6 +66,7 @@ returns c = λ b base core position opens new.
         boot = refl;
         leads = refl;
         files = λ place. record { left = b.tree; leads = no_entry_after b.tree place; stands = has.stands };
+        changes = λ index entry same. absurd (no_some entry same);
         well = record {
           taken = record { fewer = omega arith; each = λ index event made same none. absurd (no_some made none) };
           history = record {

@@ -6,6 +6,7 @@ use Rattle.store_promise.specs.Openings.{IsOpened}
 use Rattle.store_promise.specs.Running.{IsTold}
 use Rattle.store_promise.specs.Schedule.{Setting, Told}
 use Rattle.run_law.proofs.Before.{told_stays}
+use Rattle.run_law.proofs.ChangesGrow.{changes_on}
 use Rattle.run_law.proofs.Stops.{left_now, past_then}
 use Rattle.run_law.proofs.runs.a_run_goes_on.Goals as goal
 
@@ -27,6 +28,8 @@ returns c = λ b o later t base home side new fetches left last next noted run g
       boot = run.boot;
       leads = goes.leads;
       files = goes.files;
+      changes = changes_on b.opened.size b.events t goes.event noted run.well.history goes.notes.entry o.blocks later.blocks
+          goes.blocks run.changes goes.changes;
       well = notes.well b o later t goes.event noted goes.next run.well goes.same goes.blocks goes.taken goes.notes;
       past = past_then b o later t base home side new fetches left last next noted run goes
           (λ index within. told_stays b.events t.steps (noted.made ∷ []) index within)

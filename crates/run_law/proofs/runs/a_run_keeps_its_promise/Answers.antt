@@ -3,6 +3,7 @@ use Rattle.std.proofs.Common.{◌≡◌, ◌⊎◌, inl, inr, ℕ, ◌+◌, ◌<
 use Rattle.disk.specs.Crash.{Image, IsCrashImage}
 use Rattle.model.specs.Tree.{Tree}
 use Rattle.txn_law.specs.Fetch.{Fetch}
+use Rattle.store_promise.specs.Changes.{ChangeTheirOwn}
 use Rattle.store_promise.specs.Headline.{IsGeometryOf, LeavesFiles, WasPromised}
 use Rattle.store_promise.specs.LogTold.{settled_told}
 use Rattle.store_promise.specs.OpenSince.{LeavesBlocks}
@@ -87,4 +88,5 @@ returns c = λ b o t base side fetches last run left.
       answers = run.well.answers;
       taken = run.well.taken;
       files = run.files;
+      changes = subst (λ (size : ℕ). ChangeTheirOwn size b.events t o.blocks) (sym run.moved.past.size) run.changes;
     }

@@ -40,4 +40,6 @@ returns-clause-committed c = λ o base store worker new boot number first last e
       runs = subst (λ (fetches : List Fetch). IsRunningOver (with_blocks o (length entries) (file_blocks base new.core)) base
           (with_core store new.core) fetches boot first (entries ++ entry ∷ []) left.0)
           (sym (none_left old new made goes)) left.2;
+      writes = c.a_worker_keeps_the_run_going.ensures.writes o base store.device store.core new.core store.logging
+          store.installing (fetches_of worker) boot first last entries taken.tx taken.place taken.plan run taken.took;
     }

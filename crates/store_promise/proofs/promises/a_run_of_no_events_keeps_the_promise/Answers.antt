@@ -149,6 +149,7 @@ returns c = λ before later tree first position workers blocks opened whole.
         fewer = omega arith;
         each = λ index event made same _. absurd (no-some event same);
       };
+      changes = λ index c same. absurd (no-some c same);
       files = λ place. record {
         left = tree;
         leads = no_entry_after tree place;

@@ -1,6 +1,7 @@
 use Rattle.std.proofs.Common.{◌≡◌, ℕ, ◌+◌, ◌≤◌, ap, sym, ◌∙◌, refl, subst, arith, List, length}
 use Rattle.txn_law.specs.Core.{CoreState}
 use Rattle.store_promise.specs.ToldOf.{StandsAtHome}
+use Rattle.store_promise.proofs.OpenCommits.{blocks_now}
 use Rattle.store_promise.proofs.OpenSteps.{same_changes}
 use Rattle.store_promise.proofs.Places.{placed_on, same_places, stay_placed}
 use Rattle.store_promise.proofs.ToldLog.{stands_after_commit}
@@ -60,3 +61,7 @@ returns-clause-commit c = λ o base d old new logging installing fetches left bo
             run.placed;
       },
     )
+
+pub returns-clause-writes : goal.returns-clause-writes
+returns-clause-writes c = λ o base d old new logging installing fetches boot first last entries tx place plan run took.
+    blocks_now base d old new logging installing boot first last entries tx place plan run.since took

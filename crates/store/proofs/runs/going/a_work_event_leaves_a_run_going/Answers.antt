@@ -3,6 +3,7 @@ use Rattle.std.proofs.lemmas.List.{length-map, take_all}
 use Rattle.txn_law.specs.Window.{Footprint, after_commits, opening}
 use Rattle.layout.specs.Homes.{homes_of}
 use Rattle.store_promise.specs.declared.events.Event.TheVariants as event
+use Rattle.store_promise.specs.OpenSince.{file_blocks}
 use Rattle.store_promise.specs.Progress.{is_idle}
 use Rattle.store_promise.specs.Transcript.{entries_of, transcript_of}
 use Rattle.run_law.specs.Noting.{told_now}
@@ -14,7 +15,7 @@ use Rattle.store.specs.declared.workers.parts.State.{State}
 use Rattle.store.proofs.GoingBeside.{Leaves, left_alone}
 use Rattle.store.proofs.GoingBeside.{goes as goes_beside, goes_on as on_beside}
 use Rattle.store.proofs.GoingOn.{step_alone}
-use Rattle.store.proofs.GoingWork.{Left, goes, goes_on, left_by, noted, noting}
+use Rattle.store.proofs.GoingWork.{goes, goes_on, left_by, noted, noting}
 use Rattle.store.proofs.runs.going.a_work_event_leaves_a_run_going.Goals as goal
 
 pub returns-clause-goes : goal.returns-clause-goes
@@ -31,11 +32,14 @@ returns-clause-goes c = λ b clock store worker new core made before mid after i
     sym run.since.counted ∙ length-map before.history.items _ in
     let notes = c.a_run_notes_its_workers_steps.ensures boot clock old (side new core) made before mid going.stands
     counted worked in
-    let places_are : o.blocks (told_now b.events t).log.places ≡ _ =
-    ap o.blocks (ap (λ log. log.places) going.run.told.log ∙ sym run.since.over.files.home.window.all)
+    let all_placed : store.core.log.places ≡ _ = sym run.since.over.files.home.window.all in
+    let before_it : o.blocks store.core.log.places ≡ file_blocks going.base store.core =
+    ap o.blocks all_placed
     ∙ run.placed (length store.core.records)
     ∙ ap (λ (rs : List Footprint). after_commits (homes_of store.core.log.blocks (opening going.base store.core.log)) rs)
     (take_all (length store.core.records) store.core.records (omega arith)) in
+    let places_are : o.blocks (told_now b.events t).log.places ≡ file_blocks going.base store.core =
+    ap o.blocks (ap (λ log. log.places) going.run.told.log) ∙ before_it in
     let may = c.a_workers_step_may_be_made.ensures o (told_now b.events t) 0 going.base store (fetches_of worker) boot
     b.tree going.last entries run going.run.told run.inodes places_are worker step_to made worked.goes going.at_work
     going.stands in
@@ -47,8 +51,7 @@ returns-clause-goes c = λ b clock store worker new core made before mid after i
     (subst (λ (s : State). KeepsReadsOf old (side s core)) worked.taken kept.reads) worked.goes
     (subst (λ (s : State). GoesWith s core) worked.taken kept.with)) in
     let home : KeepsHomeOf old step_to = kept.home in
-    let left : Left b clock store worker new core made before mid after is_next going clock_is worked kept last_note notes
-    may =
+    let left =
     left_by b clock store worker new core made before mid after is_next going clock_is worked kept last_note notes may
     worked.taken
     (λ uncommitted. (c.a_worker_leaves_the_run_going.ensures.beside o going.base store worker step_to boot b.tree
@@ -60,7 +63,7 @@ returns-clause-goes c = λ b clock store worker new core made before mid after i
       c.what_is_held_is_what_the_files_are.ensures.stands going.base d core store.logging store.installing boot
           b.tree goes.left _ goes.runs.since,
     ))
-    c.counts_make_one_geometry.ensures
+    c.counts_make_one_geometry.ensures (ap o.blocks (sym counted) ∙ before_it)
     (noting boot clock (progress_of worker) made before mid notes.history) in
     let many = noted b clock store worker new core made before mid after is_next going clock_is worked kept last_note notes may in
     let step = goes b clock store worker new core made before mid after is_next going clock_is worked kept last_note notes

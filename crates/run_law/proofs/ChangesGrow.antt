@@ -1,0 +1,60 @@
+-- Each procedure changed only what its transaction had, with a procedure more or without.
+use Rattle.std.proofs.Common.{◌≡◌, ◌⊎◌, inl, inr, ℕ, ◌+◌, ◌≤◌, ap, sym, ◌∙◌, subst, arith, length, slice_get, Option, Some}
+use Rattle.std.proofs.lemmas.Option.{slice_get_within}
+use Rattle.disk.specs.Crash.{Image}
+use Rattle.store_promise.specs.Changes.{ChangeTheirOwn, ChangesItsOwn, KeepsOthers}
+use Rattle.store_promise.specs.declared.events.Event.{Event}
+use Rattle.store_promise.specs.declared.transcript.Committed.{Committed}
+use Rattle.store_promise.specs.History.{IsHistory}
+use Rattle.store_promise.specs.Schedule.{Schedule, progress_before}
+use Rattle.store_promise.specs.Transcript.{Transcript}
+use Rattle.run_law.specs.Noting.{IsEntryOf, Noted, with_noted}
+use Rattle.run_law.specs.Run.{ChangesOwnIn}
+use Rattle.run_law.proofs.EntriesCommits.{commit_of}
+use Rattle.run_law.proofs.ToldGrows.{either, progress_earlier, step_within}
+
+module _ (size : ℕ) (events : Schedule) (t : Transcript) (now : Event) (noted : Noted) (history : IsHistory events t)
+    (tells : IsEntryOf events t now noted.made noted.entry) (old new : ℕ → Image)
+    (same : (place : ℕ) → place ≤ length t.history → new place ≡ old place) (changed : ChangeTheirOwn size events t old)
+    (adds : ChangesOwnIn size events t new noted.entry) where
+  abbrev grown : Transcript
+  grown = with_noted t noted
+
+  still : (index : ℕ) (c : Committed) → slice_get t.history index ≡ Some c → ChangesItsOwn size events grown new index c
+  still index c there =
+      let was = history.each index c there in
+      let less = step_within t c.event (commit_of was.blocks (index + 1)) was.step in
+      let few : c.event ≤ length t.steps = omega (arith, less) in
+      let within = slice_get_within t.history index c there in
+      let own = changed index c there in
+      record {
+        job = own.job;
+        begun = own.begun;
+        planned = progress_earlier events t.steps noted.made c.worker c.event few ∙ own.planned;
+        others = subst (λ (next : Image). KeepsOthers size own.begun (new index) next)
+            (sym (same (index + 1) (omega (arith, within))))
+            (subst (λ (here : Image). KeepsOthers size own.begun here (old (index + 1)))
+            (sym (same index (omega (arith, within)))) own.others);
+      }
+
+  newly : (c : Committed) → noted.entry ≡ Some c → ChangesItsOwn size events grown new (length t.history) c
+  newly c is =
+      let own = subst (λ (entry : Option Committed). ChangesOwnIn size events t new entry) is adds in
+      let of = subst (λ (entry : Option Committed). IsEntryOf events t now noted.made entry) is tells in
+      record {
+        job = own.job;
+        begun = own.begun;
+        planned = ap (λ (n : ℕ). progress_before events grown.steps c.worker n) of.event
+            ∙ progress_earlier events t.steps noted.made c.worker (length t.steps) (omega arith) ∙ own.planned;
+        others = own.others;
+      }
+
+  by_either : (index : ℕ) (c : Committed)
+      → (slice_get t.history index ≡ Some c) ⊎ ((index ≡ length t.history) × (noted.entry ≡ Some c))
+      → ChangesItsOwn size events grown new index c
+  by_either index c (inl there) = still index c there
+  by_either index c (inr last) =
+      subst (λ (n : ℕ). ChangesItsOwn size events grown new n c) (sym last.0) (newly c last.1)
+
+  pub changes_on : ChangeTheirOwn size events grown new
+  changes_on index c is = by_either index c (either t.history noted.entry index c is)
