@@ -1,6 +1,6 @@
 //! Laws on the steps that events make, which the promise of a run pins.
 ghost use Rattle.std.specs.Prelude.{◌≡◌, ◌≢◌, ◌+◌, ◌<◌, ◌≤◌, ℕ, Bool, List, Option, slice_get, Some, None, true};
-ghost use Rattle.std.specs.Prelude.{[], take};
+ghost use Rattle.std.specs.Prelude.{[], false, take};
 ghost use Rattle.limits.specs.declared.TheConstants.{LOG_SLOTS, START_BLOCK};
 ghost use Rattle.disk.specs.Crash.{Image, IsCrashImage};
 ghost use Rattle.disk.specs.Device.{Device};
@@ -9,6 +9,7 @@ ghost use Rattle.procedures.specs.After.{after};
 ghost use Rattle.model.specs.Tree.{Tree};
 ghost use Rattle.objects.specs.declared.addr.Addr.{Addr};
 ghost use Rattle.objects.specs.declared.mode.Mode.{Mode};
+ghost use Rattle.objects.specs.declared.mode.Mode.TheVariants as modes;
 ghost use Rattle.layout.specs.declared.geometry.Geometry.{Geometry};
 ghost use Rattle.layout.specs.Homes.{homes_of};
 ghost use Rattle.layout.specs.Stands.{Stands};
@@ -16,6 +17,7 @@ ghost use Rattle.wal_law.specs.Overlay.{over};
 ghost use Rattle.procs.specs.Asks.{Asks};
 ghost use Rattle.procs.specs.MostChanged.{most_changed};
 ghost use Rattle.txn.specs.Object.{ObjectBytes};
+ghost use Rattle.txn_law.specs.Window.{object_at};
 ghost use Rattle.wal_law.specs.declared.calls.IoCall.{IoCall};
 ghost use Rattle.wal_law.specs.declared.calls.IoCall.TheVariants.{Write};
 ghost use Rattle.store_promise.specs.declared.events.Committing.{Committing};
@@ -26,13 +28,14 @@ ghost use Rattle.store_promise.specs.declared.events.Step.{Step};
 ghost use Rattle.store_promise.specs.declared.events.Step.TheVariants as step;
 ghost use Rattle.store_promise.specs.declared.events.Wish.{Wish};
 ghost use Rattle.store_promise.specs.declared.events.Wish.TheVariants as wish;
+ghost use Rattle.store_promise.specs.declared.transcript.Committed.{Committed};
 ghost use Rattle.store_promise.specs.Headline.{KeepsPromise};
 ghost use Rattle.store_promise.specs.LogTold.{idle, may_install_told, may_log_told, out};
 ghost use Rattle.store_promise.specs.NextCall.{next_log_call, taken_home};
 ghost use Rattle.store_promise.specs.Progress.{Begun, Job, At, Planning, Reading, Stage, Taken};
-ghost use Rattle.store_promise.specs.Progress.{addrs_of};
+ghost use Rattle.store_promise.specs.Progress.{addrs_of, takes};
 ghost use Rattle.store_promise.specs.Schedule.{IsTaken, Schedule, Setting, Told, is_held, objects_at};
-ghost use Rattle.store_promise.specs.Schedule.{progress_before, told_before};
+ghost use Rattle.store_promise.specs.Schedule.{progress_before, told_before, wish_of};
 ghost use Rattle.store_promise.specs.Transcript.{Transcript, entries_of};
 
 /// A log, or an installer, that passes over an event which applies breaks the promise.
@@ -200,4 +203,14 @@ pub fn a_call_changes_no_more_than_it_may()
         → progress_before events t.steps worker index ≡ At job (Planning begun)
         → most_changed job.call < blocks
         → KeepsPromise before later tree first workers events t → ⊥ }
+{}
+
+/// What shares no byte with what the transaction of a procedure had taken has the bytes after it that it had before it.
+pub fn a_procedure_changes_only_what_it_took()
+    ensures { (before later : Device) (tree : Tree) (first workers index : ℕ) (events : Schedule) (t : Transcript)
+        (c : Committed) (job : Job) (begun : Begun) (addr : Addr) → slice_get t.history index ≡ Some c
+        → progress_before events t.steps c.worker c.event ≡ At job (Planning begun)
+        → addr.block.0 < later.size → takes (wish_of addr modes.Exclusive) begun ≡ false
+        → (kept : KeepsPromise before later tree first workers events t)
+        → object_at (kept.setting.blocks (index + 1)) addr ≡ object_at (kept.setting.blocks index) addr }
 {}
