@@ -1,16 +1,24 @@
 -- A call begins, its read keeps it under way, and so does the settling that it waits for.
 use Rattle.std.proofs.Common.{arith, ◌≡◌, ◌∙◌, refl, sym, ap, subst, true≢false, ℕ, ◌<◌, ◌≤◌, inl, inr, Bool, true, false}
-use Rattle.std.proofs.Common.{IfSome, Option, Some, None, Result, Ok, Err, is_ok, is_some, List, [], ◌++◌, option_to_list}
+use Rattle.std.proofs.Common.{IfSome, Option, Some, None, Result, Ok, Err, is_ok, is_some, length, List, [], ◌++◌, option_to_list}
 use Rattle.std.specs.Prelude.{IsSomeAnd}
 use Rattle.std.proofs.lemmas.List.{append-nil}
 use Rattle.std.proofs.lemmas.List.Elements.{All-nil}
-use Rattle.disk.specs.Device.{Content, CountsFailure, Device}
+use Rattle.limits.specs.declared.TheConstants.{MOST_KEPT_COMMITS}
+use Rattle.disk.specs.Blocks.{AreBlocks}
+use Rattle.disk.specs.Crash.{Image, IsCrashImage}
+use Rattle.disk.specs.Device.{Content, CountsFailure, Device, OneLater}
 use Rattle.disk.specs.declared.device.Failed.{Failed}
 use Rattle.layout.specs.Geometry.{IsLawful}
 use Rattle.model.specs.After.{Entry}
+use Rattle.model.specs.Calls.{has_rules}
 use Rattle.model.specs.Sound.{SoundTime}
+use Rattle.model.specs.Tree.{Tree}
 use Rattle.txn_law.specs.Core.{CoreState}
 use Rattle.txn_law.specs.Fetch.{Fetch}
+use Rattle.wal_law.specs.Calls.{Pending, idle as nothing_out}
+use Rattle.wal_law.specs.Log.{settled_place}
+use Rattle.store_promise.specs.OpenSince.{HasKeptFiles, IsOpenSince, KeepsFiles, LeavesBeginning}
 use Rattle.store_promise.specs.Progress.{Begun, Progress, Stage, At, Idle, Called, Planning, Reading, Read, Refused, Again}
 use Rattle.store_promise.specs.Progress.{Waiting, is_idle, progressed}
 use Rattle.store_promise.specs.Running.{IsFetchOver, IsRunningOver, at_rest as quiet}
@@ -20,11 +28,12 @@ use Rattle.store_promise.specs.declared.answers.Verdict.{Verdict}
 use Rattle.store_promise.specs.declared.events.Step.{Step}
 use Rattle.store_promise.specs.declared.events.Step.TheVariants as step
 use Rattle.store.specs.AtWork.{IsCoreAtWork, fetches_in, fetches_of}
-use Rattle.store.specs.Calling.{GoesTo, HasAnswered, HasStepped, IsCalling, IsOpenAt, IsOpenWith, IsSoFar, Outset}
-use Rattle.store.specs.Calling.{StandsWith, Tells}
+use Rattle.store.specs.Calling.{GoesTo, HasAnswered, HasStepped, HasWaited, IsCalling, IsOpenAt, IsOpenWith, IsSoFar}
+use Rattle.store.specs.Calling.{LeavesFiles, Outset, StandsWith, Tells}
 use Rattle.store.specs.Further.{LeavesOpen, RunsOn}
 use Rattle.store.specs.Opening.{Opened, store_of}
 use Rattle.store.specs.Settling.{HasFailed, IsIdle}
+use Rattle.store.specs.SettlingStops.{KeepsPrefixes, StaysOpen}
 use Rattle.store.specs.Phases.{is_ready}
 use Rattle.store.specs.Seen.{seen_in}
 use Rattle.store.specs.Stages.{IsJobIn, IsJobOf, IsWorkerAt, StandsAt, at_stage, begun_of, progress_in, progress_of}
@@ -38,11 +47,13 @@ use Rattle.store.specs.declared.workers.parts.Phase as phases
 use Rattle.store.specs.declared.workers.parts.Phase.TheVariants as Phase
 use Rattle.store.specs.declared.workers.parts.State.{State}
 use Rattle.store.specs.declared.workers.parts.Work.{Work}
-use Rattle.store.proofs.CallStages.{IsAfter, failed_then, so_far_still, tells_still}
+use Rattle.store.proofs.CallStages.{IsAfter, begun_then, comes_then, failed_then, so_far_still, tells_still}
 use Rattle.store.proofs.CallSteps.{open_of, runs_of, setting_of}
 use Rattle.store.proofs.DrivenAlone.{starts_alone}
 use Rattle.store.proofs.GoingOn.{still_at_work}
 use Rattle.store.proofs.HowFar.{some_of}
+use Rattle.store.proofs.Later.{past_more, past_none, past_one, some_image}
+use Rattle.store.proofs.Staying.{kept_along, none_left, stops_along}
 use Rattle.store.proofs.StillOpen.{further_then, same_further}
 
 -- ---- a call begins
@@ -58,6 +69,8 @@ begins o worker timely idle is with opened = record {
   base = opened.base;
   boot = refl;
   comes = refl;
+  past = past_none o.store.device;
+  kept = none_left o.store.device o.store.boot o.first (o.entries ++ []) (settled_place o.store.core.log);
   opened = subst (λ (w : State). IsOpenAt opened.base o.store (fetches_of w) o.first (o.entries ++ []) o.last) (sym is)
       (subst (λ (es : List Entry). IsOpenAt opened.base o.store [] o.first es o.last) (sym (append-nil o.entries))
       opened.opened);
@@ -73,7 +86,8 @@ begins o worker timely idle is with opened = record {
         (ctx_of o.asked.credential o.asked.moment o.store.boot) o.asked.call refl idle.fetches;
     loads = tt;
   });
-  so_far = subst (λ (w : State). IsSoFar o None o.store (progress_of w)) (sym is) (refl, refl);
+  so_far = subst (λ (w : State). IsSoFar o None o.store (progress_of w)) (sym is)
+      (refl, (refl, λ unserved. refl));
   counted = omega arith;
   further = same_further o.store.core;
   broken = λ broken. inl broken;
@@ -93,6 +107,13 @@ was_counted before after (Err error) counts failed = omega (arith, counts)
 
 none_made : (made : Step) → Some made ≡ None → ⊥
 none_made made same = cc
+
+-- a call of the device leaves what each stop before it left
+abbrev pub KeepsByCall : Type 0
+KeepsByCall = (before old new : Device) (base : Image) (core : CoreState) (logging installing : Pending)
+    (boot settled : ℕ) (first last : Tree) (entries : List Entry) → HasKeptFiles before old boot first entries settled
+    → IsOpenSince base old core logging installing boot first entries last → settled ≤ settled_place core.log
+    → OneLater old new → HasKeptFiles before new boot first entries settled
 
 module _ (o : Outset) (now : Opened) (device : Device) (worker : State) (calling : IsCalling o now worker) (io : Fetch)
     (content : Content) (answer : Result Unit Failed) (failure : CountsFailure now.device device answer) where
@@ -119,28 +140,38 @@ module _ (o : Outset) (now : Opened) (device : Device) (worker : State) (calling
   so_far_by broken (At job (Reading begun taken)) may has = (has.0, by (is_ok answer) refl)
     where
       by : (ok : Bool) → is_ok answer ≡ ok → StandsWith o calling.entry later (Read begun taken ok)
-      by true is = has.1
+      by true is = (has.1.0, begun_then o now later after begun.number has.1.1)
       by false is =
           let was = calling.counted in
           let more = was_counted now.device device answer failure is in
-          (has.1, omega (arith, was, more))
+          (has.1.0, begun_then o now later after begun.number has.1.1, omega (arith, was, more))
   so_far_by broken (At job (Read begun taken ok)) may has = absurd (none_made made may)
   so_far_by broken (At job (Refused begun why)) may has = absurd (none_made made may)
   so_far_by broken (At job (Again begun)) may has = absurd (none_made made may)
   so_far_by broken (At job (Waiting place)) may has = absurd (none_made made may)
 
-  pub was_read : TellsRead o.store.boot (o.entries ++ option_to_list calling.entry) worker (Some made) read
+  kept_then : KeepsByCall → OneLater now.device device → HasKeptFiles o.store.device device o.store.boot o.first
+      (o.entries ++ option_to_list calling.entry) (settled_place o.store.core.log)
+  kept_then keeps one = keeps o.store.device now.device device calling.base now.core nothing_out nothing_out o.store.boot
+      (settled_place o.store.core.log) o.first calling.last (o.entries ++ option_to_list calling.entry) calling.kept
+      (subst (λ (boot : ℕ). IsOpenSince calling.base now.device now.core nothing_out nothing_out boot o.first
+      (o.entries ++ option_to_list calling.entry) calling.last) calling.boot calling.opened.since)
+      calling.further.settled one
+
+  pub was_read : KeepsByCall → OneLater now.device device → TellsRead o.store.boot (o.entries ++ option_to_list calling.entry) worker (Some made) read
       → IsCoreAtWork read now.core
       → IsRunningOver (setting_of calling.base now (fetches_of worker) o.first
       (o.entries ++ option_to_list calling.entry) calling.last calling.opened) calling.base (quiet device now.core)
       (fetches_of read) now.boot o.first (o.entries ++ option_to_list calling.entry) calling.last
       → IsCalling o later read
-  was_read tells at_work run = record {
+  was_read keeps one tells at_work run = record {
     entry = calling.entry;
     last = calling.last;
     base = calling.base;
     boot = calling.boot;
-    comes = calling.comes;
+    comes = comes_then o now later after calling.entry calling.last calling.comes;
+    past = past_more o.store.device now.device device calling.past (past_one now.device device one);
+    kept = kept_then keeps one;
     opened = open_of _ calling.base later (fetches_of read) o.first (o.entries ++ option_to_list calling.entry)
         calling.last run;
     stands = tells.stands;
@@ -154,61 +185,87 @@ module _ (o : Outset) (now : Opened) (device : Device) (worker : State) (calling
 
 -- ---- a settling
 
-module _ (o : Outset) (now : Opened) (device : Device) (core : CoreState) (worker : State)
-    (opens : LeavesOpen now.device now.core device core) where
-  abbrev settled : Opened
-  settled = store_of device core now.boot
+module _ (o : Outset) (now : Opened) (device : Device) (core : CoreState) (worker : State) (waits : Bool)
+    (served : waits ≡ true → has_rules o.asked.call ≡ true) (waited : HasWaited waits now.device now.core device core)
+  where
+    abbrev opens : LeavesOpen now.device now.core device core
+    opens = waited.opens
 
-  abbrev pub still_after : IsAfter now settled
-  still_after = record { failures = opens.failures; further = opens.further }
+    abbrev settled : Opened
+    settled = store_of device core now.boot
 
-  module _ (calling : IsCalling o now worker) (with : GoesWith worker core) where
-    abbrev entries : List Entry
-    entries = o.entries ++ option_to_list calling.entry
+    abbrev pub still_after : IsAfter now settled
+    still_after = record { failures = opens.failures; further = opens.further }
 
-    from : HasFailed now.core.log now.device device → HasFailed o.store.core.log o.store.device device
-    from (inl broken) = failed_then o now settled still_after (calling.broken broken)
-    from (inr more) = inr (let was = calling.counted in omega (arith, was, more))
+    -- where the call isn't served, there was nothing to wait for
+    pub same_unserved : has_rules o.asked.call ≡ false → settled ≡ now
+    same_unserved unserved = by waits refl
+      where
+        by : (is : Bool) → waits ≡ is → settled ≡ now
+        by true is = absurd (true≢false (sym (served is) ∙ unserved))
+        by false is = let none = waited.none is in λ i. store_of (none.0 i) (none.1 i) now.boot
 
-    run : IsRunningOver (setting_of calling.base now (fetches_of worker) o.first entries calling.last calling.opened)
-        calling.base (quiet now.device now.core) (fetches_of worker) now.boot o.first entries calling.last
-    run = runs_of calling.base now (fetches_of worker) o.first entries calling.last calling.opened
+    module _ (calling : IsCalling o now worker) (with : GoesWith worker core) where
+      abbrev entries : List Entry
+      entries = o.entries ++ option_to_list calling.entry
 
-    next : RunsOn (setting_of calling.base now (fetches_of worker) o.first entries calling.last calling.opened) device
-        core (fetches_of worker) now.boot o.first entries calling.last
-    next = opens.runs _ calling.base (fetches_of worker) now.boot o.first calling.last entries run
+      from : HasFailed now.core.log now.device device → HasFailed o.store.core.log o.store.device device
+      from (inl broken) = failed_then o now settled still_after (calling.broken broken)
+      from (inr more) = inr (let was = calling.counted in omega (arith, was, more))
 
-    abbrev settles_on : IsCalling o settled worker
-    settles_on = record {
-      entry = calling.entry;
-      last = calling.last;
-      base = next.home;
-      boot = calling.boot;
-      comes = calling.comes;
-      opened = open_of _ next.home settled (fetches_of worker) o.first entries calling.last next.running;
-      stands = calling.stands;
-      at_work = still_at_work now.core core opens.core (sym next.running.blocks ∙ run.blocks) worker with
-          calling.at_work;
-      so_far = so_far_still o now settled still_after calling.entry (progress_of worker) calling.so_far;
-      counted = let was = calling.counted in let more = opens.failures in omega (arith, was, more);
-      further = further_then o.store.core now.core core calling.further opens.further;
-      broken = λ is. from (opens.failed is);
-    }
+      run : IsRunningOver (setting_of calling.base now (fetches_of worker) o.first entries calling.last calling.opened)
+          calling.base (quiet now.device now.core) (fetches_of worker) now.boot o.first entries calling.last
+      run = runs_of calling.base now (fetches_of worker) o.first entries calling.last calling.opened
 
-answer_still : (o : Outset) (now new : Opened) (is_after : IsAfter now new) (entry : Option Entry)
-    (found : Option CallAnswer) → IfSome found (λ ready. Tells o entry ready.verdict now)
+      next : RunsOn (setting_of calling.base now (fetches_of worker) o.first entries calling.last calling.opened) device
+          core (fetches_of worker) now.boot o.first entries calling.last
+      next = opens.runs _ calling.base (fetches_of worker) now.boot o.first calling.last entries run
+
+      stays : StaysOpen now.device now.core device core now.boot o.first entries calling.last
+      stays = waited.stays calling.base now.boot o.first calling.last entries calling.opened.since
+
+      kept_on : HasKeptFiles o.store.device device o.store.boot o.first entries (settled_place o.store.core.log)
+      kept_on = kept_along o.store.device now.device device o.store.boot (settled_place o.store.core.log)
+          (settled_place now.core.log) o.first entries calling.past stays.past calling.further.settled calling.kept
+          (subst (λ (boot : ℕ). HasKeptFiles now.device device boot o.first entries (settled_place now.core.log))
+          calling.boot stays.left)
+
+      abbrev settles_on : IsCalling o settled worker
+      settles_on = record {
+        entry = calling.entry;
+        last = calling.last;
+        base = next.home;
+        boot = calling.boot;
+        comes = comes_then o now settled still_after calling.entry calling.last calling.comes;
+        past = past_more o.store.device now.device device calling.past stays.past;
+        kept = kept_on;
+        opened = open_of _ next.home settled (fetches_of worker) o.first entries calling.last next.running;
+        stands = calling.stands;
+        at_work = still_at_work now.core core opens.core (sym next.running.blocks ∙ run.blocks) worker with
+            calling.at_work;
+        so_far = so_far_still o now settled still_after same_unserved calling.entry (progress_of worker) calling.so_far;
+        counted = let was = calling.counted in let more = opens.failures in omega (arith, was, more);
+        further = further_then o.store.core now.core core calling.further opens.further;
+        broken = λ is. from (opens.failed is);
+      }
+
+answer_still : (o : Outset) (now new : Opened) (is_after : IsAfter now new) → new.core.begun ≡ now.core.begun
+    → (has_rules o.asked.call ≡ false → new ≡ now) → (entry : Option Entry) (found : Option CallAnswer) → IfSome found (λ ready. Tells o entry ready.verdict now)
     → IfSome found (λ ready. Tells o entry ready.verdict new)
-answer_still o now new is_after entry None is = tt
-answer_still o now new is_after entry (Some ready) is = tells_still o now new is_after entry ready.verdict is
+answer_still o now new is_after begun same entry None is = tt
+answer_still o now new is_after begun same entry (Some ready) is =
+    tells_still o now new is_after begun (λ unserved few. same unserved) entry ready.verdict is
 
-pub settled_step : (o : Outset) (now : Opened) (device : Device) (core : CoreState) (worker : State)
-    (opens : LeavesOpen now.device now.core device core) → HasStepped o now worker → GoesWith (told worker) core
-    → HasStepped o (store_of device core now.boot) worker
-settled_step o now device core worker opens stepped with = record {
-  calling = settles_on o now device core (told worker) opens stepped.calling with;
+pub settled_step : (o : Outset) (now : Opened) (device : Device) (core : CoreState) (worker : State) (waits : Bool)
+    (served : waits ≡ true → has_rules o.asked.call ≡ true) (waited : HasWaited waits now.device now.core device core)
+    → HasStepped o now worker → GoesWith (told worker) core → HasStepped o (store_of device core now.boot) worker
+settled_step o now device core worker waits served waited stepped with = record {
+  calling = settles_on o now device core (told worker) waits served waited stepped.calling with;
   ends = stepped.ends;
-  answer = answer_still o now (store_of device core now.boot) (still_after o now device core (told worker) opens)
-      stepped.calling.entry worker.work.answer stepped.answer;
+  answer = answer_still o now (store_of device core now.boot)
+      (still_after o now device core (told worker) waits served waited) waited.opens.core.begun
+      (same_unserved o now device core (told worker) waits served waited) stepped.calling.entry worker.work.answer
+      stepped.answer;
 }
 
 -- one store led to another, and that to a third
@@ -227,29 +284,61 @@ gone_on a b c one two = record {
         before (inr more) = inr (let y = two.failures in omega (arith, more, y))
     since (inr more) = inr (let x = one.failures in omega (arith, more, x))
 
--- the store once a call was answered
-pub settled_answer : (o : Outset) (verdict : Verdict) (now : Opened) (device : Device) (core : CoreState)
-    (opens : LeavesOpen now.device now.core device core) → HasAnswered o verdict now
-    → HasAnswered o verdict (store_of device core now.boot)
-settled_answer o verdict now device core opens has =
-    let entries = o.entries ++ option_to_list has.entry in
-    let at = has.opened.opened in
-    let next = opens.runs (setting_of has.opened.base now [] o.first entries has.last at) has.opened.base [] now.boot
-    o.first has.last entries (runs_of has.opened.base now [] o.first entries has.last at) in
+-- what is settled behind an open store's call leaves it open, for whatever it was
+pub settled_open : (now : Opened) (device : Device) (core : CoreState) (first : Tree) (entries : List Entry)
+    (last : Tree) → LeavesOpen now.device now.core device core → IsOpenWith now first entries last
+    → IsOpenWith (store_of device core now.boot) first entries last
+settled_open now device core first entries last opens opened =
+    let at = opened.opened in
+    let s = setting_of opened.base now [] first entries last at in
+    let next = opens.runs s opened.base [] now.boot first last entries (runs_of opened.base now [] first entries last at)
+    in
     record {
-      entry = has.entry;
-      last = has.last;
-      comes = has.comes;
-      opened = record {
-        base = next.home;
-        opened = open_of (setting_of has.opened.base now [] o.first entries has.last at) next.home
-            (store_of device core now.boot) [] o.first entries has.last next.running;
-      };
-      goes = gone_on o.store now (store_of device core now.boot) has.goes
-          (record { failures = opens.failures; further = opens.further; failed = opens.failed });
-      tells = tells_still o now (store_of device core now.boot)
-          (record { failures = opens.failures; further = opens.further }) has.entry verdict has.tells;
+      base = next.home;
+      opened = open_of s next.home (store_of device core now.boot) [] first entries last next.running;
     }
+
+-- what each stop leaves then
+files_then : (o : Outset) (entries : List Entry) (last : Tree) (now : Opened) (device : Device) (core : CoreState)
+    → AreBlocks device → now.boot ≡ o.store.boot → settled_place o.store.core.log ≤ settled_place now.core.log
+    → KeepsPrefixes now.device now.core device core → IsOpenWith now o.first entries last → LeavesFiles o entries now
+    → LeavesFiles o entries (store_of device core now.boot)
+files_then o entries last now device core blocks boot further keeps opened files =
+    let kept = keeps opened.base now.boot o.first last entries opened.opened.since in
+    let past = past_more o.store.device now.device device files.past kept.past in
+    record {
+      past = past;
+      left = some_image o.store.device device blocks;
+      stops = stops_along o.store.device now.device device o.store.boot (settled_place o.store.core.log)
+          (settled_place now.core.log) o.first entries kept.past further
+          (λ clock image above below crash. files.stops clock image above (omega (arith, below)) crash)
+          (subst (λ (b : ℕ). KeepsFiles now.device device b o.first entries (settled_place now.core.log)) boot
+          kept.stops);
+      ended = λ image crash.
+          subst (λ (b : ℕ). LeavesBeginning device.size b o.first entries (settled_place core.log) image) boot
+          (kept.ended image crash);
+    }
+
+-- The store once a call was answered: where it kept too many commits, it is settled.
+pub settled_answer : (o : Outset) (verdict : Verdict) (now : Opened) (device : Device) (core : CoreState)
+    (opens : LeavesOpen now.device now.core device core) → KeepsPrefixes now.device now.core device core
+    → AreBlocks device → MOST_KEPT_COMMITS < length now.core.records → HasAnswered o verdict now
+    → HasAnswered o verdict (store_of device core now.boot)
+settled_answer o verdict now device core opens keeps blocks many has = record {
+  entry = has.entry;
+  last = has.last;
+  boot = has.boot;
+  comes = comes_then o now (store_of device core now.boot)
+      (record { failures = opens.failures; further = opens.further }) has.entry has.last has.comes;
+  files = files_then o (o.entries ++ option_to_list has.entry) has.last now device core blocks has.boot
+      has.goes.further.settled keeps has.opened has.files;
+  opened = settled_open now device core o.first (o.entries ++ option_to_list has.entry) has.last opens has.opened;
+  goes = gone_on o.store now (store_of device core now.boot) has.goes
+      (record { failures = opens.failures; further = opens.further; failed = opens.failed });
+  tells = tells_still o now (store_of device core now.boot)
+      (record { failures = opens.failures; further = opens.further }) opens.core.begun
+      (λ unserved few. absurd (omega (arith, many, few))) has.entry verdict has.tells;
+}
 
 -- ---- it begins again
 
@@ -279,6 +368,8 @@ again_goes o now worker stepped planning with =
         base = was.base;
         boot = was.boot;
         comes = was.comes;
+        past = was.past;
+        kept = was.kept;
         opened = subst (λ fetches. IsOpenAt was.base now fetches o.first entries was.last)
             (ap (λ (p : phases.Phase). fetches_in p worker.begun.io) planning) was.opened;
         stands = record {
@@ -379,16 +470,47 @@ idle_by boot done state Phase.Again stands idle =
 idle_by boot done state (Phase.Waiting place) stands idle =
     absurd (no_stage state.asked.waiting stands.job _ stands.job_is idle)
 
+-- each stop leaves a beginning, by the laws on a store that is open
+abbrev pub KeepsNow : Type 0
+KeepsNow = (before d : Device) (base : Image) (core : CoreState) (logging installing : Pending) (boot settled : ℕ)
+    (first last : Tree) (entries : List Entry) → HasKeptFiles before d boot first entries settled
+    → IsOpenSince base d core logging installing boot first entries last → settled ≤ settled_place core.log
+    → KeepsFiles before d boot first entries settled
+
+abbrev pub StopsNow : Type 0
+StopsNow = (base : Image) (d : Device) (core : CoreState) (logging installing : Pending) (boot : ℕ)
+    (first last : Tree) (entries : List Entry) (image : Image)
+    → IsOpenSince base d core logging installing boot first entries last → IsCrashImage d d.clock image
+    → LeavesBeginning d.size boot first entries (settled_place core.log) image
+
+files_now : KeepsNow → StopsNow → (o : Outset) (now : Opened) (worker : State) → AreBlocks now.device
+    → (was : IsCalling o now worker) → LeavesFiles o (o.entries ++ option_to_list was.entry) now
+files_now keeps stops o now worker blocks was =
+    let entries = o.entries ++ option_to_list was.entry in
+    let since = subst (λ (boot : ℕ). IsOpenSince was.base now.device now.core nothing_out nothing_out boot o.first entries was.last)
+    was.boot was.opened.since in
+    record {
+      past = was.past;
+      left = some_image o.store.device now.device blocks;
+      stops = keeps o.store.device now.device was.base now.core nothing_out nothing_out o.store.boot (settled_place o.store.core.log)
+          o.first was.last entries was.kept since was.further.settled;
+      ended = λ image crash.
+          stops was.base now.device now.core nothing_out nothing_out o.store.boot o.first was.last entries image since crash;
+    }
+
 -- the store is open with what the call came to, and its worker is idle
-pub answered : (o : Outset) (now : Opened) (worker : State) (ready : CallAnswer) → HasStepped o now worker
-    → Some ready ≡ worker.work.answer → HasAnswered o ready.verdict now × (worker.phase ≡ Phase.Idle)
-answered o now worker ready stepped is =
+pub answered : KeepsNow → StopsNow → (o : Outset) (now : Opened) (worker : State) (ready : CallAnswer)
+    → AreBlocks now.device → HasStepped o now worker → Some ready ≡ worker.work.answer
+    → HasAnswered o ready.verdict now × (worker.phase ≡ Phase.Idle)
+answered keeps stops o now worker ready blocks stepped is =
     let was = stepped.calling in
     let some : is_some worker.work.answer ≡ true = ap is_some (sym is) in (
       record {
         entry = was.entry;
         last = was.last;
+        boot = was.boot;
         comes = was.comes;
+        files = files_now keeps stops o now (told worker) blocks was;
         opened = record {
           base = was.base;
           opened = record {

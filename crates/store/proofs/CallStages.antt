@@ -1,22 +1,24 @@
 -- How far a call is after a step of its worker, and what the step answers, by the stage that it was at.
 use Rattle.std.proofs.Common.{arith, ◌≡◌, ◌∙◌, refl, sym, ap, subst, true≢false, ℕ, ◌+◌, ◌^◌, ◌≤◌, ◌⊎◌, inl, inr}
-use Rattle.std.proofs.Common.{Bool, true, false, ◌||◌, if◌then◌else◌, nat_le, Option, Some, None, Ok, Err}
+use Rattle.std.proofs.Common.{Bool, true, false, ◌||◌, if◌then◌else◌, nat_le, is_some, Option, Some, None, Result, Ok, Err}
 use Rattle.std.proofs.Common.{List, [], ◌∷◌, ◌++◌, length, map, option_to_list, zero, suc, slice_get}
 use Rattle.std.proofs.lemmas.Bool.Decides.{nat_tests}
+use Rattle.limits.specs.declared.TheConstants.{MOST_KEPT_COMMITS}
 use Rattle.disk.specs.declared.block.BlockNo.{BlockNo}
 use Rattle.model.specs.After.{Entry}
 use Rattle.model.specs.Calls.{has_rules, is_answered_stable}
+use Rattle.model.specs.Tree.{Tree}
 use Rattle.procs.specs.MostChanged.{most_changed}
 use Rattle.txn.specs.declared.outcomes.BeginFault.{BeginFault}
 use Rattle.txn.specs.declared.outcomes.BeginFault.TheVariants as begin_fault
 use Rattle.wal_law.specs.Log.{settled_place}
 use Rattle.wal_law.specs.declared.outcomes.Seq.{Seq}
 use Rattle.store_promise.specs.LogTold.{settled_told}
-use Rattle.store_promise.specs.Progress.{Begun, Progress, Stage, At, Idle, Called, Planning, Reading, Read}
+use Rattle.store_promise.specs.Progress.{Begun, Job, Progress, Stage, At, Idle, Called, Planning, Reading, Read}
 use Rattle.store_promise.specs.Progress.{Refused, Again, Waiting, Taken, Wished, after_called, after_claimed}
 use Rattle.store_promise.specs.Progress.{after_commit, after_planning, after_waiting, after_wanted, going_on, is_idle}
 use Rattle.store_promise.specs.Progress.{stage_after}
-use Rattle.store_promise.specs.Schedule.{HasNumbers, IsClaimWish, IsCommitting, IsStepByPlan, IsStepOfCalled}
+use Rattle.store_promise.specs.Schedule.{begun_after, HasNumbers, IsClaimWish, IsCommitting, IsStepByPlan, IsStepOfCalled}
 use Rattle.store_promise.specs.Schedule.{IsStepOfWork, IsWish, Setting, Told, wish_of}
 use Rattle.store_promise.specs.Transcript.{Transcript, committed_at, entry_of}
 use Rattle.store_promise.specs.Verdicts.{HasVerdict, IsReplyAt, cause_of}
@@ -34,7 +36,9 @@ use Rattle.store_promise.specs.declared.events.Wish.TheVariants as wish
 use Rattle.store_promise.specs.declared.transcript.Answer.{Answer}
 use Rattle.store_promise.specs.declared.transcript.Committed.{Committed}
 use Rattle.store.specs.AtWork.{has_committed}
-use Rattle.store.specs.Calling.{HasCause, IsRefusal, IsSoFar, IsSpent, IsUnserved, Outset, StandsWith, Tells}
+use Rattle.store.specs.Calling.{ComesTo, HasCause, IsBegunFor, IsMadeFor, IsRefusal, IsSoFar, IsSpent, IsUnserved}
+use Rattle.store.specs.Calling.{Outset, StandsWith, Tells}
+use Rattle.store.specs.Driving.{waits_for_log}
 use Rattle.store.specs.Further.{IsFurther}
 use Rattle.store.specs.Opening.{Opened}
 use Rattle.store.specs.Settling.{HasFailed}
@@ -102,38 +106,70 @@ module _ (o : Outset) (now new : Opened) (after : IsAfter now new) where
   cause_then cause.Spent has = spent_then has
   cause_then cause.NoMemory has = tt
 
-  pub stands_then : (entry : Option Entry) (stage : Stage) → StandsWith o entry now stage
-      → StandsWith o entry new stage
-  stands_then entry Called has = has
-  stands_then entry (Planning begun) has = has
-  stands_then entry (Reading begun taken) has = has
-  stands_then entry (Read begun taken true) has = has
-  stands_then entry (Read begun taken false) has =
-      (has.0, let failed = has.1 in let more = after.failures in omega (arith, failed, more))
-  stands_then entry (Refused begun why) has = (has.0, cause_then why has.1)
-  stands_then entry (Again begun) has = has
-  stands_then entry (Waiting place) has = has
+  -- the transaction of the call is still its own
+  pub begun_then : (number : ℕ) → IsBegunFor o now number → IsBegunFor o new number
+  begun_then number has = record {
+    rules = has.rules;
+    fresh = has.fresh;
+    taken = let by_now = has.taken in let more = after.further.begun in omega (arith, by_now, more);
+  }
 
-  pub so_far_still : (entry : Option Entry) (progress : Progress) → IsSoFar o entry now progress
-      → IsSoFar o entry new progress
-  so_far_still entry Idle has = tt
-  so_far_still entry (At job stage) has = (has.0, stands_then entry stage has.1)
+  pub made_then : (entry : Entry) (last : Tree) → IsMadeFor o now entry last → IsMadeFor o new entry last
+  made_then entry last has = record {
+    begun = has.begun;
+    begun_for = begun_then has.begun.number has.begun_for;
+    ctx = has.ctx;
+    call = has.call;
+    step = has.step;
+  }
 
-  pub tells_still : (entry : Option Entry) (told : Verdict) → Tells o entry told now → Tells o entry told new
-  tells_still None told (inl unserved) = inl unserved
-  tells_still None told (inr refused) = inr (record {
+  pub comes_then : (entry : Option Entry) (last : Tree) → ComesTo o now entry last → ComesTo o new entry last
+  comes_then None last comes = comes
+  comes_then (Some entry) last comes = made_then entry last comes
+
+  -- so it is how far it is, where a call that isn't served has left the store as it was
+  pub stands_then : (has_rules o.asked.call ≡ false → new ≡ now) → (entry : Option Entry) (stage : Stage)
+      → StandsWith o entry now stage → StandsWith o entry new stage
+  stands_then same entry Called has = (has.0, λ unserved. same unserved ∙ has.1 unserved)
+  stands_then same entry (Planning begun) has = (has.0, begun_then begun.number has.1)
+  stands_then same entry (Reading begun taken) has = (has.0, begun_then begun.number has.1)
+  stands_then same entry (Read begun taken true) has = (has.0, begun_then begun.number has.1)
+  stands_then same entry (Read begun taken false) has =
+      (has.0, begun_then begun.number has.1, let failed = has.2 in let more = after.failures in omega (arith, failed, more))
+  stands_then same entry (Refused begun why) has = (has.0, begun_then begun.number has.1, cause_then why has.2)
+  stands_then same entry (Again begun) has = (has.0, begun_then begun.number has.1)
+  stands_then same entry (Waiting place) has = has
+
+  pub so_far_still : (has_rules o.asked.call ≡ false → new ≡ now) → (entry : Option Entry) (progress : Progress)
+      → IsSoFar o entry now progress → IsSoFar o entry new progress
+  so_far_still same entry Idle has = tt
+  so_far_still same entry (At job stage) has = (has.0, stands_then same entry stage has.1)
+
+  pub tells_still : new.core.begun ≡ now.core.begun
+      → (has_rules o.asked.call ≡ false → length now.core.records ≤ MOST_KEPT_COMMITS → new ≡ now)
+      → (entry : Option Entry) (told : Verdict) → Tells o entry told now → Tells o entry told new
+  tells_still none_begun same None told (inl unserved) = inl (record {
+    rules = unserved.rules;
+    begun = none_begun ∙ unserved.begun;
+    left = λ few.
+        let was = unserved.left few in
+        same unserved.rules (subst (λ (x : Opened). length x.core.records ≤ MOST_KEPT_COMMITS) (sym was) few) ∙ was;
+    told_is = unserved.told_is;
+  })
+  tells_still none_begun same None told (inr refused) = inr (record {
+    rules = refused.rules;
     why = refused.why;
     told_is = refused.told_is;
     because = cause_then refused.why refused.because;
   })
-  tells_still (Some entry) told (inl reply) = inl (record {
+  tells_still none_begun same (Some entry) told (inl reply) = inl (record {
     told_is = reply.told_is;
     settled = λ waits.
         let there = reply.settled waits in
         let more = after.further.settled in
         omega (arith, there, more);
   })
-  tells_still (Some entry) told (inr unsettled) = inr (record {
+  tells_still none_begun same (Some entry) told (inr unsettled) = inr (record {
     stable = unsettled.stable;
     told_is = unsettled.told_is;
     broken = after.further.broken unsettled.broken;
@@ -153,6 +189,7 @@ le_of a b is = grind (arith, nat_tests)
 pub record IsStepFrom (o : Outset) (now : Opened) (s : Setting) (t : Told) : Type 0 where
   pub broken_is : t.log.broken ≡ now.core.log.broken
   pub begun_is : t.begun ≡ now.core.begun
+  pub more_begun : o.store.core.begun ≤ now.core.begun
   pub settled_is : settled_told t.log ≡ settled_place now.core.log
   pub numbers : (blocks : ℕ) → blocks ≤ most_changed o.asked.call → (HasNumbers s t.log blocks → ⊥)
       → IsSpent o.asked.call now.core
@@ -181,6 +218,36 @@ module _ (o : Outset) (now new : Opened) (s : Setting) (t : Told) (from : IsStep
       none : step.Begun (Err why) ≡ step.Replied → ⊥
       none same = cc
 
+  -- a call for which a transaction was begun, or was to be, is served
+  is_served : (served : Bool) (answer : Result ℕ BeginFault) → has_rules o.asked.call ≡ served
+      → IsStepOfCalled t served (step.Begun answer) → has_rules o.asked.call ≡ true
+  is_served true answer is may = is
+  is_served false answer is may = absurd (none may)
+    where
+      none : step.Begun answer ≡ step.Replied → ⊥
+      none same = cc
+
+  -- its transaction takes the next number
+  next_number : (served : Bool) (number : ℕ) → IsStepOfCalled t served (step.Begun (Ok number)) → number ≡ t.begun + 1
+  next_number true number may = may.1
+  next_number false number may = absurd (none may)
+    where
+      none : step.Begun (Ok number) ≡ step.Replied → ⊥
+      none same = cc
+
+  number_taken : (number : ℕ) → IsStepOfCalled t (has_rules o.asked.call) (step.Begun (Ok number))
+      → new.core.begun ≡ begun_after now.core.begun (step.Begun (Ok number)) → IsBegunFor o new number
+  number_taken number may then_ = record {
+    rules = is_served (has_rules o.asked.call) (Ok number) refl may;
+    fresh = (let is = next_number (has_rules o.asked.call) number may in
+        let now_is = from.begun_is in
+        let more = from.more_begun in
+        omega (arith, is, now_is, more));
+    taken = let is = next_number (has_rules o.asked.call) number may in
+        let now_is = from.begun_is in
+        omega (arith, is, now_is, then_);
+  }
+
   unserved : (served : Bool) → has_rules o.asked.call ≡ served → IsStepOfCalled t served step.Replied
       → has_rules o.asked.call ≡ false
   unserved true is may = absurd may
@@ -192,23 +259,27 @@ module _ (o : Outset) (now new : Opened) (s : Setting) (t : Told) (from : IsStep
     StageOk None = Unit {0}
     StageOk (Some stage) = StandsWith o entry new stage
 
-    wanted_ok : (begun : Begun) (taken : Taken) (answer : Wish) → entry ≡ None
+    -- nothing was committed, in a transaction of the call
+    abbrev NoneIn : Begun → Type 0
+    NoneIn begun = (entry ≡ None) × IsBegunFor o new begun.number
+
+    wanted_ok : (begun : Begun) (taken : Taken) (answer : Wish) → NoneIn begun
         → (answer ≡ wish.Outside → ⊥) → StandsWith o entry new (after_wanted begun taken answer)
     wanted_ok begun taken wish.Held none inside = none
     wanted_ok begun taken wish.Fetch none inside = none
     wanted_ok begun taken wish.Busy none inside = none
     wanted_ok begun taken wish.Loading none inside = none
     wanted_ok begun taken wish.Outside none inside = absurd (inside refl)
-    wanted_ok begun taken wish.NoMemory none inside = (none, tt)
+    wanted_ok begun taken wish.NoMemory none inside = (none.0, none.1, tt)
 
-    claimed_ok : (begun : Begun) (block : BlockNo) (answer : Wish) → entry ≡ None
+    claimed_ok : (begun : Begun) (block : BlockNo) (answer : Wish) → NoneIn begun
         → (answer ≡ wish.Outside → ⊥) → StandsWith o entry new (after_claimed begun block answer)
     claimed_ok begun block wish.Held none inside = none
     claimed_ok begun block wish.Fetch none inside = none
     claimed_ok begun block wish.Busy none inside = none
     claimed_ok begun block wish.Loading none inside = none
     claimed_ok begun block wish.Outside none inside = absurd (inside refl)
-    claimed_ok begun block wish.NoMemory none inside = (none, tt)
+    claimed_ok begun block wish.NoMemory none inside = (none.0, none.1, tt)
 
     never_outside : (begun : Begun) (wished : Wished) (answer : Wish) → IsWish t 0 begun wished answer
         → answer ≡ wish.Outside → ⊥
@@ -218,27 +289,30 @@ module _ (o : Outset) (now new : Opened) (s : Setting) (t : Told) (from : IsStep
         → answer ≡ wish.Outside → ⊥
     never_claimed_outside begun block answer is same = subst (IsClaimWish t 0 begun block) same is
 
-    commit_ok : (begun : Begun) (blocks : ℕ) (answer : Committing) → entry ≡ None
+    commit_ok : (begun : Begun) (blocks : ℕ) (answer : Committing) → NoneIn begun
         → has_committed (Some (step.Commit blocks answer)) ≡ false → blocks ≤ most_changed o.asked.call
         → IsCommitting s t.log blocks answer → StageOk (after_commit stable begun answer)
     commit_ok begun blocks (committing.Committed place) none not few may = absurd (true≢false not)
     commit_ok begun blocks committing.Full none not few may = none
     commit_ok begun blocks committing.Foreign none not few may = none
-    commit_ok begun blocks committing.NoMemory none not few may = (none, tt)
-    commit_ok begun blocks committing.Broken none not few may = (none, broke (sym from.broken_is ∙ may))
-    commit_ok begun blocks committing.Spent none not few may = (none, cause_then o now new after cause.Spent (from.numbers blocks few may.1))
+    commit_ok begun blocks committing.NoMemory none not few may = (none.0, none.1, tt)
+    commit_ok begun blocks committing.Broken none not few may =
+        (none.0, none.1, broke (sym from.broken_is ∙ may))
+    commit_ok begun blocks committing.Spent none not few may =
+        (none.0, none.1, cause_then o now new after cause.Spent (from.numbers blocks few may.1))
 
     waits_ok : (settled : Bool) (place : ℕ) → StandsWith o entry now (Waiting place)
         → StageOk (if settled then None else Some (Waiting place))
     waits_ok true place stands = tt
     waits_ok false place stands = stands
 
-    called_ok : (made : Step) → entry ≡ None → StageOk (after_called made)
-    called_ok (step.Begun (Ok number)) none = none
-    called_ok (step.Begun (Err why)) none = tt
-    called_ok _ none = tt
+    called_ok : (made : Step) → entry ≡ None → IsStepOfCalled t (has_rules o.asked.call) made
+        → new.core.begun ≡ begun_after now.core.begun made → StageOk (after_called made)
+    called_ok (step.Begun (Ok number)) none may then_ = (none, number_taken number may then_)
+    called_ok (step.Begun (Err why)) none may then_ = tt
+    called_ok _ none may then_ = tt
 
-    planning_ok : (begun : Begun) (made : Step) → has_committed (Some made) ≡ false → entry ≡ None
+    planning_ok : (begun : Begun) (made : Step) → has_committed (Some made) ≡ false → NoneIn begun
         → IsStepByPlan s t 0 o.asked.call begun made → StageOk (after_planning stable begun made)
     planning_ok begun (step.Wanted addr mode answer) not none may =
         wanted_ok begun (record { addr = addr; mode = mode }) answer none
@@ -255,64 +329,82 @@ module _ (o : Outset) (now new : Opened) (s : Setting) (t : Told) (from : IsStep
     waiting_ok place _ stands = stands
 
     pub next_ok : (stage : Stage) (made : Step) → has_committed (Some made) ≡ false → StandsWith o entry now stage
-        → IsStepOfWork s t 0 (At o.asked stage) (Some made) → StageOk (stage_after broken stable made stage)
-    next_ok Called made not stands may = called_ok made stands
-    next_ok (Planning begun) made not stands may = planning_ok begun made not stands may
-    next_ok (Reading begun taken) made not stands may = absurd (some_none made may)
+        → IsStepOfWork s t 0 (At o.asked stage) (Some made) → new.core.begun ≡ begun_after now.core.begun made
+        → StageOk (stage_after broken stable made stage)
+    next_ok Called made not stands may then_ = called_ok made stands.0 may then_
+    next_ok (Planning begun) made not stands may then_ =
+        planning_ok begun made not (stands.0, begun_then o now new after begun.number stands.1) may
+    next_ok (Reading begun taken) made not stands may then_ = absurd (some_none made may)
       where
         some_none : (made : Step) → Some made ≡ None → ⊥
         some_none made same = cc
-    next_ok (Read begun taken true) made not stands may = stands
-    next_ok (Read begun taken false) made not stands may =
-        (stands.0, cause_then o now new after cause.Io (inr stands.1))
-    next_ok (Refused begun why) made not stands may = tt
-    next_ok (Again begun) made not stands may = stands
-    next_ok (Waiting place) made not stands may = waiting_ok place made stands
+    next_ok (Read begun taken true) made not stands may then_ =
+        (stands.0, begun_then o now new after begun.number stands.1)
+    next_ok (Read begun taken false) made not stands may then_ =
+        (stands.0, begun_then o now new after begun.number stands.1, cause_then o now new after cause.Io (inr stands.2))
+    next_ok (Refused begun why) made not stands may then_ = tt
+    next_ok (Again begun) made not stands may then_ =
+        (stands.0, λ unserved. absurd (true≢false (sym stands.1.rules ∙ unserved)))
+    next_ok (Waiting place) made not stands may then_ = waiting_ok place made stands
 
     pub so_far_then : (next : Option Stage) → StageOk next → IsSoFar o entry new (going_on o.asked next)
     so_far_then None ok = tt
     so_far_then (Some stage) ok = (refl, ok)
 
     -- ---- what it answers
-    none_tells : (a : Answer) → entry ≡ None → IsUnserved o a.verdict ⊎ IsRefusal o a.verdict new
+    none_tells : (a : Answer) → entry ≡ None → IsUnserved o a.verdict new ⊎ IsRefusal o a.verdict new
         → Tells o entry a.verdict new
     none_tells a none tells = subst (λ (e : Option Entry). Tells o e a.verdict new) (sym none) tells
 
-    called_tells : (made : Step) (t2 : Transcript) (a : Answer) → entry ≡ None
-        → IsStepOfCalled t (has_rules o.asked.call) made → HasVerdict t2 o.asked.call Called made a
-        → Tells o entry a.verdict new
-    called_tells step.Replied t2 a none may told = none_tells a none
-        (inl (record { rules = unserved (has_rules o.asked.call) refl may; told_is = told.1 }))
-    called_tells (step.Begun (Err why)) t2 a none may told = none_tells a none
+    called_tells : (made : Step) (t2 : Transcript) (a : Answer)
+        → (entry ≡ None) × (has_rules o.asked.call ≡ false → now ≡ o.store) → (made ≡ step.Replied → new ≡ now)
+        → IsStepOfCalled t (has_rules o.asked.call) made → new.core.begun ≡ begun_after now.core.begun made
+        → HasVerdict t2 o.asked.call Called made a → Tells o entry a.verdict new
+    called_tells step.Replied t2 a stands same may then_ told =
+        let none = unserved (has_rules o.asked.call) refl may in
+        let was = stands.1 none in
+        none_tells a stands.0 (inl (record {
+          rules = none;
+          begun = then_ ∙ ap (λ (x : Opened). x.core.begun) was;
+          left = λ few. same refl ∙ was;
+          told_is = told.1;
+        }))
+    called_tells (step.Begun (Err why)) t2 a stands same may then_ told = none_tells a stands.0
         (inr (record {
+          rules = is_served (has_rules o.asked.call) (Err why) refl may;
           why = cause_of why;
           told_is = told.1;
           because = begin_cause (has_rules o.asked.call) why may;
         }))
-    called_tells (step.Begun (Ok number)) t2 a none may told = absurd told
-    called_tells _ t2 a none may told = absurd told
+    called_tells (step.Begun (Ok number)) t2 a stands same may then_ told = absurd told
+    called_tells _ t2 a stands same may then_ told = absurd told
 
     planning_tells : (begun : Begun) (made : Step) (t2 : Transcript) (a : Answer)
-        → has_committed (Some made) ≡ false → entry ≡ None → HasVerdict t2 o.asked.call (Planning begun) made a
+        → has_committed (Some made) ≡ false → StandsWith o entry now (Planning begun) → HasVerdict t2 o.asked.call (Planning begun) made a
         → Tells o entry a.verdict new
-    planning_tells begun (step.Commit blocks (committing.Committed place)) t2 a not none told =
+    planning_tells begun (step.Commit blocks (committing.Committed place)) t2 a not stands told =
         absurd (true≢false not)
-    planning_tells begun (step.Ended ending.NoMemory) t2 a not none told = none_tells a none
-        (inr (record { why = cause.NoMemory; told_is = told.1; because = tt }))
-    planning_tells begun (step.Ended ending.Refused) t2 a not none told = absurd told
-    planning_tells begun (step.Ended ending.Again) t2 a not none told = absurd told
-    planning_tells begun (step.Commit blocks committing.Full) t2 a not none told = absurd told
-    planning_tells begun (step.Commit blocks committing.Foreign) t2 a not none told = absurd told
-    planning_tells begun (step.Commit blocks committing.NoMemory) t2 a not none told = absurd told
-    planning_tells begun (step.Commit blocks committing.Broken) t2 a not none told = absurd told
-    planning_tells begun (step.Commit blocks committing.Spent) t2 a not none told = absurd told
-    planning_tells begun _ t2 a not none told = absurd told
+    planning_tells begun (step.Ended ending.NoMemory) t2 a not stands told = none_tells a stands.0
+        (inr (record { rules = stands.1.rules; why = cause.NoMemory; told_is = told.1; because = tt }))
+    planning_tells begun (step.Ended ending.Refused) t2 a not stands told = absurd told
+    planning_tells begun (step.Ended ending.Again) t2 a not stands told = absurd told
+    planning_tells begun (step.Commit blocks committing.Full) t2 a not stands told = absurd told
+    planning_tells begun (step.Commit blocks committing.Foreign) t2 a not stands told = absurd told
+    planning_tells begun (step.Commit blocks committing.NoMemory) t2 a not stands told = absurd told
+    planning_tells begun (step.Commit blocks committing.Broken) t2 a not stands told = absurd told
+    planning_tells begun (step.Commit blocks committing.Spent) t2 a not stands told = absurd told
+    planning_tells begun _ t2 a not stands told = absurd told
 
     refused_tells : (begun : Begun) (why : Cause) (made : Step) (t2 : Transcript) (a : Answer)
         → StandsWith o entry now (Refused begun why) → HasVerdict t2 o.asked.call (Refused begun why) made a
         → Tells o entry a.verdict new
     refused_tells begun why (step.Ended ending.Refused) t2 a stands told = none_tells a stands.0
-        (inr (record { why = why; told_is = told.1; because = cause_then o now new after why stands.1 }))
+        (inr (record {
+          rules = stands.1.rules;
+          why = why;
+          told_is = told.1;
+          because = cause_then o now new after why stands.2;
+        }))
     refused_tells begun why (step.Ended ending.NoMemory) t2 a stands told = absurd told
     refused_tells begun why (step.Ended ending.Again) t2 a stands told = absurd told
     refused_tells begun why _ t2 a stands told = absurd told
@@ -351,25 +443,64 @@ module _ (o : Outset) (now new : Opened) (s : Setting) (t : Told) (from : IsStep
   pub tells_of : (entry : Option Entry) (stage : Stage) (made : Step) (a : Answer)
       → has_committed (Some made) ≡ false → StandsWith o entry now stage
       → IsStepOfWork s t 0 (At o.asked stage) (Some made)
+      → new.core.begun ≡ begun_after now.core.begun made
+      → (stage ≡ Called → made ≡ step.Replied → new ≡ now)
       → is_idle (going_on o.asked (stage_after broken stable made stage)) ≡ true
       → HasVerdict (told_by (o.entries ++ option_to_list entry)) o.asked.call stage made a
       → Tells o entry a.verdict new
-  tells_of entry Called made a not stands may ends told = called_tells entry made (told_by (o.entries ++ option_to_list entry)) a stands may told
-  tells_of entry (Planning begun) made a not stands may ends told =
+  tells_of entry Called made a not stands may then_ same ends told =
+      called_tells entry made (told_by (o.entries ++ option_to_list entry)) a stands (same refl) may then_ told
+  tells_of entry (Planning begun) made a not stands may then_ same ends told =
       planning_tells entry begun made (told_by (o.entries ++ option_to_list entry)) a not stands told
-  tells_of entry (Reading begun taken) made a not stands may ends told = absurd (true≢false (sym (still made ends)))
+  tells_of entry (Reading begun taken) made a not stands may then_ same ends told = absurd (true≢false (sym (still made ends)))
     where
       still : (made : Step)
           → is_idle (going_on o.asked (stage_after broken stable made (Reading begun taken))) ≡ true → false ≡ true
       still (step.Read block ok) is = is
       still _ is = is
-  tells_of entry (Read begun taken true) made a not stands may ends told = absurd (true≢false (sym ends))
-  tells_of entry (Read begun taken false) made a not stands may ends told = absurd (true≢false (sym ends))
-  tells_of entry (Refused begun why) made a not stands may ends told =
+  tells_of entry (Read begun taken true) made a not stands may then_ same ends told = absurd (true≢false (sym ends))
+  tells_of entry (Read begun taken false) made a not stands may then_ same ends told = absurd (true≢false (sym ends))
+  tells_of entry (Refused begun why) made a not stands may then_ same ends told =
       refused_tells entry begun why made (told_by (o.entries ++ option_to_list entry)) a stands told
-  tells_of entry (Again begun) made a not stands may ends told = absurd (true≢false (sym ends))
-  tells_of entry (Waiting place) made a not stands may ends told =
+  tells_of entry (Again begun) made a not stands may then_ same ends told = absurd (true≢false (sym ends))
+  tells_of entry (Waiting place) made a not stands may then_ same ends told =
       waiting_tells entry place made a stands may ends told
+
+-- ---- a call that waits for the log is served
+
+module _ (o : Outset) (now : Opened) (s : Setting) (t : Told) (entry : Option Entry) (last : Tree)
+    (comes : ComesTo o now entry last) where
+  made_served : (e : Option Entry) → ComesTo o now e last → is_some e ≡ true → has_rules o.asked.call ≡ true
+  made_served None is some = absurd (true≢false (sym some))
+  made_served (Some e) is some = is.begun_for.rules
+
+  called_waits : (served : Bool) (made : Step) → has_rules o.asked.call ≡ served → IsStepOfCalled t served made
+      → waits_for_log (Some made) ≡ true → has_rules o.asked.call ≡ true
+  called_waits true made is may waits = is
+  called_waits false made is may waits =
+      absurd (true≢false (sym (subst (λ (m : Step). waits_for_log (Some m) ≡ true) may waits)))
+
+  stage_waits : (stage : Stage) (made : Step) → StandsWith o entry now stage
+      → IsStepOfWork s t 0 (At o.asked stage) (Some made) → waits_for_log (Some made) ≡ true
+      → has_rules o.asked.call ≡ true
+  stage_waits Called made stands may waits = called_waits (has_rules o.asked.call) made refl may waits
+  stage_waits (Planning begun) made stands may waits = stands.1.rules
+  stage_waits (Reading begun taken) made stands may waits = stands.1.rules
+  stage_waits (Read begun taken true) made stands may waits = stands.1.rules
+  stage_waits (Read begun taken false) made stands may waits = stands.1.rules
+  stage_waits (Refused begun why) made stands may waits = stands.1.rules
+  stage_waits (Again begun) made stands may waits = stands.1.rules
+  stage_waits (Waiting place) made stands may waits = made_served entry comes stands.1
+
+  pub waits_served : (p : Progress) (made : Option Step) → IsSoFar o entry now p → IsStepOfWork s t 0 p made
+      → waits_for_log made ≡ true → has_rules o.asked.call ≡ true
+  waits_served p None has may waits = absurd (true≢false (sym waits))
+  waits_served Idle (Some made) has may waits = absurd (some_none made may)
+    where
+      some_none : (made : Step) → Some made ≡ None → ⊥
+      some_none made same = cc
+  waits_served (At job stage) (Some made) has may waits = stage_waits stage made has.1
+      (subst (λ (j : Job). IsStepOfWork s t 0 (At j stage) (Some made)) has.0 may) waits
 
 -- ---- a commit
 

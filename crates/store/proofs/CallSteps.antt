@@ -2,14 +2,15 @@
 use Rattle.std.proofs.Common.{arith, ◌≡◌, ◌∙◌, refl, sym, ap, subst, true≢false, ℕ, suc, ◌+◌, ◌-◌, ◌≤◌, inr}
 use Rattle.std.proofs.Common.{Bool, true, false, not, ◌&&◌, Option, Some, None, IfSome, Ok, is_some}
 use Rattle.std.proofs.Common.{List, [], ◌∷◌, ◌++◌, drop, length, map, option_to_list}
-use Rattle.std.specs.Prelude.{nat_eq, if◌then◌else◌}
+use Rattle.std.specs.Prelude.{nat_eq, if◌then◌else◌, IsSomeAnd}
 use Rattle.std.proofs.lemmas.Bool.Decides.{nat_tests}
 use Rattle.std.proofs.lemmas.List.{append-nil}
 use Rattle.disk.specs.Crash.{Image}
-use Rattle.disk.specs.Device.{Content}
+use Rattle.disk.specs.Device.{Content, Device}
 use Rattle.disk.specs.declared.block.BlockNo.{BlockNo}
+use Rattle.objects.specs.declared.addr.Addr.{Addr}
 use Rattle.model.specs.After.{Entry}
-use Rattle.model.specs.Calls.{is_answered_stable}
+use Rattle.model.specs.Calls.{has_rules, is_answered_stable}
 use Rattle.model.specs.Step as model
 use Rattle.model.specs.Tree.{Tree}
 use Rattle.txn_law.specs.Fetch.{Fetch}
@@ -19,8 +20,8 @@ use Rattle.wal_law.specs.Log.{Log, installed_place, place_before, settled_place}
 use Rattle.wal_law.specs.declared.change.LogChange.{LogChange}
 use Rattle.wal_law.specs.declared.outcomes.Seq.{Seq}
 use Rattle.store_promise.specs.History.{ctx_of}
-use Rattle.store_promise.specs.OpenSince.{StandsBeside, blocks_after, file_blocks}
-use Rattle.store_promise.specs.Progress.{Begun, Job, Progress, Stage, At, Planning, going_on, is_idle, progressed}
+use Rattle.store_promise.specs.OpenSince.{HasKeptFiles, StandsBeside, blocks_after, file_blocks}
+use Rattle.store_promise.specs.Progress.{Begun, Job, Progress, Stage, Taken, At, Called, Planning, going_on, is_idle, progressed}
 use Rattle.store_promise.specs.Progress as how
 use Rattle.store_promise.specs.Running.{IsRunningOver, IsTold, StoreSide, at_rest, told_of, with_blocks}
 use Rattle.store_promise.specs.Schedule.{IsStepOfWork, Setting, Told, begun_after, told_after}
@@ -36,17 +37,23 @@ use Rattle.store_promise.specs.declared.transcript.Answer.{Answer}
 use Rattle.store_promise.proofs.ToldLog.{settled_is}
 use Rattle.store.specs.AtWork.{GoesOnWith, IsCoreAtWork, entry_by, fetches_of, has_committed, with_core}
 use Rattle.store.specs.Calling.{ComesTo, HasStepped, IsCalling, IsMadeFor, IsOpenAt, IsSoFar, Outset}
-use Rattle.store.specs.Calling.{Tells}
+use Rattle.store.specs.Calling.{StandsWith, Tells}
 use Rattle.store.specs.Further.{IsFurther, end_of}
 use Rattle.store.specs.Opening.{Opened}
-use Rattle.store.specs.Stages.{IsWorkerAt, progress_of}
+use Rattle.store.specs.Asked.{Asking}
+use Rattle.store.specs.Stages.{IsWorkerAt, alone, at_fetch, at_stage, begun_of, progress_in, progress_of}
+use Rattle.store.specs.Seen.{seen_in}
 use Rattle.store.specs.Telling.{told}
 use Rattle.store.specs.WorkTells.{HasReplies, IsAnswerOf, IsEntryOf, TellsEntry, TellsStep, entries_ready, progress_after}
 use Rattle.store.specs.WorkTells.{with_ready}
-use Rattle.store.specs.WorkerSteps.{Side, side}
+use Rattle.store.specs.WorkerSteps.{BeginsBy, GoesOn, Side, side}
+use Rattle.store.specs.declared.workers.parts.Job.{Job as WorkJob}
+use Rattle.store.specs.declared.workers.parts.Phase as phases
+use Rattle.store.specs.declared.workers.parts.Phase.TheVariants as Phase
 use Rattle.store.specs.declared.workers.parts.State.{State}
 use Rattle.store.proofs.AtWorkStays.{some_of}
-use Rattle.store.proofs.CallStages.{IsAfter, IsStepFrom, made_so_far, made_tells, next_ok, noted, same_entries}
+use Rattle.store.proofs.CallStages.{IsAfter, IsStepFrom, begun_then as number_then, comes_then, made_so_far, made_tells}
+use Rattle.store.proofs.CallStages.{next_ok, noted, same_entries, stands_then}
 use Rattle.store.proofs.CallStages.{so_far_still, so_far_then, tells_of, told_by}
 use Rattle.store.proofs.GoingWork.{has_replies}
 use Rattle.store.proofs.StillOpen.{further_then}
@@ -195,6 +202,69 @@ one_step a b same = cc
 not_idle : (job : Job) (stage : Stage) → how.Idle ≡ At job stage → ⊥
 not_idle job stage same = cc
 
+-- a worker at the stage Called has just its call
+called_stage : (found : Option WorkJob) (stage : Stage) (j : Job) → at_stage found stage ≡ At j Called
+    → stage ≡ Called
+called_stage None stage j is = cc
+called_stage (Some job) stage j is = cc
+
+read_stage : (found : Option WorkJob) (stage : Taken → Stage) (begun : Begun) (wish : Option Addr) (j : Job)
+    → ((taken : Taken) → stage taken ≡ Called → ⊥) → (Planning begun ≡ Called → ⊥)
+    → at_stage found (at_fetch stage begun wish) ≡ At j Called → ⊥
+read_stage found stage begun None j none other is = other (called_stage found (Planning begun) j is)
+read_stage found stage begun (Some addr) j none other is = none (alone addr) (called_stage found (stage (alone addr)) j is)
+
+planning_not : (begun : Begun) → Planning begun ≡ Called → ⊥
+planning_not begun is = cc
+
+phase_called : (phase : phases.Phase) (found : Option WorkJob) (begun : Begun) (asked : Asking) (j : Job)
+    → progress_in phase found begun asked ≡ At j Called → phase ≡ Phase.Called
+phase_called Phase.Idle found begun asked j is = cc
+phase_called Phase.Called found begun asked j is = refl
+phase_called Phase.Planning found begun asked j is =
+    absurd (planning_not begun (called_stage found (Planning begun) j is))
+phase_called Phase.Reading found begun asked j is =
+    absurd (read_stage found (λ taken. how.Reading begun taken) begun asked.wish j (λ taken. none taken)
+    (planning_not begun) is)
+  where
+    none : (taken : Taken) → how.Reading begun taken ≡ Called → ⊥
+    none taken is = cc
+phase_called (Phase.Read ok) found begun asked j is =
+    absurd (read_stage found (λ taken. how.Read begun taken ok) begun asked.wish j (λ taken. none taken)
+    (planning_not begun) is)
+  where
+    none : (taken : Taken) → how.Read begun taken ok ≡ Called → ⊥
+    none taken is = cc
+phase_called (Phase.Refused why) found begun asked j is = absurd (none (called_stage found (how.Refused begun why) j is))
+  where
+    none : how.Refused begun why ≡ Called → ⊥
+    none is = cc
+phase_called Phase.Again found begun asked j is = absurd (none (called_stage found (how.Again begun) j is))
+  where
+    none : how.Again begun ≡ Called → ⊥
+    none is = cc
+phase_called (Phase.Waiting place) found begun asked j is =
+    absurd (none (called_stage asked.waiting (how.Waiting place.0) j is))
+  where
+    none : how.Waiting place.0 ≡ Called → ⊥
+    none is = cc
+
+-- a call that is answered with no transaction leaves the core
+replied_by : (served : Bool) (job : WorkJob) (old new : Side) → BeginsBy served job old step.Replied new
+    → new.core ≡ old.core
+replied_by true job old new goes = absurd goes
+replied_by false job old new goes = goes.1
+
+replied_core : (phase : phases.Phase) (old new : Side) → phase ≡ Phase.Called
+    → GoesOn phase old (Some step.Replied) new → new.core ≡ old.core
+replied_core phase old new is goes = by old.worker.work.job
+    (subst (λ (p : phases.Phase). GoesOn p old (Some step.Replied) new) is goes)
+  where
+    by : (found : Option WorkJob)
+        → IsSomeAnd found (λ job. BeginsBy (has_rules job.call) job old step.Replied new) → new.core ≡ old.core
+    by None has = absurd has
+    by (Some job) has = replied_by (has_rules job.call) job old new has
+
 module _ (o : Outset) (now : Opened) (worker : State) (new : Side) (made : Option Step)
     (calling : IsCalling o now worker) where
   abbrev entries : List Entry
@@ -219,6 +289,7 @@ module _ (o : Outset) (now : Opened) (worker : State) (new : Side) (made : Optio
   from = record {
     broken_is = refl;
     begun_is = refl;
+    more_begun = calling.further.begun;
     settled_is = settled_is 0 now.core.log idle idle calling.opened.since.over.lawful;
     numbers = λ blocks few none. inr (λ left. none (record {
       place = left.0;
@@ -230,7 +301,8 @@ module _ (o : Outset) (now : Opened) (worker : State) (new : Side) (made : Optio
   module _ (may : IsStepOfWork s t 0 (progress_of worker) made)
       (tells : TellsStep now.boot 0 entries (side worker now.core) made new)
       (told_then : IsTold s (told_after t (event.Work 0) made) (with_core store new.core))
-      (at_work : IsCoreAtWork (told new.worker) new.core) where
+      (at_work : IsCoreAtWork (told new.worker) new.core)
+      (goes : GoesOn worker.phase (side worker now.core) made new) where
     progress_is : progress_of new.worker ≡ progress_after now.core.log.broken made (progress_of worker)
     progress_is = tells.progress
 
@@ -260,17 +332,38 @@ module _ (o : Outset) (now : Opened) (worker : State) (new : Side) (made : Optio
       same_ready : with_ready 0 entries new.worker ≡ entries
       same_ready = ap (λ (e : Option ready.Entry). entries ++ entries_ready 0 e) none_ready ∙ append-nil entries
 
+      -- the count of transactions then
+      counted_by : (one : Step) → made ≡ Some one → new.core.begun ≡ begun_after now.core.begun one
+      counted_by one is = sym told_then.begun ∙ ap (λ (m : Option Step). (told_after t (event.Work 0) m).begun) is
+
+      -- how far it is where no step was made
+      so_far_none : (p : Progress) → IsSoFar o calling.entry now p → IsStepOfWork s t 0 p None
+          → IsSoFar o calling.entry later p
+      so_far_none how.Idle has may = tt
+      so_far_none (At job Called) has may = absurd may
+      so_far_none (At job (Planning begun)) has may = absurd may
+      so_far_none (At job (how.Reading begun taken)) has may = (
+        has.0,
+        stands_then o now later after (λ unserved. absurd (true≢false (sym has.1.1.rules ∙ unserved)))
+            calling.entry (how.Reading begun taken) has.1,
+      )
+      so_far_none (At job (how.Read begun taken ok)) has may = absurd may
+      so_far_none (At job (how.Refused begun why)) has may = absurd may
+      so_far_none (At job (how.Again begun)) has may = absurd may
+      so_far_none (At job (how.Waiting place)) has may = absurd may
+
       -- how far it is then
-      so_far_by : (m : Option Step) (p : Progress) → has_committed m ≡ false → IsSoFar o calling.entry now p
-          → IsStepOfWork s t 0 p m → IsSoFar o calling.entry later (progress_after now.core.log.broken m p)
-      so_far_by None p not has may = so_far_still o now later after calling.entry p has
-      so_far_by (Some one) how.Idle not has may = tt
-      so_far_by (Some one) (At job stage) not has may =
+      so_far_by : (m : Option Step) → made ≡ m → (p : Progress) → has_committed m ≡ false
+          → IsSoFar o calling.entry now p → IsStepOfWork s t 0 p m
+          → IsSoFar o calling.entry later (progress_after now.core.log.broken m p)
+      so_far_by None is p not has may = so_far_none p has may
+      so_far_by (Some one) is how.Idle not has may = tt
+      so_far_by (Some one) is (At job stage) not has may =
           subst (λ (j : Job). IsSoFar o calling.entry later (progressed now.core.log.broken one (At j stage))) (sym has.0)
           (so_far_then o now later s t from after calling.entry
           (how.stage_after now.core.log.broken (is_answered_stable o.asked.call) one stage)
           (next_ok o now later s t from after calling.entry stage one not has.1
-          (subst (λ (j : Job). IsStepOfWork s t 0 (At j stage) (Some one)) has.0 may)))
+          (subst (λ (j : Job). IsStepOfWork s t 0 (At j stage) (Some one)) has.0 may) (counted_by one is)))
 
       calling_then : IsCalling o later (told new.worker)
       calling_then = record {
@@ -278,17 +371,34 @@ module _ (o : Outset) (now : Opened) (worker : State) (new : Side) (made : Optio
         last = calling.last;
         base = calling.base;
         boot = calling.boot;
-        comes = calling.comes;
+        comes = comes_then o now later after calling.entry calling.last calling.comes;
+        past = calling.past;
+        kept = calling.kept;
         opened = open_of s calling.base later (fetches_of new.worker) o.first entries calling.last run_then;
         stands = subst (λ (b : ℕ). IsWorkerAt b entries (told new.worker)) calling.boot
             (subst (λ (es : List Entry). IsWorkerAt now.boot es (told new.worker)) same_ready tells.stands);
         at_work = at_work;
         so_far = subst (IsSoFar o calling.entry later) (sym progress_is)
-            (so_far_by made (progress_of worker) uncommitted calling.so_far may);
+            (so_far_by made refl (progress_of worker) uncommitted calling.so_far may);
         counted = calling.counted;
         further = further_then o.store.core now.core new.core calling.further after.further;
         broken = λ is. calling.broken (sym (ap (λ (l : Log). l.broken) log_is) ∙ is);
       }
+
+      -- a call that isn't served leaves the store
+      same_store : (job : Job) (stage : Stage) (one : Step) → progress_of worker ≡ At job stage → made ≡ Some one
+          → stage ≡ Called → one ≡ step.Replied → later ≡ now
+      same_store job stage one so_far is stage_is one_is = λ i. record now { core = core_is i }
+        where
+          phase_is : worker.phase ≡ Phase.Called
+          phase_is = phase_called worker.phase worker.work.job
+              (begun_of worker.begun.tx (seen_in worker.work.snap) worker.asked.fetched) worker.asked job
+              (so_far ∙ ap (λ (at : Stage). At job at) stage_is)
+
+          core_is : new.core ≡ now.core
+          core_is = replied_core worker.phase (side worker now.core) new phase_is
+              (subst (λ (m : Option Step). GoesOn worker.phase (side worker now.core) m new)
+              (is ∙ ap (λ (x : Step). Some x) one_is) goes)
 
       -- what it answers
       answered_by : (ready : CallAnswer) → is_idle (progress_of new.worker) ≡ true
@@ -307,6 +417,8 @@ module _ (o : Outset) (now : Opened) (worker : State) (new : Side) (made : Optio
           let verdict_is = verdict_of (with_ready 0 entries new.worker) (progress_of worker) made ready is in
           tells_of o now later s t from after calling.entry is.stage is.step (answer_of ready) not has.1
           (subst (λ (j : Job). IsStepOfWork s t 0 (At j is.stage) (Some is.step)) has.0 may_so)
+          (counted_by is.step is.made_is)
+          (λ stage_is step_is. same_store is.job is.stage is.step (is.so_far) is.made_is stage_is step_is)
           (subst (λ (j : Job). is_idle (progressed now.core.log.broken is.step (At j is.stage)) ≡ true) has.0 ended)
           (subst (λ (es : List Entry). HasVerdict (told_by es) o.asked.call is.stage is.step (answer_of ready)) same_ready
           (subst (λ (j : Job). HasVerdict (told_by (with_ready 0 entries new.worker)) j.call is.stage is.step
@@ -333,6 +445,9 @@ module _ (o : Outset) (now : Opened) (worker : State) (new : Side) (made : Optio
     -- ---- its procedure was committed
     module _ (has : has_committed made ≡ true)
         (goes_with : GoesOnWith s calling.base store new now.boot 0 o.first entries calling.last (side worker now.core))
+        (longer_kept : (before d : Device) (boot settled fewer : ℕ) (first : Tree) (entries more : List Entry)
+        → HasKeptFiles before d boot first entries settled → fewer ≤ settled
+        → HasKeptFiles before d boot first (entries ++ more) fewer)
       where
         abbrev commit : IsCommitStep made
         commit = commit_step made has
@@ -352,14 +467,17 @@ module _ (o : Outset) (now : Opened) (worker : State) (new : Side) (made : Optio
         is_of = some_of (IsEntryOf now.boot (progress_of worker)) new.worker.work.entry goes_with.taken.entry ready_is
             told_entry.1
 
-        was_so_far : (is_of.job ≡ o.asked) × (calling.entry ≡ None)
+        was_so_far : (is_of.job ≡ o.asked) × StandsWith o calling.entry now (Planning is_of.begun)
         was_so_far = subst (IsSoFar o calling.entry now) is_of.planned calling.so_far
 
+        none_was : calling.entry ≡ None
+        none_was = was_so_far.1.0
+
         none_before : entries ≡ o.entries
-        none_before = ap (λ (x : Option Entry). o.entries ++ option_to_list x) was_so_far.1 ∙ append-nil o.entries
+        none_before = ap (λ (x : Option Entry). o.entries ++ option_to_list x) none_was ∙ append-nil o.entries
 
         last_is : calling.last ≡ o.last
-        last_is = subst (λ (x : Option Entry). ComesTo o x calling.last) was_so_far.1 calling.comes
+        last_is = subst (λ (x : Option Entry). ComesTo o now x calling.last) none_was calling.comes
 
         place_is : commit.place.0 ≡ length o.entries + 1
         place_is = told_entry.0 ∙ ap (λ (es : List Entry). length es + 1) none_before
@@ -367,16 +485,6 @@ module _ (o : Outset) (now : Opened) (worker : State) (new : Side) (made : Optio
         entries_then : with_ready 0 entries new.worker ≡ o.entries ++ e ∷ []
         entries_then = ap (λ (x : Option ready.Entry). entries ++ entries_ready 0 x) ready_is
             ∙ ap (λ (es : List Entry). es ++ e ∷ []) none_before
-
-        made_for : IsMadeFor o e goes_with.left
-        made_for = record {
-          begun = is_of.begun;
-          ctx = is_of.ctx ∙ ap (λ (b : ℕ). ctx_of b is_of.job is_of.begun) calling.boot
-              ∙ ap (λ (j : Job). ctx_of o.store.boot j is_of.begun) was_so_far.0;
-          call = is_of.call ∙ ap (λ (j : Job). j.call) was_so_far.0;
-          step = subst (λ (tree : Tree). model.step tree goes_with.taken.entry.ctx goes_with.taken.entry.call
-              goes_with.taken.entry.reply goes_with.left) last_is goes_with.goes;
-        }
 
         progress_then : progress_of new.worker
             ≡ going_on o.asked (how.after_commit (is_answered_stable o.asked.call) is_of.begun
@@ -406,6 +514,20 @@ module _ (o : Outset) (now : Opened) (worker : State) (new : Side) (made : Optio
           broken = λ is. broken_is ∙ is;
         }
 
+        after_made : IsAfter now later
+        after_made = record { failures = omega arith; further = further_made }
+
+        made_for : IsMadeFor o later e goes_with.left
+        made_for = record {
+          begun = is_of.begun;
+          begun_for = number_then o now later after_made is_of.begun.number was_so_far.1.1;
+          ctx = is_of.ctx ∙ ap (λ (b : ℕ). ctx_of b is_of.job is_of.begun) calling.boot
+              ∙ ap (λ (j : Job). ctx_of o.store.boot j is_of.begun) was_so_far.0;
+          call = is_of.call ∙ ap (λ (j : Job). j.call) was_so_far.0;
+          step = subst (λ (tree : Tree). model.step tree goes_with.taken.entry.ctx goes_with.taken.entry.call
+              goes_with.taken.entry.reply goes_with.left) last_is goes_with.goes;
+        }
+
         calling_made : IsCalling o later (told new.worker)
         calling_made = record {
           entry = Some e;
@@ -413,6 +535,11 @@ module _ (o : Outset) (now : Opened) (worker : State) (new : Side) (made : Optio
           base = calling.base;
           boot = calling.boot;
           comes = made_for;
+          past = calling.past;
+          kept = longer_kept o.store.device now.device o.store.boot (settled_place o.store.core.log)
+              (settled_place o.store.core.log) o.first o.entries (e ∷ [])
+              (subst (λ (es : List Entry). HasKeptFiles o.store.device now.device o.store.boot o.first es
+              (settled_place o.store.core.log)) none_before calling.kept) (omega arith);
           opened = open_of (with_blocks s (length entries) (file_blocks calling.base new.core)) calling.base later (fetches_of new.worker) o.first
               (o.entries ++ e ∷ []) goes_with.left
               (subst (λ (es : List Entry). IsRunningOver (with_blocks s (length entries) (file_blocks calling.base new.core)) calling.base
@@ -468,9 +595,12 @@ module _ (o : Outset) (now : Opened) (worker : State) (new : Side) (made : Optio
         (fetches_of new.worker) now.boot o.first entries calling.last × StandsBeside now.core new.core)
         → (has_committed made ≡ true → GoesOnWith s calling.base store new now.boot 0 o.first entries calling.last
         (side worker now.core))
+        → ((before d : Device) (boot settled fewer : ℕ) (first : Tree) (entries more : List Entry)
+        → HasKeptFiles before d boot first entries settled → fewer ≤ settled
+        → HasKeptFiles before d boot first (entries ++ more) fewer)
         → HasStepped o later new.worker
-    stepped beside committed = by (has_committed made) refl
+    stepped beside committed longer_kept = by (has_committed made) refl
       where
         by : (has : Bool) → has_committed made ≡ has → HasStepped o later new.worker
         by false is = let left = beside is in stepped_on is left.0 left.1
-        by true is = stepped_with is (committed is)
+        by true is = stepped_with is (committed is) longer_kept

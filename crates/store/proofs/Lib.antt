@@ -10,6 +10,7 @@ pub mod AtWorkTold
 pub mod CallEvents
 pub mod CallStages
 pub mod CallSteps
+pub mod CallWaits
 pub mod CallsLeft
 pub mod ComingHome
 pub mod CommitTold

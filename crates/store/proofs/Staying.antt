@@ -51,7 +51,7 @@ fewer_last size boot settled more first entries image few left = record {
 }
 
 -- a later part of the past behind an earlier one
-kept_along : (before mid later : Device) (boot settled more : ℕ) (first : Tree) (entries : List Entry)
+pub kept_along : (before mid later : Device) (boot settled more : ℕ) (first : Tree) (entries : List Entry)
     → IsLater before mid → IsLater mid later → settled ≤ more → HasKeptFiles before mid boot first entries settled
     → HasKeptFiles mid later boot first entries more → HasKeptFiles before later boot first entries settled
 kept_along before mid later boot settled more first entries one two few was then_ =
@@ -120,3 +120,33 @@ prefixes_kept before later old new blocks now stop stays = λ base boot first la
       base = is.base;
       since = is.since;
     }
+
+-- what a settling keeps, as long as it goes on
+pub stays_of : (before later : Device) (old new : CoreState) → KeepsPrefixes before old later new
+    → StayOpen before old later new
+stays_of before later old new keeps = λ base boot first last entries since.
+    let is = keeps base boot first last entries since in
+    record {
+      past = is.past;
+      left = λ clock image above below crash. is.stops clock image above (omega (arith, below)) crash;
+      further = is.further;
+      calls = is.calls;
+      by_calls = is.by_calls;
+      base = is.base;
+      since = is.since;
+    }
+
+-- what each stop leaves, of a later part behind an earlier one
+pub stops_along : (before mid later : Device) (boot settled more : ℕ) (first : Tree) (entries : List Entry)
+    → IsLater mid later → settled ≤ more → HasKeptFiles before mid boot first entries settled
+    → KeepsFiles mid later boot first entries more → KeepsFiles before later boot first entries settled
+stops_along before mid later boot settled more first entries two few was then_ =
+    λ clock image above below is. elim (cases_order clock mid.clock) [
+      | inl at ↦ fewer_last later.size boot settled more first entries image few
+          (then_ clock image (omega (arith, at)) below is)
+      | inr (inl past) ↦ subst (λ (size : ℕ). LeavesBeginning size boot first entries settled image) (sym two.size)
+          (was clock image above (omega (arith, past))
+          (earlier mid later two clock image (omega (arith, past)) is))
+      | inr (inr after) ↦ fewer_last later.size boot settled more first entries image few
+          (then_ clock image (omega (arith, after)) below is)
+    ]

@@ -1,7 +1,9 @@
 -- One call of one thread: what it begins from, what holds while it is under way, and what it answers.
-use Rattle.std.specs.Prelude.{◌≡◌, ◌+◌, ◌^◌, ◌<◌, ◌≤◌, ◌⊎◌, true, false, Option, Some, None, IfSome, is_some}
-use Rattle.std.specs.Prelude.{List, [], ◌++◌, All, length, option_to_list}
-use Rattle.disk.specs.Crash.{Image}
+use Rattle.std.specs.Prelude.{◌≡◌, ℕ, ◌+◌, ◌^◌, ◌<◌, ◌≤◌, ◌⊎◌, true, false, Option, Some, None, IfSome, is_some}
+use Rattle.std.specs.Prelude.{Bool, List, [], ◌++◌, All, length, option_to_list}
+use Rattle.limits.specs.declared.TheConstants.{MOST_KEPT_COMMITS}
+use Rattle.disk.specs.Crash.{Image, IsCrashImage}
+use Rattle.disk.specs.Device.{Device}
 use Rattle.model.specs.After.{Entry}
 use Rattle.model.specs.Calls.{has_rules, is_answered_stable, unsupported}
 use Rattle.model.specs.Refused.{refused}
@@ -18,7 +20,8 @@ use Rattle.txn_law.specs.Fetch.{Fetch}
 use Rattle.wal_law.specs.Calls.{idle}
 use Rattle.wal_law.specs.Log.{settled_place}
 use Rattle.store_promise.specs.History.{ctx_of}
-use Rattle.store_promise.specs.OpenSince.{IsOpenSince}
+use Rattle.store_promise.specs.OpenSince.{HasKeptFiles, IsOpenSince, KeepsFiles, LeavesBeginning}
+use Rattle.store_promise.specs.Openings.{IsLater, LeavesImages}
 use Rattle.store_promise.specs.Progress.{Begun, Job, Progress, Stage, At, Idle, Called, Planning, Reading, Read}
 use Rattle.store_promise.specs.Progress.{Refused, Again, Waiting, is_idle}
 use Rattle.store_promise.specs.Running.{IsFetchOver}
@@ -29,9 +32,10 @@ use Rattle.store_promise.specs.declared.answers.Verdict.TheVariants as verdict
 use Rattle.store_promise.specs.declared.events.Cause.{Cause}
 use Rattle.store_promise.specs.declared.events.Cause.TheVariants as cause
 use Rattle.store.specs.AtWork.{IsCoreAtWork, fetches_of}
-use Rattle.store.specs.Further.{IsFurther, end_of}
+use Rattle.store.specs.Further.{IsFurther, LeavesOpen, end_of}
 use Rattle.store.specs.Opening.{Opened}
 use Rattle.store.specs.Settling.{HasFailed}
+use Rattle.store.specs.SettlingStops.{StayOpen}
 use Rattle.store.specs.Stages.{IsWorkerAt, progress_of}
 use Rattle.store.specs.Telling.{told}
 use Rattle.store.specs.declared.workers.parts.State.{State}
@@ -72,18 +76,26 @@ pub record Outset : Type 0 where
   pub last : Tree
   pub asked : Job
 
+-- A transaction was begun for the call, which is one that is served. Its number is above each that was taken before the
+-- call, and was taken by now: so no two calls, one after another, have the same.
+pub record IsBegunFor (o : Outset) (now : Opened) (number : ℕ) : Type 0 where
+  pub rules : has_rules o.asked.call ≡ true
+  pub fresh : o.store.core.begun < number
+  pub taken : number ≤ now.core.begun
+
 -- the procedure of the call was committed: in this boot, in a transaction of its own, as a step of the sequential
 -- server from the files as they were
-pub record IsMadeFor (o : Outset) (entry : Entry) (next : Tree) : Type 0 where
+pub record IsMadeFor (o : Outset) (now : Opened) (entry : Entry) (next : Tree) : Type 0 where
   pub begun : Begun
+  pub begun_for : IsBegunFor o now begun.number
   pub ctx : entry.ctx ≡ ctx_of o.store.boot o.asked begun
   pub call : entry.call ≡ o.asked.call
   pub step : model.step o.last entry.ctx entry.call entry.reply next
 
 -- so it was, or none was, and then the files are what they were
-abbrev pub ComesTo : Outset → Option Entry → Tree → Type 0
-ComesTo o None now = now ≡ o.last
-ComesTo o (Some entry) now = IsMadeFor o entry now
+abbrev pub ComesTo : Outset → Opened → Option Entry → Tree → Type 0
+ComesTo o now None last = last ≡ o.last
+ComesTo o now (Some entry) last = IsMadeFor o now entry last
 
 -- ---- why a call is refused
 
@@ -113,13 +125,17 @@ pub record IsUnsettled (o : Outset) (told : Verdict) (now : Opened) : Type 0 whe
   pub broken : now.core.log.broken ≡ true
   pub failed : HasFailed o.store.core.log o.store.device now.device
 
--- that it isn't served
-pub record IsUnserved (o : Outset) (told : Verdict) : Type 0 where
+-- That it isn't served: no transaction was begun for it, and the store is as it was, but that it is settled where it
+-- kept too many commits.
+pub record IsUnserved (o : Outset) (told : Verdict) (now : Opened) : Type 0 where
   pub rules : has_rules o.asked.call ≡ false
+  pub begun : now.core.begun ≡ o.store.core.begun
+  pub left : length o.store.core.records ≤ MOST_KEPT_COMMITS → now ≡ o.store
   pub told_is : told ≡ verdict.Reply (unsupported o.asked.call)
 
--- that it was refused, for a cause
+-- that it was refused, for a cause, though it is served
 pub record IsRefusal (o : Outset) (told : Verdict) (now : Opened) : Type 0 where
+  pub rules : has_rules o.asked.call ≡ true
   pub why : Cause
   pub told_is : told ≡ refusal o.asked.call why
   pub because : HasCause o now why
@@ -127,15 +143,27 @@ pub record IsRefusal (o : Outset) (told : Verdict) (now : Opened) : Type 0 where
 -- by whether a procedure was committed
 abbrev pub Tells : Outset → Option Entry → Verdict → Opened → Type 0
 Tells o (Some entry) told now = IsReplyOf o entry told now ⊎ IsUnsettled o told now
-Tells o None told now = IsUnserved o told ⊎ IsRefusal o told now
+Tells o None told now = IsUnserved o told now ⊎ IsRefusal o told now
+
+-- What each stop leaves since the call began, those within a device call included: some image, and each that is left
+-- is good, with the boot number and with the files after a beginning of these entries, in which is each place that was
+-- settled when the call began. At the end each that is settled then is in it.
+pub record LeavesFiles (o : Outset) (entries : List Entry) (now : Opened) : Type 0 where
+  pub past : IsLater o.store.device now.device
+  pub left : LeavesImages o.store.device now.device
+  pub stops : KeepsFiles o.store.device now.device o.store.boot o.first entries (settled_place o.store.core.log)
+  pub ended : (image : Image) → IsCrashImage now.device now.device.clock image
+      → LeavesBeginning now.device.size o.store.boot o.first entries (settled_place now.core.log) image
 
 -- What comes of a call: the store is open with the entries that there were, and with the call's, where its procedure
--- was committed; it led on from the store that there was; and the answer is that procedure's, or says why there is
--- none.
+-- was committed; so each stop on the way leaves its files; it led on from the store that there was; and the answer is
+-- that procedure's, or says why there is none.
 pub record HasAnswered (o : Outset) (told : Verdict) (now : Opened) : Type 0 where
   pub entry : Option Entry
   pub last : Tree
-  pub comes : ComesTo o entry last
+  pub boot : now.boot ≡ o.store.boot
+  pub comes : ComesTo o now entry last
+  pub files : LeavesFiles o (o.entries ++ option_to_list entry) now
   pub opened : IsOpenWith now o.first (o.entries ++ option_to_list entry) last
   pub goes : GoesTo o.store now
   pub tells : Tells o entry told now
@@ -148,16 +176,18 @@ Answers keeps_model old asked told new = (first last : Tree) (entries : List Ent
 
 -- ---- while it is under way
 
--- what is known at a stage: whether the procedure was committed, and why the call will be refused
+-- what is known at a stage: whether the procedure was committed, in which transaction it may be, and why the call will
+-- be refused
 abbrev pub StandsWith : Outset → Option Entry → Opened → Stage → Type 0
-StandsWith o entry now Called = entry ≡ None
-StandsWith o entry now (Planning begun) = entry ≡ None
-StandsWith o entry now (Reading begun taken) = entry ≡ None
-StandsWith o entry now (Read begun taken true) = entry ≡ None
-StandsWith o entry now (Read begun taken false) =
-    (entry ≡ None) × (o.store.device.failures < now.device.failures)
-StandsWith o entry now (Refused begun why) = (entry ≡ None) × HasCause o now why
-StandsWith o entry now (Again begun) = entry ≡ None
+StandsWith o entry now Called = (entry ≡ None)
+    × (has_rules o.asked.call ≡ false → now ≡ o.store)
+StandsWith o entry now (Planning begun) = (entry ≡ None) × IsBegunFor o now begun.number
+StandsWith o entry now (Reading begun taken) = (entry ≡ None) × IsBegunFor o now begun.number
+StandsWith o entry now (Read begun taken true) = (entry ≡ None) × IsBegunFor o now begun.number
+StandsWith o entry now (Read begun taken false) = (entry ≡ None) × IsBegunFor o now begun.number
+    × (o.store.device.failures < now.device.failures)
+StandsWith o entry now (Refused begun why) = (entry ≡ None) × IsBegunFor o now begun.number × HasCause o now why
+StandsWith o entry now (Again begun) = (entry ≡ None) × IsBegunFor o now begun.number
 StandsWith o entry now (Waiting place) = (place ≡ length o.entries + 1) × (is_some entry ≡ true)
     × (is_answered_stable o.asked.call ≡ true)
 
@@ -167,13 +197,17 @@ IsSoFar o entry now Idle = Unit {0}
 IsSoFar o entry now (At job stage) = (job ≡ o.asked) × StandsWith o entry now stage
 
 -- A call is under way: the store is open with the entries that there were and with the call's, where its procedure was
--- committed; its worker has it alone, and is so far; and whatever broke the store was a counted failure.
+-- committed; each stop before now left its files; its worker has it alone, and is so far; and whatever broke the store
+-- was a counted failure.
 pub record IsCalling (o : Outset) (now : Opened) (worker : State) : Type 0 where
   pub entry : Option Entry
   pub last : Tree
   pub base : Image
   pub boot : now.boot ≡ o.store.boot
-  pub comes : ComesTo o entry last
+  pub comes : ComesTo o now entry last
+  pub past : IsLater o.store.device now.device
+  pub kept : HasKeptFiles o.store.device now.device o.store.boot o.first (o.entries ++ option_to_list entry)
+      (settled_place o.store.core.log)
   pub opened : IsOpenAt base now (fetches_of worker) o.first (o.entries ++ option_to_list entry) last
   pub stands : IsWorkerAt o.store.boot (o.entries ++ option_to_list entry) worker
   pub at_work : IsCoreAtWork worker now.core
@@ -188,3 +222,11 @@ pub record HasStepped (o : Outset) (now : Opened) (worker : State) : Type 0 wher
   pub calling : IsCalling o now (told worker)
   pub ends : is_some worker.work.answer ≡ true → is_idle (progress_of worker) ≡ true
   pub answer : IfSome worker.work.answer (λ ready. Tells o calling.entry ready.verdict now)
+
+-- What waiting for the log leaves, or not waiting: an open store stays open, each stop on the way leaves its files, and
+-- without it nothing has changed.
+pub record HasWaited (waits : Bool) (before : Device) (old : CoreState) (after : Device) (new : CoreState) : Type 0
+  where
+    pub opens : LeavesOpen before old after new
+    pub stays : StayOpen before old after new
+    pub none : waits ≡ false → (after ≡ before) × (new ≡ old)

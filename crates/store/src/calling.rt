@@ -1,7 +1,9 @@
 //! Laws on one call of one thread: what it begins with, and that its worker's steps and its reads, and the settling
 //! that it waits for, keep it going.
-ghost use Rattle.std.specs.Prelude.{◌≡◌, ℕ, Ok, Option, []};
+ghost use Rattle.std.specs.Prelude.{◌≡◌, ℕ, Bool, true, Ok, Option, List, []};
 ghost use Rattle.disk.specs.Device.{Device};
+ghost use Rattle.model.specs.After.{Entry};
+ghost use Rattle.model.specs.Calls.{has_rules};
 ghost use Rattle.model.specs.Sound.{SoundTime};
 ghost use Rattle.model.specs.Tree.{Tree};
 ghost use Rattle.txn_law.specs.Core.{CoreState};
@@ -9,7 +11,8 @@ ghost use Rattle.txn_law.specs.HomeRead.{HasContents};
 ghost use Rattle.txn_law.specs.Tidy.{AreTidy};
 ghost use Rattle.wal_law.specs.Log.{IsLawful};
 ghost use Rattle.store_promise.specs.declared.events.Step.{Step};
-ghost use Rattle.store.specs.Calling.{HasStepped, IsCalling, IsOpenWith, Outset};
+ghost use Rattle.store.specs.Calling.{HasStepped, HasWaited, IsCalling, IsOpenWith, Outset};
+ghost use Rattle.store.specs.Driving.{waits_for_log};
 ghost use Rattle.store.specs.Further.{LeavesOpen};
 ghost use Rattle.store.specs.Opening.{Opened, Opens, store_of};
 ghost use Rattle.store.specs.Settling.{IsIdle};
@@ -28,6 +31,13 @@ pub fn an_opened_store_is_open()
     run_law::a_run_begins();
 }
 
+/// What a settling leaves of a store that is open for some entries is open for the same.
+pub fn a_settled_store_stays_open()
+    ensures { (old : Opened) (device : Device) (core : CoreState) (first last : Tree) (entries : List Entry)
+        → LeavesOpen old.device old.core device core → IsOpenWith old first entries last
+        → IsOpenWith (store_of device core old.boot) first entries last }
+{}
+
 /// A call that was handed to a worker at rest is under way.
 pub(crate) fn a_call_begins()
     ensures { (o : Outset) (worker : State) → SoundTime o.asked.moment → IsIdle o.store.core
@@ -35,14 +45,18 @@ pub(crate) fn a_call_begins()
         → GoesWith worker o.store.core → IsOpenWith o.store o.first o.entries o.last → IsCalling o o.store worker }
 {}
 
-/// Each step of the worker leaves it under way, or answers it.
+/// Each step of the worker leaves it under way, or answers it. One that waits for the log is of a call that is served.
 pub(crate) fn a_step_keeps_a_call_going()
-    ensures { (o : Outset) (now : Opened) (worker : State) (new : Side) (made : Option Step)
+    ensures goes { (o : Outset) (now : Opened) (worker : State) (new : Side) (made : Option Step)
         → IsCalling o now worker → GoesOn worker.phase (side worker now.core) made new
         → KeepsHomeOf (side worker now.core) new → KeepsReadsOf (side worker now.core) new
         → IsLawful new.core.log → AreTidy new.core → GoesWith (told new.worker) new.core
         → HasStepped o (record now { core = new.core }) new.worker }
+    ensures served { (o : Outset) (now : Opened) (worker : State) (new : Side) (made : Option Step)
+        → IsCalling o now worker → GoesOn worker.phase (side worker now.core) made new
+        → waits_for_log made ≡ true → has_rules o.asked.call ≡ true }
 {
+    store_promise::an_open_store_keeps_its_files();
     crate::at_work::a_core_at_work_stays_so();
     crate::at_work::a_worker_leaves_the_run_going();
     crate::at_work::a_workers_step_is_told();
@@ -57,13 +71,15 @@ pub(crate) fn a_read_keeps_a_call_going()
         → HasReadBlock (Unit {0}) now.device worker made device new → GoesWith new now.core
         → IsCalling o (record now { device = device }) new }
 {
+    store_promise::an_open_store_keeps_its_files();
     crate::at_work::a_read_leaves_the_run_going();
     crate::workers::a_worker_tells_its_read();
 }
 
-/// So does the settling that it waits for.
+/// So does the settling that it waits for, if it waits.
 pub(crate) fn a_settling_keeps_a_call_going()
-    ensures { (o : Outset) (now : Opened) (device : Device) (core : CoreState) (worker : State)
-        → HasStepped o now worker → LeavesOpen now.device now.core device core
-        → GoesWith (told worker) core → HasStepped o (store_of device core now.boot) worker }
+    ensures { (o : Outset) (now : Opened) (device : Device) (core : CoreState) (worker : State) (waits : Bool)
+        → (waits ≡ true → has_rules o.asked.call ≡ true) → HasStepped o now worker
+        → HasWaited waits now.device now.core device core → GoesWith (told worker) core
+        → HasStepped o (store_of device core now.boot) worker }
 {}

@@ -14,7 +14,7 @@ mod options;
 mod runs;
 mod workers;
 
-pub use calling::an_opened_store_is_open;
+pub use calling::{a_settled_store_stays_open, an_opened_store_is_open};
 pub use formatted_run::format_and_run;
 pub use formatting::{FormatFault, format};
 pub use one_call::procedure;

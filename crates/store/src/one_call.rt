@@ -18,13 +18,16 @@ use crate::workers::Worker;
 use disk::CrashDisk;
 use nfs_types::{Call, Credential, Moment};
 use std::alloc::Global;
-use store_promise::{Committing, Step, Verdict};
+use store_promise::{
+    Committing, Step, Verdict, a_stop_leaves_a_beginning, an_open_store_keeps_its_files,
+};
 
 /// Runs a call to its answer. Where the answer waits for its place everything is settled before; where the
 /// log is full, too, and so it is where more than MOST_KEPT_COMMITS commits are kept then, since that brings
 /// home what is logged. A call that isn't served is NOTSUPP and begins no transaction. A store that is open with
 /// some entries is open with the same then, or with the call's besides, whose reply is answered; else the answer says
-/// why there is none.
+/// why there is none. Each stop on the way leaves the files after a beginning of these entries, in which is each place
+/// that was settled before.
 #[tactic(auto, using(crate::proofs::Driven::starts, crate::proofs::DrivenAlone::starts_alone))]
 pub fn procedure<D: CrashDisk>(
     alloc: Global,
@@ -69,6 +72,8 @@ fn answer<D: CrashDisk>(alloc: Global, store: &mut Store<D>, worker: &mut Worker
         × (worker.new.state.phase ≡ Idle) }
     ensures model { D.keeps_model store.new.disk → D.keeps_model store.old.disk }
 {
+    an_open_store_keeps_its_files();
+    a_stop_leaves_a_beginning();
     'steps: loop {
         go_on(alloc, store, worker);
         if let Some(answered) = worker.take_answer() {

@@ -4,13 +4,14 @@ use Rattle.layout.specs.Homes.{homes_of}
 use Rattle.txn_law.specs.Window.{Footprint, after_commits, opening}
 use Rattle.store_promise.specs.OpenSince.{file_blocks}
 use Rattle.store.specs.AtWork.{fetches_of}
-use Rattle.store.specs.Stages.{IsWorkerAt}
+use Rattle.store.specs.Stages.{IsWorkerAt, progress_of}
 use Rattle.store.specs.WorkerSteps.{side}
+use Rattle.store.proofs.CallStages.{waits_served}
 use Rattle.store.proofs.CallSteps.{is_told, run, s, stepped, store, t}
 use Rattle.store.proofs.calling.a_step_keeps_a_call_going.Goals as goal
 
-pub returns : goal.returns
-returns c = λ o now worker new made calling goes home reads lawful tidy with.
+pub returns-clause-goes : goal.returns-clause-goes
+returns-clause-goes c = λ o now worker new made calling goes home reads lawful tidy with.
     let entries = o.entries ++ option_to_list calling.entry in
     let setting = s o now worker new made calling in
     let told = t o now worker new made calling in
@@ -32,8 +33,28 @@ returns c = λ o now worker new made calling goes home reads lawful tidy with.
     (c.a_workers_step_is_told.ensures setting told 0 so_far tells_so worker new since.over.lawful lawful runs.position
     made goes)
     (c.a_core_at_work_stays_so.ensures old new made now.boot entries calling.at_work stands since.over.tidy reads goes
-    with)
+    with) goes
     (λ uncommitted. c.a_worker_leaves_the_run_going.ensures.beside setting calling.base so_far worker new now.boot
     o.first calling.last entries made runs goes home lawful tidy uncommitted)
     (λ has. c.a_worker_leaves_the_run_going.ensures.committed setting calling.base so_far worker new now.boot 0 o.first
     calling.last entries made runs goes home lawful tidy stands has)
+    c.an_open_store_keeps_its_files.ensures.longer
+
+pub returns-clause-served : goal.returns-clause-served
+returns-clause-served c = λ o now worker new made calling goes waits.
+    let entries = o.entries ++ option_to_list calling.entry in
+    let setting = s o now worker new made calling in
+    let told = t o now worker new made calling in
+    let so_far = store o now worker new made calling in
+    let runs = run o now worker new made calling in
+    let since = calling.opened.since in
+    let stands : IsWorkerAt now.boot entries worker =
+    subst (λ n. IsWorkerAt n entries worker) (sym calling.boot) calling.stands in
+    let files : setting.blocks told.log.places ≡ file_blocks calling.base now.core =
+    ap setting.blocks (sym since.over.files.home.window.all) ∙ runs.placed (length now.core.records)
+    ∙ ap (λ (rs : List Footprint). after_commits (homes_of now.core.log.blocks (opening calling.base now.core.log)) rs)
+    (take_all (length now.core.records) now.core.records (omega arith)) in
+    waits_served o now setting told calling.entry calling.last calling.comes (progress_of worker) made calling.so_far
+    (c.a_workers_step_may_be_made.ensures setting told 0 calling.base so_far (fetches_of worker) now.boot o.first
+    calling.last entries runs (is_told setting now refl) runs.inodes files worker new made goes calling.at_work stands)
+    waits

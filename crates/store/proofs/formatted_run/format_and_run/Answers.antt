@@ -1,4 +1,6 @@
-use Rattle.std.proofs.Common.{◌≡◌, ◌∙◌, ap, length, subst, sym}
+use Rattle.std.proofs.Common.{◌≡◌, ◌∙◌, ap, length, subst, sym, []}
+use Rattle.std.specs.Prelude.{count_by}
+use Rattle.disk.specs.CallRecord.{is_failure}
 use Rattle.std.proofs.lemmas.List.{length-replicate}
 use Rattle.disk.specs.Crash.{IsAtRest}
 use Rattle.disk.specs.Memory.{Blocks, Past, blocks_of, device_of, memory_device, past_of}
@@ -24,6 +26,9 @@ returns-clause-promised c = λ sound timely.
     let size : empty.size ≡ c.args.blocks =
     ap (λ (blocks : Blocks). length blocks) (c.fail_at.ensures.blocks ∙ c.in_ok-disk.ensures.zeros)
     ∙ length-replicate c.args.blocks _ in
+    let none : past_of made ≡ [] = c.fail_at.ensures.past ∙ c.in_ok-disk.ensures.fresh in
+    let clock : empty.clock ≡ 0 = ap (λ (past : Past). length past) none in
+    let failures : empty.failures ≡ 0 = ap (λ (past : Past). count_by (λ e. is_failure e.1) past) none in
     let lawful : IsLawful c.args.blocks c.args.inodes =
     subst (λ n. IsLawful n c.args.inodes) size c.in_ok-format.ensures.lawful in
     let blocks_are : g.blocks ≡ c.args.blocks = left.1 ∙ size in
@@ -33,6 +38,7 @@ returns-clause-promised c = λ sound timely.
     left.3 in
     record {
       empty = empty;
+      is_new = record { size = size; clock = clock; failures = failures; rest = rest };
       before = before;
       geometry = g;
       lawful = lawful;

@@ -16,8 +16,9 @@ returns-in-Some-clause-answered g c = λ o keeps calling.
     let worker = c.go_on.new.worker.state in
     let so_far = c.steps.invariant.6 o (c.go_on.ensures.model keeps) calling in
     let is : Some c.in-Some.answered ≡ worker.work.answer = sym c.in-Some.is ∙ c.take_answer.ensures.result in
-    let has = answered o (store_of (g.D.CrashDisk.device store.disk) store.core store.boot) worker c.in-Some.answered
-    (c.go_on.ensures.going o keeps so_far) is in (
+    let has = answered c.an_open_store_keeps_its_files.ensures.now c.a_stop_leaves_a_beginning.ensures.files o
+    (store_of (g.D.CrashDisk.device store.disk) store.core store.boot) worker c.in-Some.answered
+    (g.met.D.CrashDisk.whole store.disk keeps) (c.go_on.ensures.going o keeps so_far) is in (
       has.0,
       ap (λ (s : State). s.phase) c.take_answer.ensures.rest ∙ has.1,
     )

@@ -5,11 +5,10 @@ use Rattle.store.proofs.Driven.{full_plans, nothing_new, reads_on, was_made}
 use Rattle.store.proofs.DrivenAlone.{full_alone, given_alone, goes_alone, room_then, round}
 use Rattle.store.proofs.GoingRead.{with_model}
 use Rattle.store.proofs.RunTaken.{goes_with, has_contents}
-use Rattle.store.proofs.StillOpen.{same_open}
+use Rattle.store.proofs.CallWaits.{has_not_waited, has_settled}
 use Rattle.store.specs.Alone.{IsAlone}
-use Rattle.store.specs.Calling.{HasStepped, IsCalling}
+use Rattle.store.specs.Calling.{HasStepped, HasWaited, IsCalling}
 use Rattle.store.specs.Driving.{HasGoneOn, steps_left, waits_for_log}
-use Rattle.store.specs.Further.{LeavesOpen}
 use Rattle.store.specs.Opening.{store_of}
 use Rattle.store.specs.Telling.{told}
 use Rattle.store.specs.Worker.{GoesWith, IsCoreOf}
@@ -172,19 +171,25 @@ returns-then-is_full-clause-going g c = λ o keeps calling.
       | else-waits_for_log w ↦
           after_none (waits_for_log made) mid.core core (sym w.if-waits_for_log.ensures) (search rules)
     ] in
-    let opens : LeavesOpen d mid.core (device disk) core =
+    let model : g.D.CrashDisk.keeps_model disk = keeps in
+    let waited : HasWaited (waits_for_log made) d mid.core (device disk) core =
     elim c.if-waits_for_log.branch [
       | then-waits_for_log w ↦
           let same_core : core ≡ w.settle.new.store.core = search rules in
           let same_disk : disk ≡ w.settle.new.store.disk = search rules in
-          subst (λ x. LeavesOpen d mid.core (device x) core) (sym same_disk)
-          (subst (λ x. LeavesOpen d mid.core (device w.settle.new.store.disk) x) (sym same_core) w.settle.ensures.open)
+          subst (λ x. HasWaited (waits_for_log made) d mid.core (device x) core) (sym same_disk)
+          (subst (λ x. HasWaited (waits_for_log made) d mid.core (device w.settle.new.store.disk) x) (sym same_core)
+          (has_settled (waits_for_log made) d (device w.settle.new.store.disk) mid.core w.settle.new.store.core
+          (sym w.if-waits_for_log.ensures) w.settle.ensures.open
+          (w.settle.ensures.keeps (subst (λ x. g.D.CrashDisk.keeps_model x) same_disk model))))
       | else-waits_for_log w ↦
           let same_core : core ≡ mid.core = search rules in
           let same_disk : disk ≡ was.disk = search rules in
-          subst (λ x. LeavesOpen d mid.core (device x) core) (sym same_disk)
-          (subst (λ x. LeavesOpen d mid.core d x) (sym same_core) (same_open d mid.core))
+          subst (λ x. HasWaited (waits_for_log made) d mid.core (device x) core) (sym same_disk)
+          (subst (λ x. HasWaited (waits_for_log made) d mid.core d x) (sym same_core)
+          (has_not_waited (waits_for_log made) d mid.core))
     ] in
+    let opens = waited.opens in
     let boot_is : c.if-waits_for_log.store.1.1.1.0 ≡ was.boot =
     elim c.if-waits_for_log.branch [
       | then-waits_for_log w ↦ search rules
@@ -195,13 +200,15 @@ returns-then-is_full-clause-going g c = λ o keeps calling.
     let fits = still_fits mid.worker mid.core core c.step-made.ensures.fits opens.core.out log.blocks opens.core.inodes in
     let first = store_of d was.core was.boot in
     let stepped : HasStepped o (store_of d mid.core was.boot) mid.worker =
-    c.a_step_keeps_a_call_going.ensures o first old.worker mid made calling c.step-made.ensures.step
+    c.a_step_keeps_a_call_going.ensures.goes o first old.worker mid made calling c.step-made.ensures.step
     c.step-made.ensures.home c.step-made.ensures.stays c.lawful-2.ensures.log c.lawful-2.ensures.tidy
     (goes_told c.step-made.new.self mid.core c.step-made.ensures.fits) in
     let now = store_of (device disk) core was.boot in
     let settled : HasStepped o now mid.worker =
-    c.a_settling_keeps_a_call_going.ensures o (store_of d mid.core was.boot) (device disk) core mid.worker stepped opens
-    (goes_told c.step-made.new.self core fits) in
+    c.a_settling_keeps_a_call_going.ensures o (store_of d mid.core was.boot) (device disk) core mid.worker
+    (waits_for_log made)
+    (c.a_step_keeps_a_call_going.ensures.served o first old.worker mid made calling c.step-made.ensures.step) stepped
+    waited (goes_told c.step-made.new.self core fits) in
     let planning = full_plans old.worker.phase old made mid refl r.came (sym c.if-is_full.ensures) in
     let state_is = c.begin_again.ensures.planning planning in
     let with = goes_told c.begin_again.new.self core (c.begin_again.ensures.fits core fits) in
@@ -228,19 +235,25 @@ returns-then-is_some-clause-going g c = λ o keeps calling.
       | else-waits_for_log w ↦
           after_none (waits_for_log made) mid.core core (sym w.if-waits_for_log.ensures) (search rules)
     ] in
-    let opens : LeavesOpen d mid.core (device disk) core =
+    let model : g.D.CrashDisk.keeps_model disk = c.read.ensures.model keeps in
+    let waited : HasWaited (waits_for_log made) d mid.core (device disk) core =
     elim c.if-waits_for_log.branch [
       | then-waits_for_log w ↦
           let same_core : core ≡ w.settle.new.store.core = search rules in
           let same_disk : disk ≡ w.settle.new.store.disk = search rules in
-          subst (λ x. LeavesOpen d mid.core (device x) core) (sym same_disk)
-          (subst (λ x. LeavesOpen d mid.core (device w.settle.new.store.disk) x) (sym same_core) w.settle.ensures.open)
+          subst (λ x. HasWaited (waits_for_log made) d mid.core (device x) core) (sym same_disk)
+          (subst (λ x. HasWaited (waits_for_log made) d mid.core (device w.settle.new.store.disk) x) (sym same_core)
+          (has_settled (waits_for_log made) d (device w.settle.new.store.disk) mid.core w.settle.new.store.core
+          (sym w.if-waits_for_log.ensures) w.settle.ensures.open
+          (w.settle.ensures.keeps (subst (λ x. g.D.CrashDisk.keeps_model x) same_disk model))))
       | else-waits_for_log w ↦
           let same_core : core ≡ mid.core = search rules in
           let same_disk : disk ≡ was.disk = search rules in
-          subst (λ x. LeavesOpen d mid.core (device x) core) (sym same_disk)
-          (subst (λ x. LeavesOpen d mid.core d x) (sym same_core) (same_open d mid.core))
+          subst (λ x. HasWaited (waits_for_log made) d mid.core (device x) core) (sym same_disk)
+          (subst (λ x. HasWaited (waits_for_log made) d mid.core d x) (sym same_core)
+          (has_not_waited (waits_for_log made) d mid.core))
     ] in
+    let opens = waited.opens in
     let boot_is : c.if-waits_for_log.store.1.1.1.0 ≡ was.boot =
     elim c.if-waits_for_log.branch [
       | then-waits_for_log w ↦ search rules
@@ -251,13 +264,15 @@ returns-then-is_some-clause-going g c = λ o keeps calling.
     let fits = still_fits mid.worker mid.core core c.step-made.ensures.fits opens.core.out log.blocks opens.core.inodes in
     let first = store_of d was.core was.boot in
     let stepped : HasStepped o (store_of d mid.core was.boot) mid.worker =
-    c.a_step_keeps_a_call_going.ensures o first old.worker mid made calling c.step-made.ensures.step
+    c.a_step_keeps_a_call_going.ensures.goes o first old.worker mid made calling c.step-made.ensures.step
     c.step-made.ensures.home c.step-made.ensures.stays c.lawful-2.ensures.log c.lawful-2.ensures.tidy
     (goes_told c.step-made.new.self mid.core c.step-made.ensures.fits) in
     let now = store_of (device disk) core was.boot in
     let settled : HasStepped o now mid.worker =
-    c.a_settling_keeps_a_call_going.ensures o (store_of d mid.core was.boot) (device disk) core mid.worker stepped opens
-    (goes_told c.step-made.new.self core fits) in
+    c.a_settling_keeps_a_call_going.ensures o (store_of d mid.core was.boot) (device disk) core mid.worker
+    (waits_for_log made)
+    (c.a_step_keeps_a_call_going.ensures.served o first old.worker mid made calling c.step-made.ensures.step) stepped
+    waited (goes_told c.step-made.new.self core fits) in
     let some : is_some c.read.result ≡ true = search rules in
     let (step, has) = was_made c.read.result _ _ some c.read.ensures.step in
     let reading = c.read.ensures.due.0 some in
@@ -271,7 +286,7 @@ returns-then-is_some-clause-going g c = λ o keeps calling.
     (Some step) keeps (refl, reading, has)).2
     (goes_with c.read.new.self core (c.read.ensures.fits core fits)) in
     subst (λ b. HasStepped o (store_of after c.step.new.core b) c.step.new.self.state) (sym boot_is)
-    (c.a_step_keeps_a_call_going.ensures o (store_of after core was.boot) c.read.new.self.state
+    (c.a_step_keeps_a_call_going.ensures.goes o (store_of after core was.boot) c.read.new.self.state
     (side c.step.new.self.state c.step.new.core) c.step.result was_read c.step.ensures.step c.step.ensures.home
     c.step.ensures.stays c.lawful-then-is_some.ensures.log c.lawful-then-is_some.ensures.tidy
     (goes_told c.step.new.self c.step.new.core c.step.ensures.fits))
@@ -295,19 +310,25 @@ returns-else-is_some-clause-going g c = λ o keeps calling.
       | else-waits_for_log w ↦
           after_none (waits_for_log made) mid.core core (sym w.if-waits_for_log.ensures) (search rules)
     ] in
-    let opens : LeavesOpen d mid.core (device disk) core =
+    let model : g.D.CrashDisk.keeps_model disk = c.read.ensures.model keeps in
+    let waited : HasWaited (waits_for_log made) d mid.core (device disk) core =
     elim c.if-waits_for_log.branch [
       | then-waits_for_log w ↦
           let same_core : core ≡ w.settle.new.store.core = search rules in
           let same_disk : disk ≡ w.settle.new.store.disk = search rules in
-          subst (λ x. LeavesOpen d mid.core (device x) core) (sym same_disk)
-          (subst (λ x. LeavesOpen d mid.core (device w.settle.new.store.disk) x) (sym same_core) w.settle.ensures.open)
+          subst (λ x. HasWaited (waits_for_log made) d mid.core (device x) core) (sym same_disk)
+          (subst (λ x. HasWaited (waits_for_log made) d mid.core (device w.settle.new.store.disk) x) (sym same_core)
+          (has_settled (waits_for_log made) d (device w.settle.new.store.disk) mid.core w.settle.new.store.core
+          (sym w.if-waits_for_log.ensures) w.settle.ensures.open
+          (w.settle.ensures.keeps (subst (λ x. g.D.CrashDisk.keeps_model x) same_disk model))))
       | else-waits_for_log w ↦
           let same_core : core ≡ mid.core = search rules in
           let same_disk : disk ≡ was.disk = search rules in
-          subst (λ x. LeavesOpen d mid.core (device x) core) (sym same_disk)
-          (subst (λ x. LeavesOpen d mid.core d x) (sym same_core) (same_open d mid.core))
+          subst (λ x. HasWaited (waits_for_log made) d mid.core (device x) core) (sym same_disk)
+          (subst (λ x. HasWaited (waits_for_log made) d mid.core d x) (sym same_core)
+          (has_not_waited (waits_for_log made) d mid.core))
     ] in
+    let opens = waited.opens in
     let boot_is : c.if-waits_for_log.store.1.1.1.0 ≡ was.boot =
     elim c.if-waits_for_log.branch [
       | then-waits_for_log w ↦ search rules
@@ -318,13 +339,15 @@ returns-else-is_some-clause-going g c = λ o keeps calling.
     let fits = still_fits mid.worker mid.core core c.step-made.ensures.fits opens.core.out log.blocks opens.core.inodes in
     let first = store_of d was.core was.boot in
     let stepped : HasStepped o (store_of d mid.core was.boot) mid.worker =
-    c.a_step_keeps_a_call_going.ensures o first old.worker mid made calling c.step-made.ensures.step
+    c.a_step_keeps_a_call_going.ensures.goes o first old.worker mid made calling c.step-made.ensures.step
     c.step-made.ensures.home c.step-made.ensures.stays c.lawful-2.ensures.log c.lawful-2.ensures.tidy
     (goes_told c.step-made.new.self mid.core c.step-made.ensures.fits) in
     let now = store_of (device disk) core was.boot in
     let settled : HasStepped o now mid.worker =
-    c.a_settling_keeps_a_call_going.ensures o (store_of d mid.core was.boot) (device disk) core mid.worker stepped opens
-    (goes_told c.step-made.new.self core fits) in
+    c.a_settling_keeps_a_call_going.ensures o (store_of d mid.core was.boot) (device disk) core mid.worker
+    (waits_for_log made)
+    (c.a_step_keeps_a_call_going.ensures.served o first old.worker mid made calling c.step-made.ensures.step) stepped
+    waited (goes_told c.step-made.new.self core fits) in
     let none : is_some c.read.result ≡ false = search rules in
     let same = none_made c.read.result _ _ none c.read.ensures.step in
     subst (λ b. HasStepped o (store_of (device c.read.new.disk) core b) c.read.new.self.state) (sym boot_is)

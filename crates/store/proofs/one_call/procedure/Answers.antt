@@ -1,5 +1,6 @@
 -- The call that was handed over is answered, and so the store is left, once everything is settled, too.
-use Rattle.std.proofs.Common.{◌∙◌, ap, subst, sym}
+use Rattle.std.proofs.Common.{◌∙◌, ◌<◌, ap, length, refl, subst, sym}
+use Rattle.limits.specs.declared.TheConstants.{MOST_KEPT_COMMITS}
 use Rattle.store.specs.Calling.{HasAnswered, Outset, asked_of}
 use Rattle.store.specs.Opening.{store_of}
 use Rattle.store.specs.Worker.{ctx_of, with_call}
@@ -33,8 +34,10 @@ returns-then-keeps_too_many-clause-answered g c = λ first last entries keeps ti
     let ended = subst (λ core. HasAnswered o verdict (store_of (device mid.disk) core mid.boot))
     (sym (c.end.ensures.idle has.1)) has.0 in
     let later = c.settle.new.store in
+    let many : MOST_KEPT_COMMITS < length c.end.new.core.records = c.if-keeps_too_many.ensures.0 refl in
     subst (λ boot. HasAnswered o verdict (store_of (device later.disk) later.core boot)) (sym c.settle.ensures.boot)
-    (settled_answer o verdict now (device later.disk) later.core c.settle.ensures.open ended)
+    (settled_answer o verdict now (device later.disk) later.core c.settle.ensures.open (c.settle.ensures.keeps keeps)
+    (g.met.D.CrashDisk.whole later.disk keeps) many ended)
 
 pub returns-else-keeps_too_many-clause-answered : goal.returns-else-keeps_too_many-clause-answered
 returns-else-keeps_too_many-clause-answered g c = λ first last entries keeps timely opened.
