@@ -5,7 +5,7 @@ use Rattle.std.proofs.Common.{List, [], ◌∷◌, ◌++◌, length, map, option
 use Rattle.std.proofs.lemmas.Bool.Decides.{nat_tests}
 use Rattle.limits.specs.declared.TheConstants.{MOST_KEPT_COMMITS}
 use Rattle.disk.specs.declared.block.BlockNo.{BlockNo}
-use Rattle.model.specs.After.{Entry}
+use Rattle.model.specs.Entry.{Entry}
 use Rattle.model.specs.Calls.{has_rules, is_answered_stable}
 use Rattle.model.specs.Tree.{Tree}
 use Rattle.procs.specs.MostChanged.{most_changed}

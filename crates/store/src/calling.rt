@@ -2,7 +2,7 @@
 //! that it waits for, keep it going.
 ghost use Rattle.std.specs.Prelude.{◌≡◌, ℕ, Bool, true, Ok, Option, List, []};
 ghost use Rattle.disk.specs.Device.{Device};
-ghost use Rattle.model.specs.After.{Entry};
+ghost use Rattle.model.specs.Entry.{Entry};
 ghost use Rattle.model.specs.Calls.{has_rules};
 ghost use Rattle.model.specs.Sound.{SoundTime};
 ghost use Rattle.model.specs.Tree.{Tree};
