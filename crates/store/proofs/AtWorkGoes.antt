@@ -4,7 +4,7 @@ use Rattle.std.proofs.Common.{None, List, [], All}
 use Rattle.std.specs.Prelude.{IsSomeAnd}
 use Rattle.std.proofs.lemmas.List.Elements.{All-head}
 use Rattle.disk.specs.Crash.{Image}
-use Rattle.model.specs.After.{Entry as Committed}
+use Rattle.model.specs.Entry.{Entry as Committed}
 use Rattle.model.specs.Calls.{is_answered_stable}
 use Rattle.nfs_types.specs.declared.reply.Reply.{Reply}
 use Rattle.procs.specs.Outcome.{Outcome}

@@ -7,7 +7,7 @@ use Rattle.std.proofs.lemmas.List.Elements.{All-nil}
 use Rattle.disk.specs.Device.{Content, CountsFailure, Device}
 use Rattle.disk.specs.declared.device.Failed.{Failed}
 use Rattle.layout.specs.Geometry.{IsLawful}
-use Rattle.model.specs.After.{Entry}
+use Rattle.model.specs.Entry.{Entry}
 use Rattle.model.specs.Sound.{SoundTime}
 use Rattle.txn_law.specs.Core.{CoreState}
 use Rattle.txn_law.specs.Fetch.{Fetch}

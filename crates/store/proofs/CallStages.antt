@@ -4,7 +4,7 @@ use Rattle.std.proofs.Common.{Bool, true, false, ◌||◌, if◌then◌else◌, 
 use Rattle.std.proofs.Common.{List, [], ◌∷◌, ◌++◌, length, map, option_to_list, zero, suc, slice_get}
 use Rattle.std.proofs.lemmas.Bool.Decides.{nat_tests}
 use Rattle.disk.specs.declared.block.BlockNo.{BlockNo}
-use Rattle.model.specs.After.{Entry}
+use Rattle.model.specs.Entry.{Entry}
 use Rattle.model.specs.Calls.{has_rules, is_answered_stable}
 use Rattle.procs.specs.MostChanged.{most_changed}
 use Rattle.txn.specs.declared.outcomes.BeginFault.{BeginFault}

@@ -8,9 +8,9 @@ use Rattle.std.proofs.lemmas.List.{append-nil}
 use Rattle.disk.specs.Crash.{Image}
 use Rattle.disk.specs.Device.{Content}
 use Rattle.disk.specs.declared.block.BlockNo.{BlockNo}
-use Rattle.model.specs.After.{Entry}
+use Rattle.model.specs.Entry.{Entry}
 use Rattle.model.specs.Calls.{is_answered_stable}
-use Rattle.model.specs.Step as model
+use Rattle.procedures.specs.Step as procedures
 use Rattle.model.specs.Tree.{Tree}
 use Rattle.txn_law.specs.Fetch.{Fetch}
 use Rattle.wal_law.specs.Calls.{idle}
@@ -374,7 +374,7 @@ module _ (o : Outset) (now : Opened) (worker : State) (new : Side) (made : Optio
           ctx = is_of.ctx ∙ ap (λ (b : ℕ). ctx_of b is_of.job is_of.begun) calling.boot
               ∙ ap (λ (j : Job). ctx_of o.store.boot j is_of.begun) was_so_far.0;
           call = is_of.call ∙ ap (λ (j : Job). j.call) was_so_far.0;
-          step = subst (λ (tree : Tree). model.step tree goes_with.taken.entry.ctx goes_with.taken.entry.call
+          step = subst (λ (tree : Tree). procedures.step tree goes_with.taken.entry.ctx goes_with.taken.entry.call
               goes_with.taken.entry.reply goes_with.left) last_is goes_with.goes;
         }
 

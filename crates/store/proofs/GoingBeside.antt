@@ -1,7 +1,8 @@
 -- A run goes on with an event that commits nothing and ends no call: its step is all that is told with it.
 use Rattle.std.proofs.Common.{◌≡◌, refl, sym, subst, ◌+◌, List, Option, None, take}
 use Rattle.disk.specs.Crash.{Image}
-use Rattle.model.specs.After.{Entry, after as leads_to}
+use Rattle.model.specs.Entry.{Entry}
+use Rattle.procedures.specs.After.{after as leads_to}
 use Rattle.model.specs.Tree.{Tree}
 use Rattle.store_promise.specs.declared.events.Event.{Event}
 use Rattle.store_promise.specs.declared.events.Step.{Step}

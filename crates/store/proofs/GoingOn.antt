@@ -5,7 +5,8 @@ use Rattle.std.specs.Prelude.{IsSomeAnd}
 use Rattle.std.proofs.lemmas.List.{append-nil}
 use Rattle.std.proofs.lemmas.List.Elements.{All-weaker}
 use Rattle.disk.specs.Crash.{Image}
-use Rattle.model.specs.After.{Entry, after as leads_to}
+use Rattle.model.specs.Entry.{Entry}
+use Rattle.procedures.specs.After.{after as leads_to}
 use Rattle.model.specs.Tree.{Tree}
 use Rattle.objects.specs.declared.addr.Addr.{Addr}
 use Rattle.txn_law.specs.Commit.{IsReadBy}

@@ -7,9 +7,10 @@ use Rattle.std.proofs.lemmas.List.{append-nil, length-map, map-append, take-appe
 use Rattle.disk.specs.Crash.{Image}
 use Rattle.layout.specs.declared.geometry.Geometry.{Geometry}
 use Rattle.layout.specs.Stands.{Stands}
-use Rattle.model.specs.After.{Entry, after as leads_to}
+use Rattle.model.specs.Entry.{Entry}
+use Rattle.procedures.specs.After.{after as leads_to}
 use Rattle.model.specs.Tree.{Tree}
-use Rattle.model.proofs.Joined.{push}
+use Rattle.procedures.proofs.Joined.{push}
 use Rattle.txn_law.specs.Core.{CoreState}
 use Rattle.wal_law.specs.declared.outcomes.Seq.{Seq}
 use Rattle.store_promise.specs.declared.events.Committing.TheVariants as committing

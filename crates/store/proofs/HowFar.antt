@@ -6,7 +6,7 @@ use Rattle.std.proofs.lemmas.List.{map-append}
 use Rattle.disk.specs.declared.block.BlockNo.{BlockNo}
 use Rattle.objects.specs.declared.addr.Addr.{Addr}
 use Rattle.objects.specs.declared.mode.Mode.TheVariants as modes
-use Rattle.model.specs.After.{Entry}
+use Rattle.model.specs.Entry.{Entry}
 use Rattle.model.specs.Calls.{is_answered_stable}
 use Rattle.nfs_types.specs.declared.reply.Reply.{Reply}
 use Rattle.wal_law.specs.declared.outcomes.Seq.{Seq}

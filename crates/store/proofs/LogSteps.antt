@@ -4,7 +4,7 @@ use Rattle.std.proofs.Common.{Result, Ok, Err, is_ok, is_err, is_some, ◌||◌}
 use Rattle.disk.specs.Crash.{Image}
 use Rattle.disk.specs.Device.{Content, Device}
 use Rattle.disk.specs.declared.block.BlockNo.{BlockNo}
-use Rattle.model.specs.After.{Entry}
+use Rattle.model.specs.Entry.{Entry}
 use Rattle.model.specs.Tree.{Tree}
 use Rattle.disk.specs.declared.device.Failed.{Failed}
 use Rattle.wal_law.specs.Calls.{Pending, idle, out, was_made}

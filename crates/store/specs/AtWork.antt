@@ -5,8 +5,8 @@ use Rattle.std.specs.Prelude.{List, [], All, length, option_to_list}
 use Rattle.disk.specs.Crash.{Image}
 use Rattle.disk.specs.Device.{Content}
 use Rattle.objects.specs.declared.addr.Addr.{Addr}
-use Rattle.model.specs.After.{Entry as Committed}
-use Rattle.model.specs.Step as model
+use Rattle.model.specs.Entry.{Entry as Committed}
+use Rattle.procedures.specs.Step as procedures
 use Rattle.model.specs.Tree.{Tree}
 use Rattle.txn.specs.Outcomes.{TakesPlace}
 use Rattle.txn_law.specs.Commit.{Planned}
@@ -116,6 +116,6 @@ pub record GoesOnWith (o : Setting) (base : Image) (store : StoreSide) (new : Si
   pub taken : HasTakenPlace boot number old new
   pub next : taken.place ≡ length entries + 1
   pub left : Tree
-  pub goes : model.step last taken.entry.ctx taken.entry.call taken.entry.reply left
+  pub goes : procedures.step last taken.entry.ctx taken.entry.call taken.entry.reply left
   pub runs : IsRunningOver (with_blocks o (length entries) (file_blocks base new.core)) base (with_core store new.core)
       (fetches_of new.worker) boot first (entries ++ entry_by number taken.entry ∷ []) left

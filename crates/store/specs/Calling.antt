@@ -2,11 +2,11 @@
 use Rattle.std.specs.Prelude.{◌≡◌, ◌+◌, ◌^◌, ◌<◌, ◌≤◌, ◌⊎◌, true, false, Option, Some, None, IfSome, is_some}
 use Rattle.std.specs.Prelude.{List, [], ◌++◌, All, length, option_to_list}
 use Rattle.disk.specs.Crash.{Image}
-use Rattle.model.specs.After.{Entry}
+use Rattle.model.specs.Entry.{Entry}
 use Rattle.model.specs.Calls.{has_rules, is_answered_stable, unsupported}
 use Rattle.model.specs.Refused.{refused}
 use Rattle.model.specs.Sound.{SoundTime}
-use Rattle.model.specs.Step as model
+use Rattle.procedures.specs.Step as procedures
 use Rattle.model.specs.Tree.{Tree}
 use Rattle.nfs_types.specs.declared.call.Call.{Call}
 use Rattle.nfs_types.specs.declared.ctx.Credential.{Credential}
@@ -78,7 +78,7 @@ pub record IsMadeFor (o : Outset) (entry : Entry) (next : Tree) : Type 0 where
   pub begun : Begun
   pub ctx : entry.ctx ≡ ctx_of o.store.boot o.asked begun
   pub call : entry.call ≡ o.asked.call
-  pub step : model.step o.last entry.ctx entry.call entry.reply next
+  pub step : procedures.step o.last entry.ctx entry.call entry.reply next
 
 -- so it was, or none was, and then the files are what they were
 abbrev pub ComesTo : Outset → Option Entry → Tree → Type 0

@@ -2,7 +2,7 @@
 use Rattle.std.specs.Prelude.{◌≡◌, ℕ, ◌≤◌, List, [], ◌∷◌}
 use Rattle.disk.specs.Crash.{Image, IsCrashImage}
 use Rattle.disk.specs.Device.{Device, OneLater}
-use Rattle.model.specs.After.{Entry}
+use Rattle.model.specs.Entry.{Entry}
 use Rattle.model.specs.Tree.{Tree}
 use Rattle.wal_law.specs.Calls.{idle}
 use Rattle.wal_law.specs.Log.{settled_place}

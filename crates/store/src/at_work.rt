@@ -4,8 +4,8 @@ ghost use Rattle.std.specs.Prelude.{◌≡◌, ◌≤◌, ◌+◌, ◌++◌, ◌
 ghost use Rattle.disk.specs.Crash.{Image};
 ghost use Rattle.disk.specs.Device.{Content, Device, HasRead, current, newest};
 ghost use Rattle.disk.specs.declared.block.BlockNo.{BlockNo};
-ghost use Rattle.model.specs.After.{Entry};
-ghost use Rattle.model.specs.Step.{step};
+ghost use Rattle.model.specs.Entry.{Entry};
+ghost use Rattle.procedures.specs.Step.{step};
 ghost use Rattle.model.specs.Tree.{Tree};
 ghost use Rattle.nfs_types.specs.declared.call.Call.{Call};
 ghost use Rattle.nfs_types.specs.declared.ctx.Credential.{Credential};

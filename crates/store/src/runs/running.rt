@@ -1,6 +1,6 @@
 //! The events of a run.
 ghost use Rattle.std.specs.Prelude.{◌≡◌, ℕ, ◌+◌, ◌^◌, ◌<◌, ◌++◌, IsTrue, List, [], None, length, vec_len, vec_capacity};
-ghost use Rattle.model.specs.After.{Entry as ToldEntry};
+ghost use Rattle.model.specs.Entry.{Entry as ToldEntry};
 ghost use Rattle.model.specs.Sound.{SoundTime};
 ghost use Rattle.txn.specs.Core.{CoreState};
 ghost use Rattle.store_promise.specs.Room.{HasRoom};
