@@ -3,6 +3,8 @@
 mod arguments;
 mod compared;
 mod damage;
+mod headers;
 mod items;
+mod messages;
 mod results;
 mod tape;

@@ -1,20 +1,18 @@
 -- Each stream of bytes has a cut, and its rest is empty, has begun, or announces too much.
-use Rattle.std.proofs.Common.{◌≡◌, ℕ, zero, suc, ◌+◌, ◌-◌, ◌%◌, ◌^◌, ◌<◌, ◌≤◌, Bool, true, false, List, []}
-use Rattle.std.proofs.Common.{◌∷◌, ◌++◌, length, take, drop, Result, Ok, refl, sym, ap, subst, ◌∙◌, arith}
+use Rattle.std.proofs.Common.{◌≡◌, ℕ, zero, suc, ◌+◌, ◌%◌, ◌^◌, ◌<◌, ◌≤◌, Bool, true, false, List, []}
+use Rattle.std.proofs.Common.{◌∷◌, ◌++◌, length, take, drop, Ok, refl, sym, ap, subst, ◌∙◌, arith}
 use Rattle.std.proofs.Common.{append_assoc, inl, inr, length-append}
 use Rattle.std.specs.Prelude.{◌⊎◌}
 use Rattle.std.specs.Prelude.{flat_map}
-use Rattle.std.specs.Int.{w32, byte_len, from_be_bytes}
+use Rattle.std.specs.Int.{w32, from_be_bytes}
 use Rattle.std.specs.List.{AllByRecursion}
 use Rattle.std.proofs.lemmas.Bool.{cases_lt, le-ltb}
-use Rattle.std.proofs.lemmas.List.{take-append-drop, length-take, length-drop, get_or-drop}
+use Rattle.std.proofs.lemmas.List.{take-append-drop, length-take, get_or-drop}
 use Rattle.limits.specs.declared.TheConstants.{RECORD_BYTES}
 use Rattle.nfs_types.specs.Fits.{AreBytes}
-use Rattle.xdr.specs.declared.fault.XdrFault.{XdrFault}
-use Rattle.xdr.specs.Items.{word}
 use Rattle.xdr.specs.Reading.{number_at}
 use Rattle.xdr.proofs.Coded.{words}
-use Rattle.rpc.specs.Records.{mark, fragment, joined, IsRecord, records, IsTooLong, HasBegun, IsPart, IsRest, CutsOff}
+use Rattle.rpc.specs.Records.{mark, fragment, joined, IsRecord, records, HasBegun, IsPart, IsRest, CutsOff}
 use Rattle.rpc.specs.Records.IsPart.{BeforeMark, InFragment}
 use Rattle.rpc.proofs.Marks.{marks}
 use Rattle.rpc.proofs.RecordLaws.{cons_parts, cons_length, fragment-length, one_cut, rest_is_rest}

@@ -5,3 +5,4 @@ pub mod Marks
 pub mod RecordLaws
 pub mod EachCut
 pub mod Stages
+pub mod Held

@@ -21,7 +21,7 @@ same_words : (m n : ℕ) (x y : List ℕ) → m < 2 ^ 32 → n < 2 ^ 32 → word
     → (m ≡ n) × (x ≡ y)
 same_words m n x y p q e = alike word (λ k. k < 2 ^ 32) (number_at w32) words m n x y p q e
 
-marks_alike : (l k : Bool) (m n : ℕ) (x y : List ℕ) → m < 2 ^ 31 → n < 2 ^ 31 → mark l m ++ x ≡ mark k n ++ y
+pub marks_alike : (l k : Bool) (m n : ℕ) (x y : List ℕ) → m < 2 ^ 31 → n < 2 ^ 31 → mark l m ++ x ≡ mark k n ++ y
     → (l ≡ k) × (m ≡ n) × (x ≡ y)
 marks_alike false false m n x y p q e = let s = same_words m n x y (omega arith) (omega arith) e in
     (refl, s.0, s.1)
@@ -134,7 +134,7 @@ fragment-length l p = length-append (mark l (length p)) p
     ∙ ap (λ (n : ℕ). n + length p) (mark-length l (length p))
 
 -- a fragment has a mark at least
-has_mark : (l : Bool) (p t : List ℕ) → 4 ≤ length (fragment l p ++ t)
+pub has_mark : (l : Bool) (p t : List ℕ) → 4 ≤ length (fragment l p ++ t)
 has_mark l p t = omega (arith, length-append (fragment l p) t, fragment-length l p)
 
 -- a mark that isn't whole is none
@@ -150,7 +150,7 @@ no_mark (r ∷ qs) l q some t few e =
       has_mark false r (flat_map (fragment false) qs ++ (fragment l q ++ t)),
     )
 
-strip : (p q : List ℕ) (ps qs : List (List ℕ)) (s t : List ℕ) → length p < 2 ^ 31 → length q < 2 ^ 31
+pub strip : (p q : List ℕ) (ps qs : List (List ℕ)) (s t : List ℕ) → length p < 2 ^ 31 → length q < 2 ^ 31
     → flat_map (fragment false) (p ∷ ps) ++ s ≡ flat_map (fragment false) (q ∷ qs) ++ t
     → (p ≡ q) × (flat_map (fragment false) ps ++ s ≡ flat_map (fragment false) qs ++ t)
 strip p q ps qs s t small fits e =
@@ -180,7 +180,7 @@ before_mark (p ∷ ps) (q ∷ qs) some last t small fits few e =
     (omega (arith, fits, cons_length q qs)) e).1
 
 -- the first fragment is longer than what is there
-too_few : (l k : Bool) (n : ℕ) (some q t : List ℕ) → n < 2 ^ 31 → length q < 2 ^ 31 → length some < n
+pub too_few : (l k : Bool) (n : ℕ) (some q t : List ℕ) → n < 2 ^ 31 → length q < 2 ^ 31 → length some < n
     → mark l n ++ some ≡ fragment k q ++ t → ⊥
 too_few l k n some q t small fits few e =
     let m = marks_alike l k n (length q) some (q ++ t) small fits (e
@@ -289,7 +289,7 @@ first_long p ps m a k s t fits small long e =
     (flat_map (fragment false) ps ++ s)) ∙ sym (cons_parts p ps s) ∙ e) in
     omega (arith, fits, long, f.1, cons_length p ps)
 
-has_a_mark : (m : Bool) (a : ℕ) (t : List ℕ) → 4 ≤ length (mark m a ++ t)
+pub has_a_mark : (m : Bool) (a : ℕ) (t : List ℕ) → 4 ≤ length (mark m a ++ t)
 has_a_mark m a t = omega (arith, length-append (mark m a) t, mark-length m a)
 
 before_long : (ps qs : List (List ℕ)) (some : List ℕ) (m : Bool) (a k : ℕ) (t : List ℕ)

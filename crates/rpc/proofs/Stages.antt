@@ -10,7 +10,7 @@ use Rattle.std.proofs.lemmas.List.Concat.{flat_map-cons, flat_map-append}
 use Rattle.limits.specs.declared.TheConstants.{RECORD_BYTES}
 use Rattle.rpc.specs.declared.stage.Stage.{Stage}
 use Rattle.rpc.specs.declared.stage.Stage.TheVariants.{Fresh, Between, Inside}
-use Rattle.rpc.specs.Records.{mark, fragment, joined, IsRecord, IsPart, IsTooLong}
+use Rattle.rpc.specs.Records.{mark, fragment, joined, IsRecord, IsPart, IsTooLong, held_of}
 use Rattle.rpc.specs.Records.IsPart.{BeforeMark, InFragment}
 use Rattle.rpc.specs.Cutting.{AreFragments, IsBetween, IsInside, IsAt, IsOutside}
 use Rattle.rpc.proofs.RecordLaws.{mark-length, cons_length, fragment-length}
@@ -99,20 +99,30 @@ whole taken content at =
       bounded = omega (arith, at.bounded);
     }
 
+-- a record isn't whole, and so many bytes of it are content
+abbrev pub Waits : List ℕ → ℕ → Type 0
+Waits text n = (part : IsPart text) × (n ≡ held_of part)
+
 -- the next mark isn't whole
 pub before_mark : (taken content some : List ℕ) → AreFragments taken content → length some < 4
-    → IsPart (taken ++ some)
-before_mark taken content some at few =
-    BeforeMark at.parts some (omega (arith, at.bounded, ap length at.content_is)) few
-    (ap (λ (t : List ℕ). t ++ some) at.taken_is)
+    → Waits (taken ++ some) (length content + length some)
+unfolding held_of
+before_mark taken content some at few = (
+  BeforeMark at.parts some (omega (arith, at.bounded, ap length at.content_is)) few
+      (ap (λ (t : List ℕ). t ++ some) at.taken_is),
+  ap (λ (t : List ℕ). length t + length some) at.content_is,
+)
 
 -- a fragment isn't whole
 pub in_fragment : (last : Bool) (left : ℕ) (taken content : List ℕ) → IsInside last left taken content
-    → 0 < left → IsPart taken
-in_fragment last left taken content at more =
-    InFragment at.parts last (length at.come + left) at.come
-    (omega (arith, at.bounded, ap length at.content_is, length-append (joined at.parts) at.come))
-    (omega (arith, more)) at.taken_is
+    → 0 < left → Waits taken (length content)
+unfolding held_of
+in_fragment last left taken content at more = (
+  InFragment at.parts last (length at.come + left) at.come
+      (omega (arith, at.bounded, ap length at.content_is, length-append (joined at.parts) at.come))
+      (omega (arith, more)) at.taken_is,
+  ap length at.content_is ∙ length-append (joined at.parts) at.come,
+)
 
 each_bounded : (parts : List (List ℕ)) → length (joined parts) < 2 ^ 31
     → AllByRecursion (λ part. length part < 2 ^ 31) parts
@@ -182,12 +192,19 @@ no_more : (n : ℕ) (pending : List ℕ) → length pending ≤ n → drop n pen
 no_more n pending le = drop_all n pending le
 
 pub fills_part : (last : Bool) (left n : ℕ) (taken content pending : List ℕ) → IsInside last left taken content
-    → n < left → n ≡ length pending → IsPart ((taken ++ take n pending) ++ drop n pending)
+    → n < left → n ≡ length pending
+    → Waits ((taken ++ take n pending) ++ drop n pending)
+    (length (content ++ take n pending) + length (drop n pending))
 fills_part last left n taken content pending at less all =
     let at_new = fills last left n taken content pending at (omega (arith, less)) (omega (arith, all)) in
-    subst IsPart (sym (append-nil (taken ++ take n pending))
-    ∙ ap (λ (t : List ℕ). (taken ++ take n pending) ++ t) (sym (no_more n pending (omega (arith, all)))))
-    (in_fragment last (left - n) (taken ++ take n pending) (content ++ take n pending) at_new (omega (arith, less)))
+    let none = no_more n pending (omega (arith, all)) in
+    let waits = in_fragment last (left - n) (taken ++ take n pending) (content ++ take n pending) at_new
+    (omega (arith, less)) in
+    rw none (
+    subst (λ (t : List ℕ). Waits t (length (content ++ take n pending) + 0))
+    (sym (append-nil (taken ++ take n pending)))
+    (subst (λ (m : ℕ). Waits (taken ++ take n pending) m) (omega arith) waits)
+    )
 
 pub not_empty : (taken pending : List ℕ) → 0 < length taken → false ≡ (length (taken ++ pending) == 0)
 not_empty taken pending some = sym (ne_eqb _ _ (λ e. omega (arith, some, e, length-append taken pending)))

@@ -1,5 +1,5 @@
 -- How far the cutting of a stream has come: what was taken off its front, and what was gathered of it.
-use Rattle.std.specs.Prelude.{◌≡◌, ℕ, ◌+◌, ◌*◌, ◌<◌, ◌≤◌, Bool, true, false, List, [], ◌++◌, length, take}
+use Rattle.std.specs.Prelude.{◌≡◌, ℕ, ◌+◌, ◌*◌, ◌<◌, ◌≤◌, Bool, true, false, List, [], ◌++◌, length, take, drop}
 use Rattle.std.specs.Prelude.{flat_map, Result, Ok, Err}
 use Rattle.std.specs.declared.snapshot.Snapshot.{Snapshot}
 use Rattle.bytes.specs.Filled.{Filled}
@@ -11,12 +11,12 @@ use Rattle.rpc.specs.declared.stage.Progress.TheVariants.{Waits, GoesOn, Whole}
 use Rattle.rpc.specs.declared.fault.RpcFault.{RpcFault}
 use Rattle.rpc.specs.declared.fault.RpcFault.TheVariants.{TooLong, NoMemory}
 use Rattle.rpc.specs.declared.cutter.Cutter.{Cutter}
-use Rattle.rpc.specs.Records.{mark, fragment, joined, IsPart, IsTooLong}
+use Rattle.rpc.specs.Records.{mark, fragment, joined, IsPart, IsTooLong, held_of}
 
--- what was taken off the front of the stream since the last record: of each note, so many of the bytes that were
--- there
-abbrev pub taken_text : List (Snapshot Filled × ℕ) → List ℕ
-taken_text notes = flat_map (λ (note : Snapshot Filled × ℕ). take note.1 note.0.value.items) notes
+-- what was taken off the front of the stream since the last record: of each note, the bytes from some place on of
+-- those that were there, and so many of them
+abbrev pub taken_text : List (Snapshot Filled × (ℕ × ℕ)) → List ℕ
+taken_text notes = flat_map (λ (note : Snapshot Filled × (ℕ × ℕ)). take note.1.1 (drop note.1.0 note.0.value.items)) notes
 
 -- the bytes of the stream that aren't handed out
 abbrev pub text_of : Cutter → List ℕ
@@ -65,9 +65,17 @@ weight (Inside last left) = 1
 abbrev pub ahead : Cutter → ℕ
 ahead c = 2 * length c.pending.items + weight c.stage
 
+-- how many bytes memory holds
+abbrev pub held_by : Cutter → ℕ
+held_by c = length c.content.items + length c.pending.items
+
+-- a record isn't whole, and of its bytes no marks are held
+abbrev pub Waiting : Cutter → Type 0
+Waiting c = (part : IsPart (text_of c)) × (held_by c ≡ held_of part)
+
 -- what a step tells
 abbrev pub Tells : Cutter → Result Progress RpcFault → Cutter → Type 0
-Tells old (Ok Waits) new = IsPart (text_of new)
+Tells old (Ok Waits) new = Waiting new
 Tells old (Ok GoesOn) new = ahead new < ahead old
 Tells old (Ok Whole) new = new.stage ≡ Inside true 0
 Tells old (Err NoMemory) new = Unit {0}
@@ -78,3 +86,16 @@ pub record Advances (old : Cutter) (result : Result Progress RpcFault) (new : Cu
   pub cut : IsCut new
   pub text : text_of new ≡ text_of old
   pub told : Tells old result new
+
+-- what a look at all that is there tells
+abbrev pub Told : Result Bool RpcFault → Cutter → Type 0
+Told (Ok true) new = new.stage ≡ Inside true 0
+Told (Ok false) new = Waiting new
+Told (Err NoMemory) new = Unit {0}
+Told (Err TooLong) new = IsTooLong (text_of new)
+
+-- what it leaves
+pub record Looks (old : Cutter) (result : Result Bool RpcFault) (new : Cutter) : Type 0 where
+  pub cut : IsCut new
+  pub text : text_of new ≡ text_of old
+  pub told : Told result new

@@ -61,6 +61,11 @@ pub data IsPart (rest : List ℕ) : Type 0 where
       → length (joined parts) + announced ≤ RECORD_BYTES → length some < announced
       → rest ≡ flat_map (fragment false) parts ++ mark last announced ++ some → IsPart rest
 
+-- how many bytes of it are content: all that came, without the marks that are whole
+unfoldable pub held_of : {rest : List ℕ} → IsPart rest → ℕ
+held_of (BeforeMark parts some _ _ _) = length (joined parts) + length some
+held_of (InFragment parts last announced some _ _ _) = length (joined parts) + length some
+
 pub record HasBegun (rest : List ℕ) : Type 0 where
   pub some : 0 < length rest
   pub part : IsPart rest

@@ -4,7 +4,7 @@ ghost use Rattle.std.specs.Prelude.{◌≡◌, ◌<◌, ◌≤◌, ◌^◌, ◌+
 ghost use Rattle.std.specs.Prelude.{ℕ, IfOk, IfErr, IfSome, IsSome, OnOk, OnErr};
 ghost use Rattle.xdr.specs.Items.{word};
 ghost use Rattle.rpc.specs.Records.{mark as mark_of, IsRecord};
-ghost use Rattle.rpc.specs.Cutting.{Advances, IsCut, IsOutside, taken_text, text_of};
+ghost use Rattle.rpc.specs.Cutting.{Advances, IsCut, IsOutside, Looks, held_by, taken_text, text_of};
 
 use crate::LAST_FRAGMENT;
 use crate::fault::RpcFault;
@@ -22,7 +22,7 @@ pub struct Cutter {
     pending: BytesMut,
     content: BytesMut,
     stage: Stage,
-    taken: Log<Snapshot<BytesMut>, usize>,
+    taken: Log<Snapshot<BytesMut>, (usize, usize)>,
 }
 
 // The bytes of a mark.
@@ -41,14 +41,57 @@ impl Cutter {
         }
     }
 
-    /// Takes the next piece of the stream.
+    /// Takes the next piece of the stream. Inside a fragment, what belongs to it is gathered at once.
     pub fn feed(&mut self, piece: &[u8]) -> Result<(), AllocError>
         requires { IsCut self.old }
         ensures cut { IsCut self.new }
         ensures ok { OnOk result (text_of self.new ≡ text_of self.old ++ piece.now) }
         ensures err { OnErr result (text_of self.new ≡ text_of self.old) }
     {
-        self.pending.extend_from_slice(piece)
+        match self.stage {
+            Stage::Inside { last, left } if self.pending.is_empty() => {
+                self.feed_inside(last, left, piece)
+            }
+            _ => self.pending.extend_from_slice(piece),
+        }
+    }
+
+    // Takes the next piece inside a fragment of which so many bytes are still to come, where nothing waits.
+    fn feed_inside(&mut self, last: bool, left: usize, piece: &[u8]) -> Result<(), AllocError>
+        requires cut { IsCut self.old }
+        requires inside { self.old.stage ≡ Stage.Inside last left }
+        requires empty { self.old.pending.items ≡ [] }
+        ensures cut { IsCut self.new }
+        ensures ok { OnOk result (text_of self.new ≡ text_of self.old ++ piece.now) }
+        ensures err { OnErr result (text_of self.new ≡ text_of self.old) }
+    {
+        let count = left.min(piece.len());
+        let (front, rest) = piece.split_at(count);
+        self.pending.reserve(rest.len())?;
+        self.take_in(front)?;
+        self.pending.extend_reserved(rest);
+        self.stage = Stage::Inside {
+            last,
+            left: left - count,
+        };
+        Ok(())
+    }
+
+    // Takes bytes that haven't waited, as content of the record, and notes them.
+    fn take_in(&mut self, front: &[u8]) -> Result<(), AllocError>
+        ensures taken { OnOk result (taken_text self.new.taken.items
+            ≡ taken_text self.old.taken.items ++ front.now) }
+        ensures content { OnOk result (self.new.content.items ≡ self.old.content.items ++ front.now) }
+        ensures kept { OnErr result ((taken_text self.new.taken.items ≡ taken_text self.old.taken.items)
+            × (self.new.content.items ≡ self.old.content.items)) }
+        ensures pending { self.new.pending ≡ self.old.pending }
+        ensures stage { self.new.stage ≡ self.old.stage }
+    {
+        let before = self.content.len();
+        self.content.extend_from_slice(front)?;
+        let behind = (before, front.len());
+        self.taken = self.taken.and(&Snapshot::of(&self.content), &behind);
+        Ok(())
     }
 
     /// Whether nothing is left.
@@ -62,8 +105,29 @@ impl Cutter {
         }
     }
 
-    /// Looks at the bytes that are there, up to the end of a fragment.
-    pub fn advance(&mut self) -> Result<Progress, RpcFault>
+    /// Looks at the bytes that are there, up to the end of a record, and tells whether one is whole.
+    pub fn look(&mut self) -> Result<bool, RpcFault>
+        requires { IsCut self.old }
+        ensures { Looks self.old result self.new }
+    {
+        'fragments: loop {
+            match self.advance()? {
+                Progress::Waits => return Ok(false),
+                Progress::Whole => return Ok(true),
+                Progress::GoesOn => {}
+            }
+        }
+    }
+
+    /// How many bytes memory holds: of the content so far, and those that haven't been looked at.
+    pub fn held(&self) -> usize
+        ensures { result ≡ held_by self.now }
+    {
+        self.content.len() + self.pending.len()
+    }
+
+    // Looks at the bytes that are there, up to the end of a fragment.
+    fn advance(&mut self) -> Result<Progress, RpcFault>
         requires { IsCut self.old }
         ensures { Advances self.old result self.new }
     {
@@ -145,7 +209,8 @@ impl Cutter {
         ensures content { self.new.content ≡ self.old.content }
         ensures stage { self.new.stage ≡ self.old.stage }
     {
-        self.taken = self.taken.and(&Snapshot::of(&self.pending), &count);
+        let front = (0, count);
+        self.taken = self.taken.and(&Snapshot::of(&self.pending), &front);
         self.pending.advance(count);
     }
 

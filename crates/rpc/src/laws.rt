@@ -1,7 +1,9 @@
 //! Laws of the cutting of records. Nothing runs here: each contract is what the definitions entail.
-ghost use Rattle.std.specs.Prelude.{◌≡◌, ◌++◌, ◌∷◌, [], ℕ, List};
+ghost use Rattle.std.specs.Prelude.{◌≡◌, ◌+◌, ◌≤◌, ◌++◌, ◌∷◌, [], false, ℕ, List};
 ghost use Rattle.nfs_types.specs.Fits.{AreBytes};
-ghost use Rattle.rpc.specs.Records.{records, CutsOff, HasBegun, IsRecord, IsRest, IsTooLong};
+ghost use Rattle.limits.specs.declared.TheConstants.{RECORD_BYTES};
+ghost use Rattle.rpc.specs.Records.{records, CutsOff, HasBegun, IsPart, IsRecord, IsRest, IsTooLong};
+ghost use Rattle.rpc.specs.Records.{fragment, held_of};
 
 /// A stream is cut into records, and a rest, in one way.
 pub fn streams_have_one_cut()
@@ -44,4 +46,13 @@ pub fn no_record_stands_there()
 /// Marks that announce too much do so whatever follows.
 pub fn too_long_stays()
     ensures { (bytes more : List ℕ) → IsTooLong bytes → IsTooLong (bytes ++ more) }
+{}
+
+/// How many bytes of a record that isn't whole are held is told by the bytes. A fragment of no bytes adds nothing, so
+/// any number of them adds nothing; and what is held fits a record and a mark that isn't whole.
+pub fn fragments_of_no_bytes_are_not_held()
+    ensures one { (rest : List ℕ) (part other : IsPart rest) → held_of part ≡ held_of other }
+    ensures empty { (rest : List ℕ) (part : IsPart rest) (more : IsPart (fragment false [] ++ rest))
+        → held_of more ≡ held_of part }
+    ensures few { (rest : List ℕ) (part : IsPart rest) → held_of part ≤ RECORD_BYTES + 3 }
 {}

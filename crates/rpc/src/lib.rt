@@ -19,8 +19,9 @@ pub use credential::{SystemCredential, read_caller, read_credential};
 pub use fault::RpcFault;
 pub use header::{Header, Opening, read_header, read_opening};
 pub use laws::{
-    a_cut_goes_on, a_rest_is_one_of_three, each_stream_has_a_cut, no_record_stands_there,
-    records_are_handed_out_in_order, streams_have_one_cut, too_long_stays,
+    a_cut_goes_on, a_rest_is_one_of_three, each_stream_has_a_cut,
+    fragments_of_no_bytes_are_not_held, no_record_stands_there, records_are_handed_out_in_order,
+    streams_have_one_cut, too_long_stays,
 };
 pub use records::Records;
 pub use refusal::{Refusal, put_accepted, put_refusal};

@@ -1,11 +1,10 @@
 //! Records cut out of a stream that comes in any pieces (RFC 5531, section 11).
 ghost use Rattle.std.specs.Prelude.{◌≡◌, ◌<◌, ◌++◌, ◌∷◌, [], ◌==◌, ◌⊎◌, ℕ, List, length, IfOk, IfSome, IfNone};
 ghost use Rattle.std.specs.Prelude.{OnOk, OnErr, IsErrOf};
-ghost use Rattle.rpc.specs.Records.{records, IsRecord, IsTooLong, HasBegun};
+ghost use Rattle.rpc.specs.Records.{records, BeginsWithRecord, IsPart, IsRecord, IsTooLong, HasBegun, held_of};
 
 use crate::cutter::Cutter;
 use crate::fault::RpcFault;
-use crate::stage::Progress;
 use bytes::Bytes;
 use std::alloc::{AllocError, Global};
 use std::marker::Model;
@@ -64,12 +63,24 @@ impl Records {
         ensures err { OnErr result (self.new ≡ self.old) }
         ensures too_long { IsErrOf result RpcFault.TooLong → IsTooLong self.old }
     {
-        'fragments: loop {
-            match self.cutter.advance()? {
-                Progress::Waits => return Ok(None),
-                Progress::Whole => return Ok(Some(self.cutter.hand_out()?)),
-                Progress::GoesOn => {}
-            }
+        if self.cutter.look()? {
+            return Ok(Some(self.cutter.hand_out()?));
         }
+        Ok(None)
+    }
+
+    /// How many bytes memory holds for the next record, or None where that is whole. Nothing is handed out. A record
+    /// that isn't whole is held as its content, without the marks that came: so fragments of no bytes, however many,
+    /// are not held.
+    pub fn held(&mut self) -> Result<Option<usize>, RpcFault>
+        ensures same { self.new ≡ self.old }
+        ensures waits { IfOk result (λ o. IfSome o (λ n. (part : IsPart self.new) × (n ≡ held_of part))) }
+        ensures whole { IfOk result (λ o. IfNone o (BeginsWithRecord self.new)) }
+        ensures too_long { IsErrOf result RpcFault.TooLong → IsTooLong self.new }
+    {
+        if self.cutter.look()? {
+            return Ok(None);
+        }
+        Ok(Some(self.cutter.held()))
     }
 }

@@ -15,7 +15,7 @@ use xdr::Writer;
 // What is told where the same bytes aren't written again.
 const OTHER_BYTES: u32 = 7;
 
-const PROCEDURES: [ProgramProcedure; 25] = [
+pub const PROCEDURES: [ProgramProcedure; 25] = [
     ProgramProcedure::Nfs(Procedure::Null),
     ProgramProcedure::Nfs(Procedure::GetAttr),
     ProgramProcedure::Nfs(Procedure::SetAttr),
@@ -45,7 +45,7 @@ const PROCEDURES: [ProgramProcedure; 25] = [
 
 // Arguments or a result.
 #[derive(Clone, Copy)]
-enum Part {
+pub enum Part {
     Arguments,
     Result,
 }
@@ -60,7 +60,7 @@ fn along(tape: &mut Tape, part: Part, procedure: ProgramProcedure) -> Result<(),
 }
 
 // A random spelling with this damage.
-fn random(
+pub fn random(
     alloc: Global,
     part: Part,
     procedure: ProgramProcedure,

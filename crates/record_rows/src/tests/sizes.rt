@@ -58,6 +58,11 @@ fn the_largest_record_byte_by_byte(rt: HostRuntime) -> Result<(), Fail> {
     Ok(())
 }
 
+// Whether so many bytes are held for a record that isn't whole.
+fn is_held(records: &mut Records, count: usize) -> bool {
+    matches!(records.held(), Ok(Some(held)) if held == count)
+}
+
 // Many marks of fragments without bytes, and then a record: each mark is let go as it is looked at.
 #[test]
 fn many_fragments_of_no_bytes(rt: HostRuntime) -> Result<(), Fail> {
@@ -66,9 +71,27 @@ fn many_fragments_of_no_bytes(rt: HostRuntime) -> Result<(), Fail> {
     for _ in 0..500_u32 {
         assert!(rt; is_unfinished(&mut records));
         records.feed(&marks)?;
+        assert!(rt; is_held(&mut records, 0));
     }
     records.feed(&[0x80, 0, 0, 1, 9])?;
+    assert!(rt; matches!(records.held(), Ok(None)));
     assert!(rt; is_next(&mut records, &[9]));
     assert!(rt; records.is_empty());
+    Ok(())
+}
+
+// Of two fragments and half a mark the bytes are held, and of a mark what came of it.
+#[test]
+fn what_is_held(rt: HostRuntime) -> Result<(), Fail> {
+    let mut records = begun(rt.alloc(), &[0, 0, 0, 2, 7, 8, 0, 0, 0, 3, 9])?;
+    assert!(rt; is_held(&mut records, 3));
+    records.feed(&[10, 11, 0x80, 0])?;
+    assert!(rt; is_held(&mut records, 7));
+    records.feed(&[0, 2, 12])?;
+    assert!(rt; is_held(&mut records, 6));
+    records.feed(&[13])?;
+    assert!(rt; matches!(records.held(), Ok(None)));
+    assert!(rt; is_next(&mut records, &[7, 8, 9, 10, 11, 12, 13]));
+    assert!(rt; is_held(&mut records, 0));
     Ok(())
 }

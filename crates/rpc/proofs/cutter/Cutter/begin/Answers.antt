@@ -1,6 +1,6 @@
-use Rattle.std.proofs.Common.{◌≡◌, ◌+◌, ◌≤◌, ◌<◌, ◌++◌, length, take, drop, refl, sym, ap, subst, arith, ◌∙◌, List, ℕ}
+use Rattle.std.proofs.Common.{◌≡◌, ◌++◌, length, take, drop, refl, sym, ap, subst, arith, ◌∙◌, List, ℕ}
 use Rattle.std.proofs.lemmas.List.{take-append-drop}
-use Rattle.rpc.specs.Cutting.{taken_text, AreFragments}
+use Rattle.rpc.specs.Cutting.{taken_text}
 use Rattle.rpc.specs.Records.{mark, IsTooLong}
 use Rattle.rpc.proofs.Stages.{outside, before_mark, too_long}
 use Rattle.rpc.proofs.cutter.Cutter.begin.Goals as goal

@@ -1,4 +1,4 @@
-use Rattle.std.proofs.Common.{◌≡◌, ◌+◌, ◌≤◌, ◌<◌, ◌++◌, Bool, length, take, subst, ap, arith}
+use Rattle.std.proofs.Common.{◌≡◌, ◌≤◌, ◌++◌, Bool, length, take, subst, ap, arith}
 use Rattle.std.proofs.lemmas.List.{length-drop}
 use Rattle.rpc.specs.declared.stage.Stage.{Stage}
 use Rattle.rpc.specs.Cutting.{IsAt, IsInside, taken_text, weight}
@@ -22,7 +22,7 @@ returns-then-count-left c =
       cut = rw (done.taken, done.content)
           (fills last left n taken old.content.items old.pending.items at le (omega (arith, all)));
       text = rw (done.taken, done.pending) (same_text n taken old.pending.items);
-      told = rw (done.taken, done.pending)
+      told = rw (done.taken, done.pending, done.content)
           (fills_part last left n taken old.content.items old.pending.items at c.if-count-left.true all);
     }
 
