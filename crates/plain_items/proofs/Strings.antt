@@ -19,7 +19,7 @@ unfolding spelled_string
 string_stands old behind_length behind_bytes new bytes zeros n at_length at_bytes at_zeros long filled are_zeros =
     let fill : List ℕ = replicate (padding (length bytes)) 0 in
     let is : zeros ≡ fill =
-      zeros_are zeros are_zeros ∙ ap (λ (k : ℕ). replicate k 0) (filled ∙ ap padding (sym long))
+    zeros_are zeros are_zeros ∙ ap (λ (k : ℕ). replicate k 0) (filled ∙ ap padding (sym long))
     in
     at_length
     ∙ ap (λ (l : List ℕ). spelled_word n ++ l)

@@ -1,6 +1,6 @@
 //! Reading items, one after another.
 ghost use Rattle.std.specs.Int.{w32, w64, from_be_bytes};
-ghost use Rattle.std.specs.Prelude.{◌≡◌, ◌≤◌, ◌+◌, ◌++◌, drop, is_ok, length, nat_eq, take, IfOk, OnErr, OnOk};
+ghost use Rattle.std.specs.Prelude.{◌≡◌, ◌≤◌, ◌+◌, ◌++◌, [], drop, is_ok, length, nat_eq, take, IfOk, OnErr, OnOk};
 ghost use Rattle.std.specs.List.{list_all};
 ghost use Rattle.plain_items.specs.Items.{behind_optional, behind_string, double_at, flag_at, has, has_flag};
 ghost use Rattle.plain_items.specs.Items.{has_optional, has_string, optional_at, padding, string_at, word_at};
@@ -174,7 +174,8 @@ impl<'a> ItemReader<'a> {
 
     /// Nothing, where nothing is left.
     pub fn end(&self) -> Result<(), ItemFault>
-        ensures { is_ok result ≡ nat_eq (length self.now) 0 }
+        ensures known { is_ok result ≡ nat_eq (length self.now) 0 }
+        ensures all { OnOk result (self.now ≡ []) }
     {
         if self.rest.is_empty() {
             Ok(())

@@ -1,7 +1,6 @@
 -- How the parts that arguments and results share are spelled (RFC 1813, sections 2.3 to 2.6).
-use Rattle.std.specs.Prelude.{ℕ, Bool, false, true, List, ◌++◌, Option, Some, None}
-use Rattle.std.specs.Int.{w32, w64, to_be_bytes}
-use Rattle.plain_items.specs.Items.{spelled_flag, spelled_string}
+use Rattle.std.specs.Prelude.{ℕ, List, [], ◌∷◌, ◌++◌, Option}
+use Rattle.plain_items.specs.Items.{spelled_double as double, spelled_optional, spelled_string, spelled_word as word}
 use Rattle.nfs_types.specs.declared.attributes.Attributes.{Attributes}
 use Rattle.nfs_types.specs.declared.attributes.FileKind.{FileKind}
 use Rattle.nfs_types.specs.declared.attributes.FileKind.TheVariants as kinds
@@ -14,17 +13,10 @@ use Rattle.nfs_types.specs.declared.handle.Handle.{Handle}
 use Rattle.nfs_types.specs.declared.status.Status.{Status}
 use Rattle.nfs_types.specs.declared.status.Status.TheVariants as statuses
 
--- numbers of four and of eight bytes
-abbrev pub word : ℕ → List ℕ
-word number = to_be_bytes w32 number
-
-abbrev pub double : ℕ → List ℕ
-double number = to_be_bytes w64 number
-
--- what may be left out: a flag, and the item where it is true
-abbrev pub if_there : {A : Type 0} → (A → List ℕ) → Option A → List ℕ
-if_there spelled (Some item) = spelled_flag true ++ spelled item
-if_there spelled None = spelled_flag false
+-- items one behind another
+abbrev pub chain : {A : Type 0} → (A → List ℕ) → List A → List ℕ
+chain spelled [] = []
+chain spelled (first ∷ more) = spelled first ++ chain spelled more
 
 -- a time (`nfstime3`)
 abbrev pub moment : Moment → List ℕ
@@ -88,7 +80,7 @@ attributes of = owner of ++ place of ++ moment of.atime ++ moment of.mtime ++ mo
 
 -- the same, or that nothing is told (`post_op_attr`)
 abbrev pub after : Option Attributes → List ℕ
-after told = if_there attributes told
+after told = spelled_optional attributes told
 
 -- a file before a change (`wcc_attr`)
 abbrev pub before : WeakCacheAttributes → List ℕ
@@ -96,4 +88,4 @@ before told = double told.size ++ moment told.mtime ++ moment told.ctime
 
 -- a file before and after a change (`wcc_data`)
 unfoldable pub change : WeakCacheData → List ℕ
-change told = if_there before told.before ++ after told.after
+change told = spelled_optional before told.before ++ after told.after

@@ -1,9 +1,10 @@
 -- How the results of procedures are spelled (RFC 1813, sections 3.3 and 5.2). Each but NULL's begins with its
 -- status, which is 0 for OK.
 use Rattle.std.specs.Prelude.{ℕ, false, true, List, [], ◌∷◌, ◌++◌, length, Result, Ok, Err}
-use Rattle.plain_items.specs.Items.{spelled_flag, spelled_string}
+use Rattle.plain_items.specs.Items.{spelled_double as double, spelled_flag, spelled_optional, spelled_string}
+use Rattle.plain_items.specs.Items.{spelled_word as word}
 use Rattle.plain_messages.specs.Refused.{words}
-use Rattle.plain_messages.specs.Parts.{word, double, if_there, moment, handle, status_number, stability_number}
+use Rattle.plain_messages.specs.Parts.{chain, moment, handle, status_number, stability_number}
 use Rattle.plain_messages.specs.Parts.{attributes, after, change}
 use Rattle.nfs_types.specs.declared.entries.ListedEntry.{ListedEntry}
 use Rattle.nfs_types.specs.declared.entries.ListedEntryPlus.{ListedEntryPlus}
@@ -37,17 +38,15 @@ abbrev pub entry : ListedEntry → List ℕ
 entry of = spelled_flag true ++ double of.number ++ spelled_string of.name ++ double of.cookie
 
 abbrev pub entries : List ListedEntry → List ℕ
-entries [] = []
-entries (first ∷ more) = entry first ++ entries more
+entries all = chain entry all
 
 -- the same with attributes and handles (`entryplus3`)
 abbrev pub entry_plus : ListedEntryPlus → List ℕ
 entry_plus of = spelled_flag true ++ double of.number ++ spelled_string of.name ++ double of.cookie
-    ++ after of.attributes ++ if_there handle of.handle
+    ++ after of.attributes ++ spelled_optional handle of.handle
 
 abbrev pub entries_plus : List ListedEntryPlus → List ℕ
-entries_plus [] = []
-entries_plus (first ∷ more) = entry_plus first ++ entries_plus more
+entries_plus all = chain entry_plus all
 
 -- what READDIR and READDIRPLUS give behind the attributes of the directory
 abbrev pub listed : Listed → List ℕ
@@ -75,7 +74,7 @@ limits of = word of.links ++ word of.name_bytes ++ spelled_flag of.no_truncation
 
 -- what was made
 abbrev pub created : Created → List ℕ
-created of = if_there handle of.object ++ after of.attributes
+created of = spelled_optional handle of.object ++ after of.attributes
 
 -- the result of each procedure of NFS
 abbrev pub nfs_result : Reply → List ℕ

@@ -1,8 +1,9 @@
 //! Writing the results of the procedures of NFS version 3 (RFC 1813, section 3.3). Each but NULL's begins
 //! with its status.
 ghost use Rattle.std.specs.Prelude.{◌≡◌, ◌++◌, [], OnOk};
-ghost use Rattle.plain_items.specs.Items.{spelled_flag, spelled_string};
-ghost use Rattle.plain_messages.specs.Parts.{after, attributes, change, handle, stability_number, word};
+ghost use Rattle.plain_items.specs.Items.{spelled_flag, spelled_string, spelled_word as word};
+ghost use Rattle.plain_messages.specs.Parts.{after, attributes, handle, stability_number};
+ghost use Rattle.plain_messages.specs.Parts as spelled;
 ghost use Rattle.plain_messages.specs.Results.{created, nfs_result, outcome as came, status_of};
 
 use crate::listings::{put_listing, put_listing_plus};
@@ -75,7 +76,7 @@ fn put_changed(
     outcome: &Result<(), Status>,
     change: &WeakCacheData,
 ) -> Result<(), ItemFault>
-    ensures { OnOk result (out.new.items ≡ out.old.items ++ (word (status_of outcome.now) ++ change change.now)) }
+    ensures { OnOk result (out.new.items ≡ out.old.items ++ (word (status_of outcome.now) ++ spelled.change change.now)) }
 {
     put_outcome(out, outcome)?;
     put_change(out, change)
@@ -169,8 +170,8 @@ fn put_written(
     file: &WeakCacheData,
 ) -> Result<(), ItemFault>
     ensures { OnOk result (out.new.items ≡ out.old.items
-        ++ came (λ it. change file.now ++ word it.count ++ word (stability_number it.committed)
-        ++ it.verifier.bytes) (change file.now) outcome.now) }
+        ++ came (λ it. spelled.change file.now ++ word it.count ++ word (stability_number it.committed)
+        ++ it.verifier.bytes) (spelled.change file.now) outcome.now) }
 {
     match outcome {
         Ok(written) => {
@@ -191,7 +192,7 @@ fn put_created(
     directory: &WeakCacheData,
 ) -> Result<(), ItemFault>
     ensures { OnOk result (out.new.items
-        ≡ out.old.items ++ came (λ it. created it ++ change directory.now) (change directory.now) outcome.now) }
+        ≡ out.old.items ++ came (λ it. created it ++ spelled.change directory.now) (spelled.change directory.now) outcome.now) }
 {
     match outcome {
         Ok(created) => {
@@ -212,7 +213,7 @@ fn put_renamed(
     target: &WeakCacheData,
 ) -> Result<(), ItemFault>
     ensures { OnOk result (out.new.items ≡ out.old.items
-        ++ (word (status_of outcome.now) ++ change source.now ++ change target.now)) }
+        ++ (word (status_of outcome.now) ++ spelled.change source.now ++ spelled.change target.now)) }
 {
     put_outcome(out, outcome)?;
     put_change(out, source)?;
@@ -227,7 +228,7 @@ fn put_linked(
     directory: &WeakCacheData,
 ) -> Result<(), ItemFault>
     ensures { OnOk result (out.new.items ≡ out.old.items
-        ++ (word (status_of outcome.now) ++ after file.now ++ change directory.now)) }
+        ++ (word (status_of outcome.now) ++ after file.now ++ spelled.change directory.now)) }
 {
     put_outcome(out, outcome)?;
     put_after(out, file)?;
@@ -241,7 +242,7 @@ fn put_committed(
     file: &WeakCacheData,
 ) -> Result<(), ItemFault>
     ensures { OnOk result (out.new.items
-        ≡ out.old.items ++ came (λ it. change file.now ++ it.bytes) (change file.now) outcome.now) }
+        ≡ out.old.items ++ came (λ it. spelled.change file.now ++ it.bytes) (spelled.change file.now) outcome.now) }
 {
     match outcome {
         Ok(verifier) => {

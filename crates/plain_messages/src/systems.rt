@@ -89,13 +89,21 @@ pub fn put_limits(
         Ok(limits) => {
             put_ok(out)?;
             put_after(out, object)?;
-            put_word(out, limits.links)?;
-            put_word(out, limits.name_bytes)?;
-            put_flag(out, limits.no_truncation)?;
-            put_flag(out, limits.chown_restricted)?;
-            put_flag(out, limits.case_insensitive)?;
-            Ok(put_flag(out, limits.case_preserving)?)
+            put_names(out, limits)
         }
         Err(status) => put_refusal(out, *status, object),
     }
+}
+
+// How many links a file may have, and what names may be.
+fn put_names(out: &mut Vec<u8>, limits: &PathLimits) -> Result<(), ItemFault>
+    ensures { OnOk result (out.new.items ≡ out.old.items ++ results.limits limits.now) }
+{
+    put_word(out, limits.links)?;
+    put_word(out, limits.name_bytes)?;
+    put_flag(out, limits.no_truncation)?;
+    put_flag(out, limits.chown_restricted)?;
+    put_flag(out, limits.case_insensitive)?;
+    put_flag(out, limits.case_preserving)?;
+    Ok(())
 }

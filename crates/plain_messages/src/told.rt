@@ -1,7 +1,7 @@
 //! Writing what replies tell of files (RFC 1813, section 2.6).
 ghost use Rattle.std.specs.Prelude.{◌≡◌, ◌++◌, OnOk};
+ghost use Rattle.plain_items.specs.Items.{spelled_optional, spelled_word as word};
 ghost use Rattle.plain_messages.specs.Parts as spelled;
-ghost use Rattle.plain_messages.specs.Parts.{if_there, word};
 ghost use Rattle.plain_messages.specs.Results.{status_of};
 
 use crate::statuses::{kind_number, status_number};
@@ -76,7 +76,7 @@ pub fn put_after(out: &mut Vec<u8>, attributes: &Option<Attributes>) -> Result<(
 
 // A file before a change, or that nothing is told of it (`pre_op_attr`).
 fn put_before(out: &mut Vec<u8>, before: &Option<WeakCacheAttributes>) -> Result<(), ItemFault>
-    ensures { OnOk result (out.new.items ≡ out.old.items ++ if_there spelled.before before.now) }
+    ensures { OnOk result (out.new.items ≡ out.old.items ++ spelled_optional spelled.before before.now) }
 {
     match before {
         Some(before) => {
@@ -107,7 +107,7 @@ pub fn put_handle(out: &mut Vec<u8>, handle: &Handle) -> Result<(), ItemFault>
 
 /// A handle, or that there is none (`post_op_fh3`).
 pub fn put_optional_handle(out: &mut Vec<u8>, handle: &Option<Handle>) -> Result<(), ItemFault>
-    ensures { OnOk result (out.new.items ≡ out.old.items ++ if_there spelled.handle handle.now) }
+    ensures { OnOk result (out.new.items ≡ out.old.items ++ spelled_optional spelled.handle handle.now) }
 {
     match handle {
         Some(handle) => {
