@@ -100,6 +100,7 @@ pub record CallsFor (rest : List ℕ) (caller : Credential) (call : ProgramCall)
 
 -- what is heard of a record
 abbrev pub Hears : List ℕ → Heard → Type 0
-Hears bytes heard.Closed = Unit {0}
+Hears bytes heard.Closed =
+    (is_call bytes ≡ false) ⊎ ((word_at (drop 8 bytes) ≡ 2) × (has_header (drop 12 bytes) ≡ false))
 Hears bytes (heard.Refused xid why) = RefusesRecord bytes why
 Hears bytes (heard.Call xid caller call) = (word_at (drop 8 bytes) ≡ 2) × CallsFor (drop 12 bytes) caller call

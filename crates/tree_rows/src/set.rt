@@ -63,7 +63,10 @@ fn a_handle_of_a_file_that_is_set(rt: HostRuntime) -> Result<(), AllocError> {
     )?;
     assert_eq!(rt; reply.outcome, Ok(()));
     assert_eq!(rt; reply.object.before, Some(BEFORE));
-    let told = reply.object.after.map(|after| (after.mode, after.size, after.used));
+    let told = reply
+        .object
+        .after
+        .map(|after| (after.mode, after.size, after.used));
     assert_eq!(rt; told, Some((0o600, 0, 0)));
     Ok(())
 }
