@@ -52,11 +52,23 @@ has_optional count bytes = has_flag bytes && cond (flag_at bytes) (has count (dr
 abbrev pub behind_optional : ℕ → List ℕ → List ℕ
 behind_optional count bytes = cond (flag_at bytes) (drop count (drop 4 bytes)) (drop 4 bytes)
 
--- how a flag is spelled
+-- how numbers of four and of eight bytes are spelled
+unfoldable pub spelled_word : ℕ → List ℕ
+spelled_word number = to_be_bytes w32 number
+
+unfoldable pub spelled_double : ℕ → List ℕ
+spelled_double number = to_be_bytes w64 number
+
+-- and a flag
 abbrev pub spelled_flag : Bool → List ℕ
-spelled_flag false = to_be_bytes w32 0
-spelled_flag true = to_be_bytes w32 1
+spelled_flag false = spelled_word 0
+spelled_flag true = spelled_word 1
 
 -- and a string
-abbrev pub spelled_string : List ℕ → List ℕ
-spelled_string bytes = to_be_bytes w32 (length bytes) ++ bytes ++ replicate (padding (length bytes)) 0
+unfoldable pub spelled_string : List ℕ → List ℕ
+spelled_string bytes = spelled_word (length bytes) ++ (bytes ++ replicate (padding (length bytes)) 0)
+
+-- and what may be left out
+abbrev pub spelled_optional : {A : Type 0} → (A → List ℕ) → Option A → List ℕ
+spelled_optional spelled (Some item) = spelled_flag true ++ spelled item
+spelled_optional spelled None = spelled_flag false

@@ -1,8 +1,10 @@
 //! Reading items, one after another.
-ghost use Rattle.std.specs.Prelude.{◌≡◌, ◌≤◌, ◌+◌, drop, is_ok, length, nat_eq, take, IfOk, OnErr, OnOk};
+ghost use Rattle.std.specs.Int.{w32, w64, from_be_bytes};
+ghost use Rattle.std.specs.Prelude.{◌≡◌, ◌≤◌, ◌+◌, ◌++◌, [], drop, is_ok, length, nat_eq, take, IfOk, OnErr, OnOk};
 ghost use Rattle.std.specs.List.{list_all};
 ghost use Rattle.plain_items.specs.Items.{behind_optional, behind_string, double_at, flag_at, has, has_flag};
 ghost use Rattle.plain_items.specs.Items.{has_optional, has_string, optional_at, padding, string_at, word_at};
+ghost use Rattle.plain_items.specs.Items.{spelled_double, spelled_flag, spelled_optional, spelled_string, spelled_word};
 
 use crate::ItemFault;
 use std::marker::Model;
@@ -37,6 +39,7 @@ impl<'a> ItemReader<'a> {
         ensures is { IfOk result (λ bytes. bytes.now ≡ take count self.old) }
         ensures behind { OnOk result (self.new ≡ drop count self.old) }
         ensures known { is_ok result ≡ has count self.old }
+        ensures spelled { IfOk result (λ bytes. self.old ≡ bytes.now ++ self.new) }
         ensures kept { OnErr result (self.new ≡ self.old) }
     {
         if self.rest.len() < count {
@@ -54,9 +57,9 @@ impl<'a> ItemReader<'a> {
         ensures is { IfOk result (λ word. word ≡ word_at self.old) }
         ensures behind { OnOk result (self.new ≡ drop 4 self.old) }
         ensures known { is_ok result ≡ has 4 self.old }
+        ensures spelled { IfOk result (λ word. self.old ≡ spelled_word word ++ self.new) }
     {
-        let four = self.take(4)?;
-        Ok(u32::from_be_bytes([four[0], four[1], four[2], four[3]]))
+        Ok(number_of_four(self.take(4)?))
     }
 
     /// A number of eight bytes.
@@ -66,8 +69,9 @@ impl<'a> ItemReader<'a> {
         ensures is { IfOk result (λ double. double ≡ double_at self.old) }
         ensures behind { OnOk result (self.new ≡ drop 8 self.old) }
         ensures known { is_ok result ≡ has 8 self.old }
+        ensures spelled { IfOk result (λ double. self.old ≡ spelled_double double ++ self.new) }
     {
-        Ok(u64::from_be_bytes(self.eight()?))
+        Ok(number_of_eight(self.take(8)?))
     }
 
     /// Eight bytes as they stand there.
@@ -77,6 +81,7 @@ impl<'a> ItemReader<'a> {
         ensures is { IfOk result (λ eight. eight ≡ take 8 self.old) }
         ensures behind { OnOk result (self.new ≡ drop 8 self.old) }
         ensures known { is_ok result ≡ has 8 self.old }
+        ensures spelled { IfOk result (λ eight. self.old ≡ eight ++ self.new) }
     {
         let eight = self.take(8)?;
         Ok([
@@ -91,6 +96,7 @@ impl<'a> ItemReader<'a> {
         ensures is { IfOk result (λ flag. flag ≡ flag_at self.old) }
         ensures behind { OnOk result (self.new ≡ drop 4 self.old) }
         ensures known { is_ok result ≡ has_flag self.old }
+        ensures spelled { IfOk result (λ flag. self.old ≡ spelled_flag flag ++ self.new) }
     {
         match self.word()? {
             0 => Ok(false),
@@ -106,6 +112,7 @@ impl<'a> ItemReader<'a> {
         ensures is { IfOk result (λ bytes. bytes.now ≡ string_at self.old) }
         ensures behind { OnOk result (self.new ≡ drop (padding (word_at self.old)) (behind_string self.old)) }
         ensures known { is_ok result ≡ has_string bound self.old }
+        ensures spelled { IfOk result (λ bytes. self.old ≡ spelled_string bytes.now ++ self.new) }
     {
         let length = self.word()? as usize;
         if length > bound {
@@ -125,6 +132,7 @@ impl<'a> ItemReader<'a> {
         ensures is { IfOk result (λ bytes. bytes.now ≡ string_at self.old) }
         ensures behind { OnOk result (self.new ≡ drop (padding (word_at self.old)) (behind_string self.old)) }
         ensures known { is_ok result ≡ has_string usize.MAX self.old }
+        ensures spelled { IfOk result (λ bytes. self.old ≡ spelled_string bytes.now ++ self.new) }
     {
         self.opaque(usize::MAX)
     }
@@ -134,6 +142,7 @@ impl<'a> ItemReader<'a> {
         ensures is { IfOk result (λ word. word ≡ optional_at word_at self.old) }
         ensures behind { OnOk result (self.new ≡ behind_optional 4 self.old) }
         ensures known { is_ok result ≡ has_optional 4 self.old }
+        ensures spelled { IfOk result (λ word. self.old ≡ spelled_optional spelled_word word ++ self.new) }
     {
         if self.flag()? {
             Ok(Some(self.word()?))
@@ -147,6 +156,7 @@ impl<'a> ItemReader<'a> {
         ensures is { IfOk result (λ double. double ≡ optional_at double_at self.old) }
         ensures behind { OnOk result (self.new ≡ behind_optional 8 self.old) }
         ensures known { is_ok result ≡ has_optional 8 self.old }
+        ensures spelled { IfOk result (λ double. self.old ≡ spelled_optional spelled_double double ++ self.new) }
     {
         if self.flag()? {
             Ok(Some(self.double()?))
@@ -164,7 +174,8 @@ impl<'a> ItemReader<'a> {
 
     /// Nothing, where nothing is left.
     pub fn end(&self) -> Result<(), ItemFault>
-        ensures { is_ok result ≡ nat_eq (length self.now) 0 }
+        ensures known { is_ok result ≡ nat_eq (length self.now) 0 }
+        ensures all { OnOk result (self.now ≡ []) }
     {
         if self.rest.is_empty() {
             Ok(())
@@ -172,6 +183,28 @@ impl<'a> ItemReader<'a> {
             Err(ItemFault::Unreadable)
         }
     }
+}
+
+// The number that four bytes spell, the greatest first.
+#[tactic(auto, unfolding(crate::specs::Items::spelled_word))]
+fn number_of_four(bytes: &[u8]) -> u32
+    requires { length bytes.now ≡ 4 }
+    ensures is { result ≡ from_be_bytes w32 bytes.now }
+    ensures spelled { spelled_word result ≡ bytes.now }
+{
+    u32::from_be_bytes([bytes[0], bytes[1], bytes[2], bytes[3]])
+}
+
+// The number that eight bytes spell, the greatest first.
+#[tactic(auto, unfolding(crate::specs::Items::spelled_double))]
+fn number_of_eight(bytes: &[u8]) -> u64
+    requires { length bytes.now ≡ 8 }
+    ensures is { result ≡ from_be_bytes w64 bytes.now }
+    ensures spelled { spelled_double result ≡ bytes.now }
+{
+    u64::from_be_bytes([
+        bytes[0], bytes[1], bytes[2], bytes[3], bytes[4], bytes[5], bytes[6], bytes[7],
+    ])
 }
 
 // How many zeros stand behind a string of so many bytes.

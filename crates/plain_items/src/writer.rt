@@ -1,22 +1,23 @@
 //! Writing items, each behind what is written.
 ghost use Rattle.std.specs.Prelude.{◌≡◌, ◌≤◌, ◌++◌, ◌^◌, length, OnOk, IfErr, Err};
-ghost use Rattle.std.specs.Int.{w32, w64, to_be_bytes};
-ghost use Rattle.plain_items.specs.Items.{spelled_flag, spelled_string};
+ghost use Rattle.plain_items.specs.Items.{spelled_double, spelled_flag, spelled_string, spelled_word};
 ghost use Rattle.plain_items.specs.declared.fault.ItemFault.TheVariants as fault;
 
 use crate::ItemFault;
 use std::alloc::AllocError;
 
 /// A number of four bytes.
+#[tactic(auto, unfolding(crate::specs::Items::spelled_word))]
 pub fn put_word(out: &mut Vec<u8>, word: u32) -> Result<(), AllocError>
-    ensures { OnOk result (out.new.items ≡ out.old.items ++ to_be_bytes w32 word) }
+    ensures { OnOk result (out.new.items ≡ out.old.items ++ spelled_word word) }
 {
     out.extend_from_slice(&word.to_be_bytes())
 }
 
 /// A number of eight bytes.
+#[tactic(auto, unfolding(crate::specs::Items::spelled_double))]
 pub fn put_double(out: &mut Vec<u8>, double: u64) -> Result<(), AllocError>
-    ensures { OnOk result (out.new.items ≡ out.old.items ++ to_be_bytes w64 double) }
+    ensures { OnOk result (out.new.items ≡ out.old.items ++ spelled_double double) }
 {
     out.extend_from_slice(&double.to_be_bytes())
 }
@@ -40,6 +41,7 @@ pub fn put_flag(out: &mut Vec<u8>, flag: bool) -> Result<(), AllocError>
 }
 
 /// A string behind its length, with zeros up to a multiple of four.
+#[tactic(auto, unfolding(crate::specs::Items::spelled_string))]
 pub fn put_opaque(out: &mut Vec<u8>, bytes: &[u8]) -> Result<(), ItemFault>
     ensures written { OnOk result (out.new.items ≡ out.old.items ++ spelled_string bytes.now) }
     ensures unread { result ≡ Err fault.Unreadable → ⊥ }

@@ -1,1 +1,5 @@
+pub mod Arguments
+pub mod Headers
+pub mod Parts
 pub mod Refused
+pub mod Results

@@ -1,7 +1,7 @@
 -- The records that refuse a call, and what the first words of a call's record tell (RFC 5531, sections 9 and 11).
 use Rattle.std.specs.Prelude.{◌≡◌, ⊤, ℕ, ◌+◌, ◌&&◌, nat_eq, Bool, List, [], ◌∷◌, ◌++◌, length, drop}
-use Rattle.std.specs.Int.{w32, to_be_bytes}
-use Rattle.plain_items.specs.Items.{has, word_at}
+use Rattle.plain_items.specs.Items.{has, spelled_word, word_at}
+use Rattle.plain_messages.specs.Parts.{chain}
 use Rattle.plain_messages.specs.declared.hearing.Heard.{Heard}
 use Rattle.plain_messages.specs.declared.hearing.Heard.TheVariants as heard
 use Rattle.plain_messages.specs.declared.hearing.PlainRefusal.{PlainRefusal}
@@ -9,12 +9,11 @@ use Rattle.plain_messages.specs.declared.hearing.PlainRefusal.TheVariants as ref
 
 -- numbers of four bytes, one behind another
 abbrev pub words : List ℕ → List ℕ
-words [] = []
-words (n ∷ ns) = to_be_bytes w32 n ++ words ns
+words numbers = chain spelled_word numbers
 
 -- a message as the one fragment of a record: behind a mark of its length, with the highest bit
 abbrev pub recorded : List ℕ → List ℕ
-recorded message = to_be_bytes w32 (2147483648 + length message) ++ message
+recorded message = spelled_word (2147483648 + length message) ++ message
 
 -- a reply to a call that is denied, and to one that is accepted with an empty verifier
 abbrev pub denied : List ℕ → List ℕ

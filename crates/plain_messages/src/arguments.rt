@@ -1,4 +1,6 @@
 //! Reading the arguments of the procedures of NFS version 3 (RFC 1813, section 3.3).
+ghost use Rattle.std.specs.Prelude.{◌≡◌, ◌++◌, IfOk};
+ghost use Rattle.plain_messages.specs.Arguments.{nfs_arguments, nfs_procedure, special};
 
 use crate::parts::{
     read_device, read_guard, read_handle, read_name, read_new_attributes, read_stability,
@@ -10,7 +12,10 @@ use std::alloc::Global;
 
 /// The call of a procedure whose arguments these are, to the last byte. A number from 22 on has no
 /// procedure, and no arguments of it can be read.
-pub fn read_nfs_call(alloc: Global, procedure: u32, bytes: &[u8]) -> Result<Call, ItemFault> {
+pub fn read_nfs_call(alloc: Global, procedure: u32, bytes: &[u8]) -> Result<Call, ItemFault>
+    ensures spelled { IfOk result (λ call. bytes.now ≡ nfs_arguments call) }
+    ensures number { IfOk result (λ call. nfs_procedure call ≡ procedure) }
+{
     let mut reader = ItemReader::new(bytes);
     let call = if procedure < 8 {
         read_of_files(alloc, procedure, &mut reader)?
@@ -28,7 +33,10 @@ fn read_of_files(
     alloc: Global,
     procedure: u32,
     reader: &mut ItemReader<'_>,
-) -> Result<Call, ItemFault> {
+) -> Result<Call, ItemFault>
+    ensures spelled { IfOk result (λ call. reader.old ≡ nfs_arguments call ++ reader.new) }
+    ensures number { IfOk result (λ call. nfs_procedure call ≡ procedure) }
+{
     match procedure {
         0 => Ok(Call::Null),
         1 => Ok(Call::GetAttr {
@@ -53,7 +61,10 @@ fn read_of_names(
     alloc: Global,
     procedure: u32,
     reader: &mut ItemReader<'_>,
-) -> Result<Call, ItemFault> {
+) -> Result<Call, ItemFault>
+    ensures spelled { IfOk result (λ call. reader.old ≡ nfs_arguments call ++ reader.new) }
+    ensures number { IfOk result (λ call. nfs_procedure call ≡ procedure) }
+{
     match procedure {
         8 => read_create(alloc, reader),
         9 => read_make_directory(alloc, reader),
@@ -76,7 +87,10 @@ fn read_of_systems(
     alloc: Global,
     procedure: u32,
     reader: &mut ItemReader<'_>,
-) -> Result<Call, ItemFault> {
+) -> Result<Call, ItemFault>
+    ensures spelled { IfOk result (λ call. reader.old ≡ nfs_arguments call ++ reader.new) }
+    ensures number { IfOk result (λ call. nfs_procedure call ≡ procedure) }
+{
     match procedure {
         16 => read_listing(alloc, reader),
         17 => read_listing_plus(alloc, reader),
@@ -94,7 +108,10 @@ fn read_of_systems(
     }
 }
 
-fn read_set_attributes(alloc: Global, reader: &mut ItemReader<'_>) -> Result<Call, ItemFault> {
+fn read_set_attributes(alloc: Global, reader: &mut ItemReader<'_>) -> Result<Call, ItemFault>
+    ensures spelled { IfOk result (λ call. reader.old ≡ nfs_arguments call ++ reader.new) }
+    ensures number { IfOk result (λ call. nfs_procedure call ≡ 2) }
+{
     let object = read_handle(alloc, reader)?;
     let attributes = read_new_attributes(reader)?;
     let guard = read_guard(reader)?;
@@ -105,13 +122,19 @@ fn read_set_attributes(alloc: Global, reader: &mut ItemReader<'_>) -> Result<Cal
     })
 }
 
-fn read_access(alloc: Global, reader: &mut ItemReader<'_>) -> Result<Call, ItemFault> {
+fn read_access(alloc: Global, reader: &mut ItemReader<'_>) -> Result<Call, ItemFault>
+    ensures spelled { IfOk result (λ call. reader.old ≡ nfs_arguments call ++ reader.new) }
+    ensures number { IfOk result (λ call. nfs_procedure call ≡ 4) }
+{
     let object = read_handle(alloc, reader)?;
     let bits = reader.word()?;
     Ok(Call::Access { object, bits })
 }
 
-fn read_read(alloc: Global, reader: &mut ItemReader<'_>) -> Result<Call, ItemFault> {
+fn read_read(alloc: Global, reader: &mut ItemReader<'_>) -> Result<Call, ItemFault>
+    ensures spelled { IfOk result (λ call. reader.old ≡ nfs_arguments call ++ reader.new) }
+    ensures number { IfOk result (λ call. nfs_procedure call ≡ 6) }
+{
     let file = read_handle(alloc, reader)?;
     let offset = reader.double()?;
     let count = reader.word()?;
@@ -122,7 +145,10 @@ fn read_read(alloc: Global, reader: &mut ItemReader<'_>) -> Result<Call, ItemFau
     })
 }
 
-fn read_write(alloc: Global, reader: &mut ItemReader<'_>) -> Result<Call, ItemFault> {
+fn read_write(alloc: Global, reader: &mut ItemReader<'_>) -> Result<Call, ItemFault>
+    ensures spelled { IfOk result (λ call. reader.old ≡ nfs_arguments call ++ reader.new) }
+    ensures number { IfOk result (λ call. nfs_procedure call ≡ 7) }
+{
     let file = read_handle(alloc, reader)?;
     let offset = reader.double()?;
     let count = reader.word()?;
@@ -137,7 +163,10 @@ fn read_write(alloc: Global, reader: &mut ItemReader<'_>) -> Result<Call, ItemFa
     })
 }
 
-fn read_create(alloc: Global, reader: &mut ItemReader<'_>) -> Result<Call, ItemFault> {
+fn read_create(alloc: Global, reader: &mut ItemReader<'_>) -> Result<Call, ItemFault>
+    ensures spelled { IfOk result (λ call. reader.old ≡ nfs_arguments call ++ reader.new) }
+    ensures number { IfOk result (λ call. nfs_procedure call ≡ 8) }
+{
     let name = read_name(alloc, reader)?;
     let how = match reader.word()? {
         0 => CreateHow::Unchecked(read_new_attributes(reader)?),
@@ -148,13 +177,19 @@ fn read_create(alloc: Global, reader: &mut ItemReader<'_>) -> Result<Call, ItemF
     Ok(Call::Create { name, how })
 }
 
-fn read_make_directory(alloc: Global, reader: &mut ItemReader<'_>) -> Result<Call, ItemFault> {
+fn read_make_directory(alloc: Global, reader: &mut ItemReader<'_>) -> Result<Call, ItemFault>
+    ensures spelled { IfOk result (λ call. reader.old ≡ nfs_arguments call ++ reader.new) }
+    ensures number { IfOk result (λ call. nfs_procedure call ≡ 9) }
+{
     let name = read_name(alloc, reader)?;
     let attributes = read_new_attributes(reader)?;
     Ok(Call::MkDir { name, attributes })
 }
 
-fn read_make_link(alloc: Global, reader: &mut ItemReader<'_>) -> Result<Call, ItemFault> {
+fn read_make_link(alloc: Global, reader: &mut ItemReader<'_>) -> Result<Call, ItemFault>
+    ensures spelled { IfOk result (λ call. reader.old ≡ nfs_arguments call ++ reader.new) }
+    ensures number { IfOk result (λ call. nfs_procedure call ≡ 10) }
+{
     let name = read_name(alloc, reader)?;
     let attributes = read_new_attributes(reader)?;
     let target = read_string(alloc, reader)?;
@@ -165,14 +200,19 @@ fn read_make_link(alloc: Global, reader: &mut ItemReader<'_>) -> Result<Call, It
     })
 }
 
-fn read_make_special(alloc: Global, reader: &mut ItemReader<'_>) -> Result<Call, ItemFault> {
+fn read_make_special(alloc: Global, reader: &mut ItemReader<'_>) -> Result<Call, ItemFault>
+    ensures spelled { IfOk result (λ call. reader.old ≡ nfs_arguments call ++ reader.new) }
+    ensures number { IfOk result (λ call. nfs_procedure call ≡ 11) }
+{
     let name = read_name(alloc, reader)?;
     let special = read_special(reader)?;
     Ok(Call::MkNod { name, special })
 }
 
 // What MKNOD is to make (`mknoddata3`).
-fn read_special(reader: &mut ItemReader<'_>) -> Result<SpecialFile, ItemFault> {
+fn read_special(reader: &mut ItemReader<'_>) -> Result<SpecialFile, ItemFault>
+    ensures { IfOk result (λ kind. reader.old ≡ special kind ++ reader.new) }
+{
     match reader.word()? {
         1 => Ok(SpecialFile::Regular),
         2 => Ok(SpecialFile::Directory),
@@ -191,19 +231,28 @@ fn read_special(reader: &mut ItemReader<'_>) -> Result<SpecialFile, ItemFault> {
     }
 }
 
-fn read_rename(alloc: Global, reader: &mut ItemReader<'_>) -> Result<Call, ItemFault> {
+fn read_rename(alloc: Global, reader: &mut ItemReader<'_>) -> Result<Call, ItemFault>
+    ensures spelled { IfOk result (λ call. reader.old ≡ nfs_arguments call ++ reader.new) }
+    ensures number { IfOk result (λ call. nfs_procedure call ≡ 14) }
+{
     let source = read_name(alloc, reader)?;
     let target = read_name(alloc, reader)?;
     Ok(Call::Rename { source, target })
 }
 
-fn read_link(alloc: Global, reader: &mut ItemReader<'_>) -> Result<Call, ItemFault> {
+fn read_link(alloc: Global, reader: &mut ItemReader<'_>) -> Result<Call, ItemFault>
+    ensures spelled { IfOk result (λ call. reader.old ≡ nfs_arguments call ++ reader.new) }
+    ensures number { IfOk result (λ call. nfs_procedure call ≡ 15) }
+{
     let file = read_handle(alloc, reader)?;
     let name = read_name(alloc, reader)?;
     Ok(Call::Link { file, name })
 }
 
-fn read_listing(alloc: Global, reader: &mut ItemReader<'_>) -> Result<Call, ItemFault> {
+fn read_listing(alloc: Global, reader: &mut ItemReader<'_>) -> Result<Call, ItemFault>
+    ensures spelled { IfOk result (λ call. reader.old ≡ nfs_arguments call ++ reader.new) }
+    ensures number { IfOk result (λ call. nfs_procedure call ≡ 16) }
+{
     let directory = read_handle(alloc, reader)?;
     let cookie = reader.double()?;
     let verifier = read_verifier(reader)?;
@@ -216,7 +265,10 @@ fn read_listing(alloc: Global, reader: &mut ItemReader<'_>) -> Result<Call, Item
     })
 }
 
-fn read_listing_plus(alloc: Global, reader: &mut ItemReader<'_>) -> Result<Call, ItemFault> {
+fn read_listing_plus(alloc: Global, reader: &mut ItemReader<'_>) -> Result<Call, ItemFault>
+    ensures spelled { IfOk result (λ call. reader.old ≡ nfs_arguments call ++ reader.new) }
+    ensures number { IfOk result (λ call. nfs_procedure call ≡ 17) }
+{
     let directory = read_handle(alloc, reader)?;
     let cookie = reader.double()?;
     let verifier = read_verifier(reader)?;
@@ -231,7 +283,10 @@ fn read_listing_plus(alloc: Global, reader: &mut ItemReader<'_>) -> Result<Call,
     })
 }
 
-fn read_commit(alloc: Global, reader: &mut ItemReader<'_>) -> Result<Call, ItemFault> {
+fn read_commit(alloc: Global, reader: &mut ItemReader<'_>) -> Result<Call, ItemFault>
+    ensures spelled { IfOk result (λ call. reader.old ≡ nfs_arguments call ++ reader.new) }
+    ensures number { IfOk result (λ call. nfs_procedure call ≡ 21) }
+{
     let file = read_handle(alloc, reader)?;
     let offset = reader.double()?;
     let count = reader.word()?;

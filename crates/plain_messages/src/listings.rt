@@ -1,4 +1,8 @@
 //! Writing listings of directories (RFC 1813, sections 3.3.16 and 3.3.17).
+ghost use Rattle.std.specs.Prelude.{◌≡◌, ◌++◌, OnOk};
+ghost use Rattle.plain_messages.specs.Parts.{after};
+ghost use Rattle.plain_messages.specs.Results as spelled;
+ghost use Rattle.plain_messages.specs.Results.{listed, listed_plus, outcome as came};
 
 use crate::told::{put_after, put_ok, put_optional_handle, put_refusal};
 use nfs_types::{Attributes, Listed, ListedEntry, ListedEntryPlus, ListedPlus, Status};
@@ -9,24 +13,43 @@ pub fn put_listing(
     out: &mut Vec<u8>,
     outcome: &Result<Listed, Status>,
     directory: &Option<Attributes>,
-) -> Result<(), ItemFault> {
+) -> Result<(), ItemFault>
+    ensures { OnOk result (out.new.items
+        ≡ out.old.items ++ came (λ it. after directory.now ++ listed it) (after directory.now) outcome.now) }
+{
     match outcome {
         Ok(listed) => {
             put_ok(out)?;
             put_after(out, directory)?;
-            put_eight(out, &listed.verifier.bytes)?;
-            for entry in listed.entries.as_slice() {
-                put_entry(out, entry)?;
-            }
-            put_flag(out, false)?;
-            Ok(put_flag(out, listed.eof)?)
+            put_listed(out, listed)
         }
         Err(status) => put_refusal(out, *status, directory),
     }
 }
 
+// What is listed (`dirlist3`).
+fn put_listed(out: &mut Vec<u8>, listed: &Listed) -> Result<(), ItemFault>
+    ensures { OnOk result (out.new.items ≡ out.old.items ++ spelled.listed listed.now) }
+{
+    put_eight(out, &listed.verifier.bytes)?;
+    put_entries(out, listed.entries.as_slice())?;
+    put_flag(out, false)?;
+    Ok(put_flag(out, listed.eof)?)
+}
+
+fn put_entries(out: &mut Vec<u8>, entries: &[ListedEntry]) -> Result<(), ItemFault>
+    ensures { OnOk result (out.new.items ≡ out.old.items ++ spelled.entries entries.now) }
+{
+    for entry in entries {
+        put_entry(out, entry)?;
+    }
+    Ok(())
+}
+
 // An entry (`entry3`) behind the flag that says that it is there.
-fn put_entry(out: &mut Vec<u8>, entry: &ListedEntry) -> Result<(), ItemFault> {
+fn put_entry(out: &mut Vec<u8>, entry: &ListedEntry) -> Result<(), ItemFault>
+    ensures { OnOk result (out.new.items ≡ out.old.items ++ spelled.entry entry.now) }
+{
     put_flag(out, true)?;
     put_double(out, entry.number)?;
     put_opaque(out, entry.name.as_slice())?;
@@ -38,24 +61,43 @@ pub fn put_listing_plus(
     out: &mut Vec<u8>,
     outcome: &Result<ListedPlus, Status>,
     directory: &Option<Attributes>,
-) -> Result<(), ItemFault> {
+) -> Result<(), ItemFault>
+    ensures { OnOk result (out.new.items
+        ≡ out.old.items ++ came (λ it. after directory.now ++ listed_plus it) (after directory.now) outcome.now) }
+{
     match outcome {
         Ok(listed) => {
             put_ok(out)?;
             put_after(out, directory)?;
-            put_eight(out, &listed.verifier.bytes)?;
-            for entry in listed.entries.as_slice() {
-                put_entry_plus(out, entry)?;
-            }
-            put_flag(out, false)?;
-            Ok(put_flag(out, listed.eof)?)
+            put_listed_plus(out, listed)
         }
         Err(status) => put_refusal(out, *status, directory),
     }
 }
 
+// What is listed (`dirlistplus3`).
+fn put_listed_plus(out: &mut Vec<u8>, listed: &ListedPlus) -> Result<(), ItemFault>
+    ensures { OnOk result (out.new.items ≡ out.old.items ++ spelled.listed_plus listed.now) }
+{
+    put_eight(out, &listed.verifier.bytes)?;
+    put_entries_plus(out, listed.entries.as_slice())?;
+    put_flag(out, false)?;
+    Ok(put_flag(out, listed.eof)?)
+}
+
+fn put_entries_plus(out: &mut Vec<u8>, entries: &[ListedEntryPlus]) -> Result<(), ItemFault>
+    ensures { OnOk result (out.new.items ≡ out.old.items ++ spelled.entries_plus entries.now) }
+{
+    for entry in entries {
+        put_entry_plus(out, entry)?;
+    }
+    Ok(())
+}
+
 // An entry (`entryplus3`) behind the flag that says that it is there.
-fn put_entry_plus(out: &mut Vec<u8>, entry: &ListedEntryPlus) -> Result<(), ItemFault> {
+fn put_entry_plus(out: &mut Vec<u8>, entry: &ListedEntryPlus) -> Result<(), ItemFault>
+    ensures { OnOk result (out.new.items ≡ out.old.items ++ spelled.entry_plus entry.now) }
+{
     put_flag(out, true)?;
     put_double(out, entry.number)?;
     put_opaque(out, entry.name.as_slice())?;

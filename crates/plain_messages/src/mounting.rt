@@ -1,17 +1,22 @@
 //! The arguments and the results of MOUNT version 3 (RFC 1813, section 5.2), of NULL, MNT and UMNT.
+ghost use Rattle.std.specs.Prelude.{◌≡◌, ◌++◌, IfOk, OnOk};
+ghost use Rattle.plain_items.specs.Items.{spelled_string};
+ghost use Rattle.plain_messages.specs.Arguments.{mount_arguments, mount_procedure};
+ghost use Rattle.plain_messages.specs.Results.{mount_result, mounted as given};
 
+use crate::replying::put_words;
 use crate::statuses::status_number;
+use crate::told::{put_handle, put_ok};
 use nfs_types::{MountCall, MountReply, Mounted, Octets, PATH_BYTES};
-use plain_items::{ItemFault, ItemReader, put_opaque, put_word};
+use plain_items::{ItemFault, ItemReader, put_word};
 use std::alloc::Global;
 
 /// The call of a procedure whose arguments these are, to the last byte. Of no other number than 0, 1 and 3
 /// arguments can be read.
-pub fn read_mount_call(
-    alloc: Global,
-    procedure: u32,
-    bytes: &[u8],
-) -> Result<MountCall, ItemFault> {
+pub fn read_mount_call(alloc: Global, procedure: u32, bytes: &[u8]) -> Result<MountCall, ItemFault>
+    ensures spelled { IfOk result (λ call. bytes.now ≡ mount_arguments call) }
+    ensures number { IfOk result (λ call. mount_procedure call ≡ procedure) }
+{
     let mut reader = ItemReader::new(bytes);
     let call = match procedure {
         0 => MountCall::Null,
@@ -28,13 +33,17 @@ pub fn read_mount_call(
 }
 
 // The path of a directory (`dirpath`).
-fn read_path(alloc: Global, reader: &mut ItemReader<'_>) -> Result<Octets, ItemFault> {
+fn read_path(alloc: Global, reader: &mut ItemReader<'_>) -> Result<Octets, ItemFault>
+    ensures { IfOk result (λ path. reader.old ≡ spelled_string path ++ reader.new) }
+{
     let path = reader.opaque(PATH_BYTES)?;
     Ok(Octets::copied(alloc, path)?)
 }
 
 /// Writes a result.
-pub fn put_mount_result(out: &mut Vec<u8>, reply: &MountReply) -> Result<(), ItemFault> {
+pub fn put_mount_result(out: &mut Vec<u8>, reply: &MountReply) -> Result<(), ItemFault>
+    ensures { OnOk result (out.new.items ≡ out.old.items ++ mount_result reply.now) }
+{
     match reply {
         MountReply::Null | MountReply::Unmount => Ok(()),
         MountReply::Mount {
@@ -42,19 +51,20 @@ pub fn put_mount_result(out: &mut Vec<u8>, reply: &MountReply) -> Result<(), Ite
         } => Ok(put_word(out, status_number(*status))?),
         MountReply::Mount {
             outcome: Ok(mounted),
-        } => put_mounted(out, mounted),
+        } => {
+            put_ok(out)?;
+            put_mounted(out, mounted)
+        }
     }
 }
 
 // What MNT gives (`mountres3_ok`).
-fn put_mounted(out: &mut Vec<u8>, mounted: &Mounted) -> Result<(), ItemFault> {
-    put_word(out, 0)?;
-    put_opaque(out, mounted.root.bytes.as_slice())?;
+fn put_mounted(out: &mut Vec<u8>, mounted: &Mounted) -> Result<(), ItemFault>
+    ensures { OnOk result (out.new.items ≡ out.old.items ++ given mounted.now) }
+{
+    put_handle(out, &mounted.root)?;
     let flavors = mounted.flavors.as_slice();
     let count = u32::try_from(flavors.len()).or(Err(ItemFault::TooLong))?;
     put_word(out, count)?;
-    for flavor in flavors {
-        put_word(out, *flavor)?;
-    }
-    Ok(())
+    put_words(out, flavors)
 }

@@ -1,4 +1,8 @@
 //! Reading the parts that the arguments of several procedures share (RFC 1813, sections 2.3 to 2.6).
+ghost use Rattle.std.specs.Prelude.{◌≡◌, ◌++◌, IfOk};
+ghost use Rattle.plain_items.specs.Items.{spelled_optional, spelled_string, spelled_word};
+ghost use Rattle.plain_messages.specs.Arguments as arguments;
+ghost use Rattle.plain_messages.specs.Parts as spelled;
 
 use limits::MOST_HANDLE_BYTES;
 use nfs_types::{
@@ -9,7 +13,9 @@ use plain_items::{ItemFault, ItemReader};
 use std::alloc::Global;
 
 /// A handle (`nfs_fh3`).
-pub fn read_handle(alloc: Global, reader: &mut ItemReader<'_>) -> Result<Handle, ItemFault> {
+pub fn read_handle(alloc: Global, reader: &mut ItemReader<'_>) -> Result<Handle, ItemFault>
+    ensures { IfOk result (λ it. reader.old ≡ spelled.handle it ++ reader.new) }
+{
     let bytes = reader.opaque(MOST_HANDLE_BYTES)?;
     Ok(Handle {
         bytes: Octets::copied(alloc, bytes)?,
@@ -17,20 +23,27 @@ pub fn read_handle(alloc: Global, reader: &mut ItemReader<'_>) -> Result<Handle,
 }
 
 /// A string of any length.
-pub fn read_string(alloc: Global, reader: &mut ItemReader<'_>) -> Result<Octets, ItemFault> {
+pub fn read_string(alloc: Global, reader: &mut ItemReader<'_>) -> Result<Octets, ItemFault>
+    ensures { IfOk result (λ it. reader.old ≡ spelled_string it ++ reader.new) }
+{
     let bytes = reader.string()?;
     Ok(Octets::copied(alloc, bytes)?)
 }
 
 /// A directory's handle and a name (`diropargs3`).
-pub fn read_name(alloc: Global, reader: &mut ItemReader<'_>) -> Result<DirectoryName, ItemFault> {
+#[tactic(auto, unfolding(crate::specs::Arguments::name))]
+pub fn read_name(alloc: Global, reader: &mut ItemReader<'_>) -> Result<DirectoryName, ItemFault>
+    ensures { IfOk result (λ it. reader.old ≡ arguments.name it ++ reader.new) }
+{
     let directory = read_handle(alloc, reader)?;
     let name = read_string(alloc, reader)?;
     Ok(DirectoryName { directory, name })
 }
 
 /// A time (`nfstime3`).
-pub fn read_moment(reader: &mut ItemReader<'_>) -> Result<Moment, ItemFault> {
+pub fn read_moment(reader: &mut ItemReader<'_>) -> Result<Moment, ItemFault>
+    ensures { IfOk result (λ it. reader.old ≡ spelled.moment it ++ reader.new) }
+{
     let seconds = reader.word()?;
     let nanoseconds = reader.word()?;
     Ok(Moment {
@@ -40,7 +53,9 @@ pub fn read_moment(reader: &mut ItemReader<'_>) -> Result<Moment, ItemFault> {
 }
 
 /// A time that may be left out (`sattrguard3`).
-pub fn read_guard(reader: &mut ItemReader<'_>) -> Result<Option<Moment>, ItemFault> {
+pub fn read_guard(reader: &mut ItemReader<'_>) -> Result<Option<Moment>, ItemFault>
+    ensures { IfOk result (λ it. reader.old ≡ spelled_optional spelled.moment it ++ reader.new) }
+{
     if reader.flag()? {
         Ok(Some(read_moment(reader)?))
     } else {
@@ -49,7 +64,9 @@ pub fn read_guard(reader: &mut ItemReader<'_>) -> Result<Option<Moment>, ItemFau
 }
 
 // What is to become of a time (`set_atime`, `set_mtime`).
-fn read_set_time(reader: &mut ItemReader<'_>) -> Result<SetTime, ItemFault> {
+fn read_set_time(reader: &mut ItemReader<'_>) -> Result<SetTime, ItemFault>
+    ensures { IfOk result (λ it. reader.old ≡ arguments.set_time it ++ reader.new) }
+{
     match reader.word()? {
         0 => Ok(SetTime::Unchanged),
         1 => Ok(SetTime::Server),
@@ -59,7 +76,10 @@ fn read_set_time(reader: &mut ItemReader<'_>) -> Result<SetTime, ItemFault> {
 }
 
 /// The attributes that are set (`sattr3`).
-pub fn read_new_attributes(reader: &mut ItemReader<'_>) -> Result<NewAttributes, ItemFault> {
+#[tactic(auto, unfolding(crate::specs::Arguments::new_attributes))]
+pub fn read_new_attributes(reader: &mut ItemReader<'_>) -> Result<NewAttributes, ItemFault>
+    ensures { IfOk result (λ it. reader.old ≡ arguments.new_attributes it ++ reader.new) }
+{
     let mode = reader.optional_word()?;
     let uid = reader.optional_word()?;
     let gid = reader.optional_word()?;
@@ -77,7 +97,9 @@ pub fn read_new_attributes(reader: &mut ItemReader<'_>) -> Result<NewAttributes,
 }
 
 /// How a WRITE is to be kept (`stable_how`).
-pub fn read_stability(reader: &mut ItemReader<'_>) -> Result<Stability, ItemFault> {
+pub fn read_stability(reader: &mut ItemReader<'_>) -> Result<Stability, ItemFault>
+    ensures { IfOk result (λ it. reader.old ≡ spelled_word (spelled.stability_number it) ++ reader.new) }
+{
     match reader.word()? {
         0 => Ok(Stability::Unstable),
         1 => Ok(Stability::DataSync),
@@ -87,14 +109,18 @@ pub fn read_stability(reader: &mut ItemReader<'_>) -> Result<Stability, ItemFaul
 }
 
 /// A verifier of eight bytes.
-pub fn read_verifier(reader: &mut ItemReader<'_>) -> Result<Verifier, ItemFault> {
+pub fn read_verifier(reader: &mut ItemReader<'_>) -> Result<Verifier, ItemFault>
+    ensures { IfOk result (λ it. reader.old ≡ it.bytes ++ reader.new) }
+{
     Ok(Verifier {
         bytes: reader.eight()?,
     })
 }
 
 /// The two numbers of a device (`specdata3`).
-pub fn read_device(reader: &mut ItemReader<'_>) -> Result<DeviceNumber, ItemFault> {
+pub fn read_device(reader: &mut ItemReader<'_>) -> Result<DeviceNumber, ItemFault>
+    ensures { IfOk result (λ it. reader.old ≡ arguments.device it ++ reader.new) }
+{
     let major = reader.word()?;
     let minor = reader.word()?;
     Ok(DeviceNumber { major, minor })

@@ -2,6 +2,7 @@
 ghost use Rattle.std.specs.Prelude.{◌≡◌, ◌∷◌, ◌++◌, [], length, IfOk, IfErr, OnOk};
 ghost use Rattle.plain_items.specs.declared.fault.ItemFault.TheVariants.{NoMemory};
 ghost use Rattle.plain_messages.specs.Refused.{accepted, denied, recorded, refusing, words};
+ghost use Rattle.plain_messages.specs.Results.{result_of};
 
 use crate::hearing::PlainRefusal;
 use crate::mounting::put_mount_result;
@@ -14,7 +15,10 @@ use std::alloc::Global;
 const LAST: u32 = 0x8000_0000;
 
 /// The record that answers a call with its result.
-pub fn done(alloc: Global, xid: u32, reply: &ProgramReply) -> Result<Vec<u8>, ItemFault> {
+pub fn done(alloc: Global, xid: u32, reply: &ProgramReply) -> Result<Vec<u8>, ItemFault>
+    ensures { IfOk result (λ whole. whole.items
+        ≡ recorded (words (xid ∷ accepted (0 ∷ [])) ++ result_of reply.now)) }
+{
     let mut message = Vec::new(alloc);
     put_accepted(&mut message, xid, 0)?;
     match reply {
@@ -60,7 +64,8 @@ fn put_denied(message: &mut Vec<u8>, xid: u32, cause: &[u32]) -> Result<(), Item
     put_words(message, cause)
 }
 
-fn put_words(message: &mut Vec<u8>, numbers: &[u32]) -> Result<(), ItemFault>
+/// Numbers of four bytes, one behind another.
+pub(crate) fn put_words(message: &mut Vec<u8>, numbers: &[u32]) -> Result<(), ItemFault>
     ensures { OnOk result (message.new.items ≡ message.old.items ++ words numbers.now) }
 {
     for number in numbers {

@@ -1,5 +1,10 @@
 //! Writing the results of the procedures of NFS version 3 (RFC 1813, section 3.3). Each but NULL's begins
 //! with its status.
+ghost use Rattle.std.specs.Prelude.{◌≡◌, ◌++◌, [], OnOk};
+ghost use Rattle.plain_items.specs.Items.{spelled_flag, spelled_string, spelled_word as word};
+ghost use Rattle.plain_messages.specs.Parts.{after, attributes, handle, stability_number};
+ghost use Rattle.plain_messages.specs.Parts as spelled;
+ghost use Rattle.plain_messages.specs.Results.{created, nfs_result, outcome as came, status_of};
 
 use crate::listings::{put_listing, put_listing_plus};
 use crate::statuses::{stability_number, status_number};
@@ -14,7 +19,9 @@ use nfs_types::{
 use plain_items::{ItemFault, put_eight, put_flag, put_opaque, put_word};
 
 /// Writes a result.
-pub fn put_nfs_result(out: &mut Vec<u8>, reply: &Reply) -> Result<(), ItemFault> {
+pub fn put_nfs_result(out: &mut Vec<u8>, reply: &Reply) -> Result<(), ItemFault>
+    ensures { OnOk result (out.new.items ≡ out.old.items ++ nfs_result reply.now) }
+{
     match reply {
         Reply::Null => Ok(()),
         Reply::GetAttr { outcome } => put_got(out, outcome),
@@ -50,7 +57,10 @@ pub fn put_nfs_result(out: &mut Vec<u8>, reply: &Reply) -> Result<(), ItemFault>
 }
 
 // GETATTR.
-fn put_got(out: &mut Vec<u8>, outcome: &Result<Attributes, Status>) -> Result<(), ItemFault> {
+fn put_got(out: &mut Vec<u8>, outcome: &Result<Attributes, Status>) -> Result<(), ItemFault>
+    ensures { OnOk result (out.new.items
+        ≡ out.old.items ++ came attributes [] outcome.now) }
+{
     match outcome {
         Ok(attributes) => {
             put_ok(out)?;
@@ -65,7 +75,9 @@ fn put_changed(
     out: &mut Vec<u8>,
     outcome: &Result<(), Status>,
     change: &WeakCacheData,
-) -> Result<(), ItemFault> {
+) -> Result<(), ItemFault>
+    ensures { OnOk result (out.new.items ≡ out.old.items ++ (word (status_of outcome.now) ++ spelled.change change.now)) }
+{
     put_outcome(out, outcome)?;
     put_change(out, change)
 }
@@ -75,7 +87,11 @@ fn put_looked(
     out: &mut Vec<u8>,
     outcome: &Result<Looked, Status>,
     directory: &Option<Attributes>,
-) -> Result<(), ItemFault> {
+) -> Result<(), ItemFault>
+    ensures { OnOk result (out.new.items ≡ out.old.items
+        ++ came (λ it. handle it.object ++ after it.attributes ++ after directory.now) (after directory.now)
+        outcome.now) }
+{
     match outcome {
         Ok(looked) => {
             put_ok(out)?;
@@ -92,7 +108,10 @@ fn put_access(
     out: &mut Vec<u8>,
     outcome: &Result<u32, Status>,
     object: &Option<Attributes>,
-) -> Result<(), ItemFault> {
+) -> Result<(), ItemFault>
+    ensures { OnOk result (out.new.items
+        ≡ out.old.items ++ came (λ bits. after object.now ++ word bits) (after object.now) outcome.now) }
+{
     match outcome {
         Ok(bits) => {
             put_ok(out)?;
@@ -108,7 +127,10 @@ fn put_target(
     out: &mut Vec<u8>,
     outcome: &Result<Octets, Status>,
     link: &Option<Attributes>,
-) -> Result<(), ItemFault> {
+) -> Result<(), ItemFault>
+    ensures { OnOk result (out.new.items
+        ≡ out.old.items ++ came (λ target. after link.now ++ spelled_string target) (after link.now) outcome.now) }
+{
     match outcome {
         Ok(target) => {
             put_ok(out)?;
@@ -124,7 +146,11 @@ fn put_read(
     out: &mut Vec<u8>,
     outcome: &Result<ReadBytes, Status>,
     file: &Option<Attributes>,
-) -> Result<(), ItemFault> {
+) -> Result<(), ItemFault>
+    ensures { OnOk result (out.new.items ≡ out.old.items
+        ++ came (λ it. after file.now ++ word it.count ++ spelled_flag it.eof ++ spelled_string it.bytes)
+        (after file.now) outcome.now) }
+{
     match outcome {
         Ok(read) => {
             put_ok(out)?;
@@ -142,7 +168,11 @@ fn put_written(
     out: &mut Vec<u8>,
     outcome: &Result<Written, Status>,
     file: &WeakCacheData,
-) -> Result<(), ItemFault> {
+) -> Result<(), ItemFault>
+    ensures { OnOk result (out.new.items ≡ out.old.items
+        ++ came (λ it. spelled.change file.now ++ word it.count ++ word (stability_number it.committed)
+        ++ it.verifier.bytes) (spelled.change file.now) outcome.now) }
+{
     match outcome {
         Ok(written) => {
             put_ok(out)?;
@@ -160,7 +190,10 @@ fn put_created(
     out: &mut Vec<u8>,
     outcome: &Result<Created, Status>,
     directory: &WeakCacheData,
-) -> Result<(), ItemFault> {
+) -> Result<(), ItemFault>
+    ensures { OnOk result (out.new.items
+        ≡ out.old.items ++ came (λ it. created it ++ spelled.change directory.now) (spelled.change directory.now) outcome.now) }
+{
     match outcome {
         Ok(created) => {
             put_ok(out)?;
@@ -178,7 +211,10 @@ fn put_renamed(
     outcome: &Result<(), Status>,
     source: &WeakCacheData,
     target: &WeakCacheData,
-) -> Result<(), ItemFault> {
+) -> Result<(), ItemFault>
+    ensures { OnOk result (out.new.items ≡ out.old.items
+        ++ (word (status_of outcome.now) ++ spelled.change source.now ++ spelled.change target.now)) }
+{
     put_outcome(out, outcome)?;
     put_change(out, source)?;
     put_change(out, target)
@@ -190,7 +226,10 @@ fn put_linked(
     outcome: &Result<(), Status>,
     file: &Option<Attributes>,
     directory: &WeakCacheData,
-) -> Result<(), ItemFault> {
+) -> Result<(), ItemFault>
+    ensures { OnOk result (out.new.items ≡ out.old.items
+        ++ (word (status_of outcome.now) ++ after file.now ++ spelled.change directory.now)) }
+{
     put_outcome(out, outcome)?;
     put_after(out, file)?;
     put_change(out, directory)
@@ -201,7 +240,10 @@ fn put_committed(
     out: &mut Vec<u8>,
     outcome: &Result<Verifier, Status>,
     file: &WeakCacheData,
-) -> Result<(), ItemFault> {
+) -> Result<(), ItemFault>
+    ensures { OnOk result (out.new.items
+        ≡ out.old.items ++ came (λ it. spelled.change file.now ++ it.bytes) (spelled.change file.now) outcome.now) }
+{
     match outcome {
         Ok(verifier) => {
             put_ok(out)?;

@@ -1,9 +1,13 @@
 //! The numbers of statuses and of kinds of files (RFC 1813, sections 2.5 and 2.6).
+ghost use Rattle.std.specs.Prelude.{◌≡◌};
+ghost use Rattle.plain_messages.specs.Parts.{kind_number, stability_number, status_number};
 
 use nfs_types::{FileKind, Stability, Status};
 
 /// The number of a status (`nfsstat3`). OK is 0.
-pub fn status_number(status: Status) -> u32 {
+pub fn status_number(status: Status) -> u32
+    ensures { result ≡ status_number status }
+{
     match status {
         Status::Perm => 1,
         Status::NoEnt => 2,
@@ -29,7 +33,9 @@ pub fn status_number(status: Status) -> u32 {
 }
 
 /// The number of a kind of file (`ftype3`).
-pub fn kind_number(kind: FileKind) -> u32 {
+pub fn kind_number(kind: FileKind) -> u32
+    ensures { result ≡ kind_number kind }
+{
     match kind {
         FileKind::Regular => 1,
         FileKind::Directory => 2,
@@ -42,7 +48,9 @@ pub fn kind_number(kind: FileKind) -> u32 {
 }
 
 /// The number of how a write is kept (`stable_how`).
-pub fn stability_number(stability: Stability) -> u32 {
+pub fn stability_number(stability: Stability) -> u32
+    ensures { result ≡ stability_number stability }
+{
     match stability {
         Stability::Unstable => 0,
         Stability::DataSync => 1,

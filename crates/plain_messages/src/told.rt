@@ -1,37 +1,45 @@
 //! Writing what replies tell of files (RFC 1813, section 2.6).
+ghost use Rattle.std.specs.Prelude.{◌≡◌, ◌++◌, OnOk};
+ghost use Rattle.plain_items.specs.Items.{spelled_optional, spelled_word as word};
+ghost use Rattle.plain_messages.specs.Parts as spelled;
+ghost use Rattle.plain_messages.specs.Results.{status_of};
 
 use crate::statuses::{kind_number, status_number};
 use nfs_types::{Attributes, Handle, Moment, Status, WeakCacheAttributes, WeakCacheData};
 use plain_items::{ItemFault, put_double, put_flag, put_opaque, put_word};
 
 /// The status OK.
-pub fn put_ok(out: &mut Vec<u8>) -> Result<(), ItemFault> {
+pub fn put_ok(out: &mut Vec<u8>) -> Result<(), ItemFault>
+    ensures { OnOk result (out.new.items ≡ out.old.items ++ word 0) }
+{
     Ok(put_word(out, 0)?)
 }
 
 /// A time (`nfstime3`).
-pub fn put_moment(out: &mut Vec<u8>, moment: &Moment) -> Result<(), ItemFault> {
+pub fn put_moment(out: &mut Vec<u8>, moment: &Moment) -> Result<(), ItemFault>
+    ensures { OnOk result (out.new.items ≡ out.old.items ++ spelled.moment moment.now) }
+{
     put_word(out, moment.seconds)?;
     put_word(out, moment.nanoseconds)?;
     Ok(())
 }
 
 /// The attributes of a file (`fattr3`).
-pub fn put_attributes(out: &mut Vec<u8>, attributes: &Attributes) -> Result<(), ItemFault> {
+#[tactic(auto, unfolding(crate::specs::Parts::attributes))]
+pub fn put_attributes(out: &mut Vec<u8>, attributes: &Attributes) -> Result<(), ItemFault>
+    ensures { OnOk result (out.new.items ≡ out.old.items ++ spelled.attributes attributes.now) }
+{
     put_owner(out, attributes)?;
-    put_double(out, attributes.size)?;
-    put_double(out, attributes.used)?;
-    put_word(out, attributes.device.major)?;
-    put_word(out, attributes.device.minor)?;
-    put_double(out, attributes.file_system)?;
-    put_double(out, attributes.number)?;
+    put_place(out, attributes)?;
     put_moment(out, &attributes.atime)?;
     put_moment(out, &attributes.mtime)?;
     put_moment(out, &attributes.ctime)
 }
 
 // The first five of them.
-fn put_owner(out: &mut Vec<u8>, attributes: &Attributes) -> Result<(), ItemFault> {
+fn put_owner(out: &mut Vec<u8>, attributes: &Attributes) -> Result<(), ItemFault>
+    ensures { OnOk result (out.new.items ≡ out.old.items ++ spelled.owner attributes.now) }
+{
     put_word(out, kind_number(attributes.kind))?;
     put_word(out, attributes.mode)?;
     put_word(out, attributes.nlink)?;
@@ -40,8 +48,23 @@ fn put_owner(out: &mut Vec<u8>, attributes: &Attributes) -> Result<(), ItemFault
     Ok(())
 }
 
+// What the file takes, and which it is.
+fn put_place(out: &mut Vec<u8>, attributes: &Attributes) -> Result<(), ItemFault>
+    ensures { OnOk result (out.new.items ≡ out.old.items ++ spelled.place attributes.now) }
+{
+    put_double(out, attributes.size)?;
+    put_double(out, attributes.used)?;
+    put_word(out, attributes.device.major)?;
+    put_word(out, attributes.device.minor)?;
+    put_double(out, attributes.file_system)?;
+    put_double(out, attributes.number)?;
+    Ok(())
+}
+
 /// The attributes of a file, or that there are none (`post_op_attr`).
-pub fn put_after(out: &mut Vec<u8>, attributes: &Option<Attributes>) -> Result<(), ItemFault> {
+pub fn put_after(out: &mut Vec<u8>, attributes: &Option<Attributes>) -> Result<(), ItemFault>
+    ensures { OnOk result (out.new.items ≡ out.old.items ++ spelled.after attributes.now) }
+{
     match attributes {
         Some(attributes) => {
             put_flag(out, true)?;
@@ -52,7 +75,9 @@ pub fn put_after(out: &mut Vec<u8>, attributes: &Option<Attributes>) -> Result<(
 }
 
 // A file before a change, or that nothing is told of it (`pre_op_attr`).
-fn put_before(out: &mut Vec<u8>, before: &Option<WeakCacheAttributes>) -> Result<(), ItemFault> {
+fn put_before(out: &mut Vec<u8>, before: &Option<WeakCacheAttributes>) -> Result<(), ItemFault>
+    ensures { OnOk result (out.new.items ≡ out.old.items ++ spelled_optional spelled.before before.now) }
+{
     match before {
         Some(before) => {
             put_flag(out, true)?;
@@ -65,18 +90,25 @@ fn put_before(out: &mut Vec<u8>, before: &Option<WeakCacheAttributes>) -> Result
 }
 
 /// A file before and after a change (`wcc_data`).
-pub fn put_change(out: &mut Vec<u8>, change: &WeakCacheData) -> Result<(), ItemFault> {
+#[tactic(auto, unfolding(crate::specs::Parts::change))]
+pub fn put_change(out: &mut Vec<u8>, change: &WeakCacheData) -> Result<(), ItemFault>
+    ensures { OnOk result (out.new.items ≡ out.old.items ++ spelled.change change.now) }
+{
     put_before(out, &change.before)?;
     put_after(out, &change.after)
 }
 
 /// A handle (`nfs_fh3`).
-pub fn put_handle(out: &mut Vec<u8>, handle: &Handle) -> Result<(), ItemFault> {
+pub fn put_handle(out: &mut Vec<u8>, handle: &Handle) -> Result<(), ItemFault>
+    ensures { OnOk result (out.new.items ≡ out.old.items ++ spelled.handle handle.now) }
+{
     put_opaque(out, handle.bytes.as_slice())
 }
 
 /// A handle, or that there is none (`post_op_fh3`).
-pub fn put_optional_handle(out: &mut Vec<u8>, handle: &Option<Handle>) -> Result<(), ItemFault> {
+pub fn put_optional_handle(out: &mut Vec<u8>, handle: &Option<Handle>) -> Result<(), ItemFault>
+    ensures { OnOk result (out.new.items ≡ out.old.items ++ spelled_optional spelled.handle handle.now) }
+{
     match handle {
         Some(handle) => {
             put_flag(out, true)?;
@@ -91,7 +123,10 @@ pub fn put_refusal(
     out: &mut Vec<u8>,
     status: Status,
     attributes: &Option<Attributes>,
-) -> Result<(), ItemFault> {
+) -> Result<(), ItemFault>
+    ensures { OnOk result (out.new.items
+        ≡ out.old.items ++ (word (spelled.status_number status) ++ spelled.after attributes.now)) }
+{
     put_word(out, status_number(status))?;
     put_after(out, attributes)
 }
@@ -101,13 +136,18 @@ pub fn put_refused_change(
     out: &mut Vec<u8>,
     status: Status,
     change: &WeakCacheData,
-) -> Result<(), ItemFault> {
+) -> Result<(), ItemFault>
+    ensures { OnOk result (out.new.items
+        ≡ out.old.items ++ (word (spelled.status_number status) ++ spelled.change change.now)) }
+{
     put_word(out, status_number(status))?;
     put_change(out, change)
 }
 
 /// The status of what gives nothing.
-pub fn put_outcome(out: &mut Vec<u8>, outcome: &Result<(), Status>) -> Result<(), ItemFault> {
+pub fn put_outcome(out: &mut Vec<u8>, outcome: &Result<(), Status>) -> Result<(), ItemFault>
+    ensures { OnOk result (out.new.items ≡ out.old.items ++ word (status_of outcome.now)) }
+{
     match outcome {
         Ok(()) => put_ok(out),
         Err(status) => Ok(put_word(out, status_number(*status))?),

@@ -1,0 +1,10 @@
+use Rattle.std.proofs.Common.{sym}
+use Rattle.plain_messages.specs.Results.{entry}
+use Rattle.plain_messages.proofs.Words.{one_more}
+use Rattle.plain_messages.proofs.listings.put_entries.Goals as goal
+
+pub loop-entry-preserved : goal.loop-entry-preserved
+loop-entry-preserved c =
+    one_more entry c.args.entries.now c.loop-entry.entry-index c.entry-item.result
+    c.entry-item.result _ _ _
+    c.loop-entry-test.true (sym c.entry-item.is) c.loop-entry.invariant c.in_ok-put_entry.ensures
