@@ -12,6 +12,7 @@ pub mod CallStages
 pub mod CallSteps
 pub mod CallWaits
 pub mod CallsLeft
+pub mod CallsMade
 pub mod ComingHome
 pub mod CommitTold
 pub mod Driven

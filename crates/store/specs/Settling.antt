@@ -33,6 +33,14 @@ abbrev pub calls_left : Log → ℕ
 calls_left log = group_left log.taken log.log_step + 4 * (length log.changes - (log.logged + log.taken))
     + (group_left log.installing log.inst_step + 4 * (length log.changes - log.installing))
 
+-- how many calls a settling makes at most: none once the log is broken, and else those that are left, and one that fails
+abbrev pub most_calls : Log → ℕ
+most_calls log = if log.broken then 0 else calls_left log + 1
+
+-- each call that was made is one of these
+pub record SpendsCalls (before : Device) (old : Log) (after : Device) (new : Log) : Type 0 where
+  pub few : after.clock + most_calls new ≤ before.clock + most_calls old
+
 -- A device call was made and given back. An answer of Ok leaves fewer to make; a failure breaks the log.
 pub record HasCalled (old : Log) (before : Device) (new : Log) (after : Device) : Type 0 where
   pub sound : old.broken ≡ false

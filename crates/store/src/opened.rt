@@ -1,12 +1,12 @@
 //! An open store: a disk with the core over it.
-ghost use Rattle.std.specs.Prelude.{◌≡◌, ◌<◌, ◌↔◌, IsTrue, IsFalse, OnOk, OnErr, length, true};
+ghost use Rattle.std.specs.Prelude.{◌≡◌, ◌+◌, ◌<◌, ◌≤◌, ◌↔◌, IsTrue, IsFalse, OnOk, OnErr, length, true};
 ghost use Rattle.limits.specs.declared.TheConstants.{MOST_KEPT_COMMITS};
 ghost use Rattle.layout.specs.Geometry.{IsLawful};
 ghost use Rattle.store.specs.Counts.{SameFrame};
 ghost use Rattle.store.specs.Fetches.{KeepsFetches};
 ghost use Rattle.store.specs.Further.{LeavesOpen};
 ghost use Rattle.store.specs.Opening.{IsSettled};
-ghost use Rattle.store.specs.Settling.{HasCalled, HasFailed, IsQuiet, SameNumbers};
+ghost use Rattle.store.specs.Settling.{HasCalled, HasFailed, IsQuiet, SameNumbers, SpendsCalls, most_calls};
 ghost use Rattle.store.specs.SettlingStops.{KeepsPrefixes, StayOpen};
 ghost use Rattle.wal_law.specs.Installer.{may_install};
 ghost use Rattle.wal_law.specs.Logger.{may_log};
@@ -61,7 +61,7 @@ pub fn close<D: CrashDisk>(store: Store<D>) -> D
 /// Makes every change settled in the log. What is logged is brought home only where the log has no room
 /// behind its settled start for the changes that wait, or where more than MOST_KEPT_COMMITS commits are kept;
 /// what is left, the next opening brings home. It fails only where a device call fails in it, or where a
-/// write or a barrier failed since the opening. Whatever comes of it, a store that is open for some entries stays
+/// write or a barrier failed since the opening. It makes at most `most_calls` device calls. Whatever comes of it, a store that is open for some entries stays
 /// open for them, and each stop leaves the files after a beginning of them, in which is what was settled before,
 /// and behind each device call what is settled by then.
 pub fn settle<D: CrashDisk>(store: &mut Store<D>) -> Result<(), Failed>
@@ -75,6 +75,7 @@ pub fn settle<D: CrashDisk>(store: &mut Store<D>) -> Result<(), Failed>
     ensures settled { OnOk result (IsSettled store.new.core) }
     ensures failed { OnErr result (HasFailed store.old.core.log (D.device store.old.disk) (D.device store.new.disk)) }
     ensures broken { OnErr result (store.new.core.log.broken ≡ true) }
+    ensures few { (D.device store.new.disk).clock ≤ (D.device store.old.disk).clock + most_calls store.old.core.log }
     ensures keeps { D.keeps_model store.new.disk → KeepsPrefixes (D.device store.old.disk) store.old.core
         (D.device store.new.disk) store.new.core }
     ensures model { D.keeps_model store.new.disk → D.keeps_model store.old.disk }
@@ -117,6 +118,7 @@ fn log_one<D: CrashDisk>(store: &mut Store<D>) -> bool
         → HasCalled store.old.core.log (D.device store.old.disk) store.new.core.log (D.device store.new.disk) }
     ensures none { IsFalse result
         → (store.new.core ≡ store.old.core) × (D.device store.new.disk ≡ D.device store.old.disk) }
+    ensures few { SpendsCalls (D.device store.old.disk) store.old.core.log (D.device store.new.disk) store.new.core.log }
     ensures stays { StayOpen (D.device store.old.disk) store.old.core (D.device store.new.disk) store.new.core }
     ensures model { D.keeps_model store.new.disk → D.keeps_model store.old.disk }
 {
@@ -152,6 +154,7 @@ fn install_one<D: CrashDisk>(store: &mut Store<D>) -> bool
         → HasCalled store.old.core.log (D.device store.old.disk) store.new.core.log (D.device store.new.disk) }
     ensures none { IsFalse result
         → (store.new.core ≡ store.old.core) × (D.device store.new.disk ≡ D.device store.old.disk) }
+    ensures few { SpendsCalls (D.device store.old.disk) store.old.core.log (D.device store.new.disk) store.new.core.log }
     ensures stays { StayOpen (D.device store.old.disk) store.old.core (D.device store.new.disk) store.new.core }
     ensures model { D.keeps_model store.new.disk → D.keeps_model store.old.disk }
 {

@@ -9,6 +9,7 @@ use Rattle.wal_law.specs.Calls.{Pending, idle, out, was_made, home_after}
 use Rattle.wal_law.specs.Installer.{is_inst_out, may_install, with_inst_out}
 use Rattle.wal_law.specs.Log.{Log, settled_place}
 use Rattle.store.proofs.CallsLeft.{inst_called}
+use Rattle.store.proofs.CallsMade.{spends_none, spends_one}
 use Rattle.store.proofs.LogMoves.{answer_is, inst_back_is, inst_given, inst_made, inst_taken}
 use Rattle.store.proofs.LogSteps.{failed_is, fewer, goes_on, log_alone, log_places, same_core_places}
 use Rattle.store.proofs.LogSteps.{same_transactions, still_loaded}
@@ -127,6 +128,22 @@ returns-clause-open g c =
     (stays mid.log (is_inst_out mid.log io) ok c.lawful-2.ensures.log).1)
     called)
     called
+
+pub returns-in_default-clause-few : goal.returns-in_default-clause-few
+returns-in_default-clause-few g c =
+    spends_none c.args.store.now.core c.inst_next.new.self (g.D.CrashDisk.device c.args.store.now.disk)
+    (g.D.CrashDisk.device c.args.store.now.disk) (search rules) refl
+
+pub returns-clause-few : goal.returns-clause-few
+returns-clause-few g c =
+    let d = g.D.CrashDisk.device c.args.store.now.disk in
+    let e = g.D.CrashDisk.device c.perform.new.disk in
+    spends_one c.args.store.now.core.log c.inst_done.new.self.log d e
+    (inst_called c.args.store.now.core.log c.inst_next.new.self.log c.inst_done.new.self.log d e c.in-Some.io c.perform.result
+    c.is_ok-ok.result c.lawful.ensures.log c.in-Some.ensures.causes
+    (ap (λ (core : CoreState). core.log) (c.in-Some.ensures.some refl)) c.lawful-2.ensures.log c.in-Some.ensures.call
+    c.is_ok-ok.ensures.value c.inst_done.ensures.log c.perform.ensures.failure)
+    (made_later d c.in-Some.io c.perform.result e c.perform.ensures.call).clock
 
 pub returns-in_default-clause-stays : goal.returns-in_default-clause-stays
 returns-in_default-clause-stays g c =

@@ -8,6 +8,7 @@ use Rattle.wal_law.specs.Calls.{Pending, idle, out, was_made}
 use Rattle.wal_law.specs.Log.{Log, settled_place}
 use Rattle.wal_law.specs.Logger.{is_log_out, with_log_out}
 use Rattle.store.proofs.CallsLeft.{log_called}
+use Rattle.store.proofs.CallsMade.{spends_none, spends_one}
 use Rattle.store.proofs.LogMoves.{answer_is, log_given, log_made, log_taken}
 use Rattle.store.proofs.LogSteps.{failed_is, fewer, goes_on, log_alone, log_places, same_core_places}
 use Rattle.store.proofs.LogSteps.{same_transactions}
@@ -115,6 +116,22 @@ returns-clause-open g c =
     (stays mid.log (is_log_out mid.log io) ok c.lawful-2.ensures.log).1)
     called)
     called
+
+pub returns-in_default-clause-few : goal.returns-in_default-clause-few
+returns-in_default-clause-few g c =
+    spends_none c.args.store.now.core c.log_next.new.self (g.D.CrashDisk.device c.args.store.now.disk)
+    (g.D.CrashDisk.device c.args.store.now.disk) (search rules) refl
+
+pub returns-clause-few : goal.returns-clause-few
+returns-clause-few g c =
+    let d = g.D.CrashDisk.device c.args.store.now.disk in
+    let e = g.D.CrashDisk.device c.perform.new.disk in
+    spends_one c.args.store.now.core.log c.log_done.new.self.log d e
+    (log_called c.args.store.now.core.log c.log_next.new.self.log c.log_done.new.self.log d e c.in-Some.io c.perform.result
+    c.is_ok-ok.result c.lawful.ensures.log c.in-Some.ensures.causes
+    (ap (λ (core : CoreState). core.log) (c.in-Some.ensures.some refl)) c.lawful-2.ensures.log c.in-Some.ensures.call
+    c.is_ok-ok.ensures.value c.log_done.ensures.log c.perform.ensures.failure)
+    (made_later d c.in-Some.io c.perform.result e c.perform.ensures.call).clock
 
 pub returns-in_default-clause-stays : goal.returns-in_default-clause-stays
 returns-in_default-clause-stays g c =

@@ -2,6 +2,8 @@ use Rattle.std.proofs.Common.{arith, rules, ◌∙◌, refl, subst, sym, true≢
 use Rattle.procs.specs.Finished.{HasPlan}
 use Rattle.store.specs.Further.{LeavesOpen}
 use Rattle.store.proofs.CallsLeft.{stuck}
+use Rattle.store.proofs.CallsMade.{made_few, spends_along}
+use Rattle.store.specs.Settling.{SpendsCalls}
 use Rattle.store.proofs.Staying.{prefixes_kept, stay_along, still_open}
 use Rattle.store.proofs.StillOpen.{open_then, same_open}
 use Rattle.store.specs.SettlingStops.{StayOpen}
@@ -24,11 +26,21 @@ unreachable-requires g c =
           absurd (true≢false (sym (w.if-is_settled.ensures.1 rest.0)))
     ]
 
+pub returns-then-broken-clause-few : goal.returns-then-broken-clause-few
+returns-then-broken-clause-few g c =
+    made_few (g.D.CrashDisk.device c.args.store.now.disk) (g.D.CrashDisk.device c.calls.store.disk)
+    c.args.store.now.core.log c.calls.store.core.log c.calls.invariant.10
+
 pub returns-then-broken-clause-keeps : goal.returns-then-broken-clause-keeps
 returns-then-broken-clause-keeps g c = λ keeps.
     prefixes_kept (g.D.CrashDisk.device c.args.store.now.disk) (g.D.CrashDisk.device c.calls.store.disk)
     c.args.store.now.core c.calls.store.core (g.met.D.CrashDisk.whole c.calls.store.disk keeps)
     c.an_open_store_keeps_its_files.ensures.now c.a_stop_leaves_a_beginning.ensures.files c.calls.invariant.9
+
+pub returns-then-not-keeps_too_many-clause-few : goal.returns-then-not-keeps_too_many-clause-few
+returns-then-not-keeps_too_many-clause-few g c =
+    made_few (g.D.CrashDisk.device c.args.store.now.disk) (g.D.CrashDisk.device c.calls.store.disk)
+    c.args.store.now.core.log c.calls.store.core.log c.calls.invariant.10
 
 pub returns-then-not-keeps_too_many-clause-keeps : goal.returns-then-not-keeps_too_many-clause-keeps
 returns-then-not-keeps_too_many-clause-keeps g c = λ keeps.
@@ -50,6 +62,7 @@ calls-init g c =
       search rules,
       same_open device core,
       still_open device core,
+      record { few = omega arith },
     )
 
 pub calls-preserved : goal.calls-preserved
@@ -64,6 +77,9 @@ calls-preserved g c =
     let stayed : StayOpen (device first.disk) first.core (device mid.disk) mid.core =
     stay_along (device first.disk) (device old.disk) (device mid.disk) first.core old.core mid.core
     c.calls.invariant.9 c.log_one.ensures.stays in
+    let spent : SpendsCalls (device first.disk) first.core.log (device mid.disk) mid.core.log =
+    spends_along (device first.disk) (device old.disk) (device mid.disk) first.core.log old.core.log mid.core.log
+    c.calls.invariant.10 c.log_one.ensures.few in
     elim c.else-not-log_one.branch [
       | else-not-log_one-via-then-not-log_one+else-not-install_one w ↦
           let new = w.install_one.new.store in
@@ -82,6 +98,9 @@ calls-preserved g c =
             subst (λ s. StayOpen (device first.disk) first.core (device s.disk) s.core) same
                 (stay_along (device first.disk) (device mid.disk) (device new.disk) first.core mid.core new.core stayed
                 w.install_one.ensures.stays),
+            subst (λ s. SpendsCalls (device first.disk) first.core.log (device s.disk) s.core.log) same
+                (spends_along (device first.disk) (device mid.disk) (device new.disk) first.core.log mid.core.log
+                new.core.log spent w.install_one.ensures.few),
           )
       | else-not-log_one-via-else-not-log_one w ↦
           let same = sym w.store-is in (
@@ -95,5 +114,6 @@ calls-preserved g c =
             search rules,
             subst (λ s. LeavesOpen (device first.disk) first.core (device s.disk) s.core) same logged,
             subst (λ s. StayOpen (device first.disk) first.core (device s.disk) s.core) same stayed,
+            subst (λ s. SpendsCalls (device first.disk) first.core.log (device s.disk) s.core.log) same spent,
           )
     ]

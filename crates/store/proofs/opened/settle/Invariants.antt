@@ -1,10 +1,11 @@
 -- no transaction begins or ends, the image's counts and the pending fetches stay, no device call is out, what has
--- failed was counted, the device has kept its model so far where it does, and the store has stayed open
-use Rattle.std.proofs.Common.{◌≡◌, ◌≤◌, ◌+◌, true, if◌then◌else◌}
+-- failed was counted, the device has kept its model so far where it does, the store has stayed open, and each call was one
+-- of those that were left
+use Rattle.std.proofs.Common.{◌≡◌, ◌≤◌, true}
 use Rattle.store.specs.Counts.{SameFrame}
 use Rattle.store.specs.Fetches.{KeepsFetches}
 use Rattle.store.specs.Further.{LeavesOpen}
-use Rattle.store.specs.Settling.{HasFailed, SameNumbers, calls_left}
+use Rattle.store.specs.Settling.{HasFailed, SameNumbers, SpendsCalls, most_calls}
 use Rattle.store.specs.SettlingStops.{StayOpen}
 use Rattle.store.proofs.opened.settle.Given as goal
 
@@ -20,6 +21,8 @@ invariant-calls g l = (l.store.core.out ≡ l.fn.store.core.out)
     × (l.store.boot ≡ l.fn.store.boot)
     × LeavesOpen (g.D.CrashDisk.device l.fn.store.disk) l.fn.store.core (g.D.CrashDisk.device l.store.disk) l.store.core
     × StayOpen (g.D.CrashDisk.device l.fn.store.disk) l.fn.store.core (g.D.CrashDisk.device l.store.disk) l.store.core
+    × SpendsCalls (g.D.CrashDisk.device l.fn.store.disk) l.fn.store.core.log (g.D.CrashDisk.device l.store.disk)
+    l.store.core.log
 
 abbrev pub decreases-calls : goal.decreases-calls
-decreases-calls g l = if l.store.core.log.broken then 0 else calls_left l.store.core.log + 1
+decreases-calls g l = most_calls l.store.core.log
