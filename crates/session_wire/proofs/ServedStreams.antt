@@ -21,7 +21,7 @@ use Rattle.session_wire.specs.Calls.{CredentialFits, caller_of}
 use Rattle.session_wire.specs.Judging.{judged}
 use Rattle.rpc.specs.Refused.{refused}
 use Rattle.session_wire.specs.Served.{Serving, Standing, IsLater, IsReplyWithRules, IsNfsReply, IsCallReply}
-use Rattle.session_wire.specs.Served.{IsReplyTo, IsServable, served, done, nfs_done}
+use Rattle.session_wire.specs.Served.{IsReplyTo, IsServable, IsNfsDone, IsDone, Steps, all_done, served, done, nfs_done}
 use Rattle.session_wire.proofs.CallLaws.{judged_takes}
 
 pub none : (s : Serving) (old new : Standing) (replies : List (List ℕ)) → served s old [] replies new
@@ -134,6 +134,7 @@ record Answered (s : Serving) (old : Standing) (j : Judged) : Type 0 where
   bytes : List ℕ
   new : Standing
   is : IsReplyTo s old j bytes new
+  well : IsDone s old j bytes new
   sound : Sound new.tree
   number : new.number ≤ old.number + 1
 
@@ -143,6 +144,7 @@ record Stepped (s : Serving) (old : Standing) (rules : Bool) (xid : ℕ) (creden
   bytes : List ℕ
   new : Standing
   is : IsNfsReply s old rules xid credential call bytes new
+  well : IsNfsDone s old rules xid credential call bytes new
   sound : Sound new.tree
   number : new.number ≤ old.number + 1
 
@@ -162,16 +164,18 @@ module _ (s : Serving) (old : Standing) (xid : ℕ) (credential : Credential) (g
         stays_broken = λ is. is;
         stays_spent = λ is. is;
       } in
+      let made : Steps s old credential call a.0 new = record {
+        later = on;
+        number = old.number;
+        fresh = omega arith;
+        rising = omega arith;
+        step = a.2;
+      } in
       record {
         bytes = nfs_done xid a.0;
         new = new;
-        is = IsReplyWithRules.Done a.0 (record {
-          later = on;
-          number = old.number;
-          fresh = omega arith;
-          rising = omega arith;
-          step = a.2;
-        }) refl;
+        is = IsReplyWithRules.Done a.0 made refl;
+        well = (a.0, made, refl);
         sound = step_sound old.tree a.1 ctx call a.0 good now fits a.2;
         number = omega arith;
       }
@@ -179,6 +183,7 @@ module _ (s : Serving) (old : Standing) (xid : ℕ) (credential : Credential) (g
     bytes = done xid (plain_reply (program_calls.Nfs call));
     new = old;
     is = record { stays = refl; told = inl refl };
+    well = refl;
     sound = good;
     number = omega arith;
   }
@@ -187,11 +192,12 @@ module _ (s : Serving) (old : Standing) (xid : ℕ) (credential : Credential) (g
       → Answered s old (Call xid credential call)
   called (program_calls.Nfs call) now fits =
       let a = stepped call (has_rules call) refl now fits in
-      record { bytes = a.bytes; new = a.new; is = a.is; sound = a.sound; number = a.number }
+      record { bytes = a.bytes; new = a.new; is = a.is; well = a.well; sound = a.sound; number = a.number }
   called (program_calls.Mount call) now fits = record {
     bytes = done xid (plain_reply (program_calls.Mount call));
     new = old;
     is = record { stays = refl; told = inl refl };
+    well = refl;
     sound = good;
     number = omega arith;
   }
@@ -213,6 +219,7 @@ replied s old message messages can (Refused xid why) is = inr (record {
   bytes = refused xid why;
   new = old;
   is = (refl, refl);
+  well = refl;
   sound = can.sound;
   number = omega arith;
 })
@@ -232,10 +239,11 @@ replied s old message messages can (Call xid credential call) is =
 
 pub can_be_served : (s : Serving) (old : Standing) (messages : List (List ℕ)) → IsServable s old messages
     → (replies : List (List ℕ)) × (new : Standing) × served s old messages replies new
-can_be_served s old [] can = ([], old, (tt, refl))
+    × all_done s old messages replies new
+can_be_served s old [] can = ([], old, (tt, refl), (tt, refl))
 can_be_served s old (message ∷ messages) can =
     elim (replied s old message messages can (judged message) refl) [
-      | inl closes ↦ ([], old, (closes, refl))
+      | inl closes ↦ ([], old, (closes, refl), (closes, refl))
       | inr told ↦
           let rest = can_be_served s told.new messages (record {
             sound = told.sound;
@@ -244,5 +252,5 @@ can_be_served s old (message ∷ messages) can =
             numbers = let left = can.numbers in let one = told.number in omega (arith, left, one);
             bytes = can.bytes.1;
           }) in
-          (told.bytes ∷ rest.0, rest.1, (told.new, told.is, rest.2))
+          (told.bytes ∷ rest.0, rest.1, (told.new, told.is, rest.2), (told.new, told.well, rest.3))
     ]

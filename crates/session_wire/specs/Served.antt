@@ -141,3 +141,25 @@ served s old messages [] new = Ends messages × (new ≡ old)
 served s old [] (reply ∷ replies) new = ⊥
 served s old (message ∷ messages) (reply ∷ replies) new =
     (middle : Standing) × IsReplyTo s old (judged message) reply middle × served s middle messages replies new
+
+-- A message is answered and nothing fails: a call with rules makes its step and gets the reply of it, any other call
+-- gets its plain reply, and what is refused its refusal.
+abbrev pub IsNfsDone : Serving → Standing → Bool → ℕ → Credential → types.Call → List ℕ → Standing → Type 0
+IsNfsDone s old true xid credential call bytes new =
+    (reply : Reply) × Steps s old credential call reply new × (bytes ≡ nfs_done xid reply)
+IsNfsDone s old false xid credential call bytes new = bytes ≡ done xid (plain_reply (program_calls.Nfs call))
+
+abbrev pub IsDone : Serving → Standing → Judged → List ℕ → Standing → Type 0
+IsDone s old Closed bytes new = ⊥
+IsDone s old (Refused xid refusal) bytes new = bytes ≡ refused xid refusal
+IsDone s old (Call xid credential (program_calls.Nfs call)) bytes new =
+    IsNfsDone s old (has_rules call) xid credential call bytes new
+IsDone s old (Call xid credential (program_calls.Mount call)) bytes new =
+    bytes ≡ done xid (plain_reply (program_calls.Mount call))
+
+-- the served stream where nothing fails
+abbrev pub all_done : Serving → Standing → List (List ℕ) → List (List ℕ) → Standing → Type 0
+all_done s old messages [] new = Ends messages × (new ≡ old)
+all_done s old [] (reply ∷ replies) new = ⊥
+all_done s old (message ∷ messages) (reply ∷ replies) new =
+    (middle : Standing) × IsDone s old (judged message) reply middle × all_done s middle messages replies new

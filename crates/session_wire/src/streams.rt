@@ -4,7 +4,7 @@ ghost use Rattle.session_wire.specs.declared.message.Judged.TheVariants.{Closed,
 ghost use Rattle.rpc.specs.declared.refusal.Refusal.{Refusal};
 ghost use Rattle.session_wire.specs.Judging.{judged};
 ghost use Rattle.rpc.specs.Refused.{refused};
-ghost use Rattle.session_wire.specs.Served.{IsLater, IsServable, Serving, Standing, served};
+ghost use Rattle.session_wire.specs.Served.{IsLater, IsServable, Serving, Standing, all_done, served};
 
 /// A stream without messages gets no reply, and nothing changes.
 pub fn no_messages_get_no_replies()
@@ -42,8 +42,10 @@ pub fn a_stream_goes_on()
         → served s old messages replies new → IsLater old new }
 {}
 
-/// Each stream of bytes can be served that comes to a sound tree, while numbers of transactions are left.
+/// Each stream of bytes can be served that comes to a sound tree, while numbers of transactions are left; and that so
+/// that nothing fails: each call with rules gets the reply of its step, and each other its plain reply.
 pub fn each_stream_can_be_served()
     ensures { (s : Serving) (old : Standing) (messages : List (List ℕ)) → IsServable s old messages
-        → (replies : List (List ℕ)) × (new : Standing) × served s old messages replies new }
+        → (replies : List (List ℕ)) × (new : Standing) × served s old messages replies new
+        × all_done s old messages replies new }
 {}
