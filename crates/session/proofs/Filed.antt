@@ -1,13 +1,15 @@
 -- What a stream makes of the files, from what each of its messages was answered.
-use Rattle.std.proofs.Common.{◌≡◌, ℕ, List, [], ◌∷◌, ◌++◌, option_to_list, refl, sym, ap, subst, ◌∙◌, inl, inr, arith}
-use Rattle.std.proofs.Common.{append_assoc, Option, Result, Ok, Err, true, OnOk, OnErr}
+use Rattle.std.proofs.Common.{◌≡◌, ◌≤◌, ℕ, List, [], ◌∷◌, ◌++◌, option_to_list, refl, sym, ap, subst, ◌∙◌, inl, inr, arith}
+use Rattle.std.proofs.Common.{append_assoc, Option, Some, None, Result, Ok, Err, true, OnOk, OnErr}
 use Rattle.std.proofs.lemmas.List.{append-nil}
+use Rattle.disk.specs.Blocks.{AreBlocks}
 use Rattle.disk.specs.Crash.{Image, IsCrashImage}
 use Rattle.disk.specs.Device.{Device}
 use Rattle.disk.specs.declared.device.Failed.{Failed}
 use Rattle.model.specs.Entry.{Entry}
 use Rattle.model.specs.Sound.{SoundTime}
 use Rattle.model.specs.Tree.{Tree}
+use Rattle.nfs_types.specs.declared.ctx.Ctx.{Ctx}
 use Rattle.nfs_types.specs.declared.ctx.Moment.{Moment}
 use Rattle.nfs_types.specs.declared.program.ProgramCall.TheVariants as calls
 use Rattle.session_wire.specs.declared.message.Judged.{Judged}
@@ -16,173 +18,26 @@ use Rattle.session_wire.specs.Judging.{judged}
 use Rattle.txn_law.specs.Core.{CoreState}
 use Rattle.wal_law.specs.Calls.{Pending, idle}
 use Rattle.wal_law.specs.Log.{settled_place}
-use Rattle.store_promise.specs.OpenSince.{IsOpenSince, LeavesBeginning}
+use Rattle.store_promise.specs.OpenSince.{HasKeptFiles, IsOpenSince, KeepsFiles, LeavesBeginning}
+use Rattle.store_promise.specs.Openings.{IsLater}
 use Rattle.store.specs.Further.{LeavesOpen}
 use Rattle.store.specs.Opening.{IsSettled, Opened, store_of}
+use Rattle.store.specs.SettlingStops.{KeepsPrefixes}
 use Rattle.store.proofs.CallEvents.{gone_on}
-use Rattle.store.proofs.CallSteps.{open_of, runs_of, setting_of}
+use Rattle.store.proofs.Later.{past_more, past_none, some_image}
+use Rattle.store.proofs.Staying.{stops_along}
 use Rattle.store.proofs.StillOpen.{same_further}
-use Rattle.store.specs.Calling.{GoesTo}
+use Rattle.store.specs.Calling.{ComesTo, GoesTo, Outset}
 use Rattle.session.specs.declared.serving.SessionFault.{SessionFault}
 use Rattle.session.specs.declared.serving.SessionFault.TheVariants as faults
-use Rattle.session.specs.Filing.{AreFiled, Files, HasFiled, IsFiled, IsOpenFor, IsServed, IsSettledBehind, filed}
+use Rattle.session.specs.Filing.{AreFiled, Files, HasFiled, IsFiled, IsOpenFor, IsServed, IsSettledBehind, NumbersRise}
+use Rattle.session.specs.Filing.{filed, outset_of}
 use Rattle.session.specs.Replying.{IsAnswered}
 use Rattle.session.specs.Streaming.{Answered, IsStream}
 use Rattle.session.proofs.Courses.{longer_answers}
+use Rattle.session.proofs.ShortReplies.{never_too_long, spelled_whole}
 
--- ---- one message
-
-record FilesOne (moment : Moment) (old : Opened) (files : Files) (j : Judged) (bytes : List ℕ) (new : Opened)
-    : Type 0 where
-  later : Files
-  is : IsFiled moment old files j bytes new later
-  goes : GoesTo old new
-  opened : IsOpenFor new later
-  first : later.first ≡ files.first
-  made : List Entry
-  grown : later.entries ≡ files.entries ++ made
-
-still_open_for : (old new : Opened) (files : Files) → new ≡ old → IsOpenFor old files → IsOpenFor new files
-still_open_for old new files same opened = subst (λ (o : Opened). IsOpenFor o files) (sym same) opened
-
--- nothing has changed
-pub stays_there : (old new : Opened) → new ≡ old → GoesTo old new
-stays_there old new same = subst (GoesTo old) (sym same) (record {
-  failures = omega arith;
-  further = same_further old.core;
-  failed = λ broken. inl broken;
-})
-
-one : (K : Type 0) (moment : Moment) (old : Opened) (files : Files) (j : Judged) (bytes : List ℕ) (new : Opened)
-    → K → SoundTime moment → IsOpenFor old files → IsAnswered K moment old j bytes new
-    → FilesOne moment old files j bytes new
-one K moment old files verdicts.Closed bytes new keeps timely opened a = absurd a
-one K moment old files (verdicts.Refused xid refusal) bytes new keeps timely opened a = record {
-  later = files;
-  is = (a.1, refl);
-  goes = stays_there old new a.1;
-  opened = still_open_for old new files a.1 opened;
-  first = refl;
-  made = [];
-  grown = sym (append-nil files.entries);
-}
-one K moment old files (verdicts.Call xid credential (calls.Nfs call)) bytes new keeps timely opened (inl a) =
-    let has = a.1.answered files.first files.last files.entries keeps timely opened in
-    record {
-      later = filed files has.entry has.last;
-      is = inl (a.0, has, refl, a.2);
-      goes = has.goes;
-      opened = has.opened;
-      first = refl;
-      made = option_to_list has.entry;
-      grown = refl;
-    }
-one K moment old files (verdicts.Call xid credential (calls.Nfs call)) bytes new keeps timely opened (inr a) = record {
-  later = files;
-  is = inr (a.0, a.1, refl);
-  goes = stays_there old new a.1;
-  opened = still_open_for old new files a.1 opened;
-  first = refl;
-  made = [];
-  grown = sym (append-nil files.entries);
-}
-one K moment old files (verdicts.Call xid credential (calls.Mount call)) bytes new keeps timely opened (inl a) = record {
-  later = files;
-  is = (a.0, refl);
-  goes = stays_there old new a.0;
-  opened = still_open_for old new files a.0 opened;
-  first = refl;
-  made = [];
-  grown = sym (append-nil files.entries);
-}
-one K moment old files (verdicts.Call xid credential (calls.Mount call)) bytes new keeps timely opened (inr a) = record {
-  later = files;
-  is = (a.1, refl);
-  goes = stays_there old new a.1;
-  opened = still_open_for old new files a.1 opened;
-  first = refl;
-  made = [];
-  grown = sym (append-nil files.entries);
-}
-
--- ---- one after another
-
-record FilesAll (moment : Moment) (old : Opened) (files : Files) (messages replies : List (List ℕ)) (new : Opened)
-    : Type 0 where
-  later : Files
-  each : AreFiled moment old files messages replies new later
-  goes : GoesTo old new
-  opened : IsOpenFor new later
-  first : later.first ≡ files.first
-  made : List Entry
-  grown : later.entries ≡ files.entries ++ made
-
-all : (K : Type 0) (moment : Moment) (old : Opened) (files : Files) (messages replies : List (List ℕ)) (new : Opened)
-    → K → SoundTime moment → IsOpenFor old files → Answered K moment old messages replies new
-    → FilesAll moment old files messages replies new
-all K moment old files [] [] new keeps timely opened a = record {
-  later = files;
-  each = (a, refl);
-  goes = stays_there old new a;
-  opened = still_open_for old new files a opened;
-  first = refl;
-  made = [];
-  grown = sym (append-nil files.entries);
-}
-all K moment old files [] (r ∷ rs) new keeps timely opened a = absurd a
-all K moment old files (m ∷ ms) [] new keeps timely opened a = absurd a
-all K moment old files (m ∷ ms) (r ∷ rs) new keeps timely opened a =
-    let now = one K moment old files (judged m) r a.0 keeps timely opened a.1 in
-    let then = all K moment a.0 now.later ms rs new keeps timely now.opened a.2 in
-    record {
-      later = then.later;
-      each = (a.0, now.later, now.is, then.each);
-      goes = gone_on old a.0 new now.goes then.goes;
-      opened = then.opened;
-      first = then.first ∙ now.first;
-      made = now.made ++ then.made;
-      grown = then.grown ∙ ap (λ (es : List Entry). es ++ then.made) now.grown
-          ∙ append_assoc files.entries now.made then.made;
-    }
-
--- ---- behind the last message
-
--- what is settled behind it leaves the store open
-pub settled_for : (served : Opened) (device : Device) (core : CoreState) (boot : ℕ) (files : Files)
-    → LeavesOpen served.device served.core device core → boot ≡ served.boot → IsOpenFor served files
-    → IsOpenFor (store_of device core boot) files
-settled_for served device core boot files leaves same opened =
-    let o = setting_of opened.base served [] files.first files.entries files.last opened.opened in
-    let next = leaves.runs o opened.base [] served.boot files.first files.last files.entries
-    (runs_of opened.base served [] files.first files.entries files.last opened.opened) in
-    subst (λ (b : ℕ). IsOpenFor (store_of device core b) files) (sym same) (record {
-      base = next.home;
-      opened = open_of o next.home (store_of device core served.boot) [] files.first files.entries files.last
-          next.running;
-    })
-
--- what the stream has made of the files
-pub files_after : (K : Type 0) (moment : Moment) (old : Opened) (files : Files) (messages replies : List (List ℕ))
-    (served new : Opened) → K → SoundTime moment → IsOpenFor old files
-    → Answered K moment old messages replies served
-    → ((later : Files) → IsOpenFor served later → IsOpenFor new later)
-    → ((later : Files) (image : Image) → IsOpenFor new later → IsCrashImage new.device new.device.clock image
-    → LeavesBeginning new.device.size new.boot later.first later.entries (settled_place new.core.log) image)
-    → HasFiled moment old files messages replies served new
-files_after K moment old files messages replies served new keeps timely opened a behind stops =
-    let done = all K moment old files messages replies served keeps timely opened a in
-    record {
-      later = done.later;
-      each = done.each;
-      goes = done.goes;
-      first = done.first;
-      made = done.made;
-      grown = done.grown;
-      opened = behind done.later done.opened;
-      stops = λ image left. stops done.later image (behind done.later done.opened) left;
-    }
-
--- ---- what came of serving
+-- ---- the laws that it rests on
 
 -- a stop leaves the files of an open store after a beginning of its entries
 abbrev pub LeavesFiles : Type 0
@@ -191,14 +46,250 @@ LeavesFiles = (base : Image) (d : Device) (core : CoreState) (logging installing
     → IsOpenSince base d core logging installing boot first entries last → IsCrashImage d d.clock image
     → LeavesBeginning d.size boot first entries (settled_place core.log) image
 
+-- what was left stays so with more entries
+abbrev pub KeepsLonger : Type 0
+KeepsLonger = (before d : Device) (boot settled fewer : ℕ) (first : Tree) (entries more : List Entry)
+    → HasKeptFiles before d boot first entries settled → fewer ≤ settled
+    → HasKeptFiles before d boot first (entries ++ more) fewer
+
+-- ---- numbers
+
+numbers_of : (o : Outset) (now : Opened) (entry : Option Entry) (last : Tree) → ComesTo o now entry last
+    → o.store.core.begun ≤ now.core.begun → NumbersRise o.store.core.begun (option_to_list entry) now.core.begun
+numbers_of o now None last comes more = more
+numbers_of o now (Some entry) last comes more =
+    let is : entry.ctx.transaction ≡ comes.begun.number = ap (λ (ctx : Ctx). ctx.transaction) comes.ctx in
+    let fresh = comes.begun_for.fresh in
+    let taken = comes.begun_for.taken in
+    (omega (arith, is, fresh), omega (arith, is, taken))
+
+rise_lower : (lower least most : ℕ) (entries : List Entry) → lower ≤ least → NumbersRise least entries most
+    → NumbersRise lower entries most
+rise_lower lower least most [] below rise = omega (arith, below, rise)
+rise_lower lower least most (entry ∷ entries) below rise =
+    let above = rise.0 in
+    (omega (arith, below, above), rise.1)
+
+rise_along : (least mid most : ℕ) (entries more : List Entry) → NumbersRise least entries mid
+    → NumbersRise mid more most → NumbersRise least (entries ++ more) most
+rise_along least mid most [] more one two = rise_lower least mid most more one two
+rise_along least mid most (entry ∷ entries) more one two =
+    (one.0, rise_along entry.ctx.transaction mid most entries more one.1 two)
+
+-- ---- one message
+
+record FilesOne (moment : Moment) (old : Opened) (files : Files) (j : Judged) (bytes : List ℕ) (new : Opened)
+    : Type 0 where
+  later : Files
+  is : (settled : ℕ) → settled_place new.core.log ≤ settled → IsFiled settled moment old files j bytes new later
+  goes : GoesTo old new
+  opened : IsOpenFor new later
+  first : later.first ≡ files.first
+  made : List Entry
+  grown : later.entries ≡ files.entries ++ made
+  numbers : NumbersRise old.core.begun made new.core.begun
+  boot : new.boot ≡ old.boot
+  past : IsLater old.device new.device
+  during : KeepsFiles old.device new.device old.boot files.first later.entries (settled_place old.core.log)
+
+-- nothing has changed
+stays_there : (old : Opened) → GoesTo old old
+stays_there old = record {
+  failures = omega arith;
+  further = same_further old.core;
+  failed = λ broken. inl broken;
+}
+
+stops_there : LeavesFiles → (old : Opened) (files : Files) → IsOpenFor old files
+    → KeepsFiles old.device old.device old.boot files.first files.entries (settled_place old.core.log)
+stops_there stops old files opened = λ clock image above below crash.
+    let at : clock ≡ old.device.clock = omega (arith, above, below) in
+    stops opened.base old.device old.core idle idle old.boot files.first files.last files.entries image
+    opened.opened.since (subst (λ n. IsCrashImage old.device n image) at crash)
+
+untouched : LeavesFiles → (moment : Moment) (old : Opened) (files : Files) (j : Judged) (bytes : List ℕ)
+    → IsOpenFor old files → ((settled : ℕ) → IsFiled settled moment old files j bytes old files)
+    → FilesOne moment old files j bytes old
+untouched stops moment old files j bytes opened is = record {
+  later = files;
+  is = λ settled few. is settled;
+  goes = stays_there old;
+  opened = opened;
+  first = refl;
+  made = [];
+  grown = sym (append-nil files.entries);
+  numbers = omega arith;
+  boot = refl;
+  past = past_none old.device;
+  during = stops_there stops old files opened;
+}
+
+one : LeavesFiles → (K : Type 0) (moment : Moment) (old : Opened) (files : Files) (j : Judged) (bytes : List ℕ)
+    (new : Opened) → K → SoundTime moment → IsOpenFor old files → IsAnswered K moment old j bytes new
+    → FilesOne moment old files j bytes new
+one stops K moment old files verdicts.Closed bytes new keeps timely opened a = absurd a
+one stops K moment old files (verdicts.Refused xid refusal) bytes new keeps timely opened a =
+    subst (λ (x : Opened). FilesOne moment old files (verdicts.Refused xid refusal) bytes x) (sym a.1)
+    (untouched stops moment old files (verdicts.Refused xid refusal) bytes opened (λ settled. (refl, refl)))
+one stops K moment old files (verdicts.Call xid credential (calls.Nfs call)) bytes new keeps timely opened (inl a) =
+    let has = a.1.answered files.first files.last files.entries keeps timely opened in
+    record {
+      later = filed files has.entry has.last;
+      is = λ settled few. inl (
+        a.0,
+        has,
+        refl,
+        spelled_whole xid a.0 bytes (never_too_long xid (outset_of moment old files credential call) has.entry has.last
+            a.0 new has.comes has.tells) a.2,
+        λ entry is reply stable. let there = reply.settled stable in omega (arith, there, few),
+      );
+      goes = has.goes;
+      opened = has.opened;
+      first = refl;
+      made = option_to_list has.entry;
+      grown = refl;
+      numbers = numbers_of (outset_of moment old files credential call) new has.entry has.last has.comes
+          has.goes.further.begun;
+      boot = has.boot;
+      past = has.files.past;
+      during = has.files.stops;
+    }
+one stops K moment old files (verdicts.Call xid credential (calls.Nfs call)) bytes new keeps timely opened (inr a) =
+    subst (λ (x : Opened). FilesOne moment old files (verdicts.Call xid credential (calls.Nfs call)) bytes x) (sym a.1)
+    (untouched stops moment old files (verdicts.Call xid credential (calls.Nfs call)) bytes opened
+    (λ settled. inr (a.0, refl, refl)))
+one stops K moment old files (verdicts.Call xid credential (calls.Mount call)) bytes new keeps timely opened (inl a) =
+    subst (λ (x : Opened). FilesOne moment old files (verdicts.Call xid credential (calls.Mount call)) bytes x)
+    (sym a.0) (untouched stops moment old files (verdicts.Call xid credential (calls.Mount call)) bytes opened
+    (λ settled. (refl, refl)))
+one stops K moment old files (verdicts.Call xid credential (calls.Mount call)) bytes new keeps timely opened (inr a) =
+    subst (λ (x : Opened). FilesOne moment old files (verdicts.Call xid credential (calls.Mount call)) bytes x)
+    (sym a.1) (untouched stops moment old files (verdicts.Call xid credential (calls.Mount call)) bytes opened
+    (λ settled. (refl, refl)))
+
+-- ---- one after another
+
+record FilesAll (moment : Moment) (old : Opened) (files : Files) (messages replies : List (List ℕ)) (new : Opened)
+    : Type 0 where
+  later : Files
+  each : (settled : ℕ) → settled_place new.core.log ≤ settled
+      → AreFiled settled moment old files messages replies new later
+  goes : GoesTo old new
+  opened : IsOpenFor new later
+  first : later.first ≡ files.first
+  made : List Entry
+  grown : later.entries ≡ files.entries ++ made
+  numbers : NumbersRise old.core.begun made new.core.begun
+  boot : new.boot ≡ old.boot
+  past : IsLater old.device new.device
+  during : KeepsFiles old.device new.device old.boot files.first later.entries (settled_place old.core.log)
+
+-- what was left before a store, and what is left from it on
+during_both : KeepsLonger → (old mid : Opened) (later : Device) (files between : Files) (made all : List Entry)
+    → IsLater mid.device later → settled_place old.core.log ≤ settled_place mid.core.log → mid.boot ≡ old.boot
+    → between.first ≡ files.first → all ≡ between.entries ++ made
+    → KeepsFiles old.device mid.device old.boot files.first between.entries (settled_place old.core.log)
+    → KeepsFiles mid.device later mid.boot between.first all (settled_place mid.core.log)
+    → KeepsFiles old.device later old.boot files.first all (settled_place old.core.log)
+during_both longer old mid later files between made all past further boot first grown one two =
+    stops_along old.device mid.device later old.boot (settled_place old.core.log) (settled_place mid.core.log)
+    files.first all past further
+    (subst (λ (es : List Entry). HasKeptFiles old.device mid.device old.boot files.first es
+    (settled_place old.core.log)) (sym grown)
+    (longer old.device mid.device old.boot (settled_place old.core.log) (settled_place old.core.log) files.first
+    between.entries made (λ clock image above below crash. one clock image above (omega (arith, below)) crash)
+    (omega arith)))
+    (subst (λ (b : ℕ). KeepsFiles mid.device later b files.first all (settled_place mid.core.log)) boot
+    (subst (λ (tree : Tree). KeepsFiles mid.device later mid.boot tree all (settled_place mid.core.log)) first two))
+
+all : LeavesFiles → KeepsLonger → (K : Type 0) (moment : Moment) (old : Opened) (files : Files)
+    (messages replies : List (List ℕ)) (new : Opened)
+    → K → SoundTime moment → IsOpenFor old files → Answered K moment old messages replies new
+    → FilesAll moment old files messages replies new
+all stops longer K moment old files [] [] new keeps timely opened a =
+    subst (λ (x : Opened). FilesAll moment old files [] [] x) (sym a) (record {
+      later = files;
+      each = λ settled few. (refl, refl);
+      goes = stays_there old;
+      opened = opened;
+      first = refl;
+      made = [];
+      grown = sym (append-nil files.entries);
+      numbers = omega arith;
+      boot = refl;
+      past = past_none old.device;
+      during = stops_there stops old files opened;
+    })
+all stops longer K moment old files [] (r ∷ rs) new keeps timely opened a = absurd a
+all stops longer K moment old files (m ∷ ms) [] new keeps timely opened a = absurd a
+all stops longer K moment old files (m ∷ ms) (r ∷ rs) new keeps timely opened a =
+    let now = one stops K moment old files (judged m) r a.0 keeps timely opened a.1 in
+    let then = all stops longer K moment a.0 now.later ms rs new keeps timely now.opened a.2 in
+    let further = then.goes.further.settled in
+    record {
+      later = then.later;
+      each = λ settled few.
+          (a.0, now.later, now.is settled (omega (arith, further, few)), then.each settled few);
+      goes = gone_on old a.0 new now.goes then.goes;
+      opened = then.opened;
+      first = then.first ∙ now.first;
+      made = now.made ++ then.made;
+      grown = then.grown ∙ ap (λ (es : List Entry). es ++ then.made) now.grown
+          ∙ append_assoc files.entries now.made then.made;
+      numbers = rise_along old.core.begun a.0.core.begun new.core.begun now.made then.made now.numbers then.numbers;
+      boot = then.boot ∙ now.boot;
+      past = past_more old.device a.0.device new.device now.past then.past;
+      during = during_both longer old a.0 new.device files now.later then.made then.later.entries then.past
+          now.goes.further.settled now.boot now.first then.grown now.during then.during;
+    }
+
+-- ---- behind the last message
+
+-- what the stream has made of the files, where this was settled behind it
+pub files_after : LeavesFiles → KeepsLonger → (K : Type 0) (moment : Moment) (old : Opened) (files : Files)
+    (messages replies : List (List ℕ)) (served : Opened) (device : Device) (core : CoreState) (boot : ℕ) → K
+    → SoundTime moment → IsOpenFor old files → Answered K moment old messages replies served → AreBlocks device
+    → boot ≡ served.boot → settled_place served.core.log ≤ settled_place core.log
+    → ((later : Files) → IsOpenFor served later → IsOpenFor (store_of device core boot) later)
+    → KeepsPrefixes served.device served.core device core
+    → HasFiled moment old files messages replies served (store_of device core boot)
+files_after stops longer K moment old files messages replies served device core boot keeps timely opened a blocks same
+    further behind settles =
+    let done = all stops longer K moment old files messages replies served keeps timely opened a in
+    let open_then = behind done.later done.opened in
+    let kept = settles done.opened.base served.boot done.later.first done.later.last done.later.entries
+    done.opened.opened.since in
+    record {
+      later = done.later;
+      each = done.each (settled_place core.log) further;
+      goes = done.goes;
+      first = done.first;
+      made = done.made;
+      grown = done.grown;
+      numbers = done.numbers;
+      opened = open_then;
+      past = past_more old.device served.device device done.past kept.past;
+      left = some_image old.device device blocks;
+      during = during_both longer old served device files done.later [] done.later.entries kept.past
+          done.goes.further.settled done.boot done.first (sym (append-nil done.later.entries)) done.during kept.stops;
+      stops = λ image left.
+          stops open_then.base device core idle idle boot done.later.first done.later.last done.later.entries image
+          open_then.opened.since left;
+    }
+
+-- ---- what came of serving
+
 -- a stream that has ended, and the settling behind it
-pub served_behind : (K L : Type 0) → (L → K) → (moment : Moment) (old : Opened) (unread first : Option (List ℕ))
-    (result : Result ℕ SessionFault) (rest written : Option (List ℕ)) (served : Opened) (device : Device)
-    (core : CoreState) (boot : ℕ) → LeavesOpen served.device served.core device core → boot ≡ served.boot
-    → IsStream K moment old unread first result rest written served → IsSettledBehind result core → LeavesFiles
+pub served_behind : LeavesFiles → KeepsLonger → (K L : Type 0) → (L → K) → (moment : Moment) (old : Opened)
+    (unread first : Option (List ℕ)) (result : Result ℕ SessionFault) (rest written : Option (List ℕ))
+    (served : Opened) (device : Device) (core : CoreState) (boot : ℕ)
+    → LeavesOpen served.device served.core device core → boot ≡ served.boot
+    → ((later : Files) → IsOpenFor served later → IsOpenFor (store_of device core served.boot) later)
+    → (L → KeepsPrefixes served.device served.core device core) → (L → AreBlocks device)
+    → IsStream K moment old unread first result rest written served → IsSettledBehind result core
     → IsServed L moment old unread first result rest written (store_of device core boot)
-served_behind K L so moment old unread first result rest written served device core boot leaves same stream settled
-    stops = record {
+served_behind stops longer K L so moment old unread first result rest written served device core boot leaves same opens
+    settles blocks stream settled = record {
       served = served;
       stream = record {
         read = stream.read;
@@ -213,11 +304,11 @@ served_behind K L so moment old unread first result rest written served device c
       goes = record { failures = leaves.failures; further = leaves.further; failed = leaves.failed };
       settled = settled;
       files = λ files keeps timely opened.
-          files_after L moment old files stream.messages stream.replies served (store_of device core boot) keeps timely
-          opened (longer_answers K L so moment old stream.messages stream.replies served stream.answered)
-          (λ later is. settled_for served device core boot later leaves same is)
-          (λ later image is left.
-          stops is.base device core idle idle boot later.first later.last later.entries image is.opened.since left);
+          files_after stops longer L moment old files stream.messages stream.replies served device core boot keeps
+          timely opened (longer_answers K L so moment old stream.messages stream.replies served stream.answered)
+          (blocks keeps) same leaves.further.settled
+          (λ later is. subst (λ (b : ℕ). IsOpenFor (store_of device core b) later) (sym same) (opens later is))
+          (settles keeps);
     }
 
 -- behind a fault what can be settled is settled

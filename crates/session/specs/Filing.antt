@@ -1,8 +1,9 @@
 -- What a stream makes of the files of an open store.
-use Rattle.std.specs.Prelude.{◌≡◌, ℕ, ◌⊎◌, true, Option, List, [], ◌∷◌, ◌++◌, option_to_list}
+use Rattle.std.specs.Prelude.{◌≡◌, ℕ, ◌+◌, ◌<◌, ◌≤◌, ◌⊎◌, true, Option, Some, List, [], ◌∷◌, ◌++◌, length, option_to_list}
 use Rattle.std.specs.Prelude.{Result, Ok, Err}
 use Rattle.disk.specs.Crash.{Image, IsCrashImage}
 use Rattle.model.specs.Entry.{Entry}
+use Rattle.model.specs.Calls.{is_answered_stable}
 use Rattle.model.specs.Sound.{SoundTime}
 use Rattle.model.specs.Tree.{Tree}
 use Rattle.nfs_types.specs.declared.call.Call as types
@@ -12,16 +13,18 @@ use Rattle.nfs_types.specs.declared.program.ProgramCall.TheVariants as calls
 use Rattle.session_wire.specs.declared.message.Judged.{Judged}
 use Rattle.session_wire.specs.declared.message.Judged.TheVariants.{Closed, Refused, Call}
 use Rattle.session_wire.specs.Judging.{judged}
+use Rattle.session_wire.specs.Replies.{reply_bytes}
 use Rattle.wal_law.specs.Log.{settled_place}
 use Rattle.txn_law.specs.Core.{CoreState}
-use Rattle.store_promise.specs.OpenSince.{LeavesBeginning}
+use Rattle.store_promise.specs.OpenSince.{KeepsFiles, LeavesBeginning}
+use Rattle.store_promise.specs.Openings.{IsLater, LeavesImages}
 use Rattle.store_promise.specs.declared.answers.Verdict.{Verdict}
-use Rattle.store.specs.Calling.{GoesTo, HasAnswered, IsOpenWith, Outset, asked_of}
+use Rattle.store.specs.Calling.{GoesTo, HasAnswered, IsOpenWith, IsReplyOf, Outset, asked_of}
 use Rattle.store.specs.Opening.{IsSettled, Opened}
 use Rattle.session.specs.declared.serving.SessionFault.{SessionFault}
 use Rattle.session.specs.declared.serving.SessionFault.TheVariants.{Record, Input, Output, NoMemory, Truncated}
 use Rattle.session.specs.declared.serving.SessionFault.TheVariants.{Device}
-use Rattle.session.specs.Replying.{IsSpelled, IsSystemError}
+use Rattle.session.specs.Replying.{IsSystemError}
 use Rattle.session.specs.Serving.{reply_for}
 use Rattle.session.specs.Streaming.{IsStream}
 
@@ -49,41 +52,63 @@ outset_of moment store files credential call = record {
   asked = asked_of credential moment call;
 }
 
+-- where a call that waits for its place was answered its reply, the place is among those that are settled by this one
+abbrev pub IsSettledBy : ℕ → (o : Outset) (told : Verdict) (now : Opened) → HasAnswered o told now → Type 0
+IsSettledBy settled o told now has = (entry : Entry) → has.entry ≡ Some entry → IsReplyOf o entry told now
+    → is_answered_stable o.asked.call ≡ true → length o.entries + 1 ≤ settled
+
 -- What a message makes of the files, by what it is taken for. The procedure of a call of NFS was committed as a step
 -- of the sequential server from the files as they were, and its reply is what is answered, once its place is settled
--- where the call waits for that; or the answer says why there is none, or why it isn't that reply. A call for which
--- memory was refused before, and each other message, leaves the store and its files.
-abbrev pub IsFiled : Moment → Opened → Files → Judged → List ℕ → Opened → Files → Type 0
-IsFiled moment old files (Call xid credential (calls.Nfs call)) bytes new later = ((verdict : Verdict)
+-- where the call waits for that; or the answer says why there is none, or why it isn't that reply. The answer is spelled
+-- whole, as none is too long for a record. Each stop on the way
+-- leaves the files after a beginning of the entries, in which is each place that was settled before the message. A
+-- call for which memory was refused before, and each other message, leaves the store and its files.
+abbrev pub IsFiled : ℕ → Moment → Opened → Files → Judged → List ℕ → Opened → Files → Type 0
+IsFiled settled moment old files (Call xid credential (calls.Nfs call)) bytes new later = ((verdict : Verdict)
     × (has : HasAnswered (outset_of moment old files credential call) verdict new)
-    × (later ≡ filed files has.entry has.last) × IsSpelled xid (reply_for verdict) bytes)
+    × (later ≡ filed files has.entry has.last) × (bytes ≡ reply_bytes xid (reply_for verdict))
+    × IsSettledBy settled (outset_of moment old files credential call) verdict new has)
     ⊎ (IsSystemError xid bytes × (new ≡ old) × (later ≡ files))
-IsFiled moment old files (Call xid credential (calls.Mount call)) bytes new later = (new ≡ old) × (later ≡ files)
-IsFiled moment old files (Refused xid refusal) bytes new later = (new ≡ old) × (later ≡ files)
-IsFiled moment old files Closed bytes new later = ⊥
+IsFiled settled moment old files (Call xid credential (calls.Mount call)) bytes new later =
+    (new ≡ old) × (later ≡ files)
+IsFiled settled moment old files (Refused xid refusal) bytes new later = (new ≡ old) × (later ≡ files)
+IsFiled settled moment old files Closed bytes new later = ⊥
 
--- so do these messages, one after another
-abbrev pub AreFiled : Moment → Opened → Files → List (List ℕ) → List (List ℕ) → Opened → Files → Type 0
-AreFiled moment old files [] [] new later = (new ≡ old) × (later ≡ files)
-AreFiled moment old files [] (reply ∷ replies) new later = ⊥
-AreFiled moment old files (message ∷ messages) [] new later = ⊥
-AreFiled moment old files (message ∷ messages) (reply ∷ replies) new later = (middle : Opened) × (between : Files)
-    × IsFiled moment old files (judged message) reply middle between
-    × AreFiled moment middle between messages replies new later
+-- So do these messages, one after another; the places that stable replies told are settled by this one.
+abbrev pub AreFiled : ℕ → Moment → Opened → Files → List (List ℕ) → List (List ℕ) → Opened → Files → Type 0
+AreFiled settled moment old files [] [] new later = (new ≡ old) × (later ≡ files)
+AreFiled settled moment old files [] (reply ∷ replies) new later = ⊥
+AreFiled settled moment old files (message ∷ messages) [] new later = ⊥
+AreFiled settled moment old files (message ∷ messages) (reply ∷ replies) new later = (middle : Opened)
+    × (between : Files) × IsFiled settled moment old files (judged message) reply middle between
+    × AreFiled settled moment middle between messages replies new later
+
+-- the numbers of these entries' transactions rise: each is above the one before it, and none is above the most
+abbrev pub NumbersRise : ℕ → List Entry → ℕ → Type 0
+NumbersRise least [] most = least ≤ most
+NumbersRise least (entry ∷ entries) most =
+    (least < entry.ctx.transaction) × NumbersRise entry.ctx.transaction entries most
 
 -- What a stream has made of the files: each message did what is said above, from the store at the call to the one
--- behind the last message, and none took back a failure, a number or a settled place. The store that is left is open
--- for the files that there are then: those entries, and behind them the stream's. Whatever a stop leaves once the call
--- has returned is good, and has the tree after a beginning of them, in which is each place that is settled.
+-- behind the last message, and none took back a failure, a number or a settled place. The numbers of the transactions
+-- of its procedures rise, from above those that there were. The store that is left is open for the files that there
+-- are then: those entries, and behind them the stream's. Whatever a stop leaves, from the call on, is good, and has the
+-- tree after a beginning of them, in which is each place that was settled at the call. Once the call has returned each
+-- place is in it that is settled then, and so the place of each procedure that waits for its place and was answered its
+-- reply.
 pub record HasFiled (moment : Moment) (old : Opened) (files : Files) (messages replies : List (List ℕ))
     (served new : Opened) : Type 0 where
   pub later : Files
-  pub each : AreFiled moment old files messages replies served later
+  pub each : AreFiled (settled_place new.core.log) moment old files messages replies served later
   pub goes : GoesTo old served
   pub first : later.first ≡ files.first
   pub made : List Entry
   pub grown : later.entries ≡ files.entries ++ made
+  pub numbers : NumbersRise old.core.begun made served.core.begun
   pub opened : IsOpenFor new later
+  pub past : IsLater old.device new.device
+  pub left : LeavesImages old.device new.device
+  pub during : KeepsFiles old.device new.device old.boot files.first later.entries (settled_place old.core.log)
   pub stops : (image : Image) → IsCrashImage new.device new.device.clock image
       → LeavesBeginning new.device.size new.boot later.first later.entries (settled_place new.core.log) image
 

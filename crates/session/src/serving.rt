@@ -17,8 +17,8 @@ use nfs_types::Moment;
 use rpc::{Records, RpcFault};
 use std::alloc::{AllocError, Global};
 use std::io::{ErrorKind, Read, Write};
-use store::{Store, settle};
-use store_promise::a_stop_leaves_a_beginning;
+use store::{Store, a_settled_store_stays_open, settle};
+use store_promise::{a_stop_leaves_a_beginning, an_open_store_keeps_its_files};
 use thiserror::Error;
 
 /// Why a stream isn't served to its end.
@@ -69,7 +69,9 @@ pub fn serve<D: CrashDisk, R: Read, W: Write>(
         (R.remaining reader.old) (W.contents writer.old) result (R.remaining reader.new) (W.contents writer.new)
         (store_of (D.device store.new.disk) store.new.core store.new.boot) }
 {
+    a_settled_store_stays_open();
     a_stop_leaves_a_beginning();
+    an_open_store_keeps_its_files();
     let served = serve_all(alloc, store, reader, writer, moment);
     match served {
         Err(SessionFault::Output) => served,

@@ -1,5 +1,6 @@
 -- What the stream came to, and what was settled behind it.
 use Rattle.std.proofs.Common.{rules, ◌≡◌, ◌∙◌, Err, ap, refl, subst, sym}
+use Rattle.store.proofs.Staying.{prefixes_kept, still_open}
 use Rattle.store.proofs.StillOpen.{same_open}
 use Rattle.store.specs.Opening.{store_of}
 use Rattle.store.specs.Settling.{IsIdle}
@@ -18,13 +19,17 @@ returns-in-Err-Output-clause-stream g c =
     let device = g.D.CrashDisk.device in
     let keeps = g.D.CrashDisk.keeps_model served.disk in
     let output : c.serve_all-served.result ≡ Err faults.Output = search rules in
-    served_behind keeps keeps (λ kept. kept) c.args.moment (store_of (device was.disk) was.core was.boot)
+    let d = device served.disk in
+    served_behind c.a_stop_leaves_a_beginning.ensures.files c.an_open_store_keeps_its_files.ensures.longer keeps keeps
+    (λ kept. kept) c.args.moment (store_of (device was.disk) was.core was.boot)
     (g.R.Read.remaining c.args.reader.now) (g.W.Write.contents c.args.writer.now) c.serve_all-served.result
     (g.R.Read.remaining c.serve_all-served.new.reader) (g.W.Write.contents c.serve_all-served.new.writer)
     (store_of (device served.disk) served.core served.boot) (device served.disk) served.core served.boot
-    (same_open (device served.disk) served.core) refl c.serve_all-served.ensures.stream
+    (same_open d served.core) refl (λ later is. is)
+    (λ kept. prefixes_kept d d served.core served.core (g.met.D.CrashDisk.whole served.disk kept)
+    c.an_open_store_keeps_its_files.ensures.now c.a_stop_leaves_a_beginning.ensures.files (still_open d served.core))
+    (λ kept. g.met.D.CrashDisk.whole served.disk kept) c.serve_all-served.ensures.stream
     (subst (λ r. IsSettledBehind r served.core) (sym output) tt)
-    c.a_stop_leaves_a_beginning.ensures.files
 
 pub returns-in-Err : goal.returns-in-Err
 returns-in-Err g c =
@@ -50,17 +55,20 @@ returns-in-Err g c =
           let served = c.serve_all-served.new.store in
           let keeps = g.D.CrashDisk.keeps_model in
           let fault = c.in-Err.field-0 in
-          served_behind (keeps served.disk) (keeps now.disk) c.settle.ensures.model c.args.moment
+          served_behind c.a_stop_leaves_a_beginning.ensures.files c.an_open_store_keeps_its_files.ensures.longer
+          (keeps served.disk) (keeps now.disk) c.settle.ensures.model c.args.moment
           (store_of (device was.disk) was.core was.boot) (g.R.Read.remaining c.args.reader.now)
           (g.W.Write.contents c.args.writer.now) c.serve_all-served.result
           (g.R.Read.remaining c.serve_all-served.new.reader) (g.W.Write.contents c.serve_all-served.new.writer)
           (store_of (device served.disk) served.core served.boot) (device now.disk) now.core now.boot
-          c.settle.ensures.open c.settle.ensures.boot c.serve_all-served.ensures.stream
+          c.settle.ensures.open c.settle.ensures.boot
+          (λ later is. c.a_settled_store_stays_open.ensures (store_of (device served.disk) served.core served.boot)
+          (device now.disk) now.core later.first later.last later.entries c.settle.ensures.open is)
+          c.settle.ensures.keeps (λ kept. g.met.D.CrashDisk.whole now.disk kept) c.serve_all-served.ensures.stream
           (subst (λ r. IsSettledBehind r now.core) (sym c.in-Err.is)
           (settled_after fault now.core c.settle.result
           (λ is. c.serve_all-served.ensures.device (c.in-Err.is ∙ ap (λ (f : SessionFault). Err f) is))
-          c.settle.ensures.settled c.settle.ensures.broken))
-          c.a_stop_leaves_a_beginning.ensures.files;
+          c.settle.ensures.settled c.settle.ensures.broken));
     }
 
 pub returns-in-Ok-settle-clause-stream : goal.returns-in-Ok-settle-clause-stream
@@ -70,14 +78,16 @@ returns-in-Ok-settle-clause-stream g c =
     let now = c.settle-in-Ok.new.store in
     let device = g.D.CrashDisk.device in
     let keeps = g.D.CrashDisk.keeps_model in
-    served_behind (keeps served.disk) (keeps now.disk) c.settle-in-Ok.ensures.model c.args.moment
-    (store_of (device was.disk) was.core was.boot) (g.R.Read.remaining c.args.reader.now)
+    served_behind c.a_stop_leaves_a_beginning.ensures.files c.an_open_store_keeps_its_files.ensures.longer
+    (keeps served.disk) (keeps now.disk) c.settle-in-Ok.ensures.model c.args.moment (store_of (device was.disk) was.core was.boot) (g.R.Read.remaining c.args.reader.now)
     (g.W.Write.contents c.args.writer.now) c.serve_all-served.result
     (g.R.Read.remaining c.serve_all-served.new.reader) (g.W.Write.contents c.serve_all-served.new.writer)
     (store_of (device served.disk) served.core served.boot) (device now.disk) now.core now.boot
-    c.settle-in-Ok.ensures.open c.settle-in-Ok.ensures.boot c.serve_all-served.ensures.stream
+    c.settle-in-Ok.ensures.open c.settle-in-Ok.ensures.boot
+    (λ later is. c.a_settled_store_stays_open.ensures (store_of (device served.disk) served.core served.boot)
+    (device now.disk) now.core later.first later.last later.entries c.settle-in-Ok.ensures.open is)
+    c.settle-in-Ok.ensures.keeps (λ kept. g.met.D.CrashDisk.whole now.disk kept) c.serve_all-served.ensures.stream
     (subst (λ r. IsSettledBehind r now.core) (sym c.in-Ok.is) c.in-Ok-settle.ensures.settled)
-    c.a_stop_leaves_a_beginning.ensures.files
 
 pub returns-in-Err-settle-clause-stream : goal.returns-in-Err-settle-clause-stream
 returns-in-Err-settle-clause-stream g c =
@@ -92,8 +102,12 @@ returns-in-Err-settle-clause-stream g c =
     let first = g.W.Write.contents c.args.writer.now in
     let rest = g.R.Read.remaining c.serve_all-served.new.reader in
     let written = g.W.Write.contents c.serve_all-served.new.writer in
-    served_behind (keeps served.disk) (keeps now.disk) c.settle-in-Ok.ensures.model c.args.moment old unread first
+    served_behind c.a_stop_leaves_a_beginning.ensures.files c.an_open_store_keeps_its_files.ensures.longer
+    (keeps served.disk) (keeps now.disk) c.settle-in-Ok.ensures.model c.args.moment old unread first
     (Err faults.Device) rest written mid (device now.disk) now.core now.boot c.settle-in-Ok.ensures.open
     c.settle-in-Ok.ensures.boot
+    (λ later is. c.a_settled_store_stays_open.ensures mid (device now.disk) now.core later.first later.last later.entries
+    c.settle-in-Ok.ensures.open is)
+    c.settle-in-Ok.ensures.keeps (λ kept. g.met.D.CrashDisk.whole now.disk kept)
     (failed_behind (keeps served.disk) c.args.moment old unread first c.in-Ok.field-0 rest written mid
-    c.in-Ok.ensures.stream) c.in-Err-settle.ensures.broken c.a_stop_leaves_a_beginning.ensures.files
+    c.in-Ok.ensures.stream) c.in-Err-settle.ensures.broken
