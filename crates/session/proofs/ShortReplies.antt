@@ -3,8 +3,9 @@ use Rattle.std.proofs.Common.{◌≡◌, ◌⊎◌, inl, inr, ℕ, ◌+◌, ◌^
 use Rattle.std.proofs.Common.{Result, Ok, Err, ◌∙◌, arith, length-append, refl, subst, sym, true≢false}
 use Rattle.std.specs.Prelude.{◌||◌}
 use Rattle.model.specs.Attributes.{untold}
+use Rattle.model.specs.Calls.{has_rules}
 use Rattle.model.specs.Refused.{refused as refused_reply}
-use Rattle.procedures.specs.Step as procedures
+use Rattle.procedures.specs.Step.{numbered_step, step}
 use Rattle.model.specs.Tree.{Tree}
 use Rattle.nfs_types.specs.declared.attributes.Attributes.{Attributes}
 use Rattle.nfs_types.specs.declared.attributes.WeakCacheData.{WeakCacheData}
@@ -221,12 +222,37 @@ set_attr_is_short (Ok done) object =
 set_attr_is_short (Err s) object =
     reply_of _ (behind_refused 116 weak_cache nothing weak_caches (omega arith) s object)
 
-step_is_short : (tree : Tree) (ctx : Ctx) (c : types.Call) (reply : Reply) (next : Tree)
-    → procedures.step tree ctx c reply next → IsShortReply reply
-step_is_short tree ctx (call.GetAttr object) (replies.GetAttr outcome) next is = get_attr_is_short outcome
-step_is_short tree ctx (call.SetAttr object wanted guard) (replies.SetAttr outcome told) next is =
+numbered_is_short : (tree : Tree) (ctx : Ctx) (new : Option ℕ) (c : types.Call) (reply : Reply) (next : Tree)
+    → has_rules c ≡ true → numbered_step tree ctx new c reply next → IsShortReply reply
+numbered_is_short tree ctx new (call.GetAttr object) (replies.GetAttr outcome) next rules is = get_attr_is_short outcome
+numbered_is_short tree ctx new (call.GetAttr object) _ next rules is = absurd is
+numbered_is_short tree ctx new (call.SetAttr object wanted guard) (replies.SetAttr outcome told) next rules is =
     set_attr_is_short outcome told
-step_is_short tree ctx _ _ next is = absurd is
+numbered_is_short tree ctx new (call.SetAttr object wanted guard) _ next rules is = absurd is
+numbered_is_short tree ctx new call.Null reply next rules is = absurd (true≢false (sym rules))
+numbered_is_short tree ctx new (call.Lookup _) reply next rules is = absurd (true≢false (sym rules))
+numbered_is_short tree ctx new (call.Access _ _) reply next rules is = absurd (true≢false (sym rules))
+numbered_is_short tree ctx new (call.ReadLink _) reply next rules is = absurd (true≢false (sym rules))
+numbered_is_short tree ctx new (call.Read _ _ _) reply next rules is = absurd (true≢false (sym rules))
+numbered_is_short tree ctx new (call.Write _ _ _ _ _) reply next rules is = absurd (true≢false (sym rules))
+numbered_is_short tree ctx new (call.Create _ _) reply next rules is = absurd (true≢false (sym rules))
+numbered_is_short tree ctx new (call.MkDir _ _) reply next rules is = absurd (true≢false (sym rules))
+numbered_is_short tree ctx new (call.SymLink _ _ _) reply next rules is = absurd (true≢false (sym rules))
+numbered_is_short tree ctx new (call.MkNod _ _) reply next rules is = absurd (true≢false (sym rules))
+numbered_is_short tree ctx new (call.Remove _) reply next rules is = absurd (true≢false (sym rules))
+numbered_is_short tree ctx new (call.RmDir _) reply next rules is = absurd (true≢false (sym rules))
+numbered_is_short tree ctx new (call.Rename _ _) reply next rules is = absurd (true≢false (sym rules))
+numbered_is_short tree ctx new (call.Link _ _) reply next rules is = absurd (true≢false (sym rules))
+numbered_is_short tree ctx new (call.ReadDir _ _ _ _) reply next rules is = absurd (true≢false (sym rules))
+numbered_is_short tree ctx new (call.ReadDirPlus _ _ _ _ _) reply next rules is = absurd (true≢false (sym rules))
+numbered_is_short tree ctx new (call.FsStat _) reply next rules is = absurd (true≢false (sym rules))
+numbered_is_short tree ctx new (call.FsInfo _) reply next rules is = absurd (true≢false (sym rules))
+numbered_is_short tree ctx new (call.PathConf _) reply next rules is = absurd (true≢false (sym rules))
+numbered_is_short tree ctx new (call.Commit _ _ _) reply next rules is = absurd (true≢false (sym rules))
+
+step_is_short : (tree : Tree) (ctx : Ctx) (c : types.Call) (reply : Reply) (next : Tree) → has_rules c ≡ true
+    → step tree ctx c reply next → IsShortReply reply
+step_is_short tree ctx c reply next rules is = numbered_is_short tree ctx is.new c reply next rules is.leads
 
 -- ---- what a call is answered
 
@@ -254,7 +280,8 @@ pub never_too_long : (xid : ℕ) (o : Outset) (entry : Option Entry) (last : Tre
     → ComesTo o now entry last → Tells o entry told now → IsTooLong xid (reply_for told) → ⊥
 never_too_long xid o (Some entry) last told now comes (inl reply) =
     subst (IsFine xid) (sym reply.told_is)
-    (not_long xid entry.reply (step_is_short o.last entry.ctx entry.call entry.reply last comes.step))
+    (not_long xid entry.reply (step_is_short o.last entry.ctx entry.call entry.reply last
+    (subst (λ (c : types.Call). has_rules c ≡ true) (sym comes.call) comes.begun_for.rules) comes.step))
 never_too_long xid o (Some entry) last told now comes (inr unsettled) =
     subst (IsFine xid) (sym unsettled.told_is) (fine_refusal xid o.asked.call cause.Io)
 never_too_long xid o None last told now comes (inl unserved) =
