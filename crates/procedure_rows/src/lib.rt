@@ -4,6 +4,10 @@
 #[cfg(test)]
 mod changes;
 #[cfg(test)]
+mod crowded;
+#[cfg(test)]
+mod links;
+#[cfg(test)]
 mod listings;
 #[cfg(test)]
 mod renames;
