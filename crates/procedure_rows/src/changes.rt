@@ -1,5 +1,5 @@
-//! Calls that make and remove files, on the small tree of `tests`: the root of user 0 has mode 755 and the one name
-//! `a`.
+//! Calls that make and remove files, on the small tree of `tests`: the root of user 0 has mode 755 and the
+//! one name `a`.
 
 use crate::links::are_linked;
 use crate::tests::{NOTHING_WANTED, called_by, handle_of, sizes, tree};

@@ -1,5 +1,5 @@
-//! Directories with many names. The names of five digits are entered by hand: each lies in the slot of its number, and
-//! they lead by turns to the files 2 and 3 of user 7.
+//! Directories with many names. The names of five digits are entered by hand: each lies in the slot of its
+//! number, and they lead by turns to the files 2 and 3 of user 7.
 
 use crate::changes::{is_removal_told, is_removed};
 use crate::links::is_link_told;

@@ -1,4 +1,5 @@
-//! Worked calls of the plain procedures: the values come from the rules, by hand. No crate stands on this one.
+//! Worked calls of the plain procedures: the values come from the rules, by hand. No crate stands on this
+//! one.
 #![tactic(auto)]
 
 #[cfg(test)]

@@ -12,7 +12,8 @@ const ZEROS: Verifier = Verifier { bytes: [0; 8] };
 
 const ONES: Verifier = Verifier { bytes: [1; 8] };
 
-// How many entries user 8 gets of the root, the cookie of the last, and whether none is left; or why none is given.
+// How many entries user 8 gets of the root, the cookie of the last, and whether none is left; or why none
+// is given.
 type Given = Result<(usize, u64, bool), Status>;
 
 // How many entries there are, and the cookie of the last.

@@ -1,5 +1,5 @@
-//! RENAME on the small tree of `tests`: the root of user 0 has mode 755 and the one name `a`, in its first slot, of the
-//! file 2.
+//! RENAME on the small tree of `tests`: the root of user 0 has mode 755 and the one name `a`, in its first
+//! slot, of the file 2.
 
 use crate::changes::{Done, handle_of_new, has_links, is_directory_made, name_in, root, set_links};
 use crate::links::is_linked;
@@ -202,7 +202,8 @@ fn both_directories_are_looked_at_before_any_name(rt: HostRuntime) -> Result<(),
     Ok(())
 }
 
-// Whether a RENAME of `a` to `b` by user 0 at second 9000 is done, and tells these seconds of the root's last changes.
+// Whether a RENAME of `a` to `b` by user 0 at second 9000 is done, and tells these seconds of the root's
+// last changes.
 fn is_done_at_9000(alloc: Global, tree: &mut PlainTree, wanted: (u32, u32)) -> bool {
     let later = Ctx {
         moment: Moment {

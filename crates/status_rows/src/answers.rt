@@ -1,6 +1,7 @@
-//! A small tree, and the status of the reply to a call on it. The root of user 0 has mode 755 and the names `a` (file 2
-//! of user 7 and group 100, mode 640, no bytes), `d` (the empty directory 3 of user 0, mode 755) and `l` (link 4 to
-//! `t`). A helper whose name asks something answers false also where memory is wanted.
+//! A small tree, and the status of the reply to a call on it. The root of user 0 has mode 755 and the names
+//! `a` (file 2 of user 7 and group 100, mode 640, no bytes), `d` (the empty directory 3 of user 0, mode
+//! 755) and `l` (link 4 to `t`). A helper whose name asks something answers false also where memory is
+//! wanted.
 
 use nfs_types::{Call, Credential, Ctx, Moment, NumberList, Octets, Reply, Stamp, Status};
 use plain_server::{MappedIndexes, NumberedNode, PlainBody, PlainNames, PlainNode, PlainTree};
