@@ -1,12 +1,13 @@
-//! Calls that make, link and remove files, on the small tree of `tests`: the root of user 0 has mode 755 and the
+//! Calls that make and remove files, on the small tree of `tests`: the root of user 0 has mode 755 and the
 //! one name `a`.
 
-use crate::tests::{NOTHING_WANTED, called_by, handle_of, tree};
+use crate::links::are_linked;
+use crate::tests::{NOTHING_WANTED, called_by, handle_of, sizes, tree};
 use nfs_types::{
     Call, CreateHow, Created, DirectoryName, Handle, NewAttributes, Octets, Reply, Stamp, Status,
-    Verifier, WeakCacheData,
+    Verifier,
 };
-use plain_naming::{create, link, make_directory, make_link, remove, remove_directory};
+use plain_naming::{create, make_directory, make_link, remove, remove_directory};
 use plain_procedures::{Changed, least_unused, make_special, read_link};
 use plain_server::PlainTree;
 use plain_steps::answer;
@@ -28,9 +29,23 @@ pub(crate) fn handle_of_new(alloc: Global, number: u32) -> Result<Handle, AllocE
     Handle::of(alloc, number, stamp)
 }
 
-pub(crate) fn in_root(alloc: Global, name: &[u8]) -> Result<DirectoryName, AllocError> {
+// The handle of a file that is there: of the root, of the file 2, or of one that a call has made.
+pub(crate) fn handle_at(alloc: Global, number: u32) -> Result<Handle, AllocError> {
+    match number {
+        1 => root(alloc),
+        2 => handle_of(alloc, 2, 1),
+        _ => handle_of_new(alloc, number),
+    }
+}
+
+// A name in the directory of a number.
+pub(crate) fn name_in(
+    alloc: Global,
+    number: u32,
+    name: &[u8],
+) -> Result<DirectoryName, AllocError> {
     Ok(DirectoryName {
-        directory: root(alloc)?,
+        directory: handle_at(alloc, number)?,
         name: Octets::copied(alloc, name)?,
     })
 }
@@ -45,21 +60,31 @@ fn made(answer: Changed<Created>) -> Made {
     }
 }
 
+// What a CREATE of a name in the root is answered.
 fn created(
     alloc: Global,
     tree: &mut PlainTree,
     uid: u32,
     name: &[u8],
-    how: &CreateHow,
+    how: CreateHow,
 ) -> Result<Made, AllocError> {
     let ctx = called_by(alloc, uid);
-    let place = in_root(alloc, name)?;
-    Ok(made(create(alloc, tree, &ctx, &place, how)?))
+    let place = name_in(alloc, 1, name)?;
+    Ok(made(create(alloc, tree, &ctx, &place, &how)?))
 }
 
-fn guarded() -> CreateHow {
-    CreateHow::Guarded(NOTHING_WANTED)
+fn is_created(
+    alloc: Global,
+    tree: &mut PlainTree,
+    uid: u32,
+    name: &[u8],
+    how: CreateHow,
+    wanted: Made,
+) -> bool {
+    created(alloc, tree, uid, name, how) == Ok(wanted)
 }
+
+const GUARDED: CreateHow = CreateHow::Guarded(NOTHING_WANTED);
 
 fn exclusive(last: u8) -> CreateHow {
     CreateHow::Exclusive(Verifier {
@@ -72,50 +97,30 @@ fn exclusive_thrice(rt: HostRuntime) -> Result<(), AllocError> {
     let alloc = rt.alloc();
     let mut tree = tree(alloc, 64)?;
     // the least unused number is 3, and an exclusive file has mode 600
-    assert_eq!(rt;
-        created(alloc, &mut tree, 0, b"x", &exclusive(8))?,
-        Ok((3, 384))
-    );
-    assert_eq!(rt;
-        created(alloc, &mut tree, 0, b"x", &exclusive(8))?,
-        Ok((3, 384))
-    );
-    assert_eq!(rt;
-        created(alloc, &mut tree, 0, b"x", &exclusive(9))?,
-        Err(Status::Exist)
-    );
+    assert!(rt; is_created(alloc, &mut tree, 0, b"x", exclusive(8), Ok((3, 384))));
+    assert!(rt; is_created(alloc, &mut tree, 0, b"x", exclusive(8), Ok((3, 384))));
+    assert!(rt; is_created(alloc, &mut tree, 0, b"x", exclusive(9), Err(Status::Exist)));
     Ok(())
+}
+
+// Whether a CREATE by user 0 of a name of so many bytes is answered so.
+fn is_long_created(alloc: Global, tree: &mut PlainTree, bytes: usize, wanted: Made) -> bool {
+    match vec![in alloc; b'n'; bytes] {
+        Ok(name) => is_created(alloc, tree, 0, name.as_slice(), GUARDED, wanted),
+        Err(_) => false,
+    }
 }
 
 #[test]
 fn why_no_file_is_created(rt: HostRuntime) -> Result<(), AllocError> {
     let alloc = rt.alloc();
     let mut tree = tree(alloc, 64)?;
-    let long = vec![in alloc; b'n'; 113]?;
-    assert_eq!(rt;
-        created(alloc, &mut tree, 0, b"a", &guarded())?,
-        Err(Status::Exist)
-    );
-    assert_eq!(rt;
-        created(alloc, &mut tree, 0, b".", &guarded())?,
-        Err(Status::Exist)
-    );
-    assert_eq!(rt;
-        created(alloc, &mut tree, 0, b"", &guarded())?,
-        Err(Status::Acces)
-    );
-    assert_eq!(rt;
-        created(alloc, &mut tree, 8, b"b", &guarded())?,
-        Err(Status::Acces)
-    );
-    assert_eq!(rt;
-        created(alloc, &mut tree, 0, long.as_slice(), &guarded())?,
-        Err(Status::NameTooLong)
-    );
-    assert_eq!(rt;
-        created(alloc, &mut tree, 0, b"b", &guarded())?,
-        Ok((3, 420))
-    );
+    assert!(rt; is_created(alloc, &mut tree, 0, b"a", GUARDED, Err(Status::Exist)));
+    assert!(rt; is_created(alloc, &mut tree, 0, b".", GUARDED, Err(Status::Exist)));
+    assert!(rt; is_created(alloc, &mut tree, 0, b"", GUARDED, Err(Status::Acces)));
+    assert!(rt; is_created(alloc, &mut tree, 8, b"b", GUARDED, Err(Status::Acces)));
+    assert!(rt; is_long_created(alloc, &mut tree, 113, Err(Status::NameTooLong)));
+    assert!(rt; is_created(alloc, &mut tree, 0, b"b", GUARDED, Ok((3, 420))));
     Ok(())
 }
 
@@ -127,102 +132,150 @@ fn unchecked(size: u64) -> CreateHow {
     })
 }
 
+// Whether an UNCHECKED CREATE of `a` tells this number, mode, size and used bytes.
+fn is_told_of_unchecked(
+    alloc: Global,
+    tree: &mut PlainTree,
+    size: u64,
+    wanted: (u64, u32, u64, u64),
+) -> bool {
+    let ctx = called_by(alloc, 0);
+    let Ok(place) = name_in(alloc, 1, b"a") else {
+        return false;
+    };
+    match create(alloc, tree, &ctx, &place, &unchecked(size)) {
+        Ok(answer) => match &answer.outcome {
+            Ok(made) => made.attributes.map(|a| (a.number, a.mode, a.size, a.used)) == Some(wanted),
+            Err(_) => false,
+        },
+        Err(_) => false,
+    }
+}
+
 #[test]
 fn unchecked_sets_the_size_alone(rt: HostRuntime) -> Result<(), AllocError> {
     let alloc = rt.alloc();
     let mut tree = tree(alloc, 64)?;
-    let ctx = called_by(alloc, 0);
-    let place = in_root(alloc, b"a")?;
-    let answer = create(alloc, &mut tree, &ctx, &place, &unchecked(5000))?;
-    let told = match answer.outcome {
-        Ok(made) => made.attributes.map(|a| (a.number, a.mode, a.size, a.used)),
-        Err(_) => None,
-    };
     // the file 2 keeps its mode 640; nothing is written, so that no block is used
-    assert_eq!(rt; told, Some((2, 416, 5000, 0)));
-    assert_eq!(rt;
-        created(alloc, &mut tree, 0, b"a", &unchecked(4_227_073))?,
-        Err(Status::FBig)
-    );
+    assert!(rt; is_told_of_unchecked(alloc, &mut tree, 5000, (2, 416, 5000, 0)));
+    let too_large = unchecked(4_227_073);
+    assert!(rt; is_created(alloc, &mut tree, 0, b"a", too_large, Err(Status::FBig)));
     Ok(())
 }
 
+// What a call without a result is answered.
+pub(crate) type Done = Result<(), Status>;
+
 // What a removal of a name in the root is answered.
-pub(crate) fn removed(
+fn removed(alloc: Global, tree: &mut PlainTree, uid: u32, name: &[u8]) -> Result<Done, AllocError> {
+    let ctx = called_by(alloc, uid);
+    let place = name_in(alloc, 1, name)?;
+    Ok(remove(tree, &ctx, &place)?.outcome)
+}
+
+pub(crate) fn is_removed(
     alloc: Global,
     tree: &mut PlainTree,
     uid: u32,
     name: &[u8],
-) -> Result<Result<(), Status>, AllocError> {
-    let ctx = called_by(alloc, uid);
-    let place = in_root(alloc, name)?;
-    Ok(remove(tree, &ctx, &place)?.outcome)
+    wanted: Done,
+) -> bool {
+    removed(alloc, tree, uid, name) == Ok(wanted)
+}
+
+// Whether a removal by user 0 tells this size and these used bytes of the root.
+pub(crate) fn is_removal_told(
+    alloc: Global,
+    tree: &mut PlainTree,
+    name: &[u8],
+    wanted: (u64, u64),
+) -> bool {
+    let ctx = called_by(alloc, 0);
+    let Ok(place) = name_in(alloc, 1, name) else {
+        return false;
+    };
+    match remove(tree, &ctx, &place) {
+        Ok(answer) => sizes(&answer.file) == Some(wanted),
+        Err(_) => false,
+    }
 }
 
 #[test]
 fn why_no_name_is_removed(rt: HostRuntime) -> Result<(), AllocError> {
     let alloc = rt.alloc();
     let mut tree = tree(alloc, 64)?;
-    assert_eq!(rt; directory_made(alloc, &mut tree, b"d")?, Ok((3, 493)));
-    assert_eq!(rt; removed(alloc, &mut tree, 8, b"a")?, Err(Status::Acces));
-    assert_eq!(rt; removed(alloc, &mut tree, 0, b"..")?, Err(Status::IsDir));
-    assert_eq!(rt; removed(alloc, &mut tree, 0, b"b")?, Err(Status::NoEnt));
-    assert_eq!(rt; removed(alloc, &mut tree, 0, b"d")?, Err(Status::IsDir));
-    assert_eq!(rt; removed(alloc, &mut tree, 0, b"a")?, Ok(()));
-    assert_eq!(rt; removed(alloc, &mut tree, 0, b"a")?, Err(Status::NoEnt));
+    assert!(rt; is_directory_made(alloc, &mut tree, 1, b"d", Ok((3, 493))));
+    assert!(rt; is_removed(alloc, &mut tree, 8, b"a", Err(Status::Acces)));
+    assert!(rt; is_removed(alloc, &mut tree, 0, b"..", Err(Status::IsDir)));
+    assert!(rt; is_removed(alloc, &mut tree, 0, b"b", Err(Status::NoEnt)));
+    assert!(rt; is_removed(alloc, &mut tree, 0, b"d", Err(Status::IsDir)));
+    assert!(rt; is_removed(alloc, &mut tree, 0, b"a", Ok(())));
+    assert!(rt; is_removed(alloc, &mut tree, 0, b"a", Err(Status::NoEnt)));
     Ok(())
 }
 
 #[test]
 fn the_handle_of_a_removed_file_is_stale(rt: HostRuntime) -> Result<(), AllocError> {
     let alloc = rt.alloc();
-    let mut tree = tree(alloc, 64)?;
     let old = handle_of(alloc, 2, 1)?;
-    assert_eq!(rt; removed(alloc, &mut tree, 0, b"a")?, Ok(()));
-    // the number 2 is the least unused one again, with another stamp
-    assert_eq!(rt;
-        created(alloc, &mut tree, 0, b"a", &guarded())?,
-        Ok((2, 420))
-    );
-    assert_eq!(rt; plain_procedures::found(&tree, &old).is_err(), true);
     let new = handle_of_new(alloc, 2)?;
-    assert_eq!(rt; plain_procedures::found(&tree, &new).is_ok(), true);
+    let mut tree = tree(alloc, 64)?;
+    assert!(rt; is_removed(alloc, &mut tree, 0, b"a", Ok(())));
+    // the number 2 is the least unused one again, with another stamp
+    assert!(rt; is_created(alloc, &mut tree, 0, b"a", GUARDED, Ok((2, 420))));
+    assert!(rt; plain_procedures::found(&tree, &old).is_err());
+    assert!(rt; plain_procedures::found(&tree, &new).is_ok());
     Ok(())
 }
 
-fn directory_made(alloc: Global, tree: &mut PlainTree, name: &[u8]) -> Result<Made, AllocError> {
+// What a MKDIR by user 0 of a name in the directory of a number is answered.
+fn directory_made(
+    alloc: Global,
+    tree: &mut PlainTree,
+    number: u32,
+    name: &[u8],
+) -> Result<Made, AllocError> {
     let ctx = called_by(alloc, 0);
-    let place = in_root(alloc, name)?;
+    let place = name_in(alloc, number, name)?;
     Ok(made(make_directory(alloc, tree, &ctx, &place, &NOTHING_WANTED)?))
 }
 
-fn directory_removed(
+pub(crate) fn is_directory_made(
     alloc: Global,
     tree: &mut PlainTree,
+    number: u32,
     name: &[u8],
-) -> Result<Result<(), Status>, AllocError> {
+    wanted: Made,
+) -> bool {
+    directory_made(alloc, tree, number, name) == Ok(wanted)
+}
+
+// What a RMDIR by user 0 of a name in the root is answered.
+fn directory_removed(alloc: Global, tree: &mut PlainTree, name: &[u8]) -> Result<Done, AllocError> {
     let ctx = called_by(alloc, 0);
-    let place = in_root(alloc, name)?;
+    let place = name_in(alloc, 1, name)?;
     Ok(remove_directory(tree, &ctx, &place)?.outcome)
 }
 
-// The links of the root.
-fn root_links(tree: &PlainTree) -> Option<u32> {
-    tree.nodes
-        .iter()
-        .find(|file| file.number == 1)
-        .map(|file| file.node.nlink)
+fn is_directory_removed(alloc: Global, tree: &mut PlainTree, name: &[u8], wanted: Done) -> bool {
+    directory_removed(alloc, tree, name) == Ok(wanted)
+}
+
+// Whether the file of a number has so many links.
+pub(crate) fn has_links(tree: &PlainTree, number: u32, links: u32) -> bool {
+    let file = tree.nodes.iter().find(|file| file.number == number);
+    file.map(|file| file.node.nlink) == Some(links)
 }
 
 #[test]
 fn directories_are_links_of_their_parent(rt: HostRuntime) -> Result<(), AllocError> {
     let alloc = rt.alloc();
     let mut tree = tree(alloc, 64)?;
-    assert_eq!(rt; directory_made(alloc, &mut tree, b"d")?, Ok((3, 493)));
-    assert_eq!(rt; root_links(&tree), Some(3));
-    assert_eq!(rt; directory_made(alloc, &mut tree, b"d")?, Err(Status::Exist));
-    assert_eq!(rt; directory_removed(alloc, &mut tree, b"d")?, Ok(()));
-    assert_eq!(rt; root_links(&tree), Some(2));
+    assert!(rt; is_directory_made(alloc, &mut tree, 1, b"d", Ok((3, 493))));
+    assert!(rt; has_links(&tree, 1, 3));
+    assert!(rt; is_directory_made(alloc, &mut tree, 1, b"d", Err(Status::Exist)));
+    assert!(rt; is_directory_removed(alloc, &mut tree, b"d", Ok(())));
+    assert!(rt; has_links(&tree, 1, 2));
     Ok(())
 }
 
@@ -230,47 +283,33 @@ fn directories_are_links_of_their_parent(rt: HostRuntime) -> Result<(), AllocErr
 fn why_no_directory_is_removed(rt: HostRuntime) -> Result<(), AllocError> {
     let alloc = rt.alloc();
     let mut tree = tree(alloc, 64)?;
-    assert_eq!(rt; directory_made(alloc, &mut tree, b"d")?, Ok((3, 493)));
-    let ctx = called_by(alloc, 0);
-    let inside = DirectoryName {
-        directory: handle_of_new(alloc, 3)?,
-        name: Octets::copied(alloc, b"e")?,
-    };
-    assert_eq!(rt;
-        made(make_directory(alloc, &mut tree, &ctx, &inside, &NOTHING_WANTED)?),
-        Ok((4, 493))
-    );
-    assert_eq!(rt;
-        directory_removed(alloc, &mut tree, b"a")?,
-        Err(Status::NotDir)
-    );
-    assert_eq!(rt;
-        directory_removed(alloc, &mut tree, b".")?,
-        Err(Status::Inval)
-    );
-    assert_eq!(rt;
-        directory_removed(alloc, &mut tree, b"b")?,
-        Err(Status::NoEnt)
-    );
-    assert_eq!(rt;
-        directory_removed(alloc, &mut tree, b"d")?,
-        Err(Status::NotEmpty)
-    );
+    assert!(rt; is_directory_made(alloc, &mut tree, 1, b"d", Ok((3, 493))));
+    assert!(rt; is_directory_made(alloc, &mut tree, 3, b"e", Ok((4, 493))));
+    assert!(rt; is_directory_removed(alloc, &mut tree, b"a", Err(Status::NotDir)));
+    assert!(rt; is_directory_removed(alloc, &mut tree, b".", Err(Status::Inval)));
+    assert!(rt; is_directory_removed(alloc, &mut tree, b"b", Err(Status::NoEnt)));
+    assert!(rt; is_directory_removed(alloc, &mut tree, b"d", Err(Status::NotEmpty)));
     Ok(())
+}
+
+// Gives the file of a number so many links.
+pub(crate) fn set_links(tree: &mut PlainTree, number: u32, links: u32) {
+    if let Some(file) = tree.nodes.iter_mut().find(|file| file.number == number) {
+        file.node.nlink = links;
+    }
 }
 
 #[test]
 fn no_directory_in_one_with_all_links(rt: HostRuntime) -> Result<(), AllocError> {
     let alloc = rt.alloc();
     let mut tree = tree(alloc, 64)?;
-    if let Some(root) = tree.nodes.first_mut() {
-        root.node.nlink = 32_000;
-    }
-    assert_eq!(rt; directory_made(alloc, &mut tree, b"d")?, Err(Status::MLink));
-    assert_eq!(rt; directory_made(alloc, &mut tree, b"a")?, Err(Status::Exist));
+    set_links(&mut tree, 1, 32_000);
+    assert!(rt; is_directory_made(alloc, &mut tree, 1, b"d", Err(Status::MLink)));
+    assert!(rt; is_directory_made(alloc, &mut tree, 1, b"a", Err(Status::Exist)));
     Ok(())
 }
 
+// What a SYMLINK by user 0 in the root is answered.
 fn link_made(
     alloc: Global,
     tree: &mut PlainTree,
@@ -278,199 +317,131 @@ fn link_made(
     target: &[u8],
 ) -> Result<Made, AllocError> {
     let ctx = called_by(alloc, 0);
-    let place = in_root(alloc, name)?;
+    let place = name_in(alloc, 1, name)?;
     let target = Octets::copied(alloc, target)?;
     Ok(made(make_link(alloc, tree, &ctx, &place, &NOTHING_WANTED, &target)?))
+}
+
+fn is_link_made(
+    alloc: Global,
+    tree: &mut PlainTree,
+    name: &[u8],
+    target: &[u8],
+    wanted: Made,
+) -> bool {
+    link_made(alloc, tree, name, target) == Ok(wanted)
+}
+
+// Whether a SYMLINK to so many bytes is answered so.
+fn is_long_link_made(alloc: Global, tree: &mut PlainTree, bytes: usize, wanted: Made) -> bool {
+    match vec![in alloc; b't'; bytes] {
+        Ok(target) => is_link_made(alloc, tree, b"l", target.as_slice(), wanted),
+        Err(_) => false,
+    }
+}
+
+// Whether the new file of a number is a link to these bytes.
+fn leads_to(alloc: Global, tree: &PlainTree, number: u32, wanted: &[u8]) -> bool {
+    let Ok(link) = handle_of_new(alloc, number) else {
+        return false;
+    };
+    match read_link(tree, &link) {
+        Ok(answer) => match &answer.outcome {
+            Ok(target) => target.as_slice() == wanted,
+            Err(_) => false,
+        },
+        Err(_) => false,
+    }
 }
 
 #[test]
 fn a_link_keeps_its_target(rt: HostRuntime) -> Result<(), AllocError> {
     let alloc = rt.alloc();
     let mut tree = tree(alloc, 64)?;
-    let long = vec![in alloc; b't'; 1025]?;
-    assert_eq!(rt; link_made(alloc, &mut tree, b"a", b"")?, Err(Status::Exist));
-    assert_eq!(rt; link_made(alloc, &mut tree, b"l", b"")?, Err(Status::Inval));
-    assert_eq!(rt;
-        link_made(alloc, &mut tree, b"l", long.as_slice())?,
-        Err(Status::NameTooLong)
-    );
-    assert_eq!(rt; link_made(alloc, &mut tree, b"l", b"a/../b")?, Ok((3, 511)));
-    let answer = read_link(&tree, &handle_of_new(alloc, 3)?)?.outcome;
-    assert!(rt; matches!(&answer, Ok(target) if target.as_slice() == b"a/../b".as_slice()));
+    assert!(rt; is_link_made(alloc, &mut tree, b"a", b"", Err(Status::Exist)));
+    assert!(rt; is_link_made(alloc, &mut tree, b"l", b"", Err(Status::Inval)));
+    assert!(rt; is_long_link_made(alloc, &mut tree, 1025, Err(Status::NameTooLong)));
+    assert!(rt; is_link_made(alloc, &mut tree, b"l", b"a/../b", Ok((3, 511))));
+    assert!(rt; leads_to(alloc, &tree, 3, b"a/../b"));
     Ok(())
+}
+
+// Whether a MKNOD in the directory of a handle is answered so.
+fn is_special_made(tree: &PlainTree, directory: &Handle, wanted: Made) -> bool {
+    made(make_special(tree, directory)) == wanted
 }
 
 #[test]
 fn no_special_file_is_made(rt: HostRuntime) -> Result<(), AllocError> {
     let alloc = rt.alloc();
+    let root = root(alloc)?;
+    let stale = handle_of(alloc, 3, 0)?;
     let tree = tree(alloc, 64)?;
-    assert_eq!(rt;
-        made(make_special(&tree, &root(alloc)?)),
-        Err(Status::NotSupp)
-    );
-    assert_eq!(rt;
-        made(make_special(&tree, &handle_of(alloc, 3, 0)?)),
-        Err(Status::Stale)
-    );
+    assert!(rt; is_special_made(&tree, &root, Err(Status::NotSupp)));
+    assert!(rt; is_special_made(&tree, &stale, Err(Status::Stale)));
     Ok(())
 }
 
-// What a LINK of a file to a name in the root is answered, and the size and the used bytes of the root.
-fn linked(
-    alloc: Global,
-    tree: &mut PlainTree,
-    file: &Handle,
-    name: &[u8],
-) -> Result<(Result<(), Status>, Option<(u64, u64)>), AllocError> {
+// Whether a call is answered as a MKDIR that is done.
+fn is_directory_answered(alloc: Global, tree: &mut PlainTree, call: &Call) -> bool {
     let ctx = called_by(alloc, 0);
-    let place = in_root(alloc, name)?;
-    let answer = link(alloc, tree, &ctx, file, &place)?;
-    Ok((answer.outcome, sizes(&answer.directory)))
-}
-
-fn sizes(told: &WeakCacheData) -> Option<(u64, u64)> {
-    told.after
-        .map(|attributes| (attributes.size, attributes.used))
-}
-
-#[test]
-fn why_no_name_is_linked(rt: HostRuntime) -> Result<(), AllocError> {
-    let alloc = rt.alloc();
-    let mut tree = tree(alloc, 64)?;
-    let file = handle_of(alloc, 2, 1)?;
-    assert_eq!(rt;
-        linked(alloc, &mut tree, &file, b"a")?.0,
-        Err(Status::Exist)
-    );
-    assert_eq!(rt;
-        linked(alloc, &mut tree, &root(alloc)?, b"a")?.0,
-        Err(Status::Inval)
-    );
-    assert_eq!(rt;
-        linked(alloc, &mut tree, &handle_of(alloc, 2, 0)?, b"b")?.0,
-        Err(Status::Stale)
-    );
-    assert_eq!(rt; linked(alloc, &mut tree, &file, b"b")?.0, Ok(()));
-    if let Some(file) = tree.nodes.iter_mut().find(|file| file.number == 2) {
-        file.node.nlink = 32_000;
+    match answer(alloc, tree, &ctx, call) {
+        Ok(Some(Reply::MkDir { outcome, .. })) => outcome.is_ok(),
+        _ => false,
     }
-    assert_eq!(rt;
-        linked(alloc, &mut tree, &file, b"c")?.0,
-        Err(Status::MLink)
-    );
-    Ok(())
 }
 
-// Gives the file 2 the names of two bytes from one number on and below an end.
-pub(crate) fn link_names(
-    alloc: Global,
-    tree: &mut PlainTree,
-    from: u8,
-    end: u8,
-    first: u8,
-) -> Result<Option<(u64, u64)>, AllocError> {
-    let file = handle_of(alloc, 2, 1)?;
-    let mut told = None;
-    for second in from..end {
-        told = linked(alloc, tree, &file, &[first, second])?.1;
+// Whether the call MKDIR of `d` in the root is done.
+fn makes_directory(alloc: Global, tree: &mut PlainTree) -> bool {
+    match name_in(alloc, 1, b"d") {
+        Ok(name) => {
+            let call = Call::MkDir {
+                name,
+                attributes: NOTHING_WANTED,
+            };
+            is_directory_answered(alloc, tree, &call)
+        }
+        Err(_) => false,
     }
-    Ok(told)
 }
 
-#[test]
-fn a_directory_grows_by_blocks_of_32_names(rt: HostRuntime) -> Result<(), AllocError> {
-    let alloc = rt.alloc();
-    let mut tree = tree(alloc, 64)?;
-    // `a` and 31 further names fill the first block
-    assert_eq!(rt;
-        link_names(alloc, &mut tree, 100, 131, b'x')?,
-        Some((4096, 4096))
-    );
-    assert_eq!(rt;
-        link_names(alloc, &mut tree, 131, 132, b'x')?,
-        Some((8192, 8192))
-    );
-    Ok(())
-}
-
-#[test]
-fn the_ninth_block_of_a_directory_needs_an_indirect_one(rt: HostRuntime) -> Result<(), AllocError> {
-    let alloc = rt.alloc();
-    let mut tree = tree(alloc, 64)?;
-    // 256 names with `a` fill eight blocks, and the next takes a ninth and the indirect one
-    assert_eq!(rt;
-        link_names(alloc, &mut tree, 100, 228, b'x')?,
-        Some((20_480, 20_480))
-    );
-    assert_eq!(rt;
-        link_names(alloc, &mut tree, 100, 227, b'y')?,
-        Some((32_768, 32_768))
-    );
-    assert_eq!(rt;
-        link_names(alloc, &mut tree, 227, 228, b'y')?,
-        Some((36_864, 40_960))
-    );
-    Ok(())
-}
-
-#[test]
-fn a_directory_without_names_keeps_its_size(rt: HostRuntime) -> Result<(), AllocError> {
-    let alloc = rt.alloc();
-    let mut tree = tree(alloc, 64)?;
-    assert_eq!(rt;
-        link_names(alloc, &mut tree, 100, 132, b'x')?,
-        Some((8192, 8192))
-    );
-    for second in 100..132 {
-        let _ = removed(alloc, &mut tree, 0, &[b'x', second])?;
-    }
+// Whether the call NULL is answered by nothing.
+fn is_null_left_out(alloc: Global, tree: &mut PlainTree) -> bool {
     let ctx = called_by(alloc, 0);
-    let last = remove(&mut tree, &ctx, &in_root(alloc, b"a")?)?;
-    assert_eq!(rt; sizes(&last.file), Some((8192, 8192)));
-    Ok(())
+    match answer(alloc, tree, &ctx, &Call::Null) {
+        Ok(reply) => reply.is_none(),
+        Err(_) => false,
+    }
 }
 
 #[test]
 fn one_call_after_another(rt: HostRuntime) -> Result<(), AllocError> {
     let alloc = rt.alloc();
     let mut tree = tree(alloc, 64)?;
-    let ctx = called_by(alloc, 0);
-    let call = Call::MkDir {
-        name: in_root(alloc, b"d")?,
-        attributes: NOTHING_WANTED,
-    };
-    assert_eq!(rt; least_unused(&tree), Some(3));
-    let reply = answer(alloc, &mut tree, &ctx, &call)?;
-    assert!(rt; matches!(&reply, Some(Reply::MkDir { outcome: Ok(_), .. })));
-    assert_eq!(rt; least_unused(&tree), Some(4));
-    let none = answer(alloc, &mut tree, &ctx, &Call::Null)?;
-    assert!(rt; none.is_none());
+    assert!(rt; least_unused(&tree) == Some(3));
+    assert!(rt; makes_directory(alloc, &mut tree));
+    assert!(rt; least_unused(&tree) == Some(4));
+    assert!(rt; is_null_left_out(alloc, &mut tree));
     Ok(())
 }
 
 #[test]
-fn no_file_without_a_number_or_a_block(rt: HostRuntime) -> Result<(), AllocError> {
+fn no_file_without_a_number(rt: HostRuntime) -> Result<(), AllocError> {
+    let alloc = rt.alloc();
+    let mut few = tree(alloc, 64)?;
+    few.inodes = 3;
+    assert!(rt; is_created(alloc, &mut few, 0, b"b", GUARDED, Err(Status::NoSpc)));
+    few.inodes = 4;
+    assert!(rt; is_created(alloc, &mut few, 0, b"b", GUARDED, Ok((3, 420))));
+    Ok(())
+}
+
+#[test]
+fn no_file_without_a_block(rt: HostRuntime) -> Result<(), AllocError> {
     let alloc = rt.alloc();
     // the root's first block is in use, and its second one isn't free
     let mut full = tree(alloc, 1)?;
-    assert_eq!(rt;
-        link_names(alloc, &mut full, 100, 131, b'x')?,
-        Some((4096, 4096))
-    );
-    assert_eq!(rt;
-        created(alloc, &mut full, 0, b"b", &guarded())?,
-        Err(Status::NoSpc)
-    );
-    let mut few = tree(alloc, 64)?;
-    few.inodes = 3;
-    assert_eq!(rt;
-        created(alloc, &mut few, 0, b"b", &guarded())?,
-        Err(Status::NoSpc)
-    );
-    few.inodes = 4;
-    assert_eq!(rt;
-        created(alloc, &mut few, 0, b"b", &guarded())?,
-        Ok((3, 420))
-    );
+    assert!(rt; are_linked(alloc, &mut full, 100, 131, b'x', (4096, 4096)));
+    assert!(rt; is_created(alloc, &mut full, 0, b"b", GUARDED, Err(Status::NoSpc)));
     Ok(())
 }

@@ -1,8 +1,13 @@
-//! Worked calls of the plain procedures: the values come from the rules, by hand. No crate stands on this one.
+//! Worked calls of the plain procedures: the values come from the rules, by hand. No crate stands on this
+//! one.
 #![tactic(auto)]
 
 #[cfg(test)]
 mod changes;
+#[cfg(test)]
+mod crowded;
+#[cfg(test)]
+mod links;
 #[cfg(test)]
 mod listings;
 #[cfg(test)]

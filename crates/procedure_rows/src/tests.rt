@@ -1,13 +1,13 @@
 //! Calls on a small tree: the root with one name, `a`, in its first slot, and the file 2 of user 7 that it
-//! leads to.
+//! leads to. A helper whose name asks something answers false also where memory is wanted.
 
 use nfs_types::{
     Call, Credential, Ctx, DirectoryName, FileSystemSpace, Handle, Moment, NewAttributes,
-    NumberList, Octets, SetTime, Stability, Stamp, Status, WeakCacheData,
+    NumberList, Octets, SetTime, Stability, Stamp, Status, Verifier, WeakCacheData,
 };
 use plain_procedures::{
-    access, commit, file_system_info, file_system_space, look_up, path_limits, read, read_link,
-    write,
+    Told, access, commit, file_system_info, file_system_space, look_up, path_limits, read,
+    read_link, write,
 };
 use plain_server::{
     MappedIndexes, NumberedNode, PlainBody, PlainNames, PlainNode, PlainTree, serve,
@@ -56,7 +56,7 @@ pub(crate) fn handle_of(alloc: Global, number: u32, boot: u64) -> Result<Handle,
 }
 
 // An empty file that its owner may read and write, its group read, and others nothing.
-fn empty_file(alloc: Global) -> PlainNode {
+pub(crate) fn empty_file(alloc: Global) -> PlainNode {
     PlainNode {
         mode: 0o640,
         uid: 7,
@@ -77,41 +77,60 @@ fn empty_file(alloc: Global) -> PlainNode {
     }
 }
 
+// A root with the name `a` alone.
+fn names(alloc: Global) -> Result<PlainBody, AllocError> {
+    let mut entries = PlainNames::new(alloc);
+    entries.insert(Octets::copied(alloc, b"a")?, 2, 0)?;
+    Ok(PlainBody::Directory {
+        entries,
+        span: 1,
+        parent: 1,
+    })
+}
+
+// Gives the root what is in it.
+pub(crate) fn set_root(tree: &mut PlainTree, body: PlainBody) {
+    if let Some(root) = tree.nodes.first_mut() {
+        root.node.body = body;
+    }
+}
+
+// Gives the tree the empty file of a number.
+pub(crate) fn add_file(alloc: Global, tree: &mut PlainTree, number: u32) -> Result<(), AllocError> {
+    tree.nodes.push(NumberedNode {
+        number,
+        node: empty_file(alloc),
+    })?;
+    Ok(())
+}
+
 // The tree of so many data blocks, of which the root's entry takes one.
 pub(crate) fn tree(alloc: Global, data_blocks: u32) -> Result<PlainTree, AllocError> {
     let mut tree = PlainTree::formatted(alloc, data_blocks, 64, MADE)?;
-    let mut entries = PlainNames::new(alloc);
-    entries.insert(Octets::copied(alloc, b"a")?, 2, 0)?;
-    if let Some(root) = tree.nodes.first_mut() {
-        root.node.body = PlainBody::Directory {
-            entries,
-            span: 1,
-            parent: 1,
-        };
-    }
-    tree.nodes.push(NumberedNode {
-        number: 2,
-        node: empty_file(alloc),
-    })?;
+    set_root(&mut tree, names(alloc)?);
+    add_file(alloc, &mut tree, 2)?;
     Ok(tree)
 }
 
 // The size and the used bytes that are told after a change.
-fn sizes(told: &WeakCacheData) -> Option<(u64, u64)> {
+pub(crate) fn sizes(told: &WeakCacheData) -> Option<(u64, u64)> {
     match &told.after {
         Some(attributes) => Some((attributes.size, attributes.used)),
         None => None,
     }
 }
 
-// What a WRITE of user 7 to the file is answered, and the size and the used bytes that are told with it.
+// What a WRITE is answered, and the size and the used bytes that are told with it.
+type Wrote = (Option<Status>, Option<(u64, u64)>);
+
+// A WRITE of user 7 to the file.
 fn wrote(
     alloc: Global,
     tree: &mut PlainTree,
     offset: u64,
     count: u32,
     text: &[u8],
-) -> Result<(Option<Status>, Option<(u64, u64)>), AllocError> {
+) -> Result<Wrote, AllocError> {
     let ctx = called_by(alloc, 7);
     let file = handle_of(alloc, 2, 1)?;
     let answer = write(
@@ -126,24 +145,50 @@ fn wrote(
     )?;
     let told = sizes(&answer.file);
     match answer.outcome {
-        Ok(written) => { Ok((None, told)) }
+        Ok(_) => Ok((None, told)),
         Err(status) => Ok((Some(status), told)),
     }
 }
 
-// Whether user 7 reads just these bytes there, and the file ends with them.
-fn ends_with(
+fn is_written(
     alloc: Global,
-    tree: &PlainTree,
+    tree: &mut PlainTree,
     offset: u64,
-    wanted: &[u8],
-) -> Result<bool, AllocError> {
+    count: u32,
+    text: &[u8],
+    wanted: Wrote,
+) -> bool {
+    wrote(alloc, tree, offset, count, text) == Ok(wanted)
+}
+
+// Whether a WRITE of so many bytes is answered so.
+fn are_many_written(
+    alloc: Global,
+    tree: &mut PlainTree,
+    offset: u64,
+    count: u32,
+    wanted: Wrote,
+) -> bool {
+    match vec![in alloc; b'q'; count as usize] {
+        Ok(text) => is_written(alloc, tree, offset, count, text.as_slice(), wanted),
+        Err(_) => false,
+    }
+}
+
+// Whether user 7 reads just these bytes there, and the file ends with them.
+fn ends_with(alloc: Global, tree: &PlainTree, offset: u64, wanted: &[u8]) -> bool {
     let ctx = called_by(alloc, 7);
-    let file = handle_of(alloc, 2, 1)?;
-    let answer = read(alloc, tree, &ctx, &file, offset, 100)?;
-    match answer.outcome {
-        Ok(given) => Ok(given.eof && given.bytes.as_slice() == wanted),
-        Err(_) => Ok(false),
+    let Ok(file) = handle_of(alloc, 2, 1) else {
+        return false;
+    };
+    match read(alloc, tree, &ctx, &file, offset, 100) {
+        Ok(
+            Told {
+                outcome: Ok(given),
+                ..
+            },
+        ) => given.eof && given.bytes.as_slice() == wanted,
+        _ => false,
     }
 }
 
@@ -151,11 +196,11 @@ fn ends_with(
 fn the_last_byte_of_the_largest_file(rt: HostRuntime) -> Result<(), AllocError> {
     let alloc = rt.alloc();
     let mut tree = tree(alloc, 64)?;
-    let past = wrote(alloc, &mut tree, 4_227_072, 1, b"z")?;
-    assert_eq!(rt; past, (Some(Status::FBig), Some((0, 0))));
-    let last = wrote(alloc, &mut tree, 4_227_071, 1, b"z")?;
-    assert_eq!(rt; last, (None, Some((4_227_072, 8192))));
-    assert!(rt; ends_with(alloc, &tree, 4_227_071, b"z")?);
+    let past = (Some(Status::FBig), Some((0, 0)));
+    assert!(rt; is_written(alloc, &mut tree, 4_227_072, 1, b"z", past));
+    let last = (None, Some((4_227_072, 8192)));
+    assert!(rt; is_written(alloc, &mut tree, 4_227_071, 1, b"z", last));
+    assert!(rt; ends_with(alloc, &tree, 4_227_071, b"z"));
     Ok(())
 }
 
@@ -163,10 +208,10 @@ fn the_last_byte_of_the_largest_file(rt: HostRuntime) -> Result<(), AllocError> 
 fn a_hole_and_then_hello(rt: HostRuntime) -> Result<(), AllocError> {
     let alloc = rt.alloc();
     let mut tree = tree(alloc, 64)?;
-    let hello = wrote(alloc, &mut tree, 8192, 5, b"hello")?;
-    assert_eq!(rt; hello, (None, Some((8197, 4096))));
-    assert!(rt; ends_with(alloc, &tree, 8190, b"\0\0hello")?);
-    assert!(rt; ends_with(alloc, &tree, 8197, b"")?);
+    let hello = (None, Some((8197, 4096)));
+    assert!(rt; is_written(alloc, &mut tree, 8192, 5, b"hello", hello));
+    assert!(rt; ends_with(alloc, &tree, 8190, b"\0\0hello"));
+    assert!(rt; ends_with(alloc, &tree, 8197, b""));
     Ok(())
 }
 
@@ -191,10 +236,11 @@ fn set_size(alloc: Global, tree: &mut PlainTree, size: u64) -> Result<(), AllocE
 fn shrunk_and_then_grown(rt: HostRuntime) -> Result<(), AllocError> {
     let alloc = rt.alloc();
     let mut tree = tree(alloc, 64)?;
-    let _ = wrote(alloc, &mut tree, 0, 5, b"hello")?;
-    set_size(alloc, &mut tree, 2)?;
-    set_size(alloc, &mut tree, 5)?;
-    assert!(rt; ends_with(alloc, &tree, 0, b"he\0\0\0")?);
+    let hello = (None, Some((5, 4096)));
+    assert!(rt; is_written(alloc, &mut tree, 0, 5, b"hello", hello));
+    assert!(rt; set_size(alloc, &mut tree, 2).is_ok());
+    assert!(rt; set_size(alloc, &mut tree, 5).is_ok());
+    assert!(rt; ends_with(alloc, &tree, 0, b"he\0\0\0"));
     Ok(())
 }
 
@@ -202,13 +248,13 @@ fn shrunk_and_then_grown(rt: HostRuntime) -> Result<(), AllocError> {
 fn one_free_block_is_too_few_behind_the_direct_ones(rt: HostRuntime) -> Result<(), AllocError> {
     let alloc = rt.alloc();
     let mut tree = tree(alloc, 2)?;
-    let behind = wrote(alloc, &mut tree, 32_768, 1, b"z")?;
-    assert_eq!(rt; behind, (Some(Status::NoSpc), Some((0, 0))));
-    assert!(rt; ends_with(alloc, &tree, 0, b"")?);
-    let first = wrote(alloc, &mut tree, 0, 1, b"z")?;
-    assert_eq!(rt; first, (None, Some((1, 4096))));
-    let second = wrote(alloc, &mut tree, 4096, 1, b"z")?;
-    assert_eq!(rt; second, (Some(Status::NoSpc), Some((1, 4096))));
+    let behind = (Some(Status::NoSpc), Some((0, 0)));
+    assert!(rt; is_written(alloc, &mut tree, 32_768, 1, b"z", behind));
+    assert!(rt; ends_with(alloc, &tree, 0, b""));
+    let first = (None, Some((1, 4096)));
+    assert!(rt; is_written(alloc, &mut tree, 0, 1, b"z", first));
+    let second = (Some(Status::NoSpc), Some((1, 4096)));
+    assert!(rt; is_written(alloc, &mut tree, 4096, 1, b"z", second));
     Ok(())
 }
 
@@ -216,23 +262,24 @@ fn one_free_block_is_too_few_behind_the_direct_ones(rt: HostRuntime) -> Result<(
 fn over_the_indirect_border(rt: HostRuntime) -> Result<(), AllocError> {
     let alloc = rt.alloc();
     let mut tree = tree(alloc, 64)?;
-    let text = vec![in alloc; b'q'; 32_768]?;
-    let over = wrote(alloc, &mut tree, 28_673, 32_768, text.as_slice())?;
-    assert_eq!(rt; over, (None, Some((61_441, 40_960))));
-    let longer = vec![in alloc; b'q'; 32_769]?;
-    let refused = wrote(alloc, &mut tree, 0, 32_769, longer.as_slice())?;
-    assert_eq!(rt; refused, (Some(Status::Inval), Some((61_441, 40_960))));
+    let over = (None, Some((61_441, 40_960)));
+    assert!(rt; are_many_written(alloc, &mut tree, 28_673, 32_768, over));
+    let refused = (Some(Status::Inval), Some((61_441, 40_960)));
+    assert!(rt; are_many_written(alloc, &mut tree, 0, 32_769, refused));
     Ok(())
 }
 
-// The number of the file that user 8 finds under a name in the file of a number, or why none is found.
+// The number of the file that is found, or why none is.
+type Found = Result<Option<u64>, Status>;
+
+// What user 8 finds under a name in the file of a number.
 fn looked_up(
     alloc: Global,
     tree: &PlainTree,
     number: u32,
     boot: u64,
     name: &[u8],
-) -> Result<Result<Option<u64>, Status>, AllocError> {
+) -> Result<Found, AllocError> {
     let ctx = called_by(alloc, 8);
     let place = DirectoryName {
         directory: handle_of(alloc, number, boot)?,
@@ -245,54 +292,72 @@ fn looked_up(
     }
 }
 
+fn is_found(
+    alloc: Global,
+    tree: &PlainTree,
+    number: u32,
+    boot: u64,
+    name: &[u8],
+    wanted: Found,
+) -> bool {
+    looked_up(alloc, tree, number, boot, name) == Ok(wanted)
+}
+
 #[test]
 fn names_that_are_looked_up(rt: HostRuntime) -> Result<(), AllocError> {
     let alloc = rt.alloc();
     let tree = tree(alloc, 64)?;
-    let long = vec![in alloc; b'n'; 113]?;
-    let longest = vec![in alloc; b'n'; 112]?;
-    assert_eq!(rt; looked_up(alloc, &tree, 1, 0, b"a")?, Ok(Some(2)));
-    assert_eq!(rt; looked_up(alloc, &tree, 1, 0, b".")?, Ok(Some(1)));
-    assert_eq!(rt; looked_up(alloc, &tree, 1, 0, b"..")?, Ok(Some(1)));
-    assert_eq!(rt; looked_up(alloc, &tree, 1, 0, b"b")?, Err(Status::NoEnt));
-    assert_eq!(rt; looked_up(alloc, &tree, 1, 0, b"")?, Err(Status::Acces));
-    assert_eq!(rt; looked_up(alloc, &tree, 1, 0, b"x/y")?, Err(Status::Acces));
-    assert_eq!(rt;
-        looked_up(alloc, &tree, 1, 0, long.as_slice())?,
-        Err(Status::NameTooLong)
-    );
-    assert_eq!(rt;
-        looked_up(alloc, &tree, 1, 0, longest.as_slice())?,
-        Err(Status::NoEnt)
-    );
-    assert_eq!(rt; looked_up(alloc, &tree, 2, 1, b"")?, Err(Status::NotDir));
-    assert_eq!(rt; looked_up(alloc, &tree, 2, 0, b"a")?, Err(Status::Stale));
-    assert_eq!(rt; looked_up(alloc, &tree, 3, 0, b"a")?, Err(Status::Stale));
-    assert_eq!(rt;
-        looked_up(alloc, &tree, 64, 0, b"a")?,
-        Err(Status::BadHandle)
-    );
-    assert_eq!(rt;
-        looked_up(alloc, &tree, 0, 0, b"a")?,
-        Err(Status::BadHandle)
-    );
+    assert!(rt; is_found(alloc, &tree, 1, 0, b"a", Ok(Some(2))));
+    assert!(rt; is_found(alloc, &tree, 1, 0, b".", Ok(Some(1))));
+    assert!(rt; is_found(alloc, &tree, 1, 0, b"..", Ok(Some(1))));
+    assert!(rt; is_found(alloc, &tree, 1, 0, b"b", Err(Status::NoEnt)));
+    assert!(rt; is_found(alloc, &tree, 1, 0, b"", Err(Status::Acces)));
+    assert!(rt; is_found(alloc, &tree, 1, 0, b"x/y", Err(Status::Acces)));
     Ok(())
 }
 
-// What of all bits a user may do with the file of a number.
-fn granted(
+// Whether a name of so many bytes is looked up so in the root.
+fn is_long_name_found(alloc: Global, tree: &PlainTree, bytes: usize, wanted: Found) -> bool {
+    match vec![in alloc; b'n'; bytes] {
+        Ok(name) => is_found(alloc, tree, 1, 0, name.as_slice(), wanted),
+        Err(_) => false,
+    }
+}
+
+#[test]
+fn long_names_that_are_looked_up(rt: HostRuntime) -> Result<(), AllocError> {
+    let alloc = rt.alloc();
+    let tree = tree(alloc, 64)?;
+    assert!(rt; is_long_name_found(alloc, &tree, 113, Err(Status::NameTooLong)));
+    assert!(rt; is_long_name_found(alloc, &tree, 112, Err(Status::NoEnt)));
+    Ok(())
+}
+
+#[test]
+fn handles_of_no_directory(rt: HostRuntime) -> Result<(), AllocError> {
+    let alloc = rt.alloc();
+    let tree = tree(alloc, 64)?;
+    assert!(rt; is_found(alloc, &tree, 2, 1, b"", Err(Status::NotDir)));
+    assert!(rt; is_found(alloc, &tree, 2, 0, b"a", Err(Status::Stale)));
+    assert!(rt; is_found(alloc, &tree, 3, 0, b"a", Err(Status::Stale)));
+    assert!(rt; is_found(alloc, &tree, 64, 0, b"a", Err(Status::BadHandle)));
+    assert!(rt; is_found(alloc, &tree, 0, 0, b"a", Err(Status::BadHandle)));
+    Ok(())
+}
+
+// Whether a user may do just this, of all bits, with the file of a number.
+fn is_granted(
     alloc: Global,
     tree: &PlainTree,
     uid: u32,
     number: u32,
     boot: u64,
-) -> Result<Option<u32>, AllocError> {
+    wanted: u32,
+) -> bool {
     let ctx = called_by(alloc, uid);
-    let object = handle_of(alloc, number, boot)?;
-    let answer = access(tree, &ctx, &object, 63);
-    match answer.outcome {
-        Ok(bits) => Ok(Some(bits)),
-        Err(_) => Ok(None),
+    match handle_of(alloc, number, boot) {
+        Ok(object) => access(tree, &ctx, &object, 63).outcome == Ok(wanted),
+        Err(_) => false,
     }
 }
 
@@ -301,38 +366,54 @@ fn what_users_may_do(rt: HostRuntime) -> Result<(), AllocError> {
     let alloc = rt.alloc();
     let tree = tree(alloc, 64)?;
     // the file: read, modify and extend for its owner, read for its group, and all but search for user 0
-    assert_eq!(rt; granted(alloc, &tree, 7, 2, 1)?, Some(13));
-    assert_eq!(rt; granted(alloc, &tree, 8, 2, 1)?, Some(1));
-    assert_eq!(rt; granted(alloc, &tree, 0, 2, 1)?, Some(45));
+    assert!(rt; is_granted(alloc, &tree, 7, 2, 1, 13));
+    assert!(rt; is_granted(alloc, &tree, 8, 2, 1, 1));
+    assert!(rt; is_granted(alloc, &tree, 0, 2, 1, 45));
     // the root: read and search for others, and all but execute for user 0
-    assert_eq!(rt; granted(alloc, &tree, 8, 1, 0)?, Some(3));
-    assert_eq!(rt; granted(alloc, &tree, 0, 1, 0)?, Some(31));
+    assert!(rt; is_granted(alloc, &tree, 8, 1, 0, 3));
+    assert!(rt; is_granted(alloc, &tree, 0, 1, 0, 31));
     Ok(())
+}
+
+fn is_info_told(tree: &PlainTree, root: &Handle) -> bool {
+    match file_system_info(tree, root).outcome {
+        Ok(info) => {
+            info.read_max == 32_768
+                && info.write_multiple == 4096
+                && info.directory_preferred == 8192
+                && info.largest_file == 4_227_072
+                && info.properties == 27
+        }
+        Err(_) => false,
+    }
+}
+
+fn are_limits_told(tree: &PlainTree, root: &Handle) -> bool {
+    match path_limits(tree, root).outcome {
+        Ok(limits) => limits.links == 32_000 && limits.name_bytes == 112,
+        Err(_) => false,
+    }
 }
 
 #[test]
 fn what_is_told_of_the_file_system(rt: HostRuntime) -> Result<(), AllocError> {
     let alloc = rt.alloc();
-    let tree = tree(alloc, 64)?;
     let root = handle_of(alloc, 1, 0)?;
-    let info = file_system_info(&tree, &root).outcome;
-    assert!(rt;
-        matches!(&info, Ok(info) if info.read_max == 32_768 && info.write_multiple == 4096
-        && info.directory_preferred == 8192 && info.largest_file == 4_227_072 && info.properties == 27)
-    );
-    let limits = path_limits(&tree, &root).outcome;
-    assert!(rt;
-        matches!(&limits, Ok(limits) if limits.links == 32_000 && limits.name_bytes == 112)
-    );
+    let tree = tree(alloc, 64)?;
+    assert!(rt; is_info_told(&tree, &root));
+    assert!(rt; are_limits_told(&tree, &root));
     Ok(())
+}
+
+fn is_space(tree: &PlainTree, root: &Handle, wanted: FileSystemSpace) -> bool {
+    file_system_space(tree, root).outcome == Ok(wanted)
 }
 
 #[test]
 fn the_space_of_a_fresh_tree(rt: HostRuntime) -> Result<(), AllocError> {
     let alloc = rt.alloc();
-    let tree = PlainTree::formatted(alloc, 506, 64, MADE)?;
     let root = handle_of(alloc, 1, 0)?;
-    let space = file_system_space(&tree, &root).outcome;
+    let tree = PlainTree::formatted(alloc, 506, 64, MADE)?;
     // 506 blocks of 4,096 bytes, all free; 63 numbers, of which the root has one
     let wanted = FileSystemSpace {
         total_bytes: 2_072_576,
@@ -343,30 +424,49 @@ fn the_space_of_a_fresh_tree(rt: HostRuntime) -> Result<(), AllocError> {
         available_files: 62,
         unchanged_seconds: 0,
     };
-    assert_eq!(rt; space, Ok(wanted));
+    assert!(rt; is_space(&tree, &root, wanted));
     Ok(())
+}
+
+// Whether a COMMIT of the file by a user is answered so.
+fn is_committed(
+    alloc: Global,
+    tree: &PlainTree,
+    uid: u32,
+    wanted: Result<Verifier, Status>,
+) -> bool {
+    let ctx = called_by(alloc, uid);
+    match handle_of(alloc, 2, 1) {
+        Ok(file) => commit(tree, &ctx, &file).outcome == wanted,
+        Err(_) => false,
+    }
 }
 
 #[test]
 fn a_commit_tells_the_boot(rt: HostRuntime) -> Result<(), AllocError> {
     let alloc = rt.alloc();
     let tree = tree(alloc, 64)?;
-    let file = handle_of(alloc, 2, 1)?;
-    let owner = called_by(alloc, 7);
-    let answer = commit(&tree, &owner, &file).outcome;
-    assert!(rt; matches!(&answer, Ok(verifier) if verifier.bytes == [0, 0, 0, 0, 0, 0, 0, 1]));
-    let other = called_by(alloc, 8);
-    let refused = commit(&tree, &other, &file).outcome;
-    assert!(rt; matches!(&refused, Err(Status::Acces)));
+    let boot = Verifier {
+        bytes: [0, 0, 0, 0, 0, 0, 0, 1],
+    };
+    assert!(rt; is_committed(alloc, &tree, 7, Ok(boot)));
+    assert!(rt; is_committed(alloc, &tree, 8, Err(Status::Acces)));
     Ok(())
+}
+
+// Whether a READLINK is refused with INVAL.
+fn is_no_link(tree: &PlainTree, file: &Handle) -> bool {
+    match read_link(tree, file) {
+        Ok(answer) => matches!(&answer.outcome, Err(Status::Inval)),
+        Err(_) => false,
+    }
 }
 
 #[test]
 fn a_file_has_no_target(rt: HostRuntime) -> Result<(), AllocError> {
     let alloc = rt.alloc();
-    let tree = tree(alloc, 64)?;
     let file = handle_of(alloc, 2, 1)?;
-    let answer = read_link(&tree, &file)?.outcome;
-    assert!(rt; matches!(&answer, Err(Status::Inval)));
+    let tree = tree(alloc, 64)?;
+    assert!(rt; is_no_link(&tree, &file));
     Ok(())
 }

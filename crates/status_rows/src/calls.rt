@@ -1,20 +1,11 @@
-//! A small tree, calls on it, and the status of a reply. The root of user 0 has mode 755 and the names `a`
-//! (file 2 of user
-//! 7 and group 100, mode 640, no bytes), `d` (the empty directory 3 of user 0, mode 755) and `l` (link 4 to
-//! `t`).
+//! Calls of each procedure. A file or a directory is given by its number, and its stamp is all zeros.
 
+use crate::answers::STAMP;
 use nfs_types::{
-    Call, CreateHow, Credential, Ctx, DirectoryName, Handle, Moment, NewAttributes, NumberList,
-    Octets, Reply, SetTime, Stability, Stamp, Status, Verifier,
+    Call, CreateHow, DirectoryName, Handle, Moment, NewAttributes, Octets, SetTime, SpecialFile,
+    Stability, Verifier,
 };
-use plain_server::{MappedIndexes, NumberedNode, PlainBody, PlainNames, PlainNode, PlainTree};
-use plain_steps::answer;
 use std::alloc::{AllocError, Global};
-
-pub(crate) const MADE: Moment = Moment {
-    seconds: 1000,
-    nanoseconds: 0,
-};
 
 /// A time with a second of nanoseconds.
 pub(crate) const NO_TIME: SetTime = SetTime::Client(Moment {
@@ -35,174 +26,74 @@ pub(crate) const ZEROS: Verifier = Verifier { bytes: [0; 8] };
 
 pub(crate) const ONES: Verifier = Verifier { bytes: [1; 8] };
 
-pub(crate) const STAMP: Stamp = Stamp {
-    boot: 0,
-    transaction: 0,
-};
-
-/// A file of a user and of group 100.
-pub(crate) fn file(number: u32, uid: u32, mode: u32, nlink: u32, body: PlainBody) -> NumberedNode {
-    NumberedNode {
-        number,
-        node: PlainNode {
-            mode,
-            uid,
-            gid: 100,
-            nlink,
-            atime: MADE,
-            mtime: MADE,
-            ctime: MADE,
-            stamp: STAMP,
-            verifier: None,
-            body,
-        },
-    }
-}
-
-/// The tree of so many data blocks, of which the root and the link have one each.
-pub(crate) fn tree(alloc: Global, data_blocks: u32) -> Result<PlainTree, AllocError> {
-    let mut tree = PlainTree::formatted(alloc, data_blocks, 64, MADE)?;
-    let mut entries = PlainNames::new(alloc);
-    entries.insert(Octets::copied(alloc, b"a")?, 2, 0)?;
-    entries.insert(Octets::copied(alloc, b"d")?, 3, 1)?;
-    entries.insert(Octets::copied(alloc, b"l")?, 4, 2)?;
-    if let Some(root) = tree.nodes.first_mut() {
-        root.node.nlink = 3;
-        root.node.body = PlainBody::Directory {
-            entries,
-            span: 1,
-            parent: 1,
-        };
-    }
-    let regular = PlainBody::Regular {
-        bytes: Vec::new(alloc),
-        mapped: MappedIndexes::new(alloc),
-    };
-    tree.nodes.push(file(2, 7, 0o640, 1, regular))?;
-    let directory = PlainBody::Directory {
-        entries: PlainNames::new(alloc),
-        span: 0,
-        parent: 1,
-    };
-    tree.nodes.push(file(3, 0, 0o755, 2, directory))?;
-    let target = Octets::copied(alloc, b"t")?;
-    tree.nodes
-        .push(file(4, 7, 0o777, 1, PlainBody::Link { target }))?;
-    Ok(tree)
-}
-
 pub(crate) fn handle(alloc: Global, number: u32) -> Result<Handle, AllocError> {
     Handle::of(alloc, number, STAMP)
 }
 
-pub(crate) fn again(handle: &Handle) -> Result<Handle, AllocError> {
-    Ok(Handle {
-        bytes: handle.bytes.clone()?,
-    })
-}
-
-/// A name in the directory of a number.
-pub(crate) fn place(alloc: Global, number: u32, name: &[u8]) -> Result<DirectoryName, AllocError> {
+// A name in a directory.
+fn place(alloc: Global, number: u32, name: &[u8]) -> Result<DirectoryName, AllocError> {
     Ok(DirectoryName {
         directory: handle(alloc, number)?,
         name: Octets::copied(alloc, name)?,
     })
 }
 
-fn refused<A>(outcome: &Result<A, Status>) -> Option<Status> {
-    match outcome {
-        Ok(_) => None,
-        Err(status) => Some(*status),
-    }
+pub(crate) fn attributes(alloc: Global, number: u32) -> Result<Call, AllocError> {
+    Ok(Call::GetAttr {
+        object: handle(alloc, number)?,
+    })
 }
 
-/// The status of a reply, where it isn't OK.
-pub(crate) fn status_of(reply: &Reply) -> Option<Status> {
-    match reply {
-        Reply::Null => None,
-        Reply::GetAttr { outcome } => refused(outcome),
-        Reply::SetAttr { outcome, .. } => refused(outcome),
-        Reply::Lookup { outcome, .. } => refused(outcome),
-        Reply::Access { outcome, .. } => refused(outcome),
-        Reply::ReadLink { outcome, .. } => refused(outcome),
-        Reply::Read { outcome, .. } => refused(outcome),
-        Reply::Write { outcome, .. } => refused(outcome),
-        Reply::Create { outcome, .. } => refused(outcome),
-        Reply::MkDir { outcome, .. } => refused(outcome),
-        Reply::SymLink { outcome, .. } => refused(outcome),
-        Reply::MkNod { outcome, .. } => refused(outcome),
-        Reply::Remove { outcome, .. } => refused(outcome),
-        Reply::RmDir { outcome, .. } => refused(outcome),
-        Reply::Rename { outcome, .. } => refused(outcome),
-        Reply::Link { outcome, .. } => refused(outcome),
-        Reply::ReadDir { outcome, .. } => refused(outcome),
-        Reply::ReadDirPlus { outcome, .. } => refused(outcome),
-        Reply::FsStat { outcome, .. } => refused(outcome),
-        Reply::FsInfo { outcome, .. } => refused(outcome),
-        Reply::PathConf { outcome, .. } => refused(outcome),
-        Reply::Commit { outcome, .. } => refused(outcome),
-    }
-}
-
-/// The status with which a call of a user is answered, where it isn't OK. The user has group 200.
-pub(crate) fn asked(
+pub(crate) fn set(
     alloc: Global,
-    tree: &mut PlainTree,
-    uid: u32,
-    call: &Call,
-) -> Result<Option<Status>, AllocError> {
-    let ctx = Ctx {
-        credential: Credential {
-            uid,
-            gid: 200,
-            gids: NumberList::new(Vec::new(alloc)),
-        },
-        moment: Moment {
-            seconds: 2000,
-            nanoseconds: 5,
-        },
-        boot: 1,
-        transaction: 9,
-    };
-    match answer(alloc, tree, &ctx, call)? {
-        Some(reply) => Ok(status_of(&reply)),
-        None => Ok(Some(Status::ServerFault)),
-    }
-}
-
-/// The same of a tree of 64 blocks, which is dropped.
-pub(crate) fn asked_once(
-    alloc: Global,
-    uid: u32,
-    call: &Call,
-) -> Result<Option<Status>, AllocError> {
-    let mut tree = tree(alloc, 64)?;
-    asked(alloc, &mut tree, uid, call)
-}
-
-pub(crate) fn set(object: Handle, attributes: NewAttributes, guard: Option<Moment>) -> Call {
-    Call::SetAttr {
-        object,
+    number: u32,
+    attributes: NewAttributes,
+    guard: Option<Moment>,
+) -> Result<Call, AllocError> {
+    Ok(Call::SetAttr {
+        object: handle(alloc, number)?,
         attributes,
         guard,
-    }
+    })
 }
 
-pub(crate) fn guarded(name: DirectoryName, attributes: NewAttributes) -> Call {
-    Call::Create {
-        name,
-        how: CreateHow::Guarded(attributes),
-    }
+pub(crate) fn look_up(alloc: Global, number: u32, name: &[u8]) -> Result<Call, AllocError> {
+    Ok(Call::Lookup {
+        name: place(alloc, number, name)?,
+    })
 }
 
-pub(crate) fn written(
+pub(crate) fn access(alloc: Global, number: u32, bits: u32) -> Result<Call, AllocError> {
+    Ok(Call::Access {
+        object: handle(alloc, number)?,
+        bits,
+    })
+}
+
+pub(crate) fn read_link(alloc: Global, number: u32) -> Result<Call, AllocError> {
+    Ok(Call::ReadLink {
+        link: handle(alloc, number)?,
+    })
+}
+
+/// A READ of the first byte.
+pub(crate) fn read(alloc: Global, number: u32) -> Result<Call, AllocError> {
+    Ok(Call::Read {
+        file: handle(alloc, number)?,
+        offset: 0,
+        count: 1,
+    })
+}
+
+/// A WRITE of one byte that announces so many.
+pub(crate) fn write(
     alloc: Global,
-    file: Handle,
+    number: u32,
     offset: u64,
     count: u32,
 ) -> Result<Call, AllocError> {
     Ok(Call::Write {
-        file,
+        file: handle(alloc, number)?,
         offset,
         count,
         stability: Stability::Unstable,
@@ -210,15 +101,162 @@ pub(crate) fn written(
     })
 }
 
-pub(crate) fn pointed(
+pub(crate) fn create(
     alloc: Global,
-    name: DirectoryName,
+    number: u32,
+    name: &[u8],
+    how: CreateHow,
+) -> Result<Call, AllocError> {
+    Ok(Call::Create {
+        name: place(alloc, number, name)?,
+        how,
+    })
+}
+
+/// A GUARDED CREATE.
+pub(crate) fn guarded(
+    alloc: Global,
+    number: u32,
+    name: &[u8],
+    attributes: NewAttributes,
+) -> Result<Call, AllocError> {
+    create(alloc, number, name, CreateHow::Guarded(attributes))
+}
+
+pub(crate) fn make_directory(
+    alloc: Global,
+    number: u32,
+    name: &[u8],
+    attributes: NewAttributes,
+) -> Result<Call, AllocError> {
+    Ok(Call::MkDir {
+        name: place(alloc, number, name)?,
+        attributes,
+    })
+}
+
+pub(crate) fn make_link(
+    alloc: Global,
+    number: u32,
+    name: &[u8],
     attributes: NewAttributes,
     target: &[u8],
 ) -> Result<Call, AllocError> {
     Ok(Call::SymLink {
-        name,
+        name: place(alloc, number, name)?,
         attributes,
         target: Octets::copied(alloc, target)?,
+    })
+}
+
+pub(crate) fn make_special(
+    alloc: Global,
+    number: u32,
+    name: &[u8],
+    special: SpecialFile,
+) -> Result<Call, AllocError> {
+    Ok(Call::MkNod {
+        name: place(alloc, number, name)?,
+        special,
+    })
+}
+
+pub(crate) fn remove(alloc: Global, number: u32, name: &[u8]) -> Result<Call, AllocError> {
+    Ok(Call::Remove {
+        name: place(alloc, number, name)?,
+    })
+}
+
+pub(crate) fn remove_directory(
+    alloc: Global,
+    number: u32,
+    name: &[u8],
+) -> Result<Call, AllocError> {
+    Ok(Call::RmDir {
+        name: place(alloc, number, name)?,
+    })
+}
+
+pub(crate) fn rename(
+    alloc: Global,
+    from: u32,
+    name: &[u8],
+    to: u32,
+    new_name: &[u8],
+) -> Result<Call, AllocError> {
+    Ok(Call::Rename {
+        source: place(alloc, from, name)?,
+        target: place(alloc, to, new_name)?,
+    })
+}
+
+/// A LINK of a file to a name in a directory.
+pub(crate) fn link(alloc: Global, file: u32, number: u32, name: &[u8]) -> Result<Call, AllocError> {
+    Ok(Call::Link {
+        file: handle(alloc, file)?,
+        name: place(alloc, number, name)?,
+    })
+}
+
+pub(crate) fn list(
+    alloc: Global,
+    number: u32,
+    cookie: u64,
+    verifier: Verifier,
+    count: u32,
+) -> Result<Call, AllocError> {
+    Ok(Call::ReadDir {
+        directory: handle(alloc, number)?,
+        cookie,
+        verifier,
+        count,
+    })
+}
+
+pub(crate) fn list_plus(
+    alloc: Global,
+    number: u32,
+    cookie: u64,
+    verifier: Verifier,
+    directory_count: u32,
+    greatest_count: u32,
+) -> Result<Call, AllocError> {
+    Ok(Call::ReadDirPlus {
+        directory: handle(alloc, number)?,
+        cookie,
+        verifier,
+        directory_count,
+        greatest_count,
+    })
+}
+
+pub(crate) fn space(alloc: Global, number: u32) -> Result<Call, AllocError> {
+    Ok(Call::FsStat {
+        object: handle(alloc, number)?,
+    })
+}
+
+pub(crate) fn info(alloc: Global, number: u32) -> Result<Call, AllocError> {
+    Ok(Call::FsInfo {
+        object: handle(alloc, number)?,
+    })
+}
+
+pub(crate) fn limits(alloc: Global, number: u32) -> Result<Call, AllocError> {
+    Ok(Call::PathConf {
+        object: handle(alloc, number)?,
+    })
+}
+
+pub(crate) fn commit(
+    alloc: Global,
+    number: u32,
+    offset: u64,
+    count: u32,
+) -> Result<Call, AllocError> {
+    Ok(Call::Commit {
+        file: handle(alloc, number)?,
+        offset,
+        count,
     })
 }

@@ -1,151 +1,101 @@
-//! Each procedure on a handle that names no file.
+//! Each procedure on a handle that names no file, and those on directories on a file.
 
+use crate::answers::is_answered_once;
 use crate::calls::{
-    NOTHING, ZEROS, again, asked_once, guarded, handle, place, pointed, set, written,
+    NOTHING, ZEROS, access, attributes, commit, guarded, info, limits, link, list, list_plus,
+    look_up, make_directory, make_link, make_special, read, read_link, remove, remove_directory,
+    rename, set, space, write,
 };
-use nfs_types::{Call, DirectoryName, Handle, Octets, SpecialFile, Status};
-use std::alloc::{AllocError, Global};
+use nfs_types::{SpecialFile, Status};
+use std::alloc::Global;
 
-fn under(alloc: Global, directory: &Handle) -> Result<DirectoryName, AllocError> {
-    Ok(DirectoryName {
-        directory: again(directory)?,
-        name: Octets::copied(alloc, b"")?,
-    })
+// Whether the procedures on one file answer so to user 0.
+fn files_answer(alloc: Global, number: u32, status: Status) -> bool {
+    let wanted = Some(status);
+    is_answered_once(alloc, 0, attributes(alloc, number), wanted)
+        && is_answered_once(alloc, 0, set(alloc, number, NOTHING, None), wanted)
+        && is_answered_once(alloc, 0, access(alloc, number, 63), wanted)
+        && is_answered_once(alloc, 0, read_link(alloc, number), wanted)
+        && is_answered_once(alloc, 0, read(alloc, number), wanted)
+        && is_answered_once(alloc, 0, write(alloc, number, 0, 1), wanted)
 }
 
-// The calls on one file, but those of names.
-fn calls_on(alloc: Global, file: &Handle) -> Result<Vec<Call>, AllocError> {
-    let mut calls = Vec::new(alloc);
-    calls.push(Call::GetAttr {
-        object: again(file)?,
-    })?;
-    calls.push(set(again(file)?, NOTHING, None))?;
-    calls.push(Call::Access {
-        object: again(file)?,
-        bits: 63,
-    })?;
-    calls.push(Call::ReadLink { link: again(file)? })?;
-    calls.push(Call::Read {
-        file: again(file)?,
-        offset: 0,
-        count: 1,
-    })?;
-    calls.push(written(alloc, again(file)?, 0, 1)?)?;
-    calls.push(Call::FsStat {
-        object: again(file)?,
-    })?;
-    calls.push(Call::FsInfo {
-        object: again(file)?,
-    })?;
-    calls.push(Call::PathConf {
-        object: again(file)?,
-    })?;
-    calls.push(Call::Commit {
-        file: again(file)?,
-        offset: 0,
-        count: 0,
-    })?;
-    Ok(calls)
+// Whether those answer so that tell of the file system, and COMMIT.
+fn systems_answer(alloc: Global, number: u32, status: Status) -> bool {
+    let wanted = Some(status);
+    is_answered_once(alloc, 0, space(alloc, number), wanted)
+        && is_answered_once(alloc, 0, info(alloc, number), wanted)
+        && is_answered_once(alloc, 0, limits(alloc, number), wanted)
+        && is_answered_once(alloc, 0, commit(alloc, number, 0, 0), wanted)
 }
 
-// The calls on one directory.
-fn calls_in(alloc: Global, directory: &Handle) -> Result<Vec<Call>, AllocError> {
-    let mut calls = Vec::new(alloc);
-    calls.push(Call::Lookup {
-        name: under(alloc, directory)?,
-    })?;
-    calls.push(guarded(under(alloc, directory)?, NOTHING))?;
-    calls.push(Call::MkDir {
-        name: under(alloc, directory)?,
-        attributes: NOTHING,
-    })?;
-    calls.push(pointed(alloc, under(alloc, directory)?, NOTHING, b"t")?)?;
-    calls.push(Call::Remove {
-        name: under(alloc, directory)?,
-    })?;
-    calls.push(Call::RmDir {
-        name: under(alloc, directory)?,
-    })?;
-    calls.push(Call::Rename {
-        source: under(alloc, directory)?,
-        target: place(alloc, 1, b"b")?,
-    })?;
-    calls.push(Call::Rename {
-        source: place(alloc, 1, b"a")?,
-        target: under(alloc, directory)?,
-    })?;
-    calls.push(Call::Link {
-        file: handle(alloc, 2)?,
-        name: under(alloc, directory)?,
-    })?;
-    calls.push(Call::ReadDir {
-        directory: again(directory)?,
-        cookie: 0,
-        verifier: ZEROS,
-        count: 0,
-    })?;
-    calls.push(Call::ReadDirPlus {
-        directory: again(directory)?,
-        cookie: 0,
-        verifier: ZEROS,
-        directory_count: 0,
-        greatest_count: 0,
-    })?;
-    Ok(calls)
+// Whether those answer so that look a name up in a directory, make one there or take one away.
+fn names_answer(alloc: Global, number: u32, status: Status) -> bool {
+    let wanted = Some(status);
+    is_answered_once(alloc, 0, look_up(alloc, number, b""), wanted)
+        && is_answered_once(alloc, 0, guarded(alloc, number, b"", NOTHING), wanted)
+        && is_answered_once(
+            alloc,
+            0,
+            make_directory(alloc, number, b"", NOTHING),
+            wanted,
+        )
+        && is_answered_once(
+            alloc,
+            0,
+            make_link(alloc, number, b"", NOTHING, b"t"),
+            wanted,
+        )
+        && is_answered_once(alloc, 0, remove(alloc, number, b""), wanted)
+        && is_answered_once(alloc, 0, remove_directory(alloc, number, b""), wanted)
 }
 
-// Whether each of the calls by user 0 is answered so.
-fn all_answer(alloc: Global, calls: &[Call], status: Status) -> Result<bool, AllocError> {
-    for call in calls {
-        if asked_once(alloc, 0, call)? != Some(status) {
-            return Ok(false);
-        }
+// Whether those answer so that change names in a directory or list them.
+fn directories_answer(alloc: Global, number: u32, status: Status) -> bool {
+    let wanted = Some(status);
+    is_answered_once(alloc, 0, rename(alloc, number, b"", 1, b"b"), wanted)
+        && is_answered_once(alloc, 0, rename(alloc, 1, b"a", number, b""), wanted)
+        && is_answered_once(alloc, 0, link(alloc, 2, number, b""), wanted)
+        && is_answered_once(alloc, 0, list(alloc, number, 0, ZEROS, 0), wanted)
+        && is_answered_once(alloc, 0, list_plus(alloc, number, 0, ZEROS, 0, 0), wanted)
+}
+
+// Whether those answer so to a handle of a file, or of a directory where a special file is made.
+fn others_answer(alloc: Global, number: u32, status: Status) -> bool {
+    let wanted = Some(status);
+    let special = make_special(alloc, number, b"", SpecialFile::Regular);
+    is_answered_once(alloc, 0, special, wanted)
+        && is_answered_once(alloc, 0, link(alloc, number, 1, b""), wanted)
+}
+
+#[test]
+fn a_free_number_is_stale(rt: HostRuntime) {
+    let alloc = rt.alloc();
+    assert!(rt; files_answer(alloc, 5, Status::Stale));
+    assert!(rt; systems_answer(alloc, 5, Status::Stale));
+    assert!(rt; names_answer(alloc, 5, Status::Stale));
+    assert!(rt; directories_answer(alloc, 5, Status::Stale));
+    assert!(rt; others_answer(alloc, 5, Status::Stale));
+}
+
+#[test]
+fn a_number_that_no_file_has_is_bad(rt: HostRuntime) {
+    let alloc = rt.alloc();
+    for number in [0, 64] {
+        assert!(rt; files_answer(alloc, number, Status::BadHandle));
+        assert!(rt; systems_answer(alloc, number, Status::BadHandle));
+        assert!(rt; names_answer(alloc, number, Status::BadHandle));
+        assert!(rt; directories_answer(alloc, number, Status::BadHandle));
+        assert!(rt; others_answer(alloc, number, Status::BadHandle));
     }
-    Ok(true)
-}
-
-// Whether each procedure answers so to a handle.
-fn each_answers(alloc: Global, handle: &Handle, status: Status) -> Result<bool, AllocError> {
-    let on = all_answer(alloc, calls_on(alloc, handle)?.as_slice(), status)?;
-    let within = all_answer(alloc, calls_in(alloc, handle)?.as_slice(), status)?;
-    let special = Call::MkNod {
-        name: under(alloc, handle)?,
-        special: SpecialFile::Regular,
-    };
-    let linked = Call::Link {
-        file: again(handle)?,
-        name: place(alloc, 1, b"")?,
-    };
-    let made = asked_once(alloc, 0, &special)? == Some(status);
-    let named = asked_once(alloc, 0, &linked)? == Some(status);
-    Ok(on && within && made && named)
 }
 
 #[test]
-fn a_free_number_is_stale(rt: HostRuntime) -> Result<(), AllocError> {
+fn a_file_is_no_directory(rt: HostRuntime) {
     let alloc = rt.alloc();
-    assert!(rt; each_answers(alloc, &handle(alloc, 5)?, Status::Stale)?);
-    Ok(())
-}
-
-#[test]
-fn a_number_that_no_file_has_is_bad(rt: HostRuntime) -> Result<(), AllocError> {
-    let alloc = rt.alloc();
-    assert!(rt; each_answers(alloc, &handle(alloc, 0)?, Status::BadHandle)?);
-    assert!(rt; each_answers(alloc, &handle(alloc, 64)?, Status::BadHandle)?);
-    Ok(())
-}
-
-#[test]
-fn a_file_is_no_directory(rt: HostRuntime) -> Result<(), AllocError> {
-    let alloc = rt.alloc();
-    let calls = calls_in(alloc, &handle(alloc, 2)?)?;
-    assert!(rt; all_answer(alloc, calls.as_slice(), Status::NotDir)?);
+    assert!(rt; names_answer(alloc, 2, Status::NotDir));
+    assert!(rt; directories_answer(alloc, 2, Status::NotDir));
     // MKNOD looks at nothing but the handle
-    let special = Call::MkNod {
-        name: place(alloc, 2, b"")?,
-        special: SpecialFile::Regular,
-    };
-    assert_eq!(rt; asked_once(alloc, 0, &special)?, Some(Status::NotSupp));
-    Ok(())
+    let special = make_special(alloc, 2, b"", SpecialFile::Regular);
+    assert!(rt; is_answered_once(alloc, 0, special, Some(Status::NotSupp)));
 }

@@ -3,11 +3,15 @@
 #![tactic(auto)]
 
 #[cfg(test)]
+mod answers;
+#[cfg(test)]
 mod calls;
 #[cfg(test)]
 mod files;
 #[cfg(test)]
 mod handles;
+#[cfg(test)]
+mod listings;
 #[cfg(test)]
 mod names;
 #[cfg(test)]

@@ -1,385 +1,382 @@
-//! The statuses of the procedures on names.
+//! The statuses of the procedures that make, link and remove files.
 
+use crate::answers::{is_answered, is_answered_once, set_links, set_mode, tree};
 use crate::calls::{
-    NO_TIME, NOTHING, ONES, ZEROS, asked, asked_once, guarded, handle, place, pointed, tree,
+    NO_TIME, NOTHING, create, guarded, link, look_up, make_directory, make_link, make_special,
+    remove, remove_directory, rename,
 };
-use nfs_types::{Call, CreateHow, DirectoryName, NewAttributes, SpecialFile, Status};
+use nfs_types::{CreateHow, NewAttributes, SpecialFile, Status};
 use plain_server::PlainTree;
 use std::alloc::{AllocError, Global};
 
-fn looked(name: DirectoryName) -> Call {
-    Call::Lookup { name }
+// Whether the procedures that make or remove the file of a name in the root answer so to user 8.
+fn changes_answer(alloc: Global, tree: &mut PlainTree, name: &[u8], status: Status) -> bool {
+    let wanted = Some(status);
+    is_answered(alloc, tree, 8, guarded(alloc, 1, name, NOTHING), wanted)
+        && is_answered(
+            alloc,
+            tree,
+            8,
+            make_directory(alloc, 1, name, NOTHING),
+            wanted,
+        )
+        && is_answered(
+            alloc,
+            tree,
+            8,
+            make_link(alloc, 1, name, NOTHING, b"t"),
+            wanted,
+        )
+        && is_answered(alloc, tree, 8, remove(alloc, 1, name), wanted)
+        && is_answered(alloc, tree, 8, remove_directory(alloc, 1, name), wanted)
 }
 
-fn directory(name: DirectoryName, attributes: NewAttributes) -> Call {
-    Call::MkDir { name, attributes }
+// Whether those answer so to user 8 that give a file another name, or one more.
+fn links_answer(alloc: Global, tree: &mut PlainTree, name: &[u8], status: Status) -> bool {
+    let wanted = Some(status);
+    is_answered(alloc, tree, 8, rename(alloc, 1, name, 1, b"b"), wanted)
+        && is_answered(alloc, tree, 8, rename(alloc, 1, b"a", 1, name), wanted)
+        && is_answered(alloc, tree, 8, link(alloc, 2, 1, name), wanted)
 }
 
-fn removed(name: DirectoryName) -> Call {
-    Call::Remove { name }
-}
-
-fn directory_removed(name: DirectoryName) -> Call {
-    Call::RmDir { name }
-}
-
-fn linked(alloc: Global, number: u32, name: DirectoryName) -> Result<Call, AllocError> {
-    Ok(Call::Link {
-        file: handle(alloc, number)?,
-        name,
-    })
-}
-
-// The calls with one name in the root.
-fn calls_with(alloc: Global, name: &[u8]) -> Result<Vec<Call>, AllocError> {
-    let mut calls = Vec::new(alloc);
-    calls.push(looked(place(alloc, 1, name)?))?;
-    calls.push(guarded(place(alloc, 1, name)?, NOTHING))?;
-    calls.push(directory(place(alloc, 1, name)?, NOTHING))?;
-    calls.push(pointed(alloc, place(alloc, 1, name)?, NOTHING, b"t")?)?;
-    calls.push(removed(place(alloc, 1, name)?))?;
-    calls.push(directory_removed(place(alloc, 1, name)?))?;
-    calls.push(Call::Rename {
-        source: place(alloc, 1, name)?,
-        target: place(alloc, 1, b"b")?,
-    })?;
-    calls.push(Call::Rename {
-        source: place(alloc, 1, b"a")?,
-        target: place(alloc, 1, name)?,
-    })?;
-    calls.push(linked(alloc, 2, place(alloc, 1, name)?)?)?;
-    Ok(calls)
-}
-
-// Whether each of the calls of a user is answered so, from the one at an index on.
-fn all_answer(alloc: Global, uid: u32, calls: &[Call], status: Status) -> Result<bool, AllocError> {
-    for call in calls {
-        if asked_once(alloc, uid, call)? != Some(status) {
-            return Ok(false);
-        }
-    }
-    Ok(true)
+fn is_looked_up(alloc: Global, tree: &mut PlainTree, name: &[u8], wanted: Option<Status>) -> bool {
+    is_answered(alloc, tree, 8, look_up(alloc, 1, name), wanted)
 }
 
 #[test]
 fn a_name_that_is_none(rt: HostRuntime) -> Result<(), AllocError> {
     let alloc = rt.alloc();
+    let mut tree = tree(alloc, 64)?;
+    assert!(rt; is_looked_up(alloc, &mut tree, b"", Some(Status::Acces)));
+    assert!(rt; changes_answer(alloc, &mut tree, b"", Status::Acces));
+    assert!(rt; links_answer(alloc, &mut tree, b"", Status::Acces));
+    assert!(rt; is_looked_up(alloc, &mut tree, b"x\0", Some(Status::Acces)));
+    assert!(rt; changes_answer(alloc, &mut tree, b"x\0", Status::Acces));
+    assert!(rt; links_answer(alloc, &mut tree, b"x\0", Status::Acces));
+    Ok(())
+}
+
+#[test]
+fn a_name_that_is_too_long(rt: HostRuntime) -> Result<(), AllocError> {
+    let alloc = rt.alloc();
     let long = vec![in alloc; b'n'; 113]?;
-    let empty = calls_with(alloc, b"")?;
-    assert!(rt; all_answer(alloc, 8, empty.as_slice(), Status::Acces)?);
-    let zero = calls_with(alloc, b"x\0")?;
-    assert!(rt; all_answer(alloc, 8, zero.as_slice(), Status::Acces)?);
-    let much = calls_with(alloc, long.as_slice())?;
-    assert!(rt; all_answer(alloc, 8, much.as_slice(), Status::NameTooLong)?);
+    let long = long.as_slice();
+    let mut tree = tree(alloc, 64)?;
+    assert!(rt; is_looked_up(alloc, &mut tree, long, Some(Status::NameTooLong)));
+    assert!(rt; changes_answer(alloc, &mut tree, long, Status::NameTooLong));
+    assert!(rt; links_answer(alloc, &mut tree, long, Status::NameTooLong));
     Ok(())
 }
 
 #[test]
 fn a_directory_without_rights(rt: HostRuntime) -> Result<(), AllocError> {
     let alloc = rt.alloc();
+    let mut tree = tree(alloc, 64)?;
     // others may find names in the root, and change none
-    let calls = calls_with(alloc, b"x")?;
-    let Some((first, changes)) = calls.as_slice().split_first() else {
-        assert!(rt; false);
-        return Ok(());
-    };
-    assert_eq!(rt; asked_once(alloc, 8, first)?, Some(Status::NoEnt));
-    assert!(rt; all_answer(alloc, 8, changes, Status::Acces)?);
+    assert!(rt; is_looked_up(alloc, &mut tree, b"x", Some(Status::NoEnt)));
+    assert!(rt; changes_answer(alloc, &mut tree, b"x", Status::Acces));
+    assert!(rt; links_answer(alloc, &mut tree, b"x", Status::Acces));
     // mode 666: it may be read and written, and not searched
-    let mut closed = tree(alloc, 64)?;
-    if let Some(root) = closed.nodes.first_mut() {
-        root.node.mode = 0o666;
-    }
-    for call in calls.as_slice() {
-        let status = asked(alloc, &mut closed, 8, call)?;
-        assert_eq!(rt; status, Some(Status::Acces));
-    }
-    let found = looked(place(alloc, 1, b".")?);
-    assert_eq!(rt; asked(alloc, &mut closed, 8, &found)?, Some(Status::Acces));
+    set_mode(&mut tree, 0o666);
+    assert!(rt; is_looked_up(alloc, &mut tree, b"x", Some(Status::Acces)));
+    assert!(rt; changes_answer(alloc, &mut tree, b"x", Status::Acces));
+    assert!(rt; links_answer(alloc, &mut tree, b"x", Status::Acces));
+    assert!(rt; is_looked_up(alloc, &mut tree, b".", Some(Status::Acces)));
     Ok(())
+}
+
+// The tree whose root anyone may change.
+fn open_tree(alloc: Global, data_blocks: u32) -> Result<PlainTree, AllocError> {
+    let mut open = tree(alloc, data_blocks)?;
+    set_mode(&mut open, 0o777);
+    Ok(open)
+}
+
+fn timed() -> NewAttributes {
+    NewAttributes {
+        mtime: NO_TIME,
+        ..NOTHING
+    }
+}
+
+// The size is one byte too large.
+fn sized() -> NewAttributes {
+    NewAttributes {
+        size: Some(4_227_073),
+        ..NOTHING
+    }
+}
+
+fn owned_by(uid: u32) -> NewAttributes {
+    NewAttributes {
+        uid: Some(uid),
+        ..NOTHING
+    }
+}
+
+// Whether a GUARDED CREATE by user 9 in the root is answered so.
+fn is_guarded(
+    alloc: Global,
+    tree: &mut PlainTree,
+    name: &[u8],
+    attributes: NewAttributes,
+    wanted: Option<Status>,
+) -> bool {
+    is_answered(alloc, tree, 9, guarded(alloc, 1, name, attributes), wanted)
 }
 
 #[test]
 fn why_no_file_is_created(rt: HostRuntime) -> Result<(), AllocError> {
     let alloc = rt.alloc();
-    let timed = NewAttributes {
+    let read_at = NewAttributes {
         atime: NO_TIME,
         ..NOTHING
     };
-    let given = NewAttributes {
-        uid: Some(8),
-        ..NOTHING
-    };
-    let sized = NewAttributes {
-        size: Some(4_227_073),
-        ..NOTHING
-    };
-    let mut open = tree(alloc, 64)?;
-    if let Some(root) = open.nodes.first_mut() {
-        root.node.mode = 0o777;
-    }
-    let made = |name, attributes| -> Result<Call, AllocError> {
-        Ok(guarded(place(alloc, 1, name)?, attributes))
-    };
-    let there = made(b"a".as_slice(), timed)?;
-    assert_eq!(rt; asked(alloc, &mut open, 9, &there)?, Some(Status::Exist));
-    let no_time = made(b"x".as_slice(), timed)?;
-    assert_eq!(rt; asked(alloc, &mut open, 9, &no_time)?, Some(Status::Inval));
-    let other = made(b"x".as_slice(), given)?;
-    assert_eq!(rt; asked(alloc, &mut open, 9, &other)?, Some(Status::Perm));
-    let large = made(b"x".as_slice(), sized)?;
-    assert_eq!(rt; asked(alloc, &mut open, 9, &large)?, Some(Status::FBig));
-    // the size of a file that is there: others may not write it, and its owner not so much
-    let over = Call::Create {
-        name: place(alloc, 1, b"a")?,
-        how: CreateHow::Unchecked(sized),
-    };
-    assert_eq!(rt; asked(alloc, &mut open, 9, &over)?, Some(Status::Acces));
-    assert_eq!(rt; asked(alloc, &mut open, 7, &over)?, Some(Status::FBig));
-    let on_directory = Call::Create {
-        name: place(alloc, 1, b"d")?,
-        how: CreateHow::Unchecked(NOTHING),
-    };
-    assert_eq!(rt;
-        asked(alloc, &mut open, 9, &on_directory)?,
-        Some(Status::Exist)
-    );
+    let mut open = open_tree(alloc, 64)?;
+    assert!(rt; is_guarded(alloc, &mut open, b"a", read_at, Some(Status::Exist)));
+    assert!(rt; is_guarded(alloc, &mut open, b"x", read_at, Some(Status::Inval)));
+    assert!(rt; is_guarded(alloc, &mut open, b"x", owned_by(8), Some(Status::Perm)));
+    assert!(rt; is_guarded(alloc, &mut open, b"x", sized(), Some(Status::FBig)));
     open.inodes = 5;
-    let plain = made(b"x".as_slice(), NOTHING)?;
-    assert_eq!(rt; asked(alloc, &mut open, 9, &plain)?, Some(Status::NoSpc));
+    assert!(rt; is_guarded(alloc, &mut open, b"x", NOTHING, Some(Status::NoSpc)));
     open.inodes = 6;
-    assert_eq!(rt; asked(alloc, &mut open, 9, &plain)?, None);
+    assert!(rt; is_guarded(alloc, &mut open, b"x", NOTHING, None));
     Ok(())
+}
+
+// Whether an UNCHECKED CREATE in the root is answered so.
+fn is_unchecked(
+    alloc: Global,
+    tree: &mut PlainTree,
+    uid: u32,
+    name: &[u8],
+    attributes: NewAttributes,
+    wanted: Option<Status>,
+) -> bool {
+    let how = CreateHow::Unchecked(attributes);
+    is_answered(alloc, tree, uid, create(alloc, 1, name, how), wanted)
+}
+
+#[test]
+fn why_no_file_gets_a_size(rt: HostRuntime) -> Result<(), AllocError> {
+    let alloc = rt.alloc();
+    let mut open = open_tree(alloc, 64)?;
+    // the size of a file that is there: others may not write it, and its owner not so much
+    assert!(rt; is_unchecked(alloc, &mut open, 9, b"a", sized(), Some(Status::Acces)));
+    assert!(rt; is_unchecked(alloc, &mut open, 7, b"a", sized(), Some(Status::FBig)));
+    assert!(rt; is_unchecked(alloc, &mut open, 9, b"d", NOTHING, Some(Status::Exist)));
+    Ok(())
+}
+
+// Whether a MKDIR by user 9 in the root is answered so.
+fn is_directory_made(
+    alloc: Global,
+    tree: &mut PlainTree,
+    name: &[u8],
+    attributes: NewAttributes,
+    wanted: Option<Status>,
+) -> bool {
+    is_answered(
+        alloc,
+        tree,
+        9,
+        make_directory(alloc, 1, name, attributes),
+        wanted,
+    )
 }
 
 #[test]
 fn why_no_directory_is_made(rt: HostRuntime) -> Result<(), AllocError> {
     let alloc = rt.alloc();
-    let timed = NewAttributes {
-        mtime: NO_TIME,
-        ..NOTHING
-    };
     let given = NewAttributes {
         gid: Some(300),
         ..NOTHING
     };
-    let mut open = tree(alloc, 64)?;
-    if let Some(root) = open.nodes.first_mut() {
-        root.node.mode = 0o777;
-        root.node.nlink = 32_000;
-    }
-    let there = directory(place(alloc, 1, b"..")?, timed);
-    assert_eq!(rt; asked(alloc, &mut open, 9, &there)?, Some(Status::Exist));
-    let full = directory(place(alloc, 1, b"x")?, timed);
-    assert_eq!(rt; asked(alloc, &mut open, 9, &full)?, Some(Status::MLink));
-    if let Some(root) = open.nodes.first_mut() {
-        root.node.nlink = 31_999;
-    }
-    assert_eq!(rt; asked(alloc, &mut open, 9, &full)?, Some(Status::Inval));
-    let other = directory(place(alloc, 1, b"x")?, given);
-    assert_eq!(rt; asked(alloc, &mut open, 9, &other)?, Some(Status::Perm));
+    let mut open = open_tree(alloc, 64)?;
+    set_links(&mut open, 1, 32_000);
+    assert!(rt; is_directory_made(alloc, &mut open, b"..", timed(), Some(Status::Exist)));
+    assert!(rt; is_directory_made(alloc, &mut open, b"x", timed(), Some(Status::MLink)));
+    set_links(&mut open, 1, 31_999);
+    assert!(rt; is_directory_made(alloc, &mut open, b"x", timed(), Some(Status::Inval)));
+    assert!(rt; is_directory_made(alloc, &mut open, b"x", given, Some(Status::Perm)));
+    let inside = make_directory(alloc, 3, b"x", NOTHING);
+    assert!(rt; is_answered(alloc, &mut open, 0, inside, None));
+    Ok(())
+}
+
+#[test]
+fn no_directory_without_a_block(rt: HostRuntime) -> Result<(), AllocError> {
+    let alloc = rt.alloc();
     // the directory 3 has no block yet, and none is free
     let mut small = tree(alloc, 2)?;
-    let inside = directory(place(alloc, 3, b"x")?, NOTHING);
-    assert_eq!(rt; asked(alloc, &mut small, 0, &inside)?, Some(Status::NoSpc));
-    assert_eq!(rt; asked(alloc, &mut open, 0, &inside)?, None);
+    let inside = make_directory(alloc, 3, b"x", NOTHING);
+    assert!(rt; is_answered(alloc, &mut small, 0, inside, Some(Status::NoSpc)));
     Ok(())
+}
+
+// Whether a SYMLINK by user 9 in the root is answered so.
+fn is_link_made(
+    alloc: Global,
+    tree: &mut PlainTree,
+    name: &[u8],
+    attributes: NewAttributes,
+    target: &[u8],
+    wanted: Option<Status>,
+) -> bool {
+    is_answered(
+        alloc,
+        tree,
+        9,
+        make_link(alloc, 1, name, attributes, target),
+        wanted,
+    )
 }
 
 #[test]
 fn why_no_link_is_made(rt: HostRuntime) -> Result<(), AllocError> {
     let alloc = rt.alloc();
-    let long = vec![in alloc; b't'; 1025]?;
-    let longest = vec![in alloc; b't'; 1024]?;
-    let timed = NewAttributes {
-        mtime: NO_TIME,
-        ..NOTHING
-    };
-    let given = NewAttributes {
-        uid: Some(300),
-        ..NOTHING
-    };
-    let mut open = tree(alloc, 3)?;
-    if let Some(root) = open.nodes.first_mut() {
-        root.node.mode = 0o777;
-    }
-    let there = pointed(alloc, place(alloc, 1, b"l")?, timed, b"")?;
-    assert_eq!(rt; asked(alloc, &mut open, 9, &there)?, Some(Status::Exist));
-    let nothing = pointed(alloc, place(alloc, 1, b"x")?, timed, b"")?;
-    assert_eq!(rt; asked(alloc, &mut open, 9, &nothing)?, Some(Status::Inval));
-    let much = pointed(alloc, place(alloc, 1, b"x")?, timed, long.as_slice())?;
-    assert_eq!(rt;
-        asked(alloc, &mut open, 9, &much)?,
-        Some(Status::NameTooLong)
+    let mut open = open_tree(alloc, 3)?;
+    assert!(rt; is_link_made(alloc, &mut open, b"l", timed(), b"", Some(Status::Exist)));
+    assert!(rt; is_link_made(alloc, &mut open, b"x", timed(), b"", Some(Status::Inval)));
+    assert!(rt;
+        is_link_made(
+            alloc,
+            &mut open,
+            b"x",
+            owned_by(300),
+            b"t",
+            Some(Status::Perm)
+        )
     );
-    let no_time = pointed(alloc, place(alloc, 1, b"x")?, timed, longest.as_slice())?;
-    assert_eq!(rt; asked(alloc, &mut open, 9, &no_time)?, Some(Status::Inval));
-    let other = pointed(alloc, place(alloc, 1, b"x")?, given, b"t")?;
-    assert_eq!(rt; asked(alloc, &mut open, 9, &other)?, Some(Status::Perm));
-    // one block is free, which the first link takes
-    let plain = pointed(alloc, place(alloc, 1, b"x")?, NOTHING, longest.as_slice())?;
-    assert_eq!(rt; asked(alloc, &mut open, 9, &plain)?, None);
-    let second = pointed(alloc, place(alloc, 1, b"y")?, NOTHING, b"t")?;
-    assert_eq!(rt; asked(alloc, &mut open, 9, &second)?, Some(Status::NoSpc));
     Ok(())
 }
 
 #[test]
-fn why_no_name_is_taken_away(rt: HostRuntime) -> Result<(), AllocError> {
+fn links_with_long_targets(rt: HostRuntime) -> Result<(), AllocError> {
     let alloc = rt.alloc();
-    let took = |name| -> Result<Option<Status>, AllocError> {
-        asked_once(alloc, 0, &removed(place(alloc, 1, name)?))
-    };
-    assert_eq!(rt; took(b".".as_slice())?, Some(Status::IsDir));
-    assert_eq!(rt; took(b"..".as_slice())?, Some(Status::IsDir));
-    assert_eq!(rt; took(b"x".as_slice())?, Some(Status::NoEnt));
-    assert_eq!(rt; took(b"d".as_slice())?, Some(Status::IsDir));
-    assert_eq!(rt; took(b"l".as_slice())?, None);
+    let long = vec![in alloc; b't'; 1025]?;
+    let longest = vec![in alloc; b't'; 1024]?;
+    let (long, longest) = (long.as_slice(), longest.as_slice());
+    let mut open = open_tree(alloc, 3)?;
+    let too_long = Some(Status::NameTooLong);
+    assert!(rt; is_link_made(alloc, &mut open, b"x", timed(), long, too_long));
+    assert!(rt;
+        is_link_made(
+            alloc,
+            &mut open,
+            b"x",
+            timed(),
+            longest,
+            Some(Status::Inval)
+        )
+    );
+    // one block is free, which the first link takes
+    assert!(rt; is_link_made(alloc, &mut open, b"x", NOTHING, longest, None));
+    assert!(rt; is_link_made(alloc, &mut open, b"y", NOTHING, b"t", Some(Status::NoSpc)));
     Ok(())
+}
+
+#[test]
+fn why_no_name_is_taken_away(rt: HostRuntime) {
+    let alloc = rt.alloc();
+    assert!(rt; is_answered_once(alloc, 0, remove(alloc, 1, b"."), Some(Status::IsDir)));
+    assert!(rt; is_answered_once(alloc, 0, remove(alloc, 1, b".."), Some(Status::IsDir)));
+    assert!(rt; is_answered_once(alloc, 0, remove(alloc, 1, b"x"), Some(Status::NoEnt)));
+    assert!(rt; is_answered_once(alloc, 0, remove(alloc, 1, b"d"), Some(Status::IsDir)));
+    assert!(rt; is_answered_once(alloc, 0, remove(alloc, 1, b"l"), None));
+}
+
+// Whether a RMDIR by user 0 in the root is answered so.
+fn is_taken_away(alloc: Global, tree: &mut PlainTree, name: &[u8], wanted: Option<Status>) -> bool {
+    is_answered(alloc, tree, 0, remove_directory(alloc, 1, name), wanted)
 }
 
 #[test]
 fn why_no_directory_is_taken_away(rt: HostRuntime) -> Result<(), AllocError> {
     let alloc = rt.alloc();
     let mut tree = tree(alloc, 64)?;
-    let inside = directory(place(alloc, 3, b"x")?, NOTHING);
-    assert_eq!(rt; asked(alloc, &mut tree, 0, &inside)?, None);
-    let mut took = |name| -> Result<Option<Status>, AllocError> {
-        asked(
-            alloc,
-            &mut tree,
-            0,
-            &directory_removed(place(alloc, 1, name)?),
-        )
-    };
-    assert_eq!(rt; took(b".".as_slice())?, Some(Status::Inval));
-    assert_eq!(rt; took(b"..".as_slice())?, Some(Status::Inval));
-    assert_eq!(rt; took(b"x".as_slice())?, Some(Status::NoEnt));
-    assert_eq!(rt; took(b"a".as_slice())?, Some(Status::NotDir));
-    assert_eq!(rt; took(b"l".as_slice())?, Some(Status::NotDir));
-    assert_eq!(rt; took(b"d".as_slice())?, Some(Status::NotEmpty));
-    let empty = directory_removed(place(alloc, 1, b"d")?);
-    assert_eq!(rt; asked_once(alloc, 0, &empty)?, None);
+    let inside = make_directory(alloc, 3, b"x", NOTHING);
+    assert!(rt; is_answered(alloc, &mut tree, 0, inside, None));
+    assert!(rt; is_taken_away(alloc, &mut tree, b".", Some(Status::Inval)));
+    assert!(rt; is_taken_away(alloc, &mut tree, b"..", Some(Status::Inval)));
+    assert!(rt; is_taken_away(alloc, &mut tree, b"x", Some(Status::NoEnt)));
+    assert!(rt; is_taken_away(alloc, &mut tree, b"a", Some(Status::NotDir)));
+    assert!(rt; is_taken_away(alloc, &mut tree, b"l", Some(Status::NotDir)));
+    assert!(rt; is_taken_away(alloc, &mut tree, b"d", Some(Status::NotEmpty)));
     Ok(())
 }
 
-// A RENAME by user 0.
-fn renamed(
+#[test]
+fn an_empty_directory_is_taken_away(rt: HostRuntime) -> Result<(), AllocError> {
+    let alloc = rt.alloc();
+    let mut tree = tree(alloc, 64)?;
+    assert!(rt; is_taken_away(alloc, &mut tree, b"d", None));
+    Ok(())
+}
+
+// Whether a RENAME by user 0 of a name in the root is answered so.
+fn is_renamed(
     alloc: Global,
     tree: &mut PlainTree,
-    from: DirectoryName,
-    to: DirectoryName,
-) -> Result<Option<Status>, AllocError> {
-    asked(
-        alloc,
-        tree,
-        0,
-        &Call::Rename {
-            source: from,
-            target: to,
-        },
-    )
+    name: &[u8],
+    to: u32,
+    new_name: &[u8],
+    wanted: Option<Status>,
+) -> bool {
+    is_answered(alloc, tree, 0, rename(alloc, 1, name, to, new_name), wanted)
 }
 
 #[test]
 fn why_nothing_is_renamed(rt: HostRuntime) -> Result<(), AllocError> {
     let alloc = rt.alloc();
     let mut tree = tree(alloc, 2)?;
-    let at = |number, name| place(alloc, number, name);
-    let mut moved = |from, to| renamed(alloc, &mut tree, from, to);
-    assert_eq!(rt; moved(at(1, b"x")?, at(1, b".")?)?, Some(Status::Inval));
-    assert_eq!(rt; moved(at(1, b"x")?, at(1, b"y")?)?, Some(Status::NoEnt));
-    assert_eq!(rt; moved(at(1, b"d")?, at(3, b"x")?)?, Some(Status::Inval));
-    assert_eq!(rt; moved(at(1, b"d")?, at(1, b"a")?)?, Some(Status::Exist));
-    assert_eq!(rt; moved(at(1, b"l")?, at(3, b"x")?)?, Some(Status::NoSpc));
-    assert_eq!(rt; moved(at(1, b"a")?, at(1, b"a")?)?, None);
-    assert_eq!(rt; moved(at(1, b"a")?, at(1, b"l")?)?, None);
+    assert!(rt; is_renamed(alloc, &mut tree, b"x", 1, b".", Some(Status::Inval)));
+    assert!(rt; is_renamed(alloc, &mut tree, b"x", 1, b"y", Some(Status::NoEnt)));
+    assert!(rt; is_renamed(alloc, &mut tree, b"d", 3, b"x", Some(Status::Inval)));
+    assert!(rt; is_renamed(alloc, &mut tree, b"d", 1, b"a", Some(Status::Exist)));
+    assert!(rt; is_renamed(alloc, &mut tree, b"l", 3, b"x", Some(Status::NoSpc)));
+    assert!(rt; is_renamed(alloc, &mut tree, b"a", 1, b"a", None));
+    assert!(rt; is_renamed(alloc, &mut tree, b"a", 1, b"l", None));
     Ok(())
+}
+
+// Whether a LINK by user 0 of a file to a name in a directory is answered so.
+fn is_linked(
+    alloc: Global,
+    tree: &mut PlainTree,
+    file: u32,
+    number: u32,
+    name: &[u8],
+    wanted: Option<Status>,
+) -> bool {
+    is_answered(alloc, tree, 0, link(alloc, file, number, name), wanted)
 }
 
 #[test]
 fn why_no_name_is_linked(rt: HostRuntime) -> Result<(), AllocError> {
     let alloc = rt.alloc();
     let mut small = tree(alloc, 2)?;
-    let of_directory = linked(alloc, 3, place(alloc, 1, b"a")?)?;
-    assert_eq!(rt;
-        asked(alloc, &mut small, 0, &of_directory)?,
-        Some(Status::Inval)
-    );
-    let there = linked(alloc, 2, place(alloc, 1, b"..")?)?;
-    assert_eq!(rt; asked(alloc, &mut small, 0, &there)?, Some(Status::Exist));
+    assert!(rt; is_linked(alloc, &mut small, 3, 1, b"a", Some(Status::Inval)));
+    assert!(rt; is_linked(alloc, &mut small, 2, 1, b"..", Some(Status::Exist)));
     // the directory 3 has no block yet, and none is free
-    let inside = linked(alloc, 4, place(alloc, 3, b"x")?)?;
-    assert_eq!(rt; asked(alloc, &mut small, 0, &inside)?, Some(Status::NoSpc));
+    assert!(rt; is_linked(alloc, &mut small, 4, 3, b"x", Some(Status::NoSpc)));
+    Ok(())
+}
+
+#[test]
+fn the_last_link_of_a_file(rt: HostRuntime) -> Result<(), AllocError> {
+    let alloc = rt.alloc();
     let mut many = tree(alloc, 64)?;
-    if let Some(link) = many.nodes.last_mut() {
-        link.node.nlink = 32_000;
-    }
-    assert_eq!(rt; asked(alloc, &mut many, 0, &inside)?, Some(Status::MLink));
-    if let Some(link) = many.nodes.last_mut() {
-        link.node.nlink = 31_999;
-    }
-    assert_eq!(rt; asked(alloc, &mut many, 0, &inside)?, None);
+    set_links(&mut many, 4, 32_000);
+    assert!(rt; is_linked(alloc, &mut many, 4, 3, b"x", Some(Status::MLink)));
+    set_links(&mut many, 4, 31_999);
+    assert!(rt; is_linked(alloc, &mut many, 4, 3, b"x", None));
     Ok(())
 }
 
 #[test]
-fn no_special_file(rt: HostRuntime) -> Result<(), AllocError> {
+fn no_special_file(rt: HostRuntime) {
     let alloc = rt.alloc();
-    let special = Call::MkNod {
-        name: place(alloc, 1, b"x")?,
-        special: SpecialFile::Fifo(NOTHING),
-    };
-    assert_eq!(rt; asked_once(alloc, 0, &special)?, Some(Status::NotSupp));
-    Ok(())
-}
-
-#[test]
-fn why_no_names_are_listed(rt: HostRuntime) -> Result<(), AllocError> {
-    let alloc = rt.alloc();
-    let mut tree = tree(alloc, 64)?;
-    let listed = |cookie, verifier, count| -> Result<Call, AllocError> {
-        Ok(Call::ReadDir {
-            directory: handle(alloc, 1)?,
-            cookie,
-            verifier,
-            count,
-        })
-    };
-    let plus = |cookie, verifier, count| -> Result<Call, AllocError> {
-        Ok(Call::ReadDirPlus {
-            directory: handle(alloc, 1)?,
-            cookie,
-            verifier,
-            directory_count: 28,
-            greatest_count: count,
-        })
-    };
-    let bad = (listed(1, ONES, 0)?, plus(1, ONES, 0)?);
-    assert_eq!(rt;
-        asked(alloc, &mut tree, 8, &bad.0)?,
-        Some(Status::BadCookie)
-    );
-    assert_eq!(rt;
-        asked(alloc, &mut tree, 8, &bad.1)?,
-        Some(Status::BadCookie)
-    );
-    let small = (listed(0, ZEROS, 131)?, plus(0, ZEROS, 247)?);
-    assert_eq!(rt;
-        asked(alloc, &mut tree, 8, &small.0)?,
-        Some(Status::TooSmall)
-    );
-    assert_eq!(rt;
-        asked(alloc, &mut tree, 8, &small.1)?,
-        Some(Status::TooSmall)
-    );
-    let enough = (listed(0, ZEROS, 132)?, plus(0, ZEROS, 248)?);
-    assert_eq!(rt; asked(alloc, &mut tree, 8, &enough.0)?, None);
-    assert_eq!(rt; asked(alloc, &mut tree, 8, &enough.1)?, None);
-    if let Some(root) = tree.nodes.first_mut() {
-        root.node.mode = 0o311;
-    }
-    assert_eq!(rt; asked(alloc, &mut tree, 8, &bad.0)?, Some(Status::Acces));
-    assert_eq!(rt; asked(alloc, &mut tree, 8, &bad.1)?, Some(Status::Acces));
-    Ok(())
+    let special = make_special(alloc, 1, b"x", SpecialFile::Fifo(NOTHING));
+    assert!(rt; is_answered_once(alloc, 0, special, Some(Status::NotSupp)));
 }
