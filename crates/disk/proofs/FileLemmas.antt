@@ -1,5 +1,5 @@
 -- What one more call makes of a device over a file.
-use Rattle.std.proofs.Common.{◌≡◌, ℕ, ◌*◌, Bool, false, ◌||◌, ◌&&◌, List, [], ◌∷◌, ◌++◌}
+use Rattle.std.proofs.Common.{◌≡◌, ℕ, ◌+◌, ◌*◌, Bool, false, ◌||◌, ◌&&◌, List, [], ◌∷◌, ◌++◌}
 use Rattle.std.proofs.Common.{length, take, refl, sym, subst, ◌∙◌, ap, arith, inl, inr, Result, Ok, Err}
 use Rattle.std.proofs.Common.{is_err, if◌then◌else◌, cond}
 use Rattle.std.proofs.lemmas.List.{length-append, take_all, take-append-le, append_assoc}
@@ -7,7 +7,7 @@ use Rattle.std.proofs.lemmas.List.Folds.{list_any-append}
 use Rattle.std.proofs.lemmas.List.Sums.{sum_by-append}
 use Rattle.std.proofs.lemmas.Bool.{cases_Bool, eq-eqb, ne_eqb, eqb-true, eqb-false}
 use Rattle.std.proofs.Math.Bool.{or-false}
-use Rattle.std.specs.Prelude.{nat_eq, OnOk}
+use Rattle.std.specs.Prelude.{nat_eq, count_by, OnOk}
 use Rattle.std.specs.declared.snapshot.Snapshot.{Snapshot}
 use Rattle.limits.specs.declared.TheConstants.{BLOCK_BYTES}
 use Rattle.disk.specs.declared.device.Failed.{Failed}
@@ -18,6 +18,7 @@ use Rattle.disk.specs.Device.{Content, Device, current, newest, OneLater, HasRea
 use Rattle.disk.specs.Device.{Appends, Settles, CountsFailure}
 use Rattle.disk.specs.File.{Calls, is_at, effect, contents_after, spoils_block, is_spoiled, file_device}
 use Rattle.disk.specs.File.{KeepsModel}
+use Rattle.disk.proofs.Failures.{told_before, told_last}
 
 -- a block is at another's offset just where it is that one
 same_block : (one other : ℕ) → is_at one (other * BLOCK_BYTES) ≡ nat_eq one other
@@ -54,12 +55,21 @@ module _ (first : ℕ → Content) (size : ℕ) (calls : Calls) where
       ∙ ap (λ (contents : List Content). effect block call r contents)
       (sym (whole block (first block ∷ []) calls))
 
+  counted_more : (call : FileCall) (r : Result Unit Failed)
+      → count_by (λ e. is_err e.1) (calls ++ (call, r) ∷ [])
+      ≡ count_by (λ e. is_err e.1) calls + cond (is_err r) 1 0
+  counted_more call r = grind (arith, sum_by-append (λ e. cond (is_err e.1) 1 0) calls ((call, r) ∷ []))
+
   later : (call : FileCall) (r : Result Unit Failed) → OneLater now (next call r)
   later call r = record {
     size = refl;
     clock = length-append calls ((call, r) ∷ []);
     past = λ clock block h. ap (λ (es : Calls). contents_after block (first block ∷ []) es)
         (take-append-le clock calls ((call, r) ∷ []) h);
+    failed = λ made h. told_before (λ e. is_err e.1) calls (call, r) made h;
+    counted = counted_more call r
+        ∙ ap (λ (b : Bool). count_by (λ e. is_err e.1) calls + cond b 1 0)
+        (sym (told_last (λ e. is_err e.1) calls (call, r)));
   }
 
   spoiled_more : (block : ℕ) (call : FileCall) (r : Result Unit Failed)

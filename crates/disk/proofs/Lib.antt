@@ -1,4 +1,5 @@
 pub mod BlockLemmas
+pub mod Failures
 pub mod MemoryLemmas
 pub mod CrashLemmas
 pub mod FileLemmas

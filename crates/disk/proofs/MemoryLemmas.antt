@@ -20,6 +20,7 @@ use Rattle.disk.specs.Device.{Content, Device, current, OneLater, CountsFailure,
 use Rattle.disk.specs.Device.{HasSettled, Appends, Settles}
 use Rattle.disk.specs.CallRecord.{is_failure, spoils}
 use Rattle.disk.specs.Memory.{Blocks, Past, held_at, device_of}
+use Rattle.disk.proofs.Failures.{told_before, told_last}
 
 held_before : (now new : Blocks) (past : Past) (n : CallRecord) (clock : ℕ) → clock ≤ length past
     → held_at new (past ++ (now, n) ∷ []) clock ≡ held_at now past clock
@@ -36,12 +37,20 @@ held_after : (now new : Blocks) (past : Past) (n : CallRecord)
     → held_at new (past ++ (now, n) ∷ []) (length (past ++ (now, n) ∷ [])) ≡ new
 held_after now new past n = held_now new (past ++ (now, n) ∷ [])
 
+counted : (p : Blocks × CallRecord → Bool) (past : Past) (e : Blocks × CallRecord)
+    → count_by p (past ++ e ∷ []) ≡ count_by p past + cond (p e) 1 0
+counted p past e = grind (arith, sum_by-append (λ x. cond (p x) 1 0) past (e ∷ []))
+
 later : (now new : Blocks) (past : Past) (n : CallRecord) → length new ≡ length now
     → OneLater (device_of now past) (device_of new (past ++ (now, n) ∷ []))
 later now new past n same = record {
   size = same;
   clock = length-append past ((now, n) ∷ []);
   past = λ clock block h. ap (λ (bs : Blocks). get_or bs block []) (held_before now new past n clock h);
+  failed = λ call h. told_before (λ e. is_failure e.1) past (now, n) call h;
+  counted = counted (λ e. is_failure e.1) past (now, n)
+      ∙ ap (λ (b : Bool). count_by (λ e. is_failure e.1) past + cond b 1 0)
+      (sym (told_last (λ e. is_failure e.1) past (now, n)));
 }
 
 -- the contents after one more call are the new ones
@@ -52,10 +61,6 @@ current_after now new past n block = ap (λ (bs : Blocks). get_or bs block []) (
 pub current_now : (now : Blocks) (past : Past) (block : ℕ)
     → current (device_of now past) block ≡ get_or now block []
 current_now now past block = ap (λ (bs : Blocks). get_or bs block []) (held_now now past)
-
-counted : (p : Blocks × CallRecord → Bool) (past : Past) (e : Blocks × CallRecord)
-    → count_by p (past ++ e ∷ []) ≡ count_by p past + cond (p e) 1 0
-counted p past e = grind (arith, sum_by-append (λ x. cond (p x) 1 0) past (e ∷ []))
 
 pub counts : (now new : Blocks) (past : Past) (c : Call) (r : Result Unit Failed)
     → CountsFailure (device_of now past) (device_of new (past ++ (now, record { call = c; result = r }) ∷ []))

@@ -4,7 +4,7 @@ use Rattle.std.proofs.Common.{length, drop, get_or, refl, sym, subst, ◌∙◌,
 use Rattle.std.proofs.Common.{if◌then◌else◌, cond, nat_le, nat_eq, inl, inr}
 use Rattle.std.proofs.lemmas.Bool.{true≢false, false≢true, eq-eqb, ne_eqb, eqb-true, eqb-false, le-leb}
 use Rattle.std.proofs.lemmas.Bool.{lt-leb, cases_Bool, and_parts, or_cases, and_left, and_right, ltb-true}
-use Rattle.std.proofs.lemmas.Bool.{le-ltb, leb-true}
+use Rattle.std.proofs.lemmas.Bool.{le-ltb, lt-ltb, leb-true}
 use Rattle.std.proofs.lemmas.List.{get_or-drop, length-drop}
 use Rattle.std.proofs.Math.Bool.{or-false}
 use Rattle.std.specs.Prelude.{OnOk, nat_lt}
@@ -132,32 +132,36 @@ makes old (settles side) r new h = (
 abbrev counted : Result Unit Failed → ℕ
 counted r = cond (is_err r) 1 0
 
--- a device one call later, with these contents
-abbrev next : Device → (ℕ → List Content) → ℕ → (ℕ → Bool) → Device
-next d lists failures spoiled = record {
+-- a device one call later, which had this result, with these contents
+abbrev next : Device → (ℕ → List Content) → Result Unit Failed → (ℕ → Bool) → Device
+next d lists result spoiled = record {
   size = d.size;
   clock = d.clock + 1;
-  failures = failures;
+  failures = d.failures + counted result;
+  failed = λ call. if nat_lt call d.clock then d.failed call else is_err result;
   contents = λ clock k. if nat_le clock d.clock then d.contents clock k else lists k;
   spoiled = spoiled;
 }
 
-next_later : (d : Device) (lists : ℕ → List Content) (failures : ℕ) (spoiled : ℕ → Bool)
-    → OneLater d (next d lists failures spoiled)
-next_later d lists failures spoiled = record {
+next_later : (d : Device) (lists : ℕ → List Content) (result : Result Unit Failed) (spoiled : ℕ → Bool)
+    → OneLater d (next d lists result spoiled)
+next_later d lists result spoiled = record {
   size = refl;
   clock = refl;
   past = λ clock k h. ap (λ (t : Bool). if t then d.contents clock k else lists k) (le-leb clock d.clock h);
+  failed = λ call h. ap (λ (t : Bool). if t then d.failed call else is_err result) (lt-ltb call d.clock h);
+  counted = ap (λ (t : Bool). d.failures + cond (if t then d.failed d.clock else is_err result) 1 0)
+      (sym (le-ltb d.clock d.clock (omega arith)));
 }
 
-next_current : (d : Device) (lists : ℕ → List Content) (failures : ℕ) (spoiled : ℕ → Bool) (k : ℕ)
-    → current (next d lists failures spoiled) k ≡ lists k
-next_current d lists failures spoiled k =
+next_current : (d : Device) (lists : ℕ → List Content) (result : Result Unit Failed) (spoiled : ℕ → Bool) (k : ℕ)
+    → current (next d lists result spoiled) k ≡ lists k
+next_current d lists result spoiled k =
     ap (λ (t : Bool). if t then d.contents (d.clock + 1) k
     else lists k) (lt-leb (d.clock + 1) d.clock (omega arith))
 
 counts_next : (d : Device) (lists : ℕ → List Content) (spoiled : ℕ → Bool) (r : Result Unit Failed)
-    → CountsFailure d (next d lists (d.failures + counted r) spoiled) r
+    → CountsFailure d (next d lists r spoiled) r
 counts_next d lists spoiled (Ok u) = omega arith
 counts_next d lists spoiled (Err u) = refl
 
@@ -264,17 +268,17 @@ module _ (old middle new : Device) (first second : DeviceCall) (r s : Result Uni
   lists k = if touches second k then current new k else current old k
 
   abbrev between : Device
-  between = next old lists (old.failures + counted s) (λ k. old.spoiled k || spoils second s k)
+  between = next old lists s (λ k. old.spoiled k || spoils second s k)
 
   abbrev end : Device
-  end = next between (λ k. current new k) (between.failures + counted r) (λ k. between.spoiled k
+  end = next between (λ k. current new k) r (λ k. between.spoiled k
       || spoils first r k)
 
   between_at : (k : ℕ) → current between k ≡ lists k
-  between_at k = next_current old lists (old.failures + counted s) (λ k. old.spoiled k || spoils second s k) k
+  between_at k = next_current old lists s (λ k. old.spoiled k || spoils second s k) k
 
   end_at : (k : ℕ) → current end k ≡ current new k
-  end_at k = next_current between (λ k. current new k) (between.failures + counted r) (λ k. between.spoiled k
+  end_at k = next_current between (λ k. current new k) r (λ k. between.spoiled k
       || spoils first r k) k
 
   lists_at : (k : ℕ) (t : Bool) → touches second k ≡ t
@@ -283,7 +287,7 @@ module _ (old middle new : Device) (first second : DeviceCall) (r s : Result Uni
 
   second_first : Changes old second s between
   second_first = record {
-    later = next_later old lists (old.failures + counted s) (λ k. old.spoiled k || spoils second s k);
+    later = next_later old lists s (λ k. old.spoiled k || spoils second s k);
     failure = counts_next old lists (λ k. old.spoiled k || spoils second s k) s;
     others = λ k h. between_at k ∙ lists_at k false h;
     own = λ k h.
@@ -297,7 +301,7 @@ module _ (old middle new : Device) (first second : DeviceCall) (r s : Result Uni
 
   first_second : Changes between first r end
   first_second = record {
-    later = next_later between (λ k. current new k) (between.failures + counted r) (λ k. between.spoiled k
+    later = next_later between (λ k. current new k) r (λ k. between.spoiled k
         || spoils first r k);
     failure = counts_next between (λ k. current new k) (λ k. between.spoiled k || spoils first r k) r;
     others = λ k h. elim (cases_Bool (touches second k)) [

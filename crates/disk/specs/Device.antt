@@ -1,6 +1,6 @@
 -- The disk model: the contents that each block may have, at each count of calls, and what a call of the
 -- device does to them.
-use Rattle.std.specs.Prelude.{◌≡◌, ◌≢◌, ℕ, ◌+◌, ◌-◌, ◌≤◌, Bool, ◌||◌, ◌&&◌, if◌then◌else◌, nat_lt, nat_le}
+use Rattle.std.specs.Prelude.{◌≡◌, ◌≢◌, ℕ, ◌+◌, ◌-◌, ◌<◌, ◌≤◌, Bool, ◌||◌, ◌&&◌, if◌then◌else◌, nat_lt, nat_le}
 use Rattle.std.specs.Prelude.{nat_eq, List, [], ◌∷◌, ◌++◌, length, drop, slice_index_or, Result, Ok, Err}
 use Rattle.std.specs.Prelude.{is_err, ◌⊎◌}
 use Rattle.limits.specs.declared.TheConstants.{LOG_HEADER_BLOCK, START_BLOCK}
@@ -20,6 +20,8 @@ pub record Device : Type 0 where
   pub clock : ℕ
   -- the count of those that failed
   pub failures : ℕ
+  -- whether the call of this number failed, from 0
+  pub failed : ℕ → Bool
   -- at a clock, for a block: the contents that a crash may leave, the newest last
   pub contents : ℕ → ℕ → List Content
   -- a write of the block has failed
@@ -46,11 +48,13 @@ abbrev pub is_on : Side → ℕ → Bool
 is_on Log block = nat_le LOG_HEADER_BLOCK block && nat_lt block START_BLOCK
 is_on Home block = nat_lt block LOG_HEADER_BLOCK || nat_le START_BLOCK block
 
--- one call later: the past is what it was
+-- one call later: the past is what it was, and the call is counted where it failed
 pub record OneLater (old new : Device) : Type 0 where
   pub size : new.size ≡ old.size
   pub clock : new.clock ≡ old.clock + 1
   pub past : (clock block : ℕ) → clock ≤ old.clock → new.contents clock block ≡ old.contents clock block
+  pub failed : (call : ℕ) → call < old.clock → new.failed call ≡ old.failed call
+  pub counted : new.failures ≡ old.failures + (if new.failed old.clock then 1 else 0)
 
 -- a call counts a failure just where it answers that it failed
 abbrev pub CountsFailure : Device → Device → Result Unit Failed → Type 0

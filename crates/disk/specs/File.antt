@@ -1,6 +1,6 @@
 -- A device over a file, read off what its blocks held when it was opened and the calls since.
 use Rattle.std.specs.Prelude.{◌≡◌, ℕ, zero, suc, ◌*◌, ◌<◌, Bool, true, false, ◌&&◌, if◌then◌else◌, nat_eq}
-use Rattle.std.specs.Prelude.{List, [], ◌∷◌, ◌++◌, length, take, count_by, replicate, All}
+use Rattle.std.specs.Prelude.{List, [], ◌∷◌, ◌++◌, length, map, take, slice_index_or, count_by, replicate, All}
 use Rattle.std.specs.Prelude.{Result, Ok, Err, is_err}
 use Rattle.std.specs.List.{list_any}
 use Rattle.disk.specs.declared.device.Failed.{Failed}
@@ -69,12 +69,17 @@ spoils_block block (Sync side) result = false
 abbrev pub is_spoiled : ℕ → Calls → Bool
 is_spoiled block calls = list_any (λ call. spoils_block block call.0 call.1) calls
 
+-- whether the call of this number among them failed; past them none did
+abbrev pub failed_in : Calls → ℕ → Bool
+failed_in calls call = slice_index_or (map (λ made. is_err made.1) calls) call false
+
 -- the device that held this when it was opened, after these calls
 abbrev pub file_device : (ℕ → Content) → ℕ → Calls → Device
 file_device first size calls = record {
   size = size;
   clock = length calls;
   failures = count_by (λ call. is_err call.1) calls;
+  failed = λ call. failed_in calls call;
   contents = λ clock block. contents_after block (first block ∷ []) (take clock calls);
   spoiled = λ block. is_spoiled block calls;
 }

@@ -1,4 +1,5 @@
 pub mod Device
+pub mod Failures
 pub mod Blocks
 pub mod Crash
 pub mod Choice

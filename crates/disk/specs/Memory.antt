@@ -1,5 +1,5 @@
 -- A device in memory, read off what it holds now and what it held at each call before.
-use Rattle.std.specs.Prelude.{◌≡◌, ℕ, ◌+◌, List, [], map, length, slice_index_or, count_by, Contains}
+use Rattle.std.specs.Prelude.{◌≡◌, ℕ, ◌+◌, Bool, false, List, [], map, length, slice_index_or, count_by, Contains}
 use Rattle.std.specs.List.{list_any}
 use Rattle.disk.specs.Device.{Content, Device, current, newest}
 use Rattle.disk.specs.Crash.{Image}
@@ -19,11 +19,16 @@ Past = List (Blocks × CallRecord)
 abbrev pub held_at : Blocks → Past → ℕ → Blocks
 held_at now past clock = slice_index_or (map (λ e. e.0) past) clock now
 
+-- whether the call of this number failed; past the last, none did
+abbrev pub failed_at : Past → ℕ → Bool
+failed_at past call = slice_index_or (map (λ e. is_failure e.1) past) call false
+
 abbrev pub device_of : Blocks → Past → Device
 device_of now past = record {
   size = length now;
   clock = length past;
   failures = count_by (λ e. is_failure e.1) past;
+  failed = λ call. failed_at past call;
   contents = λ clock block. slice_index_or (held_at now past clock) block [];
   spoiled = λ block. list_any (λ e. spoils block e.1) past;
 }

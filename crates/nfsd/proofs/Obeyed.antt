@@ -9,7 +9,7 @@ use Rattle.nfsd_words.specs.declared.Args.{Args}
 use Rattle.nfsd_words.specs.declared.Args.TheVariants.{Format, Once}
 use Rattle.nfsd_words.specs.Words.{HasMeaning, WordsAsk}
 use Rattle.layout.specs.Geometry.{data_at}
-use Rattle.store.specs.Formatting.{HasFormatted}
+use Rattle.store_images.specs.Formatting.{HasFormatted}
 use Rattle.session.specs.Serving.{Client}
 use Rattle.nfsd.specs.declared.fault.Fault.{Fault}
 use Rattle.nfsd.specs.declared.fault.Fault.TheVariants as fault

@@ -8,8 +8,8 @@ use Rattle.clap.specs.declared.error.Error.{Error}
 use Rattle.clap.specs.declared.error.kind.ErrorKind.TheVariants as kind
 use Rattle.session.specs.declared.serving.SessionFault.{SessionFault}
 use Rattle.session.specs.declared.serving.SessionFault.TheVariants as session
-use Rattle.store.specs.declared.formatting.FormatFault.{FormatFault}
-use Rattle.store.specs.declared.formatting.FormatFault.TheVariants as format
+use Rattle.store_images.specs.declared.formatting.FormatFault.{FormatFault}
+use Rattle.store_images.specs.declared.formatting.FormatFault.TheVariants as format
 use Rattle.store_promise.specs.declared.fault.OpenFault.{OpenFault}
 use Rattle.store_promise.specs.declared.fault.OpenFault.TheVariants as opening
 use Rattle.nfsd.specs.declared.fault.Fault.{Fault}

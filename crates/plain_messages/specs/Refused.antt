@@ -1,11 +1,9 @@
--- The records that refuse a call, and what the first words of a call's record tell (RFC 5531, sections 9 and 11).
-use Rattle.std.specs.Prelude.{◌≡◌, ⊤, ℕ, ◌+◌, ◌&&◌, nat_eq, Bool, List, [], ◌∷◌, ◌++◌, length, drop}
-use Rattle.plain_items.specs.Items.{has, spelled_word, word_at}
+-- The records that refuse a call (RFC 5531, sections 9 and 11).
+use Rattle.std.specs.Prelude.{ℕ, ◌+◌, List, [], ◌∷◌, ◌++◌, length}
+use Rattle.plain_items.specs.Items.{spelled_word}
 use Rattle.plain_messages.specs.Parts.{chain}
-use Rattle.plain_messages.specs.declared.hearing.Heard.{Heard}
-use Rattle.plain_messages.specs.declared.hearing.Heard.TheVariants as heard
-use Rattle.plain_messages.specs.declared.hearing.PlainRefusal.{PlainRefusal}
-use Rattle.plain_messages.specs.declared.hearing.PlainRefusal.TheVariants as refusal
+use Rattle.plain_messages.specs.declared.refusal.PlainRefusal.{PlainRefusal}
+use Rattle.plain_messages.specs.declared.refusal.PlainRefusal.TheVariants as refusal
 
 -- numbers of four bytes, one behind another
 abbrev pub words : List ℕ → List ℕ
@@ -33,13 +31,3 @@ refusing refusal.Version = accepted (2 ∷ 3 ∷ 3 ∷ [])
 refusing refusal.Procedure = accepted (3 ∷ [])
 refusing refusal.Arguments = accepted (4 ∷ [])
 refusing refusal.System = accepted (5 ∷ [])
-
--- a record that begins as a call: its number, 0, and the version of RPC
-abbrev pub is_call : List ℕ → Bool
-is_call bytes = has 12 bytes && nat_eq (word_at (drop 4 bytes)) 0
-
--- what is heard has the number of the message
-abbrev pub IsNumbered : List ℕ → Heard → Type 0
-IsNumbered bytes heard.Closed = ⊤
-IsNumbered bytes (heard.Refused xid refusal) = xid ≡ word_at bytes
-IsNumbered bytes (heard.Call xid credential call) = xid ≡ word_at bytes

@@ -1,6 +1,6 @@
 -- How the results of procedures are spelled (RFC 1813, sections 3.3 and 5.2). Each but NULL's begins with its
 -- status, which is 0 for OK.
-use Rattle.std.specs.Prelude.{ℕ, false, true, List, [], ◌∷◌, ◌++◌, length, Result, Ok, Err}
+use Rattle.std.specs.Prelude.{ℕ, false, true, List, [], ◌++◌, length, Result, Ok, Err}
 use Rattle.plain_items.specs.Items.{spelled_double as double, spelled_flag, spelled_optional, spelled_string}
 use Rattle.plain_items.specs.Items.{spelled_word as word}
 use Rattle.plain_messages.specs.Refused.{words}

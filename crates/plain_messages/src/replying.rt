@@ -4,8 +4,8 @@ ghost use Rattle.plain_items.specs.declared.fault.ItemFault.TheVariants.{NoMemor
 ghost use Rattle.plain_messages.specs.Refused.{accepted, denied, recorded, refusing, words};
 ghost use Rattle.plain_messages.specs.Results.{result_of};
 
-use crate::hearing::PlainRefusal;
 use crate::mounting::put_mount_result;
+use crate::refusal::PlainRefusal;
 use crate::results::put_nfs_result;
 use nfs_types::ProgramReply;
 use plain_items::{ItemFault, put_word};

@@ -88,7 +88,23 @@ fn answer_piece<W: Write>(
     writer: &mut W,
 ) -> bool {
     let mut replies = Vec::new(alloc);
-    let progress = session.feed(alloc, piece, &mut replies);
-    let is_written = writer.write_all(replies.as_slice()).is_ok() && writer.flush().is_ok();
-    is_written && matches!(progress, Ok(Progress::Open))
+    let is_open = feed(alloc, session, piece, &mut replies);
+    let is_written = write_out(writer, replies.as_slice());
+    is_written && is_open
+}
+
+// Takes the next bytes, and tells whether no fault came of it and the session is open.
+fn feed(alloc: Global, session: &mut PlainSession, piece: &[u8], replies: &mut Vec<u8>) -> bool {
+    match session.feed(alloc, piece, replies) {
+        Ok(Progress::Open) => true,
+        Ok(Progress::Closed) | Err(_) => false,
+    }
+}
+
+// Writes bytes to the last one, and tells whether no fault came of it.
+fn write_out<W: Write>(writer: &mut W, bytes: &[u8]) -> bool {
+    match writer.write_all(bytes) {
+        Ok(()) => writer.flush().is_ok(),
+        Err(_) => false,
+    }
 }

@@ -2,8 +2,9 @@
 
 use crate::mounted::mount;
 use nfs_types::{Call, Credential, Ctx, Moment, ProgramCall, ProgramReply, Reply};
+use plain_hearing::{Heard, hear};
 use plain_items::ItemFault;
-use plain_messages::{Heard, PlainRefusal, done, hear, refused};
+use plain_messages::{PlainRefusal, done, refused};
 use plain_server::PlainTree;
 use plain_steps::answer;
 use std::alloc::{AllocError, Global};
@@ -78,7 +79,17 @@ fn step(
         boot: 1,
         transaction: files.transactions,
     };
-    match answer(alloc, &mut files.tree, &ctx, call)? {
+    answered(alloc, &mut files.tree, &ctx, call)
+}
+
+// The reply to a call, which for NULL is nothing more.
+fn answered(
+    alloc: Global,
+    tree: &mut PlainTree,
+    ctx: &Ctx,
+    call: &Call,
+) -> Result<Reply, AllocError> {
+    match answer(alloc, tree, ctx, call)? {
         Some(reply) => Ok(reply),
         None => Ok(Reply::Null),
     }

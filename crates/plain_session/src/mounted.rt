@@ -23,7 +23,12 @@ pub fn mount(alloc: Global, call: &MountCall) -> Result<MountReply, AllocError> 
 }
 
 fn root(alloc: Global) -> Result<Mounted, AllocError> {
-    let bytes = Octets::copied(alloc, &ROOT_HANDLE)?;
+    mounted(alloc, &ROOT_HANDLE)
+}
+
+// A directory with this handle, for credentials of AUTH_SYS.
+fn mounted(alloc: Global, handle: &[u8]) -> Result<Mounted, AllocError> {
+    let bytes = Octets::copied(alloc, handle)?;
     let mut flavors = Vec::new(alloc);
     flavors.push(1)?;
     Ok(Mounted {

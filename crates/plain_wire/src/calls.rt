@@ -101,11 +101,12 @@ fn read_credential(alloc: Global, flavor: u32, body: &[u8]) -> Result<MessageCre
 fn read_named(alloc: Global, body: &[u8]) -> Result<MessageCredential, XdrFault>
     ensures { Gives (λ c. c) result (named_in body.now) }
 {
-    let system = read_caller(alloc, body)?;
+    let system = read_caller(body)?;
     let machine = Octets::copied(alloc, system.machine)?;
+    let caller = system.caller.credential(alloc)?;
     Ok(MessageCredential::Caller {
         stamp: system.stamp,
         machine,
-        caller: system.caller,
+        caller,
     })
 }

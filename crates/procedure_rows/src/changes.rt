@@ -1,64 +1,15 @@
-//! Calls that make and remove files, on the small tree of `tests`: the root of user 0 has mode 755 and the
-//! one name `a`.
+//! Calls that make and remove files, on the small tree: the root of user 0 has mode 755 and the one name `a`.
 
-use crate::links::are_linked;
-use crate::tests::{NOTHING_WANTED, called_by, handle_of, sizes, tree};
-use nfs_types::{
-    Call, CreateHow, Created, DirectoryName, Handle, NewAttributes, Octets, Reply, Stamp, Status,
-    Verifier,
-};
-use plain_naming::{create, make_directory, make_link, remove, remove_directory};
-use plain_procedures::{Changed, least_unused, make_special, read_link};
+use nfs_types::{Call, CreateHow, Handle, NewAttributes, Octets, Reply, Status, Verifier};
+use plain_naming::{create, make_link, remove_directory};
+use plain_procedures::{least_unused, make_special, read_link};
 use plain_server::PlainTree;
 use plain_steps::answer;
+use small_tree::{
+    Done, Made, NOTHING_WANTED, are_linked, called_by, handle_of, handle_of_new, has_links,
+    is_directory_made, is_removed, made, name_in, root, set_links, tree,
+};
 use std::alloc::{AllocError, Global};
-
-// The number and the mode of what was made, or why nothing was.
-type Made = Result<(u64, u32), Status>;
-
-pub(crate) fn root(alloc: Global) -> Result<Handle, AllocError> {
-    handle_of(alloc, 1, 0)
-}
-
-// The handle of what a call of `called_by` makes.
-pub(crate) fn handle_of_new(alloc: Global, number: u32) -> Result<Handle, AllocError> {
-    let stamp = Stamp {
-        boot: 1,
-        transaction: 9,
-    };
-    Handle::of(alloc, number, stamp)
-}
-
-// The handle of a file that is there: of the root, of the file 2, or of one that a call has made.
-pub(crate) fn handle_at(alloc: Global, number: u32) -> Result<Handle, AllocError> {
-    match number {
-        1 => root(alloc),
-        2 => handle_of(alloc, 2, 1),
-        _ => handle_of_new(alloc, number),
-    }
-}
-
-// A name in the directory of a number.
-pub(crate) fn name_in(
-    alloc: Global,
-    number: u32,
-    name: &[u8],
-) -> Result<DirectoryName, AllocError> {
-    Ok(DirectoryName {
-        directory: handle_at(alloc, number)?,
-        name: Octets::copied(alloc, name)?,
-    })
-}
-
-fn made(answer: Changed<Created>) -> Made {
-    match answer.outcome {
-        Ok(created) => match created.attributes {
-            Some(attributes) => Ok((attributes.number, attributes.mode)),
-            None => Ok((0, 0)),
-        },
-        Err(status) => Err(status),
-    }
-}
 
 // What a CREATE of a name in the root is answered.
 fn created(
@@ -163,43 +114,6 @@ fn unchecked_sets_the_size_alone(rt: HostRuntime) -> Result<(), AllocError> {
     Ok(())
 }
 
-// What a call without a result is answered.
-pub(crate) type Done = Result<(), Status>;
-
-// What a removal of a name in the root is answered.
-fn removed(alloc: Global, tree: &mut PlainTree, uid: u32, name: &[u8]) -> Result<Done, AllocError> {
-    let ctx = called_by(alloc, uid);
-    let place = name_in(alloc, 1, name)?;
-    Ok(remove(tree, &ctx, &place)?.outcome)
-}
-
-pub(crate) fn is_removed(
-    alloc: Global,
-    tree: &mut PlainTree,
-    uid: u32,
-    name: &[u8],
-    wanted: Done,
-) -> bool {
-    removed(alloc, tree, uid, name) == Ok(wanted)
-}
-
-// Whether a removal by user 0 tells this size and these used bytes of the root.
-pub(crate) fn is_removal_told(
-    alloc: Global,
-    tree: &mut PlainTree,
-    name: &[u8],
-    wanted: (u64, u64),
-) -> bool {
-    let ctx = called_by(alloc, 0);
-    let Ok(place) = name_in(alloc, 1, name) else {
-        return false;
-    };
-    match remove(tree, &ctx, &place) {
-        Ok(answer) => sizes(&answer.file) == Some(wanted),
-        Err(_) => false,
-    }
-}
-
 #[test]
 fn why_no_name_is_removed(rt: HostRuntime) -> Result<(), AllocError> {
     let alloc = rt.alloc();
@@ -228,28 +142,6 @@ fn the_handle_of_a_removed_file_is_stale(rt: HostRuntime) -> Result<(), AllocErr
     Ok(())
 }
 
-// What a MKDIR by user 0 of a name in the directory of a number is answered.
-fn directory_made(
-    alloc: Global,
-    tree: &mut PlainTree,
-    number: u32,
-    name: &[u8],
-) -> Result<Made, AllocError> {
-    let ctx = called_by(alloc, 0);
-    let place = name_in(alloc, number, name)?;
-    Ok(made(make_directory(alloc, tree, &ctx, &place, &NOTHING_WANTED)?))
-}
-
-pub(crate) fn is_directory_made(
-    alloc: Global,
-    tree: &mut PlainTree,
-    number: u32,
-    name: &[u8],
-    wanted: Made,
-) -> bool {
-    directory_made(alloc, tree, number, name) == Ok(wanted)
-}
-
 // What a RMDIR by user 0 of a name in the root is answered.
 fn directory_removed(alloc: Global, tree: &mut PlainTree, name: &[u8]) -> Result<Done, AllocError> {
     let ctx = called_by(alloc, 0);
@@ -259,12 +151,6 @@ fn directory_removed(alloc: Global, tree: &mut PlainTree, name: &[u8]) -> Result
 
 fn is_directory_removed(alloc: Global, tree: &mut PlainTree, name: &[u8], wanted: Done) -> bool {
     directory_removed(alloc, tree, name) == Ok(wanted)
-}
-
-// Whether the file of a number has so many links.
-pub(crate) fn has_links(tree: &PlainTree, number: u32, links: u32) -> bool {
-    let file = tree.nodes.iter().find(|file| file.number == number);
-    file.map(|file| file.node.nlink) == Some(links)
 }
 
 #[test]
@@ -290,13 +176,6 @@ fn why_no_directory_is_removed(rt: HostRuntime) -> Result<(), AllocError> {
     assert!(rt; is_directory_removed(alloc, &mut tree, b"b", Err(Status::NoEnt)));
     assert!(rt; is_directory_removed(alloc, &mut tree, b"d", Err(Status::NotEmpty)));
     Ok(())
-}
-
-// Gives the file of a number so many links.
-pub(crate) fn set_links(tree: &mut PlainTree, number: u32, links: u32) {
-    if let Some(file) = tree.nodes.iter_mut().find(|file| file.number == number) {
-        file.node.nlink = links;
-    }
 }
 
 #[test]

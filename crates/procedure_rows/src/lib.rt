@@ -5,12 +5,4 @@
 #[cfg(test)]
 mod changes;
 #[cfg(test)]
-mod crowded;
-#[cfg(test)]
-mod links;
-#[cfg(test)]
-mod listings;
-#[cfg(test)]
-mod renames;
-#[cfg(test)]
 mod tests;

@@ -1,124 +1,16 @@
-//! Calls on a small tree: the root with one name, `a`, in its first slot, and the file 2 of user 7 that it
-//! leads to. A helper whose name asks something answers false also where memory is wanted.
+//! Calls on the small tree. A helper whose name asks something answers false also where memory is wanted.
 
 use nfs_types::{
-    Call, Credential, Ctx, DirectoryName, FileSystemSpace, Handle, Moment, NewAttributes,
-    NumberList, Octets, SetTime, Stability, Stamp, Status, Verifier, WeakCacheData,
+    Call, DirectoryName, FileSystemSpace, Handle, NewAttributes, Octets, Stability, Status,
+    Verifier,
 };
 use plain_procedures::{
     Told, access, commit, file_system_info, file_system_space, look_up, path_limits, read,
     read_link, write,
 };
-use plain_server::{
-    MappedIndexes, NumberedNode, PlainBody, PlainNames, PlainNode, PlainTree, serve,
-};
+use plain_server::{PlainTree, serve};
+use small_tree::{MADE, NOTHING_WANTED, called_by, handle_of, sizes, tree};
 use std::alloc::{AllocError, Global};
-
-const MADE: Moment = Moment {
-    seconds: 1000,
-    nanoseconds: 0,
-};
-
-const NOW: Moment = Moment {
-    seconds: 2000,
-    nanoseconds: 5,
-};
-
-pub(crate) const NOTHING_WANTED: NewAttributes = NewAttributes {
-    mode: None,
-    uid: None,
-    gid: None,
-    size: None,
-    atime: SetTime::Unchanged,
-    mtime: SetTime::Unchanged,
-};
-
-pub(crate) fn called_by(alloc: Global, uid: u32) -> Ctx {
-    Ctx {
-        credential: Credential {
-            uid,
-            gid: 100,
-            gids: NumberList::new(Vec::new(alloc)),
-        },
-        moment: NOW,
-        boot: 1,
-        transaction: 9,
-    }
-}
-
-// The handle of the file 2 where its boot number is 1.
-pub(crate) fn handle_of(alloc: Global, number: u32, boot: u64) -> Result<Handle, AllocError> {
-    let stamp = Stamp {
-        boot,
-        transaction: 0,
-    };
-    Handle::of(alloc, number, stamp)
-}
-
-// An empty file that its owner may read and write, its group read, and others nothing.
-pub(crate) fn empty_file(alloc: Global) -> PlainNode {
-    PlainNode {
-        mode: 0o640,
-        uid: 7,
-        gid: 100,
-        nlink: 1,
-        atime: MADE,
-        mtime: MADE,
-        ctime: MADE,
-        stamp: Stamp {
-            boot: 1,
-            transaction: 0,
-        },
-        verifier: None,
-        body: PlainBody::Regular {
-            bytes: Vec::new(alloc),
-            mapped: MappedIndexes::new(alloc),
-        },
-    }
-}
-
-// A root with the name `a` alone.
-fn names(alloc: Global) -> Result<PlainBody, AllocError> {
-    let mut entries = PlainNames::new(alloc);
-    entries.insert(Octets::copied(alloc, b"a")?, 2, 0)?;
-    Ok(PlainBody::Directory {
-        entries,
-        span: 1,
-        parent: 1,
-    })
-}
-
-// Gives the root what is in it.
-pub(crate) fn set_root(tree: &mut PlainTree, body: PlainBody) {
-    if let Some(root) = tree.nodes.first_mut() {
-        root.node.body = body;
-    }
-}
-
-// Gives the tree the empty file of a number.
-pub(crate) fn add_file(alloc: Global, tree: &mut PlainTree, number: u32) -> Result<(), AllocError> {
-    tree.nodes.push(NumberedNode {
-        number,
-        node: empty_file(alloc),
-    })?;
-    Ok(())
-}
-
-// The tree of so many data blocks, of which the root's entry takes one.
-pub(crate) fn tree(alloc: Global, data_blocks: u32) -> Result<PlainTree, AllocError> {
-    let mut tree = PlainTree::formatted(alloc, data_blocks, 64, MADE)?;
-    set_root(&mut tree, names(alloc)?);
-    add_file(alloc, &mut tree, 2)?;
-    Ok(tree)
-}
-
-// The size and the used bytes that are told after a change.
-pub(crate) fn sizes(told: &WeakCacheData) -> Option<(u64, u64)> {
-    match &told.after {
-        Some(attributes) => Some((attributes.size, attributes.used)),
-        None => None,
-    }
-}
 
 // What a WRITE is answered, and the size and the used bytes that are told with it.
 type Wrote = (Option<Status>, Option<(u64, u64)>);

@@ -1,5 +1,6 @@
 pub mod Lengths
 pub mod Numbers
+pub mod Spelled
 pub mod Loops
 pub mod Marks
 pub mod RecordLaws

@@ -1,11 +1,12 @@
 -- Whom a call is made for (RFC 5531, section 8.2 and appendix A).
-use Rattle.std.specs.Prelude.{ℕ, zero, suc, List, [], ◌∷◌, length, Result, Ok, Err, nat_lt, ◌==◌}
+use Rattle.std.specs.Prelude.{◌≡◌, ℕ, zero, suc, List, [], ◌∷◌, length, Result, Ok, Err, nat_lt, ◌==◌}
 use Rattle.std.specs.Prelude.{if◌then◌else◌}
 use Rattle.std.specs.Int.{w32}
 use Rattle.limits.specs.declared.TheConstants.{MACHINE_NAME_BYTES, MOST_GIDS, NOBODY}
 use Rattle.nfs_types.specs.declared.ctx.Credential.{Credential}
 use Rattle.xdr.specs.declared.fault.XdrFault.{XdrFault}
 use Rattle.xdr.specs.declared.fault.XdrFault.TheVariants.{Length}
+use Rattle.rpc.specs.declared.credential.NamedCaller.{NamedCaller}
 use Rattle.rpc.specs.declared.credential.SystemCredential.{SystemCredential}
 use Rattle.rpc.specs.declared.refusal.Refusal.{Refusal}
 use Rattle.rpc.specs.declared.refusal.Refusal.TheVariants.{BadCredential, RejectedCredential}
@@ -31,8 +32,12 @@ pub record System : Type 0 where
   pub machine : List ℕ
   pub caller : Credential
 
+-- whom a caller names whose groups are as they are spelled
+abbrev pub named : NamedCaller → Credential
+named c = record { uid = c.uid; gid = c.gid; gids = c.gids }
+
 abbrev pub system : SystemCredential → System
-system c = record { stamp = c.stamp; machine = c.machine.now; caller = c.caller }
+system c = record { stamp = c.stamp; machine = c.machine.now; caller = named c.caller }
 
 -- a stamp and a machine's name, then the caller, and nothing behind
 unfoldable pub caller_at : List ℕ → Result System XdrFault
@@ -62,3 +67,9 @@ abbrev pub credential_of : ℕ → List ℕ → Result Credential Refusal
 credential_of flavor body =
     if flavor == 0 then (if length body == 0 then Ok no_caller else Err BadCredential) else
     if flavor == 1 then caller_or_bad (caller_at body) else Err RejectedCredential
+
+-- a caller that was read is the one that the definition names, or both refuse the credential for the same
+-- reason
+abbrev pub Names : Result NamedCaller Refusal → Result Credential Refusal → Type 0
+Names (Ok c) wanted = wanted ≡ Ok (named c)
+Names (Err why) wanted = wanted ≡ Err why

@@ -1,4 +1,5 @@
 pub mod Headers
+pub mod Groups
 pub mod Credentials
 pub mod Records
 pub mod Cutting

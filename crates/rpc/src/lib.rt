@@ -15,7 +15,7 @@ pub use constants::{
     AUTH_NONE, AUTH_SYS, CALL, LAST_FRAGMENT, MOUNT_PROGRAM, NFS_PROGRAM, NFS_VERSION, REPLY,
     RPC_VERSION,
 };
-pub use credential::{SystemCredential, read_caller, read_credential};
+pub use credential::{NamedCaller, SpelledGids, SystemCredential, read_caller, read_credential};
 pub use fault::RpcFault;
 pub use header::{Header, Opening, read_header, read_opening};
 pub use laws::{

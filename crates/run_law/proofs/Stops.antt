@@ -21,7 +21,8 @@ use Rattle.store_promise.specs.GoodImage.{IsGoodImage}
 use Rattle.store_promise.specs.LogTold.{settled_told}
 use Rattle.store_promise.specs.Openings.{IsLater}
 use Rattle.store_promise.specs.OpenSince.{LeavesBlocks, blocks_after}
-use Rattle.store_promise.specs.Running.{StoreSide, one_if}
+use Rattle.store_promise.specs.FailedCalls.{one_if}
+use Rattle.store_promise.specs.Running.{StoreSide}
 use Rattle.store_promise.specs.Schedule.{Schedule, Setting, told_before}
 use Rattle.store_promise.specs.Transcript.{Transcript, calls_device, commits_by, device_calls, entries_of, entry_of}
 use Rattle.run_law.specs.Noting.{Noted, clock_now, listed, told_now, with_noted}

@@ -22,7 +22,7 @@ use Rattle.session_wire.specs.declared.message.Judged.TheVariants as verdicts
 use Rattle.session_wire.specs.declared.message.ReplyBody.{ReplyBody}
 use Rattle.session_wire.specs.declared.message.ReplyBody.TheVariants as bodies
 use Rattle.session_wire.specs.Replies.{body_too_long, reply_bytes, IsTooLong as IsTooLongReply}
-use Rattle.store.specs.Opening.{Opened}
+use Rattle.store_images.specs.Opening.{Opened}
 use Rattle.session.specs.declared.serving.SessionFault.{SessionFault}
 use Rattle.session.specs.declared.serving.SessionFault.TheVariants as faults
 use Rattle.session.specs.Replying.{IsAnswered, IsCallAnswered, IsSpelled}
@@ -298,8 +298,7 @@ stops_serving K moment faults.NoMemory left text m more old first new written e 
   },
   refl,
 )
-stops_serving K moment faults.NoMemory left text m more old first new written e is (inr (inl x)) = absurd (cc x.0)
-stops_serving K moment faults.NoMemory left text m more old first new written e is (inr (inr x)) = inl x.1
+stops_serving K moment faults.NoMemory left text m more old first new written e is (inr x) = absurd (cc x.0)
 stops_serving K moment faults.Output left text m more old first new written e is (inl d) = record {
   text = text;
   message = m;
@@ -313,23 +312,18 @@ stops_serving K moment faults.Output left text m more old first new written e is
   parts = d.4;
   told = d.5;
 }
-stops_serving K moment faults.Output left text m more old first new written e is (inr (inl x)) = absurd (cc x.0)
-stops_serving K moment faults.Output left text m more old first new written e is (inr (inr x)) = absurd (cc x.0)
+stops_serving K moment faults.Output left text m more old first new written e is (inr x) = absurd (cc x.0)
 stops_serving K moment faults.Record left text m more old first new written e is (inl d) = absurd d
-stops_serving K moment faults.Record left text m more old first new written e is (inr (inl x)) = (
+stops_serving K moment faults.Record left text m more old first new written e is (inr x) = (
   x.2,
   inr (record { text = text; message = m; more = more; cut = e; is = is; closed = x.1 }),
 )
-stops_serving K moment faults.Record left text m more old first new written e is (inr (inr x)) = absurd (cc x.0)
 stops_serving K moment faults.Input left text m more old first new written e is (inl d) = absurd d
-stops_serving K moment faults.Input left text m more old first new written e is (inr (inl x)) = absurd (cc x.0)
-stops_serving K moment faults.Input left text m more old first new written e is (inr (inr x)) = absurd (cc x.0)
+stops_serving K moment faults.Input left text m more old first new written e is (inr x) = absurd (cc x.0)
 stops_serving K moment faults.Truncated left text m more old first new written e is (inl d) = absurd d
-stops_serving K moment faults.Truncated left text m more old first new written e is (inr (inl x)) = absurd (cc x.0)
-stops_serving K moment faults.Truncated left text m more old first new written e is (inr (inr x)) = absurd (cc x.0)
+stops_serving K moment faults.Truncated left text m more old first new written e is (inr x) = absurd (cc x.0)
 stops_serving K moment faults.Device left text m more old first new written e is (inl d) = absurd d
-stops_serving K moment faults.Device left text m more old first new written e is (inr (inl x)) = absurd (cc x.0)
-stops_serving K moment faults.Device left text m more old first new written e is (inr (inr x)) = absurd (cc x.0)
+stops_serving K moment faults.Device left text m more old first new written e is (inr x) = absurd (cc x.0)
 
 -- a message is served
 pub serves : (K : Type 0) (moment : Moment) (old : Opened) (first : Option (List ℕ)) (read left : List ℕ)
@@ -339,9 +333,7 @@ pub serves : (K : Type 0) (moment : Moment) (old : Opened) (first : Option (List
     → IsCourse K moment old first read more next new written
 serves K moment old first read left count middle told text m more next new written c e is (inl d) n =
     answers K moment old first read left count middle told text m more d.0 next new written c e is d.1 d.2 n
-serves K moment old first read left count middle told text m more next new written c e is (inr (inl x)) n =
-    absurd (cc x.0)
-serves K moment old first read left count middle told text m more next new written c e is (inr (inr x)) n =
+serves K moment old first read left count middle told text m more next new written c e is (inr x) n =
     absurd (cc x.0)
 
 -- ---- where the stream ends

@@ -20,13 +20,14 @@ use Rattle.wal_law.specs.Calls.{Pending, idle}
 use Rattle.wal_law.specs.Log.{settled_place}
 use Rattle.store_promise.specs.OpenSince.{HasKeptFiles, IsOpenSince, KeepsFiles, LeavesBeginning}
 use Rattle.store_promise.specs.Openings.{IsLater}
-use Rattle.store.specs.Further.{LeavesOpen}
-use Rattle.store.specs.Opening.{IsSettled, Opened, store_of}
-use Rattle.store.specs.SettlingStops.{KeepsPrefixes}
+use Rattle.store_images.specs.Further.{LeavesOpen}
+use Rattle.store_images.specs.Opening.{IsSettled, Opened, store_of}
+use Rattle.store_images.specs.SettlingStops.{KeepsPrefixes}
 use Rattle.store.proofs.CallEvents.{gone_on}
-use Rattle.store.proofs.Later.{past_more, past_none, some_image}
-use Rattle.store.proofs.Staying.{stops_along}
-use Rattle.store.proofs.StillOpen.{same_further}
+use Rattle.store_promise.proofs.Later.{past_more, past_none}
+use Rattle.store_images.proofs.Later.{some_image}
+use Rattle.store_images.proofs.Staying.{stops_along}
+use Rattle.store_images.proofs.StillOpen.{same_further}
 use Rattle.store.specs.Calling.{ComesTo, GoesTo, Outset}
 use Rattle.session.specs.declared.serving.SessionFault.{SessionFault}
 use Rattle.session.specs.declared.serving.SessionFault.TheVariants as faults
@@ -35,6 +36,7 @@ use Rattle.session.specs.Filing.{filed, outset_of}
 use Rattle.session.specs.Replying.{IsAnswered}
 use Rattle.session.specs.Streaming.{Answered, IsStream}
 use Rattle.session.proofs.Courses.{longer_answers}
+use Rattle.session.proofs.ServedFiles.{each_message}
 use Rattle.session.proofs.ShortReplies.{never_too_long, spelled_whole}
 
 -- ---- the laws that it rests on
@@ -262,6 +264,9 @@ files_after stops longer K moment old files messages replies served device core 
     record {
       later = done.later;
       each = done.each (settled_place core.log) further;
+      answers = each_message old.boot moment served.device.failed K (settled_place core.log) old files messages replies
+          served done.later old served refl opened (λ number below. refl) a
+          (done.each (settled_place core.log) further);
       goes = done.goes;
       first = done.first;
       made = done.made;

@@ -1,3 +1,4 @@
 pub mod Courses
 pub mod Filed
 pub mod ShortReplies
+pub mod ServedFiles

@@ -36,7 +36,7 @@ use Rattle.store_promise.specs.declared.answers.Verdict.TheVariants as verdicts
 use Rattle.store_promise.specs.declared.events.Cause.{Cause}
 use Rattle.store_promise.specs.declared.events.Cause.TheVariants as cause
 use Rattle.store.specs.Calling.{ComesTo, Outset, Tells}
-use Rattle.store.specs.Opening.{Opened}
+use Rattle.store_images.specs.Opening.{Opened}
 use Rattle.model.specs.Entry.{Entry}
 use Rattle.session.specs.Replying.{IsSpelled}
 use Rattle.session.specs.Serving.{reply_for}

@@ -14,18 +14,20 @@ use Rattle.session_wire.specs.declared.message.Judged.{Judged}
 use Rattle.session_wire.specs.declared.message.Judged.TheVariants.{Closed, Refused, Call}
 use Rattle.session_wire.specs.Judging.{judged}
 use Rattle.session_wire.specs.Replies.{reply_bytes}
+use Rattle.session_wire.specs.Served as stream
 use Rattle.wal_law.specs.Log.{settled_place}
 use Rattle.txn_law.specs.Core.{CoreState}
 use Rattle.store_promise.specs.OpenSince.{KeepsFiles, LeavesBeginning}
 use Rattle.store_promise.specs.Openings.{IsLater, LeavesImages}
 use Rattle.store_promise.specs.declared.answers.Verdict.{Verdict}
 use Rattle.store.specs.Calling.{GoesTo, HasAnswered, IsOpenWith, IsReplyOf, Outset, asked_of}
-use Rattle.store.specs.Opening.{IsSettled, Opened}
+use Rattle.store_images.specs.Opening.{IsSettled, Opened}
 use Rattle.session.specs.declared.serving.SessionFault.{SessionFault}
 use Rattle.session.specs.declared.serving.SessionFault.TheVariants.{Record, Input, Output, NoMemory, Truncated}
 use Rattle.session.specs.declared.serving.SessionFault.TheVariants.{Device}
 use Rattle.session.specs.Replying.{IsSystemError}
 use Rattle.session.specs.Serving.{reply_for}
+use Rattle.session.specs.Standing.{serving_of, standing_of}
 use Rattle.session.specs.Streaming.{IsStream}
 
 -- the files of an open store: they led from the first tree by these entries to the last
@@ -90,7 +92,9 @@ NumbersRise least (entry ∷ entries) most =
     (least < entry.ctx.transaction) × NumbersRise entry.ctx.transaction entries most
 
 -- What a stream has made of the files: each message did what is said above, from the store at the call to the one
--- behind the last message, and none took back a failure, a number or a settled place. The numbers of the transactions
+-- behind the last message, and none took back a failure, a number or a settled place. What they were answered is what
+-- the served stream admits: so each cause lies in the device calls of its own message, in a store that was broken
+-- before it, or in what the core had left then. The numbers of the transactions
 -- of its procedures rise, from above those that there were. The store that is left is open for the files that there
 -- are then: those entries, and behind them the stream's. Whatever a stop leaves, from the call on, is good, and has the
 -- tree after a beginning of them, in which is each place that was settled at the call. Once the call has returned each
@@ -100,6 +104,8 @@ pub record HasFiled (moment : Moment) (old : Opened) (files : Files) (messages r
     (served new : Opened) : Type 0 where
   pub later : Files
   pub each : AreFiled (settled_place new.core.log) moment old files messages replies served later
+  pub answers : stream.served (serving_of old.boot moment served.device.failed) (standing_of old files.last) messages
+      replies (standing_of served later.last)
   pub goes : GoesTo old served
   pub first : later.first ≡ files.first
   pub made : List Entry

@@ -1,3 +1,4 @@
+pub mod Standing
 pub mod Filing
 pub mod Replying
 pub mod Serving

@@ -15,8 +15,8 @@ use Rattle.session_wire.specs.declared.message.ReplyBody.{ReplyBody}
 use Rattle.session_wire.specs.declared.message.ReplyBody.TheVariants as bodies
 use Rattle.session_wire.specs.Replies.{reply_bytes, IsTooLong}
 use Rattle.store.specs.Calling.{Answers, asked_of}
-use Rattle.store.specs.Opening.{Opened}
-use Rattle.store.specs.Settling.{IsIdle}
+use Rattle.store_images.specs.Opening.{Opened}
+use Rattle.store_images.specs.Settling.{IsIdle}
 use Rattle.store_promise.specs.Progress.{Job}
 use Rattle.store_promise.specs.declared.answers.Verdict.{Verdict}
 use Rattle.session.specs.Serving.{reply_for}

@@ -8,8 +8,8 @@ use Rattle.session_wire.specs.declared.message.ReplyBody.TheVariants as bodies
 use Rattle.rpc.specs.declared.refusal.Refusal.TheVariants as refusals
 use Rattle.store_promise.specs.declared.answers.Verdict.{Verdict}
 use Rattle.store_promise.specs.declared.answers.Verdict.TheVariants as verdicts
-use Rattle.store.specs.Opening.{IsSettled, Opened}
-use Rattle.store.specs.Settling.{IsIdle}
+use Rattle.store_images.specs.Opening.{IsSettled, Opened}
+use Rattle.store_images.specs.Settling.{IsIdle}
 use Rattle.session.specs.declared.serving.SessionFault.{SessionFault}
 
 -- a client's stream: the bytes of the input that aren't read yet, and those of the output, each where they

@@ -6,7 +6,7 @@ use Rattle.nfs_types.specs.declared.ctx.Moment.{Moment}
 use Rattle.rpc.specs.Records.{fragment, CutsOff, HasBegun, IsRecord, IsTooLong}
 use Rattle.session_wire.specs.declared.message.Judged.TheVariants.{Closed}
 use Rattle.session_wire.specs.Judging.{judged}
-use Rattle.store.specs.Opening.{Opened}
+use Rattle.store_images.specs.Opening.{Opened}
 use Rattle.session.specs.declared.serving.SessionFault.{SessionFault}
 use Rattle.session.specs.declared.serving.SessionFault.TheVariants.{Record, Input, Output, NoMemory, Truncated}
 use Rattle.session.specs.declared.serving.SessionFault.TheVariants.{Device}
@@ -72,13 +72,12 @@ Delivers IsReply first (Err Input) written = ⊥
 Delivers IsReply first (Err Truncated) written = ⊥
 Delivers IsReply first (Err Device) written = ⊥
 
--- what comes of one record: it is answered, or the connection closes on it, or memory was refused for its header
+-- what comes of one record: it is answered, or the connection closes on it
 abbrev pub Serves : Type 0 → Moment → Opened → Option (List ℕ) → List ℕ → Result (Unit {0}) SessionFault → Opened
     → Option (List ℕ) → Type 0
 Serves keeps_model moment old first message result new written =
     Delivers (λ (reply : List ℕ). IsAnswered keeps_model moment old (judged message) reply new) first result written
     ⊎ ((result ≡ Err Record) × (judged message ≡ Closed) × IsUntouched old first new written)
-    ⊎ ((result ≡ Err NoMemory) × IsUntouched old first new written)
 
 -- bytes were written whole, or a beginning of them
 abbrev pub Writes : Option (List ℕ) → List ℕ → Result (Unit {0}) SessionFault → Option (List ℕ) → Type 0

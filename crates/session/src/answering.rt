@@ -1,7 +1,7 @@
 //! Answering one record.
 ghost use Rattle.std.specs.Prelude.{◌≡◌};
-ghost use Rattle.store.specs.Opening.{store_of};
-ghost use Rattle.store.specs.Settling.{IsIdle};
+ghost use Rattle.store_images.specs.Opening.{store_of};
+ghost use Rattle.store_images.specs.Settling.{IsIdle};
 ghost use Rattle.session.specs.Serving.{reply_for};
 ghost use Rattle.session.specs.Replying.{IsCallAnswered, IsMountReply};
 ghost use Rattle.session.specs.Streaming.{Delivers, Serves};
@@ -35,16 +35,13 @@ pub fn serve_record<D: CrashDisk, W: Write>(
         (store_of (D.device store.new.disk) store.new.core store.new.boot) (W.contents writer.new) }
 {
     match judge(alloc, message) {
-        Err(_) => Err(SessionFault::NoMemory),
-        Ok(Judged::Closed) => Err(SessionFault::Record),
-        Ok(Judged::Refused { xid, refusal }) => put(alloc, writer, xid, RpcReply::Refused(refusal)),
-        Ok(
-            Judged::Call {
-                xid,
-                credential,
-                call,
-            },
-        ) => serve_call(alloc, store, xid, credential, call, writer, moment),
+        Judged::Closed => Err(SessionFault::Record),
+        Judged::Refused { xid, refusal } => put(alloc, writer, xid, RpcReply::Refused(refusal)),
+        Judged::Call {
+            xid,
+            credential,
+            call,
+        } => serve_call(alloc, store, xid, credential, call, writer, moment),
     }
 }
 

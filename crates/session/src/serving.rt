@@ -2,8 +2,8 @@
 ghost use Rattle.std.specs.Prelude.{◌≡◌, ◌<◌, ◌≤◌, ◌⊎◌, ◌++◌, [], ℕ, List, Option, IfOk, IfErr, IfSome, IfNone};
 ghost use Rattle.std.specs.Prelude.{OnOk, OnErr, IsErrOf, length, take};
 ghost use Rattle.std.specs.Io.KnownBytes.{Consumes, IsAtEnd, Keeps};
-ghost use Rattle.store.specs.Opening.{Opened, store_of};
-ghost use Rattle.store.specs.Settling.{IsIdle};
+ghost use Rattle.store_images.specs.Opening.{Opened, store_of};
+ghost use Rattle.store_images.specs.Settling.{IsIdle};
 ghost use Rattle.rpc.specs.Records.{HasBegun, IsRecord, IsTooLong};
 ghost use Rattle.session.specs.Serving.{HasServed, client_of};
 ghost use Rattle.session.specs.Filing.{IsServed};
@@ -33,7 +33,7 @@ pub enum SessionFault {
     /// A write of a reply or the flush behind it failed.
     #[error("Output")]
     Output,
-    /// An allocation failed: for a piece of the input, for a record or its header, or for the bytes of a reply.
+    /// An allocation failed: for a piece of the input, for a record, or for the bytes of a reply.
     #[error("NoMemory")]
     NoMemory,
     /// The input ends inside a record.

@@ -17,11 +17,14 @@ use Rattle.session_wire.specs.declared.message.Judged.TheVariants.{Closed, Refus
 use Rattle.session_wire.specs.declared.message.MessageCredential.{MessageCredential}
 use Rattle.session_wire.specs.declared.message.MessageCredential.TheVariants.{Nobody, Caller}
 use Rattle.rpc.specs.declared.refusal.Refusal.{Refusal}
+use Rattle.rpc.specs.declared.refusal.Refusal.TheVariants.{SystemError}
 use Rattle.session_wire.specs.Calls.{CredentialFits, caller_of}
 use Rattle.session_wire.specs.Judging.{judged}
 use Rattle.rpc.specs.Refused.{refused}
-use Rattle.session_wire.specs.Served.{Serving, Standing, IsLater, IsReplyWithRules, IsNfsReply, IsCallReply}
-use Rattle.session_wire.specs.Served.{IsReplyTo, IsServable, IsNfsDone, IsDone, Steps, all_done, served, done, nfs_done}
+use Rattle.session_wire.specs.Served.{FailsWithin, HasFailed, HasNoCause, IsCallReply, IsDone, IsLater}
+use Rattle.session_wire.specs.Served.{IsNfsDone, IsNfsReply, IsPlain, IsReplyTo, IsReplyWithRules}
+use Rattle.session_wire.specs.Served.{IsServable, IsSpent, LacksMemory, Rests, Serving, Standing, Stays}
+use Rattle.session_wire.specs.Served.{Steps, all_done, done, done_but_for_memory, nfs_done, served}
 use Rattle.session_wire.proofs.CallLaws.{judged_takes}
 
 pub none : (s : Serving) (old new : Standing) (replies : List (List ℕ)) → served s old [] replies new
@@ -62,36 +65,48 @@ joined s old middle new (message ∷ first) second (reply ∷ replies) others sa
 
 -- ---- nothing is taken back
 
-pub same : (old new : Standing) → new ≡ old → IsLater old new
-same old new is =
-    subst (λ (at : Standing). IsLater old at) (sym is)
-    (record {
-      numbers = omega arith;
-      failures = omega arith;
-      breaks = λ no yes. cc;
-      stays_broken = λ is. is;
-      stays_spent = λ is. is;
-    })
+later_itself : (s : Serving) (at : Standing) → IsLater s at at
+later_itself s at = record {
+  numbers = omega arith;
+  places = omega arith;
+  positions = omega arith;
+  clock = omega arith;
+  breaks = λ no yes. cc;
+  stays_broken = λ is. is;
+}
 
-breaks-on : (a b c : Standing) → IsLater a b → IsLater b c → a.is_broken ≡ false → c.is_broken ≡ true
-    → (v : Bool) → b.is_broken ≡ v → a.failures < c.failures
-breaks-on a b c first second was now true is = let h = first.breaks was is in let k = second.failures in
-    omega arith
-breaks-on a b c first second was now false is = let h = second.breaks is now in let k = first.failures in
-    omega arith
+pub same : (s : Serving) (old new : Standing) → new ≡ old → IsLater s old new
+same s old new is = subst (λ (at : Standing). IsLater s old at) (sym is) (later_itself s old)
 
-on : (a b c : Standing) → IsLater a b → IsLater b c → IsLater a c
-on a b c first second = record {
-  numbers = let h = first.numbers in let k = second.numbers in omega arith;
-  failures = let h = first.failures in let k = second.failures in omega arith;
-  breaks = λ was now. breaks-on a b c first second was now b.is_broken refl;
+-- a failure in a part of a time is one in the time
+fails_longer : (s : Serving) (a b c d : ℕ) → a ≤ b → c ≤ d → FailsWithin s b c → FailsWithin s a d
+fails_longer s a b c d first last fails = record {
+  call = fails.call;
+  since = let h = fails.since in omega (arith, first, h);
+  before = let h = fails.before in omega (arith, last, h);
+  failed = fails.failed;
+}
+
+breaks-on : (s : Serving) (a b c : Standing) → IsLater s a b → IsLater s b c → a.is_broken ≡ false
+    → c.is_broken ≡ true → (v : Bool) → b.is_broken ≡ v → FailsWithin s a.clock c.clock
+breaks-on s a b c first second was now true is =
+    fails_longer s a.clock a.clock b.clock c.clock (omega arith) second.clock (first.breaks was is)
+breaks-on s a b c first second was now false is =
+    fails_longer s a.clock b.clock c.clock c.clock first.clock (omega arith) (second.breaks is now)
+
+on : (s : Serving) (a b c : Standing) → IsLater s a b → IsLater s b c → IsLater s a c
+on s a b c first second = record {
+  numbers = let h = first.numbers in let k = second.numbers in omega (arith, h, k);
+  places = let h = first.places in let k = second.places in omega (arith, h, k);
+  positions = let h = first.positions in let k = second.positions in omega (arith, h, k);
+  clock = let h = first.clock in let k = second.clock in omega (arith, h, k);
+  breaks = λ was now. breaks-on s a b c first second was now b.is_broken refl;
   stays_broken = λ is. second.stays_broken (first.stays_broken is);
-  stays_spent = λ is. second.stays_spent (first.stays_spent is);
 }
 
 module _ (s : Serving) (old new : Standing) (bytes : List ℕ) where
   served-on : (xid : ℕ) (credential : Credential) (call : types.Call)
-      → IsReplyWithRules s old xid credential call bytes new → IsLater old new
+      → IsReplyWithRules s old xid credential call bytes new → IsLater s old new
   served-on xid credential call (IsReplyWithRules.Done reply taken told) = taken.later
   served-on xid credential call (IsReplyWithRules.NoMemory stays told) = stays.later
   served-on xid credential call (IsReplyWithRules.Spent stays spent told) = stays.later
@@ -99,27 +114,153 @@ module _ (s : Serving) (old new : Standing) (bytes : List ℕ) where
   served-on xid credential call (IsReplyWithRules.Unsettled reply taken failed waits told) = taken.later
 
   nfs-on : (rules : Bool) (xid : ℕ) (credential : Credential) (call : types.Call)
-      → IsNfsReply s old rules xid credential call bytes new → IsLater old new
+      → IsNfsReply s old rules xid credential call bytes new → IsLater s old new
   nfs-on true xid credential call told = served-on xid credential call told
-  nfs-on false xid credential call told = same old new told.stays
+  nfs-on false xid credential call told = told.0.stays.later
 
   call-on : (xid : ℕ) (credential : Credential) (call : ProgramCall)
-      → IsCallReply s old xid credential call bytes new → IsLater old new
+      → IsCallReply s old xid credential call bytes new → IsLater s old new
   call-on xid credential (program_calls.Nfs call) told = nfs-on (has_rules call) xid credential call told
-  call-on xid credential (program_calls.Mount call) told = same old new told.stays
+  call-on xid credential (program_calls.Mount call) told = same s old new told.0
 
-  reply-on : (j : Judged) → IsReplyTo s old j bytes new → IsLater old new
+  reply-on : (j : Judged) → IsReplyTo s old j bytes new → IsLater s old new
   reply-on Closed told = absurd told
-  reply-on (Refused xid why) told = same old new told.1
+  reply-on (Refused xid why) told = same s old new told.1
   reply-on (Call xid credential call) told = call-on xid credential call told
 
 pub later : (s : Serving) (old new : Standing) (messages replies : List (List ℕ))
-    → served s old messages replies new → IsLater old new
-later s old new messages [] all = same old new all.1
+    → served s old messages replies new → IsLater s old new
+later s old new messages [] all = same s old new all.1
 later s old new [] (reply ∷ replies) all = absurd all
 later s old new (message ∷ messages) (reply ∷ replies) all =
-    on old all.0 new (reply-on s old all.0 reply (judged message) all.1)
+    on s old all.0 new (reply-on s old all.0 reply (judged message) all.1)
     (later s all.0 new messages replies all.2)
+
+-- ---- what is done is served
+
+module _ (s : Serving) (old new : Standing) (bytes : List ℕ) where
+  nfs_served : (rules : Bool) (xid : ℕ) (credential : Credential) (call : types.Call)
+      → IsNfsDone s old rules xid credential call bytes new
+      → IsNfsReply s old rules xid credential call bytes new
+  nfs_served true xid credential call (reply, taken, told) = IsReplyWithRules.Done reply taken told
+  nfs_served false xid credential call (rests, told) = (rests, inl told)
+
+  reply_served : (j : Judged) → IsDone s old j bytes new → IsReplyTo s old j bytes new
+  reply_served Closed is = absurd is
+  reply_served (Refused xid why) is = is
+  reply_served (Call xid credential (program_calls.Nfs call)) is =
+      nfs_served (has_rules call) xid credential call is
+  reply_served (Call xid credential (program_calls.Mount call)) is = (is.0, inl is.1)
+
+pub done_served : (s : Serving) (old new : Standing) (messages replies : List (List ℕ))
+    → all_done s old messages replies new → served s old messages replies new
+done_served s old new messages [] all = all
+done_served s old new [] (reply ∷ replies) all = absurd all
+done_served s old new (message ∷ messages) (reply ∷ replies) all =
+    let first = reply_served s old all.0 reply (judged message) all.1 in
+    (all.0, first, done_served s all.0 new messages replies all.2)
+
+-- ---- without a cause nothing fails
+
+-- what is spent stays spent
+spent_on : (s : Serving) (old new : Standing) → IsLater s old new → IsSpent old → IsSpent new
+spent_on s old new later spent =
+    let numbers = later.numbers in
+    let places = later.places in
+    let positions = later.positions in
+    elim spent [
+      | inl number ↦ inl (omega (arith, numbers, number))
+      | inr others ↦ inr (elim others [
+        | inl place ↦ inl (omega (arith, places, place))
+        | inr position ↦ inr (omega (arith, positions, position))
+      ])
+    ]
+
+not_true : (v : Bool) → (v ≡ true → ⊥) → v ≡ false
+not_true true isnt = absurd (isnt refl)
+not_true false isnt = refl
+
+-- a first part and a last part of a time without a cause have none
+first_part : (s : Serving) (old middle new : Standing) → IsLater s middle new → HasNoCause s old new
+    → HasNoCause s old middle
+first_part s old middle new later none = record {
+  whole = none.whole;
+  none_fails = λ fails. none.none_fails
+      (fails_longer s old.clock old.clock middle.clock new.clock (omega arith) later.clock fails);
+  unspent = λ spent. none.unspent (spent_on s middle new later spent);
+}
+
+last_part : (s : Serving) (old middle new : Standing) → IsLater s old middle → IsLater s middle new
+    → HasNoCause s old new → HasNoCause s middle new
+last_part s old middle new first later none = record {
+  whole = not_true middle.is_broken (λ broken. none.none_fails
+      (fails_longer s old.clock old.clock middle.clock new.clock (omega arith) later.clock
+      (first.breaks none.whole broken)));
+  none_fails = λ fails. none.none_fails
+      (fails_longer s old.clock middle.clock new.clock new.clock first.clock (omega arith) fails);
+  unspent = none.unspent;
+}
+
+-- a failure would be a cause
+not_failed : (s : Serving) (old new : Standing) → HasNoCause s old new → HasFailed s old new → ⊥
+not_failed s old new none (inl fails) = none.none_fails fails
+not_failed s old new none (inr broken) = let whole = none.whole in cc
+
+module _ (s : Serving) (old new : Standing) (bytes : List ℕ) (none : HasNoCause s old new) where
+  with_rules : (xid : ℕ) (credential : Credential) (call : types.Call)
+      → IsReplyWithRules s old xid credential call bytes new
+      → IsNfsDone s old true xid credential call bytes new
+      ⊎ (Stays s old new × (bytes ≡ refused xid SystemError))
+  with_rules xid credential call (IsReplyWithRules.Done reply taken told) = inl (reply, taken, told)
+  with_rules xid credential call (IsReplyWithRules.NoMemory stays told) = inr (stays, told)
+  with_rules xid credential call (IsReplyWithRules.Spent stays spent told) = absurd (none.unspent spent)
+  with_rules xid credential call (IsReplyWithRules.Failed stays failed told) =
+      absurd (not_failed s old new none failed)
+  with_rules xid credential call (IsReplyWithRules.Unsettled reply taken failed waits told) =
+      absurd (not_failed s old new none failed)
+
+  of_nfs : (rules : Bool) (xid : ℕ) (credential : Credential) (call : types.Call)
+      → IsNfsReply s old rules xid credential call bytes new
+      → IsNfsDone s old rules xid credential call bytes new
+      ⊎ (Stays s old new × (bytes ≡ refused xid SystemError))
+  of_nfs true xid credential call told = with_rules xid credential call told
+  of_nfs false xid credential call (rests, inl told) = inl (rests, told)
+  of_nfs false xid credential call (rests, inr told) = inr (rests.stays, told)
+
+  of_mount : (xid : ℕ) (call : ProgramCall) → new ≡ old → IsPlain xid call bytes
+      → ((new ≡ old) × (bytes ≡ done xid (plain_reply call)))
+      ⊎ (Stays s old new × (bytes ≡ refused xid SystemError))
+  of_mount xid call is (inl told) = inl (is, told)
+  of_mount xid call is (inr told) = inr (
+    record {
+      later = same s old new is;
+      tree = ap (λ (at : Standing). at.tree) is;
+      places = ap (λ (at : Standing). at.places) is;
+    },
+    told,
+  )
+
+  of_message : (j : Judged) → IsReplyTo s old j bytes new
+      → IsDone s old j bytes new ⊎ LacksMemory s old j bytes new
+  of_message Closed told = absurd told
+  of_message (Refused xid why) told = inl told
+  of_message (Call xid credential (program_calls.Nfs call)) told =
+      of_nfs (has_rules call) xid credential call told
+  of_message (Call xid credential (program_calls.Mount call)) told =
+      of_mount xid (program_calls.Mount call) told.0 told.1
+
+pub without_cause : (s : Serving) (old new : Standing) (messages replies : List (List ℕ))
+    → served s old messages replies new → HasNoCause s old new
+    → done_but_for_memory s old messages replies new
+without_cause s old new messages [] all none = all
+without_cause s old new [] (reply ∷ replies) all none = absurd all
+without_cause s old new (message ∷ messages) (reply ∷ replies) all none =
+    let first = reply-on s old all.0 reply (judged message) all.1 in
+    let rest = later s all.0 new messages replies all.2 in (
+      all.0,
+      of_message s old all.0 reply (first_part s old all.0 new rest none) (judged message) all.1,
+      without_cause s all.0 new messages replies all.2 (last_part s old all.0 new first rest none),
+    )
 
 -- ---- there are replies
 
@@ -152,23 +293,31 @@ module _ (s : Serving) (old : Standing) (xid : ℕ) (credential : Credential) (g
   abbrev ctx : Ctx
   ctx = record { credential = credential; moment = s.moment; boot = s.boot; transaction = old.number }
 
+  at_rest : Rests s old old
+  at_rest = record {
+    stays = record { later = later_itself s old; tree = refl; places = refl };
+    numbers = refl;
+  }
+
   stepped : (call : types.Call) (rules : Bool) → has_rules call ≡ rules → SoundCtx ctx → CallFits call
       → Stepped s old rules xid credential call
   stepped call true is now fits =
       let a = some_step old.tree ctx call (not_null call is) in
-      let new : Standing = record old { tree = a.1; number = old.number + 1 } in
-      let on : IsLater old new = record {
+      let new : Standing = record old { tree = a.1; number = old.number + 1; places = old.places + 1 } in
+      let on : IsLater s old new = record {
         numbers = omega arith;
-        failures = omega arith;
+        places = omega arith;
+        positions = omega arith;
+        clock = omega arith;
         breaks = λ no yes. cc;
         stays_broken = λ is. is;
-        stays_spent = λ is. is;
       } in
       let made : Steps s old credential call a.0 new = record {
         later = on;
         number = old.number;
         fresh = omega arith;
         rising = omega arith;
+        place = refl;
         step = a.2;
       } in
       record {
@@ -182,8 +331,8 @@ module _ (s : Serving) (old : Standing) (xid : ℕ) (credential : Credential) (g
   stepped call false is now fits = record {
     bytes = done xid (plain_reply (program_calls.Nfs call));
     new = old;
-    is = record { stays = refl; told = inl refl };
-    well = refl;
+    is = (at_rest, inl refl);
+    well = (at_rest, refl);
     sound = good;
     number = omega arith;
   }
@@ -196,8 +345,8 @@ module _ (s : Serving) (old : Standing) (xid : ℕ) (credential : Credential) (g
   called (program_calls.Mount call) now fits = record {
     bytes = done xid (plain_reply (program_calls.Mount call));
     new = old;
-    is = record { stays = refl; told = inl refl };
-    well = refl;
+    is = (refl, inl refl);
+    well = (refl, refl);
     sound = good;
     number = omega arith;
   }
@@ -219,7 +368,7 @@ replied s old message messages can (Refused xid why) is = inr (record {
   bytes = refused xid why;
   new = old;
   is = (refl, refl);
-  well = refl;
+  well = (refl, refl);
   sound = can.sound;
   number = omega arith;
 })

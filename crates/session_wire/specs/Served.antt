@@ -2,6 +2,7 @@
 use Rattle.std.specs.Prelude.{◌≡◌, ℕ, ◌+◌, ◌^◌, ◌<◌, ◌≤◌, ◌⊎◌, Bool, true, false, List, [], ◌∷◌, ◌++◌}
 use Rattle.std.specs.Prelude.{length}
 use Rattle.std.specs.List.{AllByRecursion}
+use Rattle.limits.specs.declared.TheConstants.{CHANGED_BLOCKS}
 use Rattle.nfs_types.specs.declared.call.Call as types
 use Rattle.nfs_types.specs.declared.ctx.Credential.{Credential}
 use Rattle.nfs_types.specs.declared.program.ProgramCall.{ProgramCall}
@@ -24,43 +25,61 @@ use Rattle.session_wire.specs.Judging.{judged}
 use Rattle.rpc.specs.Refused.{accepted, refused}
 use Rattle.nfs_results.specs.Results.{result_bytes}
 
--- the boot number and the moment of all calls of a stream
+-- The boot number and the moment of all calls of a stream, and of the device under it whether its call of a
+-- number failed, the first of them being call 0.
 pub record Serving : Type 0 where
   pub boot : ℕ
   pub moment : Moment
+  pub failed : ℕ → Bool
 
--- How a stream stands: the tree so far, the least number that the next transaction may have, how many device
--- calls have failed, whether one of them was a write or a barrier since the opening, and whether a counter
--- was found spent. What is between two messages is free: the contract of a server ties the last one to its
--- device and its core.
+-- How a stream stands between two messages: the tree so far, the least number that the next transaction may
+-- have, how many places and log positions were given out, the device's clock, which is the count of its calls so
+-- far, and whether a write or a barrier has failed since the opening. What is between two messages is free: the
+-- contract of a server ties the last one to its device and its core.
 pub record Standing : Type 0 where
   pub tree : Tree
   pub number : ℕ
-  pub failures : ℕ
+  pub places : ℕ
+  pub positions : ℕ
+  pub clock : ℕ
   pub is_broken : Bool
-  pub is_spent : Bool
 
--- What a message may do besides its step: numbers of transactions and failures of the device only rise, a
--- store breaks only as a device call fails, and neither that nor a spent counter is ever taken back.
-pub record IsLater (old new : Standing) : Type 0 where
+-- one of the device's calls from this clock up to that one failed
+pub record FailsWithin (s : Serving) (from to : ℕ) : Type 0 where
+  pub call : ℕ
+  pub since : from ≤ call
+  pub before : call < to
+  pub failed : s.failed call ≡ true
+
+-- What a message may do besides its step: numbers of transactions, places, log positions and the device's clock
+-- only rise, and a store breaks only as a device call of that message fails, which is never taken back.
+pub record IsLater (s : Serving) (old new : Standing) : Type 0 where
   pub numbers : old.number ≤ new.number
-  pub failures : old.failures ≤ new.failures
-  pub breaks : old.is_broken ≡ false → new.is_broken ≡ true → old.failures < new.failures
+  pub places : old.places ≤ new.places
+  pub positions : old.positions ≤ new.positions
+  pub clock : old.clock ≤ new.clock
+  pub breaks : old.is_broken ≡ false → new.is_broken ≡ true → FailsWithin s old.clock new.clock
   pub stays_broken : old.is_broken ≡ true → new.is_broken ≡ true
-  pub stays_spent : old.is_spent ≡ true → new.is_spent ≡ true
 
--- the tree stays
-pub record Stays (old new : Standing) : Type 0 where
-  pub later : IsLater old new
+-- no step: the tree stays, and no place was given out
+pub record Stays (s : Serving) (old new : Standing) : Type 0 where
+  pub later : IsLater s old new
   pub tree : new.tree ≡ old.tree
+  pub places : new.places ≡ old.places
 
--- a step of the sequential server, with a number that no earlier transaction has
+-- not even a transaction was begun; what was changed before may have been settled
+pub record Rests (s : Serving) (old new : Standing) : Type 0 where
+  pub stays : Stays s old new
+  pub numbers : new.number ≡ old.number
+
+-- A step of the sequential server, with a number that no earlier transaction has. It takes the next place.
 pub record Steps (s : Serving) (old : Standing) (credential : Credential) (call : types.Call) (reply : Reply)
     (new : Standing) : Type 0 where
-  pub later : IsLater old new
+  pub later : IsLater s old new
   pub number : ℕ
   pub fresh : old.number ≤ number
   pub rising : number < new.number
+  pub place : new.places ≡ old.places + 1
   pub step : step old.tree (record {
     credential = credential;
     moment = s.moment;
@@ -68,9 +87,14 @@ pub record Steps (s : Serving) (old : Standing) (credential : Credential) (call 
     transaction = number;
   }) call reply new.tree
 
--- a device call failed for this message, or the store was broken before
-abbrev pub HasFailed : Standing → Standing → Type 0
-HasFailed old new = (old.failures < new.failures) ⊎ (old.is_broken ≡ true)
+-- a device call of this message failed, or the store was broken before it
+abbrev pub HasFailed : Serving → Standing → Standing → Type 0
+HasFailed s old new = FailsWithin s old.clock new.clock ⊎ (old.is_broken ≡ true)
+
+-- no number of a transaction is left, no place, or too few log positions for the most that a transaction
+-- changes
+abbrev pub IsSpent : Standing → Type 0
+IsSpent at = (2 ^ 64 ≤ at.number) ⊎ (2 ^ 64 ≤ at.places + 1) ⊎ (2 ^ 64 ≤ at.positions + CHANGED_BLOCKS)
 
 -- a procedure's reply behind the accepted header
 abbrev pub done : ℕ → ProgramReply → List ℕ
@@ -87,33 +111,32 @@ pub data IsReplyWithRules (s : Serving) (old : Standing) (xid : ℕ) (credential
     (call : types.Call) (bytes : List ℕ) (new : Standing) : Type 0 where
   Done : (reply : Reply) → Steps s old credential call reply new → bytes ≡ nfs_done xid reply
       → IsReplyWithRules s old xid credential call bytes new
-  NoMemory : Stays old new → bytes ≡ refused xid SystemError
+  NoMemory : Stays s old new → bytes ≡ refused xid SystemError
       → IsReplyWithRules s old xid credential call bytes new
-  Spent : Stays old new → new.is_spent ≡ true → bytes ≡ nfs_done xid (model.refused status.ServerFault call)
+  Spent : Stays s old new → IsSpent new → bytes ≡ nfs_done xid (model.refused status.ServerFault call)
       → IsReplyWithRules s old xid credential call bytes new
-  Failed : Stays old new → HasFailed old new → bytes ≡ nfs_done xid (model.refused status.Io call)
+  Failed : Stays s old new → HasFailed s old new → bytes ≡ nfs_done xid (model.refused status.Io call)
       → IsReplyWithRules s old xid credential call bytes new
-  Unsettled : (reply : Reply) → Steps s old credential call reply new → HasFailed old new
+  Unsettled : (reply : Reply) → Steps s old credential call reply new → HasFailed s old new
       → is_answered_stable call ≡ true
       → bytes ≡ nfs_done xid (model.refused status.Io call) → IsReplyWithRules s old xid credential call bytes new
 
 -- what a call without rules is answered: a function of the message alone, or that memory was refused
-pub record IsPlainCall (old : Standing) (xid : ℕ) (call : ProgramCall) (bytes : List ℕ)
-    (new : Standing) : Type 0 where
-  pub stays : new ≡ old
-  pub told : (bytes ≡ done xid (plain_reply call)) ⊎ (bytes ≡ refused xid SystemError)
+abbrev pub IsPlain : ℕ → ProgramCall → List ℕ → Type 0
+IsPlain xid call bytes = (bytes ≡ done xid (plain_reply call)) ⊎ (bytes ≡ refused xid SystemError)
 
+-- a call of NFS without rules begins no transaction
 abbrev pub IsNfsReply : Serving → Standing → Bool → ℕ → Credential → types.Call → List ℕ → Standing → Type 0
 IsNfsReply s old true xid credential call bytes new = IsReplyWithRules s old xid credential call bytes new
 IsNfsReply s old false xid credential call bytes new =
-    IsPlainCall old xid (program_calls.Nfs call) bytes new
+    Rests s old new × IsPlain xid (program_calls.Nfs call) bytes
 
--- no call of MOUNT begins a transaction
+-- a call of MOUNT touches no store
 abbrev pub IsCallReply : Serving → Standing → ℕ → Credential → ProgramCall → List ℕ → Standing → Type 0
 IsCallReply s old xid credential (program_calls.Nfs call) bytes new =
     IsNfsReply s old (has_rules call) xid credential call bytes new
 IsCallReply s old xid credential (program_calls.Mount call) bytes new =
-    IsPlainCall old xid (program_calls.Mount call) bytes new
+    (new ≡ old) × IsPlain xid (program_calls.Mount call) bytes
 
 -- what a message is answered, by what it is taken for: one on which the connection closes gets no reply
 abbrev pub IsReplyTo : Serving → Standing → Judged → List ℕ → Standing → Type 0
@@ -147,15 +170,16 @@ served s old (message ∷ messages) (reply ∷ replies) new =
 abbrev pub IsNfsDone : Serving → Standing → Bool → ℕ → Credential → types.Call → List ℕ → Standing → Type 0
 IsNfsDone s old true xid credential call bytes new =
     (reply : Reply) × Steps s old credential call reply new × (bytes ≡ nfs_done xid reply)
-IsNfsDone s old false xid credential call bytes new = bytes ≡ done xid (plain_reply (program_calls.Nfs call))
+IsNfsDone s old false xid credential call bytes new =
+    Rests s old new × (bytes ≡ done xid (plain_reply (program_calls.Nfs call)))
 
 abbrev pub IsDone : Serving → Standing → Judged → List ℕ → Standing → Type 0
 IsDone s old Closed bytes new = ⊥
-IsDone s old (Refused xid refusal) bytes new = bytes ≡ refused xid refusal
+IsDone s old (Refused xid refusal) bytes new = (bytes ≡ refused xid refusal) × (new ≡ old)
 IsDone s old (Call xid credential (program_calls.Nfs call)) bytes new =
     IsNfsDone s old (has_rules call) xid credential call bytes new
 IsDone s old (Call xid credential (program_calls.Mount call)) bytes new =
-    bytes ≡ done xid (plain_reply (program_calls.Mount call))
+    (new ≡ old) × (bytes ≡ done xid (plain_reply (program_calls.Mount call)))
 
 -- the served stream where nothing fails
 abbrev pub all_done : Serving → Standing → List (List ℕ) → List (List ℕ) → Standing → Type 0
@@ -163,3 +187,24 @@ all_done s old messages [] new = Ends messages × (new ≡ old)
 all_done s old [] (reply ∷ replies) new = ⊥
 all_done s old (message ∷ messages) (reply ∷ replies) new =
     (middle : Standing) × IsDone s old (judged message) reply middle × all_done s middle messages replies new
+
+-- Memory was refused for a call: it makes no step, and is told so.
+abbrev pub LacksMemory : Serving → Standing → Judged → List ℕ → Standing → Type 0
+LacksMemory s old Closed bytes new = ⊥
+LacksMemory s old (Refused xid refusal) bytes new = ⊥
+LacksMemory s old (Call xid credential call) bytes new = Stays s old new × (bytes ≡ refused xid SystemError)
+
+-- the served stream where nothing fails but memory
+abbrev pub done_but_for_memory : Serving → Standing → List (List ℕ) → List (List ℕ) → Standing → Type 0
+done_but_for_memory s old messages [] new = Ends messages × (new ≡ old)
+done_but_for_memory s old [] (reply ∷ replies) new = ⊥
+done_but_for_memory s old (message ∷ messages) (reply ∷ replies) new = (middle : Standing)
+    × (IsDone s old (judged message) reply middle ⊎ LacksMemory s old (judged message) reply middle)
+    × done_but_for_memory s middle messages replies new
+
+-- no device call failed in the time of these messages, the store isn't broken before them, and behind them no
+-- counter is spent
+pub record HasNoCause (s : Serving) (old new : Standing) : Type 0 where
+  pub whole : old.is_broken ≡ false
+  pub none_fails : FailsWithin s old.clock new.clock → ⊥
+  pub unspent : IsSpent new → ⊥

@@ -1,33 +1,35 @@
 //! What a record of bytes is taken for: the tests of its header in their order, then its arguments.
-ghost use Rattle.std.specs.Prelude.{◌≡◌, IfOk};
+ghost use Rattle.std.specs.Prelude.{◌≡◌};
+ghost use Rattle.rpc.specs.Credentials.{named};
 ghost use Rattle.rpc.specs.Headers.{header_at, heading};
 ghost use Rattle.session_wire.specs.Judging.{Judges, judged, on_header, requested};
 
 use crate::message::Judged;
 use crate::programs::program_of;
 use nfs_codec::{decode_call, procedure_of};
-use nfs_types::Credential;
+use nfs_types::ProgramCall;
 use rpc::{
-    CALL, Header, NFS_VERSION, RPC_VERSION, Refusal, read_credential, read_header, read_opening,
+    CALL, Header, NFS_VERSION, NamedCaller, RPC_VERSION, Refusal, read_credential, read_header,
+    read_opening,
 };
-use std::alloc::{AllocError, Global};
+use std::alloc::Global;
 use xdr::{Reader, XdrFault};
 
-/// What a record is taken for. Refused memory is answered by `Err` while the header is read, and by the
-/// refusal `SystemError` afterwards.
-pub fn judge(alloc: Global, bytes: &[u8]) -> Result<Judged, AllocError>
-    ensures { IfOk result (λ j. Judges j (judged bytes.now)) }
+/// What a record is taken for. Its header is read without memory. Where memory is refused for the arguments or
+/// for the caller's groups, the call is taken for one that is refused with `SystemError`.
+pub fn judge(alloc: Global, bytes: &[u8]) -> Judged
+    ensures { Judges result (judged bytes.now) }
 {
     let mut reader = Reader::new(bytes);
     let Ok(opening) = read_opening(&mut reader) else {
-        return Ok(Judged::Closed);
+        return Judged::Closed;
     };
     if opening.kind != CALL {
-        return Ok(Judged::Closed);
+        return Judged::Closed;
     }
     let xid = opening.xid;
     if opening.rpc_version != RPC_VERSION {
-        return Ok(refused(xid, Refusal::RpcMismatch));
+        return refused(xid, Refusal::RpcMismatch);
     }
     judge_header(alloc, xid, &mut reader)
 }
@@ -39,15 +41,15 @@ fn refused(xid: u32, refusal: Refusal) -> Judged
 }
 
 // What a call is taken for by the rest of its header and its arguments.
-fn judge_header(alloc: Global, xid: u32, reader: &mut Reader) -> Result<Judged, AllocError>
-    ensures { IfOk result (λ j. Judges j (on_header xid (header_at reader.old))) }
+fn judge_header(alloc: Global, xid: u32, reader: &mut Reader) -> Judged
+    ensures { Judges result (on_header xid (header_at reader.old)) }
 {
     let Ok(header) = read_header(reader) else {
-        return Ok(Judged::Closed);
+        return Judged::Closed;
     };
-    match read_credential(alloc, header.flavor, header.body)? {
-        Err(refusal) => Ok(refused(xid, refusal)),
-        Ok(credential) => Ok(judge_request(alloc, xid, credential, header, reader.rest())),
+    match read_credential(header.flavor, header.body) {
+        Err(refusal) => refused(xid, refusal),
+        Ok(caller) => judge_request(alloc, xid, &caller, header, reader.rest()),
     }
 }
 
@@ -56,11 +58,11 @@ fn judge_header(alloc: Global, xid: u32, reader: &mut Reader) -> Result<Judged, 
 fn judge_request(
     alloc: Global,
     xid: u32,
-    credential: Credential,
+    caller: &NamedCaller,
     header: Header,
     arguments: &[u8],
 ) -> Judged
-    ensures { Judges result (requested xid credential (heading header.entry) arguments.now) }
+    ensures { Judges result (requested xid (named caller.now) (heading header.entry) arguments.now) }
 {
     let Some(program) = program_of(header.program) else {
         return refused(xid, Refusal::ProgramUnavailable);
@@ -72,12 +74,22 @@ fn judge_request(
         return refused(xid, Refusal::ProcedureUnavailable);
     };
     match decode_call(alloc, procedure, arguments) {
-        Ok(call) => Judged::Call {
+        Ok(call) => called(alloc, xid, caller, call),
+        Err(XdrFault::NoMemory) => refused(xid, Refusal::SystemError),
+        Err(_) => refused(xid, Refusal::GarbageArguments),
+    }
+}
+
+// A call for its caller, whose groups take memory.
+fn called(alloc: Global, xid: u32, caller: &NamedCaller, call: ProgramCall) -> Judged
+    ensures { Judges result (Judged.Call xid (named caller.now) call) }
+{
+    match caller.credential(alloc) {
+        Ok(credential) => Judged::Call {
             xid,
             credential,
             call,
         },
-        Err(XdrFault::NoMemory) => refused(xid, Refusal::SystemError),
-        Err(_) => refused(xid, Refusal::GarbageArguments),
+        Err(_) => refused(xid, Refusal::SystemError),
     }
 }

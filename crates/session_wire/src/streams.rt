@@ -4,7 +4,8 @@ ghost use Rattle.session_wire.specs.declared.message.Judged.TheVariants.{Closed,
 ghost use Rattle.rpc.specs.declared.refusal.Refusal.{Refusal};
 ghost use Rattle.session_wire.specs.Judging.{judged};
 ghost use Rattle.rpc.specs.Refused.{refused};
-ghost use Rattle.session_wire.specs.Served.{IsLater, IsServable, Serving, Standing, all_done, served};
+ghost use Rattle.session_wire.specs.Served.{HasNoCause, IsLater, IsServable, Serving, Standing};
+ghost use Rattle.session_wire.specs.Served.{all_done, done_but_for_memory, served};
 
 /// A stream without messages gets no reply, and nothing changes.
 pub fn no_messages_get_no_replies()
@@ -36,10 +37,26 @@ pub fn streams_join()
         → served s old (first ++ second) (replies ++ others) new }
 {}
 
-/// Whatever a stream is answered, nothing is taken back: neither a transaction's number nor a failure.
+/// Whatever a stream is answered, nothing is taken back: no number, no place, no log position and no device call;
+/// and the store breaks only with a device call that failed in the time of the stream.
 pub fn a_stream_goes_on()
     ensures { (s : Serving) (old new : Standing) (messages replies : List (List ℕ))
-        → served s old messages replies new → IsLater old new }
+        → served s old messages replies new → IsLater s old new }
+{}
+
+/// A stream that is answered so that nothing fails is a served stream.
+pub fn what_is_done_is_served()
+    ensures { (s : Serving) (old new : Standing) (messages replies : List (List ℕ))
+        → all_done s old messages replies new → served s old messages replies new }
+{}
+
+/// Where no device call failed in the time of the stream, the store isn't broken before it, and no counter is
+/// spent behind it, nothing fails but for want of memory: each call with rules gets the reply of its step, each
+/// other its plain reply, or a system error where memory was refused.
+pub fn without_a_cause_nothing_fails()
+    ensures { (s : Serving) (old new : Standing) (messages replies : List (List ℕ))
+        → served s old messages replies new → HasNoCause s old new
+        → done_but_for_memory s old messages replies new }
 {}
 
 /// Each stream of bytes can be served that comes to a sound tree, while numbers of transactions are left; and that so

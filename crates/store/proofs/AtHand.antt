@@ -18,11 +18,10 @@ use Rattle.txn_law.specs.Leaves.{without_fetch}
 use Rattle.txn_law.specs.Records.{is_kept}
 use Rattle.txn_law.specs.Wishes.{IsFetched}
 use Rattle.txn_law.specs.declared.hold.Hold.{Hold}
-use Rattle.txn_law.proofs.Claims.{found_by, all_four}
 use Rattle.txn_law.proofs.TakenBy.{is_hold_by}
-use Rattle.txn_law.proofs.Tidied.{taken_one}
 use Rattle.store.specs.Driving.{away, count_away, is_at_hand}
-use Rattle.store.specs.WorkerSteps.{there_given}
+use Rattle.store_images.proofs.HeldTaken.{held_taken}
+use Rattle.store_workers.specs.WorkerSteps.{there_given}
 
 -- ---- counting
 
@@ -115,19 +114,6 @@ taken_at (x ∷ holds) block taken = by (nat_eq x.addr.block.0 block.0) refl tak
     by false at some rest =
         let there = rest some in
         record { tx = there.tx; addr = there.addr; held = later x holds there.tx there.addr there.held; at = there.at }
-
-pub held_taken : (holds : List Hold) (tx : ℕ) (addr : Addr) (block : BlockNo) → addr.block.0 ≡ block.0
-    → is_some (hold_of holds tx addr) ≡ true → is_taken holds block ≡ true
-held_taken holds tx addr block at some = by (hold_of holds tx addr) refl some
-  where
-    by : (found : Option Hold) → hold_of holds tx addr ≡ found → is_some found ≡ true → is_taken holds block ≡ true
-    by None is there = absurd (true≢false (sym there))
-    by (Some x) is there =
-        let (mine, among) = found_by (is_hold_of tx addr) holds x is in
-        let four = all_four (nat_eq x.transaction tx) (nat_eq x.addr.block.0 addr.block.0)
-        (nat_eq x.addr.offset addr.offset) (nat_eq x.addr.len addr.len) mine in
-        ap (λ (n : ℕ). is_taken holds (record { 0 = n }))
-        (sym (eqb-true x.addr.block.0 addr.block.0 four.1 ∙ at)) ∙ taken_one holds x among
 
 -- ---- a fetch, given back
 

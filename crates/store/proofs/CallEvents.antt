@@ -27,34 +27,36 @@ use Rattle.store_promise.specs.declared.answers.CallAnswer.{CallAnswer}
 use Rattle.store_promise.specs.declared.answers.Verdict.{Verdict}
 use Rattle.store_promise.specs.declared.events.Step.{Step}
 use Rattle.store_promise.specs.declared.events.Step.TheVariants as step
-use Rattle.store.specs.AtWork.{IsCoreAtWork, fetches_in, fetches_of}
+use Rattle.store_runs.specs.AtWork.{IsCoreAtWork, fetches_in, fetches_of}
 use Rattle.store.specs.Calling.{GoesTo, HasAnswered, HasStepped, HasWaited, IsCalling, IsOpenAt, IsOpenWith, IsSoFar}
 use Rattle.store.specs.Calling.{LeavesFiles, Outset, StandsWith, Tells}
-use Rattle.store.specs.Further.{LeavesOpen, RunsOn}
-use Rattle.store.specs.Opening.{Opened, store_of}
-use Rattle.store.specs.Settling.{HasFailed, IsIdle}
-use Rattle.store.specs.SettlingStops.{KeepsPrefixes, StaysOpen}
-use Rattle.store.specs.Phases.{is_ready}
-use Rattle.store.specs.Seen.{seen_in}
-use Rattle.store.specs.Stages.{IsJobIn, IsJobOf, IsWorkerAt, StandsAt, at_stage, begun_of, progress_in, progress_of}
-use Rattle.store.specs.Telling.{told}
-use Rattle.store.specs.WorkTells.{TellsRead}
-use Rattle.store.specs.Worker.{Fits, GoesWith, IsCoreOf, ReadsWithin, at_rest, ctx_of, with_call}
-use Rattle.store.specs.WorkerReads.{with_read}
-use Rattle.store.specs.declared.workers.Worker.{Worker}
-use Rattle.store.specs.declared.workers.parts.Job.{Job as WorkJob}
-use Rattle.store.specs.declared.workers.parts.Phase as phases
-use Rattle.store.specs.declared.workers.parts.Phase.TheVariants as Phase
-use Rattle.store.specs.declared.workers.parts.State.{State}
-use Rattle.store.specs.declared.workers.parts.Work.{Work}
+use Rattle.store_images.specs.Further.{LeavesOpen, RunsOn}
+use Rattle.store_images.specs.Opening.{Opened, store_of}
+use Rattle.store_images.specs.Settling.{HasFailed, IsIdle}
+use Rattle.store_images.specs.SettlingStops.{KeepsPrefixes, StaysOpen}
+use Rattle.store_workers.specs.Phases.{is_ready}
+use Rattle.store_workers.specs.Seen.{seen_in}
+use Rattle.store_workers.specs.Stages.{IsJobIn, IsJobOf, IsWorkerAt, StandsAt, at_stage, begun_of}
+use Rattle.store_workers.specs.Stages.{progress_in, progress_of}
+use Rattle.store_workers.specs.Telling.{told}
+use Rattle.store_workers.specs.WorkTells.{TellsRead}
+use Rattle.store_workers.specs.Worker.{Fits, GoesWith, IsCoreOf, ReadsWithin, at_rest, ctx_of, with_call}
+use Rattle.store_workers.specs.WorkerReads.{with_read}
+use Rattle.store_workers.specs.declared.workers.Worker.{Worker}
+use Rattle.store_workers.specs.declared.workers.parts.Job.{Job as WorkJob}
+use Rattle.store_workers.specs.declared.workers.parts.Phase as phases
+use Rattle.store_workers.specs.declared.workers.parts.Phase.TheVariants as Phase
+use Rattle.store_workers.specs.declared.workers.parts.State.{State}
+use Rattle.store_workers.specs.declared.workers.parts.Work.{Work}
 use Rattle.store.proofs.CallStages.{IsAfter, begun_then, comes_then, failed_then, so_far_still, tells_still}
 use Rattle.store.proofs.CallSteps.{open_of, runs_of, setting_of}
 use Rattle.store.proofs.DrivenAlone.{starts_alone}
-use Rattle.store.proofs.GoingOn.{still_at_work}
-use Rattle.store.proofs.HowFar.{some_of}
-use Rattle.store.proofs.Later.{past_more, past_none, past_one, some_image}
-use Rattle.store.proofs.Staying.{kept_along, none_left, stops_along}
-use Rattle.store.proofs.StillOpen.{further_then, same_further}
+use Rattle.store_runs.proofs.GoingOn.{still_at_work}
+use Rattle.store_workers.proofs.HowFar.{some_of}
+use Rattle.store_promise.proofs.Later.{past_more, past_none, past_one}
+use Rattle.store_images.proofs.Later.{some_image}
+use Rattle.store_images.proofs.Staying.{kept_along, none_left, stops_along}
+use Rattle.store_images.proofs.StillOpen.{further_then, same_further}
 
 -- ---- a call begins
 

@@ -35,13 +35,13 @@ use Rattle.store_promise.specs.declared.events.Wish.{Wish}
 use Rattle.store_promise.specs.declared.events.Wish.TheVariants as wish
 use Rattle.store_promise.specs.declared.transcript.Answer.{Answer}
 use Rattle.store_promise.specs.declared.transcript.Committed.{Committed}
-use Rattle.store.specs.AtWork.{has_committed}
+use Rattle.store_runs.specs.AtWork.{has_committed}
 use Rattle.store.specs.Calling.{ComesTo, HasCause, IsBegunFor, IsMadeFor, IsRefusal, IsSoFar, IsSpent, IsUnserved}
 use Rattle.store.specs.Calling.{Outset, StandsWith, Tells}
 use Rattle.store.specs.Driving.{waits_for_log}
-use Rattle.store.specs.Further.{IsFurther}
-use Rattle.store.specs.Opening.{Opened}
-use Rattle.store.specs.Settling.{HasFailed}
+use Rattle.store_images.specs.Further.{IsFurther}
+use Rattle.store_images.specs.Opening.{Opened}
+use Rattle.store_images.specs.Settling.{HasFailed}
 
 -- ---- an entry in a transcript
 

@@ -35,28 +35,30 @@ use Rattle.store_promise.specs.declared.events.Step.{Step}
 use Rattle.store_promise.specs.declared.events.Step.TheVariants as step
 use Rattle.store_promise.specs.declared.transcript.Answer.{Answer}
 use Rattle.store_promise.proofs.ToldLog.{settled_is}
-use Rattle.store.specs.AtWork.{GoesOnWith, IsCoreAtWork, entry_by, fetches_of, has_committed, with_core}
+use Rattle.store_runs.specs.AtWork.{GoesOnWith, IsCoreAtWork, entry_by, fetches_of, has_committed, with_core}
 use Rattle.store.specs.Calling.{ComesTo, HasStepped, IsCalling, IsMadeFor, IsOpenAt, IsSoFar, Outset}
 use Rattle.store.specs.Calling.{StandsWith, Tells}
-use Rattle.store.specs.Further.{IsFurther, end_of}
-use Rattle.store.specs.Opening.{Opened}
-use Rattle.store.specs.Asked.{Asking}
-use Rattle.store.specs.Stages.{IsWorkerAt, alone, at_fetch, at_stage, begun_of, progress_in, progress_of}
-use Rattle.store.specs.Seen.{seen_in}
-use Rattle.store.specs.Telling.{told}
-use Rattle.store.specs.WorkTells.{HasReplies, IsAnswerOf, IsEntryOf, TellsEntry, TellsStep, entries_ready, progress_after}
-use Rattle.store.specs.WorkTells.{with_ready}
-use Rattle.store.specs.WorkerSteps.{BeginsBy, GoesOn, Side, side}
-use Rattle.store.specs.declared.workers.parts.Job.{Job as WorkJob}
-use Rattle.store.specs.declared.workers.parts.Phase as phases
-use Rattle.store.specs.declared.workers.parts.Phase.TheVariants as Phase
-use Rattle.store.specs.declared.workers.parts.State.{State}
-use Rattle.store.proofs.AtWorkStays.{some_of}
+use Rattle.store_images.specs.Further.{IsFurther, end_of}
+use Rattle.store_images.specs.Opening.{Opened}
+use Rattle.store_workers.specs.Asked.{Asking}
+use Rattle.store_workers.specs.Stages.{IsWorkerAt, alone, at_fetch, at_stage, begun_of}
+use Rattle.store_workers.specs.Stages.{progress_in, progress_of}
+use Rattle.store_workers.specs.Seen.{seen_in}
+use Rattle.store_workers.specs.Telling.{told}
+use Rattle.store_workers.specs.WorkTells.{HasReplies, IsAnswerOf, IsEntryOf, TellsEntry, TellsStep}
+use Rattle.store_workers.specs.WorkTells.{entries_ready, progress_after}
+use Rattle.store_workers.specs.WorkTells.{with_ready}
+use Rattle.store_workers.specs.WorkerSteps.{BeginsBy, GoesOn, Side, side}
+use Rattle.store_workers.specs.declared.workers.parts.Job.{Job as WorkJob}
+use Rattle.store_workers.specs.declared.workers.parts.Phase as phases
+use Rattle.store_workers.specs.declared.workers.parts.Phase.TheVariants as Phase
+use Rattle.store_workers.specs.declared.workers.parts.State.{State}
+use Rattle.store_runs.proofs.AtWorkStays.{some_of}
 use Rattle.store.proofs.CallStages.{IsAfter, IsStepFrom, begun_then as number_then, comes_then, made_so_far, made_tells}
 use Rattle.store.proofs.CallStages.{next_ok, noted, same_entries, stands_then}
 use Rattle.store.proofs.CallStages.{so_far_still, so_far_then, tells_of, told_by}
-use Rattle.store.proofs.GoingWork.{has_replies}
-use Rattle.store.proofs.StillOpen.{further_then}
+use Rattle.store_runs.proofs.GoingWork.{has_replies}
+use Rattle.store_images.proofs.StillOpen.{further_then}
 
 -- ---- an open store as a run that goes on
 

@@ -3,10 +3,10 @@ use Rattle.std.proofs.Common.{◌≡◌, ◌∙◌, refl, sym, true≢false, Boo
 use Rattle.disk.specs.Device.{Device}
 use Rattle.txn_law.specs.Core.{CoreState}
 use Rattle.store.specs.Calling.{HasWaited}
-use Rattle.store.specs.Further.{LeavesOpen}
-use Rattle.store.specs.SettlingStops.{KeepsPrefixes}
-use Rattle.store.proofs.Staying.{stays_of, still_open}
-use Rattle.store.proofs.StillOpen.{same_open}
+use Rattle.store_images.specs.Further.{LeavesOpen}
+use Rattle.store_images.specs.SettlingStops.{KeepsPrefixes}
+use Rattle.store_images.proofs.Staying.{stays_of, still_open}
+use Rattle.store_images.proofs.StillOpen.{same_open}
 
 pub has_settled : (waits : Bool) (before later : Device) (old new : CoreState) → waits ≡ true
     → LeavesOpen before old later new → KeepsPrefixes before old later new → HasWaited waits before old later new

@@ -46,38 +46,40 @@ use Rattle.store_promise.specs.declared.events.Cause.{Cause}
 use Rattle.store_promise.specs.declared.events.Step.{Step}
 use Rattle.store_promise.specs.declared.events.Step.TheVariants as step
 use Rattle.store.proofs.AtHand.{at_most_all, fewer_away}
-use Rattle.store.proofs.LoneWorker.{has_of, seen_of}
+use Rattle.store_workers.proofs.LoneWorker.{has_of, seen_of}
 use Rattle.store.proofs.LogRoom.{few_changed, no_room}
-use Rattle.store.proofs.StepKinds.{Beginning, IsTold, beginning, ending}
-use Rattle.store.proofs.StepKinds.{begun, refused, replied, lacked, committed}
-use Rattle.store.specs.Alone.{HasOfCall, HasTaken, PlansAlone, is_full, is_kept_off}
-use Rattle.store.specs.Fetches.{KeepsFetches}
+use Rattle.store_workers.proofs.StepKinds.{Beginning, IsTold, beginning, ending}
+use Rattle.store_workers.proofs.StepKinds.{begun, refused, replied, lacked, committed}
+use Rattle.store_workers.specs.Alone.{HasOfCall, HasTaken, PlansAlone, is_full, is_kept_off}
+use Rattle.store_images.specs.Fetches.{KeepsFetches}
 use Rattle.store.specs.Driving.{HasGoneOn, IsAnswered, IsNearer, IsUnder, IsUnderWay}
 use Rattle.store.specs.Driving.{away, count_of, has_room, is_at_hand}
 use Rattle.store.specs.Driving.{left_in, most_of, rounds_left, steps_left, unread}
 use Rattle.store.specs.Driving.{waits_for_log}
 use Rattle.store.specs.Driving.{whole_round}
-use Rattle.store.specs.Counts.{SameFrame}
-use Rattle.store.specs.Opening.{IsSettled}
-use Rattle.store.specs.Settling.{SameNumbers}
-use Rattle.store.specs.Seen.{Seen, seen_in, with_object}
-use Rattle.store.specs.WorkerAnswers.{after_commit, begun_wanted, committing_of, phase_wanted, seen_wanted}
-use Rattle.store.specs.WorkerAnswers.{told_of, wish_of, with_answer}
-use Rattle.store.specs.WorkerAnswers.{with_entry}
-use Rattle.store.specs.Telling as telling
-use Rattle.store.specs.Worker.{with_call}
-use Rattle.store.specs.WorkerReads.{HasReadBlock}
-use Rattle.store.specs.WorkerSteps.{GoesByNext, GoesOn, HasBegun, HasLacked}
-use Rattle.store.specs.WorkerSteps.{IsNext, Side, Waits, IsTold as IsHeard, BeginsAgain, HasGivenBack}
-use Rattle.store.specs.WorkerSteps.{HasLeft, HasRefused}
-use Rattle.store.specs.WorkerSteps.{Refuses, none_begun, planned_of, side, with_snap}
-use Rattle.store.specs.declared.workers.parts.Begun.{Begun}
-use Rattle.store.specs.declared.workers.parts.Job.{Job}
-use Rattle.store.specs.declared.workers.parts.Phase.{Phase}
-use Rattle.store.specs.declared.workers.parts.Phase.TheVariants.{Idle, Called, Planning, Reading, Read}
-use Rattle.store.specs.declared.workers.parts.Phase.TheVariants.{Refused, Again, Waiting}
-use Rattle.store.specs.declared.workers.parts.State.{State}
-use Rattle.store.specs.declared.workers.parts.Work.{Work}
+use Rattle.store_images.specs.Counts.{SameFrame}
+use Rattle.store_images.specs.Opening.{IsSettled}
+use Rattle.store_images.specs.Settling.{SameNumbers}
+use Rattle.store_workers.specs.Seen.{Seen, seen_in, with_object}
+use Rattle.store_workers.specs.WorkerAnswers.{after_commit, begun_wanted, committing_of}
+use Rattle.store_workers.specs.WorkerAnswers.{phase_wanted, seen_wanted}
+use Rattle.store_workers.specs.WorkerAnswers.{told_of, wish_of, with_answer}
+use Rattle.store_workers.specs.WorkerAnswers.{with_entry}
+use Rattle.store_workers.specs.Telling as telling
+use Rattle.store_workers.specs.Worker.{with_call}
+use Rattle.store_workers.specs.WorkerReads.{HasReadBlock}
+use Rattle.store_workers.specs.WorkerSteps.{GoesByNext, GoesOn, HasBegun, HasLacked}
+use Rattle.store_workers.specs.WorkerSteps.{IsNext, Side, Waits, IsTold as IsHeard, BeginsAgain, HasGivenBack}
+use Rattle.store_workers.specs.WorkerSteps.{HasLeft, HasRefused}
+use Rattle.store_workers.specs.WorkerSteps.{Refuses, none_begun, planned_of, side, with_snap}
+use Rattle.store_workers.specs.declared.workers.parts.Begun.{Begun}
+use Rattle.store_workers.specs.declared.workers.parts.Job.{Job}
+use Rattle.store_workers.specs.declared.workers.parts.Phase.{Phase}
+use Rattle.store_workers.specs.declared.workers.parts.Phase.TheVariants.{Idle, Called, Planning}
+use Rattle.store_workers.specs.declared.workers.parts.Phase.TheVariants.{Reading, Read}
+use Rattle.store_workers.specs.declared.workers.parts.Phase.TheVariants.{Refused, Again, Waiting}
+use Rattle.store_workers.specs.declared.workers.parts.State.{State}
+use Rattle.store_workers.specs.declared.workers.parts.Work.{Work}
 
 -- ---- numbers
 

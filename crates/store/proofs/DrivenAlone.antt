@@ -11,18 +11,18 @@ use Rattle.txn.specs.Tidy.{AreTidy}
 use Rattle.store_promise.specs.declared.events.Step.{Step}
 use Rattle.store.proofs.Driven.{AfterLog, Came, full_plans, full_waits, stepped, waits_unplanned}
 use Rattle.store.proofs.LogRoom.{room_after}
-use Rattle.store.proofs.LoneWorker.{never_kept_off}
-use Rattle.store.proofs.StaysAlone.{same_taken, stays_alone}
-use Rattle.store.specs.Alone.{IsAlone, PlansAlone, StaysAlone, is_full}
+use Rattle.store_workers.proofs.LoneWorker.{never_kept_off}
+use Rattle.store_workers.proofs.StaysAlone.{same_taken, stays_alone}
+use Rattle.store_workers.specs.Alone.{IsAlone, PlansAlone, StaysAlone, is_full}
 use Rattle.store.specs.Driving.{IsUnder, has_room, waits_for_log}
-use Rattle.store.specs.Fetches.{FetchesOnly, KeepsFetches, is_fetch_of}
-use Rattle.store.specs.Phases.{has_fetch, has_transaction}
-use Rattle.store.specs.Worker.{IsCoreOf, at_rest, with_call}
-use Rattle.store.specs.WorkerReads.{HasReadBlock}
-use Rattle.store.specs.WorkerSteps.{GoesOn, HasGivenBack, KeepsReadsOf, Side, side}
-use Rattle.store.specs.declared.workers.parts.Phase.TheVariants.{Planning, Reading, Read}
-use Rattle.store.specs.declared.workers.parts.Phase.TheVariants.{Again}
-use Rattle.store.specs.declared.workers.parts.State.{State}
+use Rattle.store_images.specs.Fetches.{FetchesOnly, KeepsFetches, is_fetch_of}
+use Rattle.store_workers.specs.Phases.{has_fetch, has_transaction}
+use Rattle.store_workers.specs.Worker.{IsCoreOf, at_rest, with_call}
+use Rattle.store_workers.specs.WorkerReads.{HasReadBlock}
+use Rattle.store_workers.specs.WorkerSteps.{GoesOn, HasGivenBack, KeepsReadsOf, Side, side}
+use Rattle.store_workers.specs.declared.workers.parts.Phase.TheVariants.{Planning, Reading, Read}
+use Rattle.store_workers.specs.declared.workers.parts.Phase.TheVariants.{Again}
+use Rattle.store_workers.specs.declared.workers.parts.State.{State}
 
 -- a worker that has just taken a call is alone where no fetch is pending
 pub starts_alone : (state : State) (core : CoreState) (boot : _) (ctx : Ctx) (call : Call)

@@ -31,14 +31,14 @@ use Rattle.store_promise.specs.declared.answers.Verdict.{Verdict}
 use Rattle.store_promise.specs.declared.answers.Verdict.TheVariants as verdict
 use Rattle.store_promise.specs.declared.events.Cause.{Cause}
 use Rattle.store_promise.specs.declared.events.Cause.TheVariants as cause
-use Rattle.store.specs.AtWork.{IsCoreAtWork, fetches_of}
-use Rattle.store.specs.Further.{IsFurther, LeavesOpen, end_of}
-use Rattle.store.specs.Opening.{Opened}
-use Rattle.store.specs.Settling.{HasFailed}
-use Rattle.store.specs.SettlingStops.{StayOpen}
-use Rattle.store.specs.Stages.{IsWorkerAt, progress_of}
-use Rattle.store.specs.Telling.{told}
-use Rattle.store.specs.declared.workers.parts.State.{State}
+use Rattle.store_runs.specs.AtWork.{IsCoreAtWork, fetches_of}
+use Rattle.store_images.specs.Further.{IsFurther, LeavesOpen, end_of}
+use Rattle.store_images.specs.Opening.{Opened}
+use Rattle.store_images.specs.Settling.{HasFailed}
+use Rattle.store_images.specs.SettlingStops.{StayOpen}
+use Rattle.store_workers.specs.Stages.{IsWorkerAt, progress_of}
+use Rattle.store_workers.specs.Telling.{told}
+use Rattle.store_workers.specs.declared.workers.parts.State.{State}
 
 -- ---- an open store
 

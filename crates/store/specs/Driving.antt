@@ -12,13 +12,14 @@ use Rattle.txn_law.specs.Holds.{is_taken}
 use Rattle.store_promise.specs.declared.events.Committing.TheVariants as committing
 use Rattle.store_promise.specs.declared.events.Step.{Step}
 use Rattle.store_promise.specs.declared.events.Step.TheVariants as step
-use Rattle.store.specs.Seen.{Seen, seen_in}
-use Rattle.store.specs.declared.workers.parts.Job.{Job}
-use Rattle.store.specs.declared.workers.parts.Phase.{Phase}
-use Rattle.store.specs.declared.workers.parts.Phase.TheVariants.{Idle, Called, Planning, Reading, Read}
-use Rattle.store.specs.declared.workers.parts.Phase.TheVariants.{Refused, Again, Waiting}
-use Rattle.store.specs.declared.workers.parts.State.{State}
-use Rattle.store.specs.declared.workers.parts.Work.{Work}
+use Rattle.store_workers.specs.Seen.{Seen, seen_in}
+use Rattle.store_workers.specs.declared.workers.parts.Job.{Job}
+use Rattle.store_workers.specs.declared.workers.parts.Phase.{Phase}
+use Rattle.store_workers.specs.declared.workers.parts.Phase.TheVariants.{Idle, Called, Planning}
+use Rattle.store_workers.specs.declared.workers.parts.Phase.TheVariants.{Reading, Read}
+use Rattle.store_workers.specs.declared.workers.parts.Phase.TheVariants.{Refused, Again, Waiting}
+use Rattle.store_workers.specs.declared.workers.parts.State.{State}
+use Rattle.store_workers.specs.declared.workers.parts.Work.{Work}
 
 -- ---- which blocks are at hand
 

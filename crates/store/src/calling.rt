@@ -13,15 +13,15 @@ ghost use Rattle.wal_law.specs.Log.{IsLawful};
 ghost use Rattle.store_promise.specs.declared.events.Step.{Step};
 ghost use Rattle.store.specs.Calling.{HasStepped, HasWaited, IsCalling, IsOpenWith, Outset};
 ghost use Rattle.store.specs.Driving.{waits_for_log};
-ghost use Rattle.store.specs.Further.{LeavesOpen};
-ghost use Rattle.store.specs.Opening.{Opened, Opens, store_of};
-ghost use Rattle.store.specs.Settling.{IsIdle};
-ghost use Rattle.store.specs.Telling.{told};
-ghost use Rattle.store.specs.Worker.{GoesWith, at_rest, ctx_of, with_call};
-ghost use Rattle.store.specs.WorkerReads.{HasReadBlock};
-ghost use Rattle.store.specs.WorkerSteps.{GoesOn, KeepsHomeOf, KeepsReadsOf, Side, side};
-ghost use Rattle.store.specs.declared.workers.parts.Phase.TheVariants.{Reading};
-ghost use Rattle.store.specs.declared.workers.parts.State.{State};
+ghost use Rattle.store_images.specs.Further.{LeavesOpen};
+ghost use Rattle.store_images.specs.Opening.{Opened, Opens, store_of};
+ghost use Rattle.store_images.specs.Settling.{IsIdle};
+ghost use Rattle.store_workers.specs.Telling.{told};
+ghost use Rattle.store_workers.specs.Worker.{GoesWith, at_rest, ctx_of, with_call};
+ghost use Rattle.store_workers.specs.WorkerReads.{HasReadBlock};
+ghost use Rattle.store_workers.specs.WorkerSteps.{GoesOn, KeepsHomeOf, KeepsReadsOf, Side, side};
+ghost use Rattle.store_workers.specs.declared.workers.parts.Phase.TheVariants.{Reading};
+ghost use Rattle.store_workers.specs.declared.workers.parts.State.{State};
 
 /// What an opening leaves of a device that held a tree is a store that is open with that tree, and with no entry yet.
 pub fn an_opened_store_is_open()
@@ -57,11 +57,11 @@ pub(crate) fn a_step_keeps_a_call_going()
         → waits_for_log made ≡ true → has_rules o.asked.call ≡ true }
 {
     store_promise::an_open_store_keeps_its_files();
-    crate::at_work::a_core_at_work_stays_so();
-    crate::at_work::a_worker_leaves_the_run_going();
-    crate::at_work::a_workers_step_is_told();
-    crate::at_work::a_workers_step_may_be_made();
-    crate::workers::a_worker_tells_its_steps();
+    store_runs::a_core_at_work_stays_so();
+    store_runs::a_worker_leaves_the_run_going();
+    store_runs::a_workers_step_is_told();
+    store_runs::a_workers_step_may_be_made();
+    store_workers::a_worker_tells_its_steps();
 }
 
 /// So does its read, of a device that keeps its model.
@@ -72,8 +72,8 @@ pub(crate) fn a_read_keeps_a_call_going()
         → IsCalling o (record now { device = device }) new }
 {
     store_promise::an_open_store_keeps_its_files();
-    crate::at_work::a_read_leaves_the_run_going();
-    crate::workers::a_worker_tells_its_read();
+    store_runs::a_read_leaves_the_run_going();
+    store_workers::a_worker_tells_its_read();
 }
 
 /// So does the settling that it waits for, if it waits.

@@ -1,26 +1,26 @@
 //! One call to its answer, by one thread.
 ghost use Rattle.std.specs.Prelude.{◌≡◌};
-ghost use Rattle.store.specs.Alone.{IsAlone, is_full};
+ghost use Rattle.store_workers.specs.Alone.{IsAlone, is_full};
 ghost use Rattle.store.specs.Calling.{Answers, HasAnswered, HasStepped, IsCalling, Outset, asked_of};
 ghost use Rattle.store.specs.Driving.{HasGoneOn, IsUnderWay, steps_left, waits_for_log};
-ghost use Rattle.store.specs.Fetches.{FetchesOnly};
-ghost use Rattle.store.specs.Opening.{store_of};
-ghost use Rattle.store.specs.Settling.{IsIdle, IsQuiet};
-ghost use Rattle.store.specs.Worker.{Fits};
-ghost use Rattle.store.specs.declared.workers.parts.Phase.TheVariants.{Idle};
+ghost use Rattle.store_images.specs.Fetches.{FetchesOnly};
+ghost use Rattle.store_images.specs.Opening.{store_of};
+ghost use Rattle.store_images.specs.Settling.{IsIdle, IsQuiet};
+ghost use Rattle.store_workers.specs.Worker.{Fits};
+ghost use Rattle.store_workers.specs.declared.workers.parts.Phase.TheVariants.{Idle};
 
 use crate::calling::{
     a_call_begins, a_read_keeps_a_call_going, a_settling_keeps_a_call_going,
     a_step_keeps_a_call_going,
 };
-use crate::opened::{Store, keeps_too_many, settle};
-use crate::workers::Worker;
 use disk::CrashDisk;
 use nfs_types::{Call, Credential, Moment};
 use std::alloc::Global;
+use store_images::{Store, keeps_too_many, settle};
 use store_promise::{
     Committing, Step, Verdict, a_stop_leaves_a_beginning, an_open_store_keeps_its_files,
 };
+use store_workers::Worker;
 
 /// Runs a call to its answer. Where the answer waits for its place everything is settled before; where the
 /// log is full, too, and so it is where more than MOST_KEPT_COMMITS commits are kept then, since that brings

@@ -1,5 +1,7 @@
 pub mod Stopped
 pub mod Told
+pub mod Later
+pub mod FailedCalls
 pub mod OneSetAttr
 pub mod OneSetAttrAlong
 pub mod OneSetAttrTold

@@ -20,7 +20,7 @@ use Rattle.store_promise.specs.History.{IsHistory, WasCommitted}
 use Rattle.store_promise.specs.LogTold.{settled_told}
 use Rattle.store_promise.specs.OneSetAttr.{OneSetAttr, answer_at, asked, entry_in, events_of, steps_of}
 use Rattle.store_promise.specs.OneSetAttr.{told_of, with_read}
-use Rattle.store_promise.specs.Progress.{is_idle, Begun, Job, Taken, Waiting}
+use Rattle.store_promise.specs.Progress.{is_idle, Job, Waiting}
 use Rattle.store_promise.specs.Schedule.{Told, at_first, told_after, told_before, worker_of}
 use Rattle.store_promise.specs.Transcript.{Transcript, committed_at, device_calls, made}
 use Rattle.store_promise.specs.Verdicts.{AreAnswers, IsAnswer}

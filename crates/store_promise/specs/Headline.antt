@@ -13,6 +13,7 @@ use Rattle.wal_law.specs.Overlay.{over}
 use Rattle.store_promise.specs.declared.fault.OpenFault.{OpenFault}
 use Rattle.store_promise.specs.declared.transcript.Answer.{Answer}
 use Rattle.store_promise.specs.Changes.{ChangeTheirOwn}
+use Rattle.store_promise.specs.FailedCalls.{TellEachFailure}
 use Rattle.store_promise.specs.GoodImage.{IsGoodImage}
 use Rattle.store_promise.specs.History.{IsHistory}
 use Rattle.store_promise.specs.LogTold.{settled_told}
@@ -73,6 +74,8 @@ pub record KeepsPromise (before later : Device) (tree : Tree) (first workers : �
   pub past : IsLater opened later
   pub calls : later.clock ≡ opened.clock + device_calls t (length t.steps)
   pub failures : later.failures ≡ opened.failures + count_by fails t.steps
+  -- each of them is told to have failed just where that very call did
+  pub told : TellEachFailure later.failed opened.clock t.steps
   -- a stop leaves some image, and whatever it leaves has the tree of a prefix, which holds what was promised to
   -- last
   pub left : LeavesImages before later

@@ -4,6 +4,7 @@ pub mod Progress
 pub mod LogTold
 pub mod NextCall
 pub mod Openings
+pub mod FailedCalls
 pub mod Schedule
 pub mod History
 pub mod Verdicts

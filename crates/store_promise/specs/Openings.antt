@@ -3,6 +3,7 @@ use Rattle.std.specs.Prelude.{◌≡◌, ◌≢◌, ℕ, ◌+◌, ◌-◌, ◌^�
 use Rattle.limits.specs.declared.TheConstants.{SUPER_BLOCK}
 use Rattle.disk.specs.Crash.{Image, IsAtRest, IsCrashImage}
 use Rattle.disk.specs.Device.{Content, Device}
+use Rattle.disk.specs.Failures.{CountsFailures}
 use Rattle.model.specs.Tree.{Tree}
 use Rattle.nfs_types.specs.declared.ctx.Moment.{Moment}
 use Rattle.layout.specs.declared.geometry.Geometry.{Geometry}
@@ -16,12 +17,14 @@ use Rattle.store_promise.specs.declared.fault.OpenFault.{OpenFault}
 use Rattle.store_promise.specs.declared.fault.OpenFault.TheVariants as fault
 use Rattle.store_promise.specs.GoodImage.{IsGoodImage}
 
--- the device went on: its past is what it was
+-- the device went on: its past is what it was, and each call since is counted where it failed
 pub record IsLater (before later : Device) : Type 0 where
   pub size : later.size ≡ before.size
   pub clock : before.clock ≤ later.clock
   pub past : (clock block : ℕ) → clock ≤ before.clock
       → later.contents clock block ≡ before.contents clock block
+  pub failed : (call : ℕ) → call < before.clock → later.failed call ≡ before.failed call
+  pub counted : CountsFailures before later
 
 -- Whenever a call of the device was or will be next, from one device to what it became, whatever a crash
 -- leaves is so.

@@ -1,5 +1,5 @@
 -- What holds of a run that goes on, and what a step of it does to the device and to what transactions have.
-use Rattle.std.specs.Prelude.{◌≡◌, ℕ, ◌+◌, ◌-◌, ◌≤◌, Bool, if◌then◌else◌, List, Option, Some, None, length, All}
+use Rattle.std.specs.Prelude.{◌≡◌, ℕ, ◌+◌, ◌-◌, ◌≤◌, if◌then◌else◌, List, Option, Some, None, length, All}
 use Rattle.std.specs.Prelude.{count_by, is_some, nat_le, true}
 use Rattle.disk.specs.Crash.{Image}
 use Rattle.disk.specs.Device.{Content, Device}
@@ -15,6 +15,7 @@ use Rattle.txn_law.specs.Fetch.{Fetch}
 use Rattle.txn_law.specs.Leaves.{in_memory, is_fetching, taken_by}
 use Rattle.store_promise.specs.declared.events.Step.{Step}
 use Rattle.store_promise.specs.declared.events.Step.TheVariants as step
+use Rattle.store_promise.specs.FailedCalls.{one_if, TellEachFailure, TellsFailure}
 use Rattle.store_promise.specs.LogTold.{LogTold, log_moved}
 use Rattle.store_promise.specs.Openings.{IsLater}
 use Rattle.store_promise.specs.OpenSince.{IsOpenSince, blocks_after}
@@ -67,21 +68,20 @@ with_blocks o places now =
 
 -- ---- a step
 
--- how many device calls a step makes, and how many of these fail
-abbrev pub one_if : Bool → ℕ
-one_if is = if is then 1 else 0
-
--- the device after a step: one call later where the step is one, and one failure more where that failed
+-- the device after a step: one call later where the step is one, and one failure more where that failed, as the step
+-- tells of it
 pub record IsMovedBy (old : Device) (made : Option Step) (new : Device) : Type 0 where
   pub past : IsLater old new
   pub calls : new.clock ≡ old.clock + one_if (calls_device made)
   pub failures : new.failures ≡ old.failures + one_if (fails made)
+  pub told : TellsFailure new.failed old.clock made
 
 -- the device after steps
 pub record IsMovedAlong (old : Device) (steps : List (Option Step)) (new : Device) : Type 0 where
   pub past : IsLater old new
   pub calls : new.clock ≡ old.clock + count_by calls_device steps
   pub failures : new.failures ≡ old.failures + count_by fails steps
+  pub told : TellEachFailure new.failed old.clock steps
 
 -- what transactions have taken, read and are fetching is what it was, and what they have taken stays in memory
 pub record KeepsTransactions (old new : CoreState) : Type 0 where

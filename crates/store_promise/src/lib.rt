@@ -42,12 +42,12 @@ pub use open_store::{
     the_files_stay_under_a_new_super_block, whole_groups_are_a_good_image,
 };
 pub use promises::{
-    a_failure_that_is_told_was_counted, a_run_of_no_events_keeps_the_promise,
-    a_stop_leaves_an_image, an_entry_was_called, each_procedure_has_a_number_of_its_own,
-    half_a_group_breaks_the_promise, no_procedure_is_answered_twice,
-    no_stable_answer_bears_place_0, no_stable_answer_comes_with_its_commit,
-    the_boot_number_stays_raised, the_history_is_in_order, what_a_commit_covers_is_kept,
-    what_is_stable_is_kept, what_is_told_as_settled_is_kept,
+    a_failure_is_told_of_its_own_call, a_failure_that_is_told_was_counted,
+    a_run_of_no_events_keeps_the_promise, a_stop_leaves_an_image, an_entry_was_called,
+    each_procedure_has_a_number_of_its_own, half_a_group_breaks_the_promise,
+    no_procedure_is_answered_twice, no_stable_answer_bears_place_0,
+    no_stable_answer_comes_with_its_commit, the_boot_number_stays_raised, the_history_is_in_order,
+    what_a_commit_covers_is_kept, what_is_stable_is_kept, what_is_told_as_settled_is_kept,
 };
 pub use refusals::{
     a_good_image_is_refused_for_a_cause, a_good_image_shows_no_cause, an_image_shows_one_cause,

@@ -1,6 +1,6 @@
 //! Laws on the promise of a run.
 ghost use Rattle.std.specs.Prelude.{◌≡◌, ◌≢◌, ◌+◌, ◌<◌, ◌≤◌, ℕ, [], slice_get, Some, Contains};
-ghost use Rattle.std.specs.Prelude.{count_by, length, take};
+ghost use Rattle.std.specs.Prelude.{count_by, length, take, true, List, ◌∷◌, ◌++◌, Option};
 ghost use Rattle.disk.specs.Crash.{Image, IsCrashImage};
 ghost use Rattle.disk.specs.Device.{Device};
 ghost use Rattle.procedures.specs.After.{after};
@@ -9,6 +9,7 @@ ghost use Rattle.layout.specs.Homes.{homes_of};
 ghost use Rattle.wal_law.specs.Overlay.{over};
 ghost use Rattle.store_promise.specs.declared.events.Committing.TheVariants as committing;
 ghost use Rattle.store_promise.specs.declared.events.Event.TheVariants as event;
+ghost use Rattle.store_promise.specs.declared.events.Step.{Step};
 ghost use Rattle.store_promise.specs.declared.events.Step.TheVariants as step;
 ghost use Rattle.store_promise.specs.declared.transcript.Answer.{Answer};
 ghost use Rattle.store_promise.specs.declared.transcript.Committed.{Committed};
@@ -17,7 +18,7 @@ ghost use Rattle.store_promise.specs.Headline.{KeepsPromise};
 ghost use Rattle.store_promise.specs.Openings.{IsOpened};
 ghost use Rattle.store_promise.specs.LogTold.{settled_told};
 ghost use Rattle.store_promise.specs.Schedule.{Schedule, told_before};
-ghost use Rattle.store_promise.specs.Transcript.{Transcript, device_calls, entries_of, fails, step_at};
+ghost use Rattle.store_promise.specs.Transcript.{Transcript, calls_device, device_calls, entries_of, fails, step_at};
 ghost use Rattle.store_promise.specs.Verdicts.{IsCoveredWrite, IsStableAnswer};
 
 /// A run of no events keeps the promise, where its opening is one that leaves the same homes at each stop.
@@ -84,6 +85,17 @@ pub fn no_stable_answer_bears_place_0()
 pub fn a_failure_that_is_told_was_counted()
     ensures { (before later : Device) (tree : Tree) (first workers : ℕ) (events : Schedule) (t : Transcript)
         → later.failures ≡ before.failures → 0 < count_by fails t.steps
+        → KeepsPromise before later tree first workers events t → ⊥ }
+{}
+
+/// A step that tells that its device call failed where that very call was made, or that it was made where it failed,
+/// breaks the promise.
+pub fn a_failure_is_told_of_its_own_call()
+    ensures { (before later : Device) (tree : Tree) (first workers start : ℕ) (events : Schedule) (t : Transcript)
+        (earlier rest : List (Option Step)) (made : Option Step)
+        → t.steps ≡ earlier ++ made ∷ rest → calls_device made ≡ true
+        → later.clock ≡ start + device_calls t (length t.steps)
+        → later.failed (start + count_by calls_device earlier) ≢ fails made
         → KeepsPromise before later tree first workers events t → ⊥ }
 {}
 

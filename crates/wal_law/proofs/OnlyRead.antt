@@ -1,12 +1,39 @@
 -- Lemmas on reads one after another.
 use Rattle.std.proofs.Common.{◌≡◌, ℕ, ◌+◌, inl, inr, List, [], ◌∷◌, ◌++◌, refl, ap, ◌∙◌, arith, add-one}
 use Rattle.std.proofs.lemmas.Bool.{cases_lt}
-use Rattle.disk.specs.Device.{Content, Device, current, newest}
+use Rattle.disk.specs.Device.{Content, Device, HasRead, current, newest}
 use Rattle.disk.specs.Crash.{Image}
 use Rattle.disk.specs.declared.block.BlockNo.{BlockNo}
+use Rattle.disk.proofs.Failures.{counts_none, counts_one, counts_then}
 use Rattle.wal_law.specs.Logger.{slot_block}
 use Rattle.wal_law.specs.Overlay.{home_at, positions}
 use Rattle.wal_law.specs.Recovery.{HasOnlyRead, IsUnspoiled, image_of}
+
+-- one read alone
+pub read_alone : (before later : Device) → HasRead before later → HasOnlyRead before later
+read_alone before later read = record {
+  size = read.later.size;
+  clock = omega (arith, read.later.clock);
+  past = λ clock block below. read.later.past clock block below;
+  during = λ clock block from to. elim (cases_lt before.clock clock) [
+    | inl after ↦ ap (λ n. later.contents n block) (omega (arith, after, to, read.later.clock)) ∙ read.contents block
+    | inr at ↦ read.later.past clock block at ∙ ap (λ n. before.contents n block) (omega (arith, at, from))
+  ];
+  spoiled = λ block. read.spoiled block;
+  failed = read.later.failed;
+  counted = counts_one before later read.later;
+}
+
+pub no_read : (before : Device) → HasOnlyRead before before
+no_read before = record {
+  size = refl;
+  clock = omega arith;
+  past = λ clock block below. refl;
+  during = λ clock block from to. ap (λ n. before.contents n block) (omega (arith, from, to));
+  spoiled = λ block. refl;
+  failed = λ call below. refl;
+  counted = counts_none before;
+}
 
 pub reads_then : (a b c : Device) → HasOnlyRead a b → HasOnlyRead b c → HasOnlyRead a c
 reads_then a b c first second =
@@ -21,6 +48,8 @@ reads_then a b c first second =
             | inr sooner ↦ second.past clock block sooner ∙ first.during clock block from sooner
           ];
       spoiled = λ block. second.spoiled block ∙ first.spoiled block;
+      failed = λ call below. second.failed call (omega (arith, below, first.clock)) ∙ first.failed call below;
+      counted = counts_then a b c first.clock second.clock second.failed first.counted second.counted;
     }
 
 pub image_then : (a b : Device) → HasOnlyRead a b → (block : ℕ) → image_of b block ≡ image_of a block

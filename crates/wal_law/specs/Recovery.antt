@@ -1,8 +1,9 @@
 -- What an opening finds in the log of a disk.
-use Rattle.std.specs.Prelude.{◌≡◌, ℕ, ◌+◌, ◌≤◌, false, Result, Ok, Err}
+use Rattle.std.specs.Prelude.{◌≡◌, ℕ, ◌+◌, ◌<◌, ◌≤◌, false, Result, Ok, Err}
 use Rattle.std.specs.Prelude.{Vec}
 use Rattle.std.specs.declared.alloc.Global.{Global}
 use Rattle.disk.specs.Device.{Content, Device, current, newest}
+use Rattle.disk.specs.Failures.{CountsFailures}
 use Rattle.disk.specs.declared.block.BlockNo.{BlockNo}
 use Rattle.disk.specs.Crash.{Image}
 use Rattle.wal_law.specs.declared.recovery.LogFault.{LogFault}
@@ -27,6 +28,8 @@ pub record HasOnlyRead (old new : Device) : Type 0 where
   pub during : (clock block : ℕ) → old.clock ≤ clock → clock ≤ new.clock
       → new.contents clock block ≡ current old block
   pub spoiled : (block : ℕ) → new.spoiled block ≡ old.spoiled block
+  pub failed : (call : ℕ) → call < old.clock → new.failed call ≡ old.failed call
+  pub counted : CountsFailures old new
 
 -- a failure is counted just where the answer is that the device failed
 abbrev pub CountsFault : {T : Type 0} → Device → Device → Result T LogFault → Type 0

@@ -162,7 +162,7 @@ fn read_rounds(alloc: Global, rounds: u32, record: &[u8]) -> Result<(), Fault> {
 
 // The count of bytes of the WRITE that a message calls, or 0 where it calls none.
 fn count_written(alloc: Global, message: &[u8]) -> Result<usize, Fault> {
-    let judged = judge(alloc, message)?;
+    let judged = judge(alloc, message);
     let count = match &judged {
         Judged::Call {
             call: ProgramCall::Nfs(Call::Write { bytes, .. }),

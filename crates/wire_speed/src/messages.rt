@@ -10,8 +10,13 @@ const LAST: u32 = 0x8000_0000;
 
 /// The data of both: bytes that differ from each other.
 pub fn data(alloc: Global) -> Result<Vec<u8>, AllocError> {
+    differing(alloc, TRANSFER_BYTES)
+}
+
+// So many bytes that differ from those beside them.
+fn differing(alloc: Global, count: u32) -> Result<Vec<u8>, AllocError> {
     let mut bytes = Vec::new(alloc);
-    for place in 0..TRANSFER_BYTES {
+    for place in 0..count {
         bytes.push((place % 251) as u8)?;
     }
     Ok(bytes)

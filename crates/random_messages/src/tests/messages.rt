@@ -7,7 +7,8 @@ use crate::tests::headers::header;
 use crate::tests::tape::NO_MEMORY;
 use nfs_client_codec::{decode_reply, encode_call};
 use nfs_types::{Credential, ProgramCall, ProgramProcedure, ProgramReply};
-use plain_messages::{Heard, PlainRefusal, done, hear, refused};
+use plain_hearing::{Heard, hear};
+use plain_messages::{PlainRefusal, done, refused};
 use rpc::Refusal;
 use session_wire::{Judged, RpcReply, judge, reply_bytes};
 use std::alloc::Global;
@@ -37,9 +38,7 @@ fn call_message(
 
 // The number of the kind that both take a message for, or None where they don't agree on it.
 fn kind_by_both(alloc: Global, message: &[u8]) -> Option<usize> {
-    let Ok(judged) = judge(alloc, message) else {
-        return None;
-    };
+    let judged = judge(alloc, message);
     let heard = hear(alloc, message);
     let kind = kind_of(alloc, &judged, &heard);
     drop(judged);

@@ -1,6 +1,6 @@
 //! What a store makes durable, and when it brings that home.
 ghost use Rattle.std.specs.Prelude.{IfOk};
-ghost use Rattle.store.specs.Settling.{IsIdle};
+ghost use Rattle.store_images.specs.Settling.{IsIdle};
 
 use crate::tests::compared::is_tree_of;
 use crate::tests::plain::fresh;

@@ -2,7 +2,7 @@
 //! before.
 ghost use Rattle.std.specs.Prelude.{◌≡◌, ◌<◌, IfOk, []};
 ghost use Rattle.layout.specs.Geometry.{IsLawful};
-ghost use Rattle.store.specs.Worker.{Fits};
+ghost use Rattle.store_workers.specs.Worker.{Fits};
 
 use crate::tests::compared::is_same_reply;
 use crate::tests::plain::{asked, fresh, plain_reply_to};

@@ -30,6 +30,7 @@ pub fn read_log<D: CrashDisk>(
 }
 
 /// Reads the log of a disk, with where it begins.
+#[tactic(auto, using(wal_law::proofs::OnlyRead::reads_then))]
 pub fn recover<D: CrashDisk>(alloc: Global, disk: &mut D) -> Result<Recovered, LogFault>
     requires { FIRST_HOME_BLOCK ≤ (D.device disk.old).size }
     ensures slots { IfOk result (λ found. length found.logged.items ≤ LOG_SLOTS) }
@@ -133,6 +134,7 @@ fn has_homes(header: &Block, start: u64, count: usize, blocks: u32) -> bool
 }
 
 // Reads the blocks of so many positions.
+#[tactic(auto, using(wal_law::proofs::OnlyRead::reads_then))]
 fn read_slots<D: CrashDisk>(
     alloc: Global,
     disk: &mut D,

@@ -10,7 +10,7 @@ use worked_messages::*;
 
 fn judged(alloc: Global, message: &[u32]) -> Result<Judged, AllocError> {
     let bytes = content(alloc, message)?;
-    judge(alloc, bytes.as_slice())
+    Ok(judge(alloc, bytes.as_slice()))
 }
 
 fn is_null(call: &ProgramCall) -> bool {

@@ -2,7 +2,7 @@ use Rattle.std.proofs.Common.{refl, sym, subst, List, ℕ}
 use Rattle.nfs_types.specs.declared.program.ProgramCall.{ProgramCall}
 use Rattle.session_wire.specs.declared.message.ReplyBody.{ReplyBody}
 use Rattle.session_wire.specs.Replies.{body_of}
-use Rattle.store.specs.Opening.{store_of}
+use Rattle.store_images.specs.Opening.{store_of}
 use Rattle.session.specs.Replying.{IsCallAnswered, IsMountReply, IsSpelled}
 use Rattle.session.proofs.Courses.{delivers_so}
 use Rattle.session.proofs.answering.serve_call.Goals as goal

@@ -1,37 +1,36 @@
-use Rattle.std.proofs.Common.{inl, subst, List, ℕ}
+use Rattle.std.proofs.Common.{inl, List, ℕ}
 use Rattle.session_wire.specs.declared.message.ReplyBody.TheVariants as bodies
-use Rattle.session_wire.specs.Judging.{judged, Judges}
-use Rattle.session_wire.specs.declared.message.Judged.{Judged}
-use Rattle.store.specs.Opening.{store_of}
+use Rattle.session_wire.specs.Judging.{judged}
+use Rattle.store_images.specs.Opening.{store_of}
 use Rattle.session.specs.Replying.{IsAnswered, IsCallAnswered, IsSpelled}
 use Rattle.session.proofs.Courses.{delivers_so, judged_refused, judged_call}
 use Rattle.session.proofs.answering.serve_record.Goals as goal
 
-pub returns-in-Ok-Refused-clause-serves : goal.returns-in-Ok-Refused-clause-serves
-returns-in-Ok-Refused-clause-serves g c =
+pub returns-in-Refused-clause-serves : goal.returns-in-Refused-clause-serves
+returns-in-Refused-clause-serves g c =
     let device = g.D.CrashDisk.device in
     let old = store_of (device c.args.store.now.disk) c.args.store.now.core c.args.store.now.boot in
-    let told = c.in-Ok-Refused in
+    let told = c.in-Refused in
     let message = c.args.message.now in
     let keeps = g.D.CrashDisk.keeps_model c.args.store.now.disk in
     inl (delivers_so (IsSpelled told.xid (bodies.Refused told.refusal))
     (λ (reply : List ℕ). IsAnswered keeps c.args.moment old (judged message) reply old) _ _ _
     (λ reply is. judged_refused keeps c.args.moment old (judged message) told.xid told.refusal reply
-    (subst (λ (j : Judged). Judges j (judged message)) told.field-0-is told.ensures) is)
+    told.ensures is)
     c.put.ensures)
 
-pub returns-in-Ok-Call-clause-serves : goal.returns-in-Ok-Call-clause-serves
-returns-in-Ok-Call-clause-serves g c =
+pub returns-in-Call-clause-serves : goal.returns-in-Call-clause-serves
+returns-in-Call-clause-serves g c =
     let device = g.D.CrashDisk.device in
     let old = store_of (device c.args.store.now.disk) c.args.store.now.core c.args.store.now.boot in
     let after = c.serve_call.new.store in
     let new = store_of (device after.disk) after.core after.boot in
-    let told = c.in-Ok-Call in
+    let told = c.in-Call in
     let message = c.args.message.now in
     let keeps = g.D.CrashDisk.keeps_model after.disk in
     inl (delivers_so
     (λ (reply : List ℕ). IsCallAnswered keeps c.args.moment old told.xid told.credential told.call reply new)
     (λ (reply : List ℕ). IsAnswered keeps c.args.moment old (judged message) reply new) _ _ _
     (λ reply is. judged_call keeps c.args.moment old new (judged message) told.xid told.credential told.call reply
-    (subst (λ (j : Judged). Judges j (judged message)) told.field-0-is told.ensures) is)
+    told.ensures is)
     c.serve_call.ensures.serves)

@@ -1,9 +1,9 @@
 -- What the stream came to, and what was settled behind it.
 use Rattle.std.proofs.Common.{rules, ◌≡◌, ◌∙◌, Err, ap, refl, subst, sym}
-use Rattle.store.proofs.Staying.{prefixes_kept, still_open}
-use Rattle.store.proofs.StillOpen.{same_open}
-use Rattle.store.specs.Opening.{store_of}
-use Rattle.store.specs.Settling.{IsIdle}
+use Rattle.store_images.proofs.Staying.{prefixes_kept, still_open}
+use Rattle.store_images.proofs.StillOpen.{same_open}
+use Rattle.store_images.specs.Opening.{store_of}
+use Rattle.store_images.specs.Settling.{IsIdle}
 use Rattle.session.specs.Serving.{IsEnded, client_of, has_served}
 use Rattle.session.specs.Filing.{IsSettledBehind}
 use Rattle.session.specs.declared.serving.SessionFault.{SessionFault}

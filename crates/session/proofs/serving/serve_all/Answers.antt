@@ -2,7 +2,7 @@
 use Rattle.std.proofs.Common.{◌≡◌, ◌∙◌, ◌++◌, [], ℕ, List, Err, IfSome, IfNone, refl, subst, sym, inl, take}
 use Rattle.std.proofs.lemmas.List.{append-nil}
 use Rattle.std.specs.Io.KnownBytes.{Consumes, IsAtEnd, Keeps}
-use Rattle.store.specs.Opening.{store_of}
+use Rattle.store_images.specs.Opening.{store_of}
 use Rattle.session.specs.Streaming.{IsCourse, IsStream, StopsAt}
 use Rattle.session.specs.declared.serving.SessionFault.{SessionFault}
 use Rattle.session.specs.declared.serving.SessionFault.TheVariants as faults

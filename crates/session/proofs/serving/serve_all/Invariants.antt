@@ -2,8 +2,8 @@
 -- read are messages that were answered, and what is left
 use Rattle.std.proofs.Common.{◌≡◌, ℕ, List}
 use Rattle.std.specs.Io.KnownBytes.{Consumes}
-use Rattle.store.specs.Opening.{store_of}
-use Rattle.store.specs.Settling.{IsIdle}
+use Rattle.store_images.specs.Opening.{store_of}
+use Rattle.store_images.specs.Settling.{IsIdle}
 use Rattle.session.specs.Streaming.{IsCourse, IsUnfinished}
 use Rattle.session.proofs.serving.serve_all.Given as goal
 

@@ -1,5 +1,5 @@
 use Rattle.std.proofs.Common.{◌++◌, refl, inl, ℕ, List, subst, sym}
-use Rattle.store.specs.Opening.{store_of}
+use Rattle.store_images.specs.Opening.{store_of}
 use Rattle.session.specs.Streaming.{IsCourse}
 use Rattle.session.proofs.Courses.{feeds, none_more}
 use Rattle.session.proofs.serving.serve_piece.Goals as goal

@@ -1,6 +1,6 @@
 use Rattle.std.proofs.Common.{arith, ◌≡◌, ◌∙◌, ◌++◌, ℕ, List, IfNone, IfSome, subst, sym}
 use Rattle.rpc.specs.Records.{IsRecord}
-use Rattle.store.specs.Opening.{store_of}
+use Rattle.store_images.specs.Opening.{store_of}
 use Rattle.session.specs.Streaming.{IsCourse, IsUnfinished}
 use Rattle.session.proofs.Courses.{longer, serves, stops_reading, stops_serving}
 use Rattle.session.proofs.serving.serve_records.Goals as goal

@@ -1,8 +1,8 @@
 -- nothing is out, the boot number stays, the device has kept its model so far where it does, each reply took bytes of
 -- the stream, and its course goes on
 use Rattle.std.proofs.Common.{◌≡◌, ℕ, List, Option, length}
-use Rattle.store.specs.Opening.{Opened, store_of}
-use Rattle.store.specs.Settling.{IsIdle}
+use Rattle.store_images.specs.Opening.{Opened, store_of}
+use Rattle.store_images.specs.Settling.{IsIdle}
 use Rattle.session.specs.Streaming.{IsCourse}
 use Rattle.session.proofs.serving.serve_records.Given as goal
 

@@ -1,8 +1,8 @@
 use Rattle.std.proofs.Common.{◌++◌, is_ok, option_to_list, subst, sym}
-use Rattle.store.specs.AtWork.{fetches_of}
+use Rattle.store_runs.specs.AtWork.{fetches_of}
 use Rattle.store.specs.Calling.{IsCalling}
-use Rattle.store.specs.Worker.{GoesWith}
-use Rattle.store.specs.declared.workers.parts.State.{State}
+use Rattle.store_workers.specs.Worker.{GoesWith}
+use Rattle.store_workers.specs.declared.workers.parts.State.{State}
 use Rattle.store_promise.specs.Running.{at_rest}
 use Rattle.store.proofs.CallEvents.{was_read}
 use Rattle.store.proofs.CallSteps.{runs_of, setting_of}

@@ -3,9 +3,9 @@ use Rattle.std.proofs.lemmas.List.{take_all}
 use Rattle.layout.specs.Homes.{homes_of}
 use Rattle.txn_law.specs.Window.{Footprint, after_commits, opening}
 use Rattle.store_promise.specs.OpenSince.{file_blocks}
-use Rattle.store.specs.AtWork.{fetches_of}
-use Rattle.store.specs.Stages.{IsWorkerAt, progress_of}
-use Rattle.store.specs.WorkerSteps.{side}
+use Rattle.store_runs.specs.AtWork.{fetches_of}
+use Rattle.store_workers.specs.Stages.{IsWorkerAt, progress_of}
+use Rattle.store_workers.specs.WorkerSteps.{side}
 use Rattle.store.proofs.CallStages.{waits_served}
 use Rattle.store.proofs.CallSteps.{is_told, run, s, stepped, store, t}
 use Rattle.store.proofs.calling.a_step_keeps_a_call_going.Goals as goal

@@ -1,8 +1,8 @@
 -- Each round leaves the call under way, or answers it.
 use Rattle.std.proofs.Common.{rules, ◌≡◌, ◌∙◌, ap, sym, subst, Some}
 use Rattle.store.specs.Calling.{IsCalling}
-use Rattle.store.specs.Opening.{store_of}
-use Rattle.store.specs.declared.workers.parts.State.{State}
+use Rattle.store_images.specs.Opening.{store_of}
+use Rattle.store_workers.specs.declared.workers.parts.State.{State}
 use Rattle.store.proofs.CallEvents.{answered}
 use Rattle.store.proofs.Driven.{taken_both}
 use Rattle.store.proofs.one_call.answer.Goals as goal

@@ -1,12 +1,12 @@
 -- the worker fits the core and has the store alone, its call is under way, no device call is out, and the device has
 -- kept its model so far where it does; each round leaves less of the call
 use Rattle.std.proofs.Common.{◌≡◌}
-use Rattle.store.specs.Alone.{IsAlone}
+use Rattle.store_workers.specs.Alone.{IsAlone}
 use Rattle.store.specs.Calling.{IsCalling, Outset}
 use Rattle.store.specs.Driving.{IsUnderWay, steps_left}
-use Rattle.store.specs.Opening.{store_of}
-use Rattle.store.specs.Settling.{IsQuiet}
-use Rattle.store.specs.Worker.{Fits}
+use Rattle.store_images.specs.Opening.{store_of}
+use Rattle.store_images.specs.Settling.{IsQuiet}
+use Rattle.store_workers.specs.Worker.{Fits}
 use Rattle.store.proofs.one_call.answer.Given as goal
 
 abbrev pub invariant-steps : goal.invariant-steps

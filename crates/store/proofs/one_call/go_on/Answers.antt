@@ -3,18 +3,18 @@ use Rattle.store.proofs.Driven.{AfterLog, after_none, after_settling, begins_aga
 use Rattle.store.proofs.CallEvents.{again_goes, goes_told, none_to_tell, still_fits}
 use Rattle.store.proofs.Driven.{full_plans, nothing_new, reads_on, was_made}
 use Rattle.store.proofs.DrivenAlone.{full_alone, given_alone, goes_alone, room_then, round}
-use Rattle.store.proofs.GoingRead.{with_model}
-use Rattle.store.proofs.RunTaken.{goes_with, has_contents}
+use Rattle.store_runs.proofs.GoingRead.{with_model}
+use Rattle.store_runs.proofs.RunTaken.{goes_with, has_contents}
 use Rattle.store.proofs.CallWaits.{has_not_waited, has_settled}
-use Rattle.store.specs.Alone.{IsAlone}
+use Rattle.store_workers.specs.Alone.{IsAlone}
 use Rattle.store.specs.Calling.{HasStepped, HasWaited, IsCalling}
 use Rattle.store.specs.Driving.{HasGoneOn, steps_left, waits_for_log}
-use Rattle.store.specs.Opening.{store_of}
-use Rattle.store.specs.Telling.{told}
-use Rattle.store.specs.Worker.{GoesWith, IsCoreOf}
-use Rattle.store.specs.WorkerSteps.{side}
-use Rattle.store.specs.declared.workers.Worker.{Worker}
-use Rattle.store.specs.declared.workers.parts.State.{State}
+use Rattle.store_images.specs.Opening.{store_of}
+use Rattle.store_workers.specs.Telling.{told}
+use Rattle.store_workers.specs.Worker.{GoesWith, IsCoreOf}
+use Rattle.store_workers.specs.WorkerSteps.{side}
+use Rattle.store_workers.specs.declared.workers.Worker.{Worker}
+use Rattle.store_workers.specs.declared.workers.parts.State.{State}
 use Rattle.store.proofs.one_call.go_on.Goals.{then-waits_for_log, else-waits_for_log}
 use Rattle.store.proofs.one_call.go_on.Goals as goal
 

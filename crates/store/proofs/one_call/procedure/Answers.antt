@@ -2,11 +2,11 @@
 use Rattle.std.proofs.Common.{◌∙◌, ◌<◌, ap, length, refl, subst, sym}
 use Rattle.limits.specs.declared.TheConstants.{MOST_KEPT_COMMITS}
 use Rattle.store.specs.Calling.{HasAnswered, Outset, asked_of}
-use Rattle.store.specs.Opening.{store_of}
-use Rattle.store.specs.Worker.{ctx_of, with_call}
-use Rattle.store.specs.declared.workers.parts.State.{State}
+use Rattle.store_images.specs.Opening.{store_of}
+use Rattle.store_workers.specs.Worker.{ctx_of, with_call}
+use Rattle.store_workers.specs.declared.workers.parts.State.{State}
 use Rattle.store.proofs.CallEvents.{settled_answer}
-use Rattle.store.proofs.RunTaken.{goes_with}
+use Rattle.store_runs.proofs.RunTaken.{goes_with}
 use Rattle.store.proofs.one_call.procedure.Goals as goal
 
 pub returns-then-keeps_too_many-clause-answered : goal.returns-then-keeps_too_many-clause-answered

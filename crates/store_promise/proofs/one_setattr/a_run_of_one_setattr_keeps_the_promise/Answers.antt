@@ -1,7 +1,8 @@
 -- Of the one entry and the one answer each clause computes; what a stop leaves goes by the clock.
 use Rattle.std.proofs.Common.{◌+◌, arith, refl, sym, subst}
 use Rattle.store_promise.specs.Headline.{IsGeometryOf}
-use Rattle.store_promise.specs.OneSetAttr.{blocks_at, setting_of}
+use Rattle.store_promise.specs.OneSetAttr.{blocks_at, setting_of, told_of}
+use Rattle.store_promise.proofs.FailedCalls.{none_is_told}
 use Rattle.store_promise.proofs.OneSetAttr.{files_at, taken}
 use Rattle.store_promise.proofs.OneSetAttrStops.{left, stops}
 use Rattle.store_promise.proofs.OneSetAttrTold.{answers, changes, history}
@@ -18,6 +19,7 @@ returns c = λ before opened later g blocks changed tree next first one reply op
       past = went.past;
       calls = went.clock;
       failures = omega (arith, went.failures);
+      told = none_is_told opened later (told_of (first + 1) one reply).steps went.past went.failures went.clock refl;
       left = left before opened later tree next first one.position one reply opens went blocks changed trees steps;
       stops = stops before opened later tree next first one.position one reply opens went blocks changed trees steps;
       last = next;

@@ -12,10 +12,11 @@ use Rattle.wal.specs.Overlay.{over}
 use Rattle.model.specs.Tree as model
 use Rattle.store_promise.specs.Headline.{IsGeometryOf, LeavesFiles, WasPromised, by_answer, by_commit, by_steps}
 use Rattle.store_promise.specs.GoodImage.{IsGoodImage}
-use Rattle.store_promise.specs.Openings.{IsOpened, IsLater}
+use Rattle.store_promise.specs.Openings.{IsOpened}
 use Rattle.store_promise.specs.LogTold.{settled_told}
 use Rattle.store_promise.specs.Schedule.{told_before}
 use Rattle.store_promise.specs.Transcript.{Transcript}
+use Rattle.store_promise.proofs.Later.{past_none}
 use Rattle.store_promise.proofs.promises.a_run_of_no_events_keeps_the_promise.Goals as goal
 
 no-some : {A : Type 0} (x : A) → None ≡ Some x → ⊥
@@ -26,9 +27,6 @@ no-less k less = omega arith
 
 abbrev nothing : ℕ → Transcript
 nothing first = record { boot = first + 1; history = []; answers = []; steps = [] }
-
-itself : (device : Device) → IsLater device device
-itself device = record { size = refl; clock = omega arith; past = λ clock block _. refl }
 
 -- nothing was promised to last, and the empty log tells place 0 alone as settled
 lasts : (start clock first place : ℕ) → WasPromised [] start (nothing first) clock place → place ≤ 0
@@ -124,9 +122,10 @@ returns c = λ before later tree first position workers blocks opened whole.
       };
       opens = opened;
       geometry = geometry_of_image later.size (first + 1) tree there.0 good;
-      past = itself later;
+      past = past_none later;
       calls = omega arith;
       failures = omega arith;
+      told = tt;
       left = opened.left;
       stops = λ clock image from to crash. either before later tree first position clock image blocks opened whole from to
           crash (cases_lt clock later.clock);

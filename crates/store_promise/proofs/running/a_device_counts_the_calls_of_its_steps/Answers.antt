@@ -1,27 +1,16 @@
-use Rattle.std.proofs.Common.{◌≡◌, ◌+◌, arith, refl, ap, ◌∙◌, Bool, false, List, [], ◌∷◌, ◌++◌}
+use Rattle.std.proofs.Common.{◌≡◌, ◌+◌, arith, refl, sym, subst, ap, ◌∙◌, ℕ, Bool, false, List, [], ◌∷◌, ◌++◌}
 use Rattle.std.proofs.Common.{Option, Some, None, Result, Ok, Err, is_err, count_by}
+use Rattle.std.proofs.lemmas.Bool.{false≢true}
 use Rattle.std.proofs.lemmas.List.Sums.{sum_by_push}
 use Rattle.disk.specs.Device.{CountsFailure, Device}
 use Rattle.disk.specs.declared.device.Failed.{Failed}
 use Rattle.store_promise.specs.declared.events.Step.{Step}
 use Rattle.store_promise.specs.declared.events.Step.TheVariants as step
-use Rattle.store_promise.specs.Openings.{IsLater}
-use Rattle.store_promise.specs.Running.{one_if}
+use Rattle.store_promise.specs.FailedCalls.{one_if, TellsFailure}
 use Rattle.store_promise.specs.Transcript.{calls_device, fails}
+use Rattle.store_promise.proofs.FailedCalls.{still_told, tells_of_its_call, told_more}
+use Rattle.store_promise.proofs.Later.{past_more, past_none, past_one}
 use Rattle.store_promise.proofs.running.a_device_counts_the_calls_of_its_steps.Goals as goal
-
-same_later : (d : Device) → IsLater d d
-same_later d = record { size = refl; clock = omega arith; past = λ clock block within. refl }
-
--- what comes later of what comes later comes later
-later_yet : (a b c : Device) → IsLater a b → IsLater b c → IsLater a c
-later_yet a b c one other =
-    let ab = one.clock in
-    let bc = other.clock in record {
-      size = other.size ∙ one.size;
-      clock = omega (arith, ab, bc);
-      past = λ clock block within. other.past clock block (omega (arith, within, ab)) ∙ one.past clock block within;
-    }
 
 count_more : {X : Type 0} (test : X → Bool) (xs : List X) (x : X)
     → count_by test (xs ++ x ∷ []) ≡ count_by test xs + one_if (test x)
@@ -54,27 +43,38 @@ counted old new (Ok done) counts = let same = counts in omega (arith, same)
 counted old new (Err failed) counts = counts
 
 pub returns-clause-first : goal.returns-clause-first
-returns-clause-first c = λ d. record { past = same_later d; calls = omega arith; failures = omega arith }
+returns-clause-first c = λ d. record {
+  past = past_none d;
+  calls = omega arith;
+  failures = omega arith;
+  told = tt;
+}
 
 pub returns-clause-none : goal.returns-clause-none
 returns-clause-none c = λ d made none. record {
-  past = same_later d;
+  past = past_none d;
   calls = let is = ap one_if none in omega (arith, is);
   failures = let is = ap one_if (no_failure made none) in omega (arith, is);
+  told = λ calls. absurd (false≢true (sym none ∙ calls));
 }
 
 pub returns-clause-call : goal.returns-clause-call
 returns-clause-call c = λ old new made answer calls failed later counts. record {
-  past = record { size = later.size; clock = (let clock = later.clock in omega (arith, clock)); past = later.past };
+  past = past_one old new later;
   calls = (let is = ap one_if calls in let clock = later.clock in omega (arith, is, clock));
   failures = (let is = ap one_if failed in let count = counted old new answer counts in omega (arith, is, count));
+  told = tells_of_its_call old new made answer failed later (counted old new answer counts);
 }
 
 pub returns-clause-step : goal.returns-clause-step
 returns-clause-step c = λ opened old new steps made along moved. record {
-  past = later_yet opened old new along.past moved.past;
+  past = past_more opened old new along.past moved.past;
   calls = (let so_far = along.calls in let more = moved.calls in let count = count_more calls_device steps made in
       omega (arith, so_far, more, count));
   failures = (let so_far = along.failures in let more = moved.failures in let count = count_more fails steps made in
       omega (arith, so_far, more, count));
+  told = told_more new.failed opened.clock steps made
+      (still_told old.failed new.failed opened.clock steps
+      (λ number below. moved.past.failed number (let calls = along.calls in omega (arith, below, calls))) along.told)
+      (subst (λ (n : ℕ). TellsFailure new.failed n made) along.calls moved.told);
 }

@@ -1,4 +1,4 @@
-use Rattle.std.proofs.Common.{◌≡◌, ℕ, ◌+◌, ◌≤◌, ap, sym, ◌∙◌, refl, subst, arith, List, length}
+use Rattle.std.proofs.Common.{◌+◌, ◌≤◌, ap, sym, ◌∙◌, subst, arith, length}
 use Rattle.txn_law.specs.Core.{CoreState}
 use Rattle.store_promise.specs.ToldOf.{StandsAtHome}
 use Rattle.store_promise.proofs.OpenCommits.{blocks_now}

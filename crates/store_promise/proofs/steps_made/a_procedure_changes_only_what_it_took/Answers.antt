@@ -1,4 +1,4 @@
-use Rattle.std.proofs.Common.{◌≡◌, ◌∙◌, ap, sym, false}
+use Rattle.std.proofs.Common.{◌≡◌, ◌∙◌, ap, sym}
 use Rattle.objects.specs.declared.mode.Mode.TheVariants as modes
 use Rattle.store_promise.specs.Progress.{At, Begun, Job, Planning, takes}
 use Rattle.store_promise.specs.Schedule.{wish_of}

@@ -1,5 +1,5 @@
 -- nothing is out
-use Rattle.store.specs.Settling.{IsIdle}
+use Rattle.store_images.specs.Settling.{IsIdle}
 use Rattle.rows.proofs.tests.settling.most_kept.Given as goal
 
 abbrev pub invariant-calls : goal.invariant-calls

@@ -1,6 +1,6 @@
 -- the worker fits the core, whose image has the device's size
 use Rattle.std.specs.Prelude.{◌≡◌}
-use Rattle.store.specs.Worker.{Fits}
+use Rattle.store_workers.specs.Worker.{Fits}
 use Rattle.rows.proofs.tests.worker.answer.Given as goal
 
 abbrev pub invariant-steps : goal.invariant-steps

@@ -1,0 +1,337 @@
+-- What a stream made of the files is what the served stream admits, message by message.
+use Rattle.std.proofs.Common.{arith, ◌≡◌, ◌∙◌, refl, sym, ap, subst, ℕ, zero, suc, ◌+◌, ◌-◌, ◌^◌, ◌<◌, ◌≤◌, inl, inr, ◌⊎◌}
+use Rattle.std.proofs.Common.{Bool, true, false, if◌then◌else◌, List, [], ◌∷◌, ◌++◌, length, option_to_list, Option, Some, None}
+use Rattle.std.proofs.lemmas.Bool.{cases_Bool, cases_lt, true≢false}
+use Rattle.std.proofs.lemmas.List.{length-append}
+use Rattle.disk.specs.Device.{Device}
+use Rattle.disk.specs.Failures.{failures_from}
+use Rattle.model.specs.Calls.{has_rules, unsupported}
+use Rattle.model.specs.Entry.{Entry}
+use Rattle.model.specs.Refused.{refused}
+use Rattle.model.specs.Tree.{Tree}
+use Rattle.nfs_types.specs.declared.call.Call as types
+use Rattle.nfs_types.specs.declared.ctx.Credential.{Credential}
+use Rattle.nfs_types.specs.declared.ctx.Ctx.{Ctx}
+use Rattle.nfs_types.specs.declared.ctx.Moment.{Moment}
+use Rattle.nfs_types.specs.declared.mount.MountCall.{MountCall}
+use Rattle.nfs_types.specs.declared.program.ProgramCall.TheVariants as calls
+use Rattle.nfs_types.specs.declared.status.Status.TheVariants as status
+use Rattle.procedures.specs.Step as procedures
+use Rattle.procs.specs.MostChanged.{most_changed}
+use Rattle.session_wire.specs.declared.message.Judged.{Judged}
+use Rattle.session_wire.specs.declared.message.Judged.TheVariants.{Closed, Refused, Call}
+use Rattle.session_wire.specs.Judging.{judged}
+use Rattle.session_wire.specs.Replies.{reply_bytes}
+use Rattle.session_wire.specs.Served as wire
+use Rattle.store_promise.specs.declared.answers.Verdict.{Verdict}
+use Rattle.store_promise.specs.declared.answers.Verdict.TheVariants as verdicts
+use Rattle.store_promise.specs.declared.events.Cause.{Cause}
+use Rattle.store_promise.specs.declared.events.Cause.TheVariants as cause
+use Rattle.store_promise.specs.History.{ctx_of}
+use Rattle.store_promise.specs.Openings.{IsLater}
+use Rattle.store_promise.specs.Verdicts.{refusal}
+use Rattle.store_promise.proofs.Later.{past_more, past_none}
+use Rattle.store_images.specs.Further.{end_of}
+use Rattle.store_images.specs.Opening.{Opened}
+use Rattle.store_images.specs.Settling.{HasFailed}
+use Rattle.store.proofs.LogRoom.{few_changed}
+use Rattle.store.specs.Calling as store
+use Rattle.session.specs.Filing.{AreFiled, Files, IsFiled, IsOpenFor, filed, outset_of}
+use Rattle.session.specs.Replying.{IsAnswered, IsMountReply, IsSystemError}
+use Rattle.session.specs.Serving.{reply_for}
+use Rattle.session.specs.Standing.{serving_of, standing_of}
+use Rattle.session.specs.Streaming.{Answered}
+
+-- ---- failures
+
+-- where more failures are counted, one of these calls failed
+some_failed : (failed : ℕ → Bool) (first count : ℕ) → 0 < failures_from failed first count
+    → (call : ℕ) × (first ≤ call) × (call < first + count) × (failed call ≡ true)
+some_failed failed first zero some = absurd (omega (arith, some))
+some_failed failed first (suc count) some = elim (cases_Bool (failed (first + count))) [
+  | inl t ↦ (first + count, omega arith, omega arith, t)
+  | inr f ↦ (
+      let last : ◌≡◌ {A = ℕ} (if failed (first + count) then 1 else 0) 0 = ap {B = ℕ} (λ b. if b then 1 else 0) f in
+      let found = some_failed failed first count (omega (arith, some, last)) in
+      (found.0, found.1, omega (arith, found.2), found.3))
+]
+
+failed_within : (s : wire.Serving) (before now : Device) → IsLater before now
+    → ((number : ℕ) → number < now.clock → s.failed number ≡ now.failed number)
+    → before.failures < now.failures → wire.FailsWithin s before.clock now.clock
+failed_within s before now past same more =
+    let counted = past.counted in
+    let clock = past.clock in
+    let found = some_failed now.failed before.clock (now.clock - before.clock) (omega (arith, more, counted)) in
+    let before_end : found.0 < now.clock = omega (arith, found.2, clock) in
+    record {
+      call = found.0;
+      since = found.1;
+      before = before_end;
+      failed = same found.0 before_end ∙ found.3;
+    }
+
+-- ---- from one standing to the next
+
+places_of : (at : Opened) (files : Files) → IsOpenFor at files → length files.entries ≡ at.core.log.places
+places_of at files is_open = is_open.opened.since.counted
+
+same_standing : (old new : Opened) (files later : Files) → new ≡ old → later ≡ files
+    → standing_of new later.last ≡ standing_of old files.last
+same_standing old new files later same as_files = ap (λ (at : Opened). standing_of at later.last) same
+    ∙ ap (λ (fs : Files). standing_of old fs.last) as_files
+
+-- what a message left of the store and its files
+record Leaves (old : Opened) (new : Opened) (later : Files) : Type 0 where
+  is_open : IsOpenFor new later
+  boot : new.boot ≡ old.boot
+  past : IsLater old.device new.device
+
+nothing_left : (old : Opened) (files : Files) → IsOpenFor old files → (new : Opened) (later : Files) → new ≡ old
+    → later ≡ files → Leaves old new later
+nothing_left old files is_open new later same as_files =
+    subst (λ (at : Opened). Leaves old at later) (sym same)
+    (subst (λ (fs : Files). Leaves old old fs) (sym as_files)
+    (record { is_open = is_open; boot = refl; past = past_none old.device }))
+
+leaves : (settled : ℕ) (moment : Moment) (old : Opened) (files : Files) (j : Judged) (bytes : List ℕ) (new : Opened)
+    (later : Files) → IsOpenFor old files → IsFiled settled moment old files j bytes new later → Leaves old new later
+leaves settled moment old files Closed bytes new later is_open filed = absurd filed
+leaves settled moment old files (Refused xid refused) bytes new later is_open (same, as_files) =
+    nothing_left old files is_open new later same as_files
+leaves settled moment old files (Call xid credential (calls.Mount asked)) bytes new later is_open (same, as_files) =
+    nothing_left old files is_open new later same as_files
+leaves settled moment old files (Call xid credential (calls.Nfs asked)) bytes new later is_open (inr (error, same, as_files)) =
+    nothing_left old files is_open new later same as_files
+leaves settled moment old files (Call xid credential (calls.Nfs asked)) bytes new later is_open
+    (inl (verdict, has, is, spelled, by)) = subst (λ (fs : Files). Leaves old new fs) (sym is)
+    (record { is_open = has.opened; boot = has.boot; past = has.files.past })
+
+-- so do all of them
+past_all : (settled : ℕ) (moment : Moment) (old : Opened) (files : Files) (messages replies : List (List ℕ))
+    (new : Opened) (later : Files) → IsOpenFor old files → AreFiled settled moment old files messages replies new later
+    → IsLater old.device new.device
+past_all settled moment old files [] [] new later is_open (same, as_files) =
+    subst (λ (at : Opened). IsLater old.device at.device) (sym same) (past_none old.device)
+past_all settled moment old files [] (reply ∷ replies) new later is_open filed = absurd filed
+past_all settled moment old files (message ∷ messages) [] new later is_open filed = absurd filed
+past_all settled moment old files (message ∷ messages) (reply ∷ replies) new later is_open
+    (middle, between, is, rest) =
+    let first = leaves settled moment old files (judged message) reply middle between is_open is in
+    past_more old.device middle.device new.device first.past
+    (past_all settled moment middle between messages replies new later first.is_open rest)
+
+module _ (boot : ℕ) (moment : Moment) (failed : ℕ → Bool) where
+  abbrev s : wire.Serving
+  s = serving_of boot moment failed
+
+  -- so the calls of the device failed up to now
+  abbrev AgreesWith : Opened → Type 0
+  AgreesWith now = (number : ℕ) → number < now.device.clock → failed number ≡ now.device.failed number
+
+  has_failed : (old new : Opened) (files later : Files) → IsLater old.device new.device → AgreesWith new
+      → HasFailed old.core.log old.device new.device
+      → wire.HasFailed s (standing_of old files.last) (standing_of new later.last)
+  has_failed old new files later past same (inl broken) = inr broken
+  has_failed old new files later past same (inr more) = inl (failed_within s old.device new.device past same more)
+
+  goes_on : (old new : Opened) (files later : Files) → store.GoesTo old new → IsLater old.device new.device
+      → AgreesWith new → wire.IsLater s (standing_of old files.last) (standing_of new later.last)
+  goes_on old new files later goes past same = record {
+    numbers = (let begun = goes.further.begun in omega (arith, begun));
+    places = goes.further.places;
+    positions = goes.further.positions;
+    clock = past.clock;
+    breaks = λ sound broken. by_cause sound (goes.failed broken);
+    stays_broken = goes.further.broken;
+  }
+    where
+      by_cause : old.core.log.broken ≡ false → HasFailed old.core.log old.device new.device
+          → wire.FailsWithin s old.device.clock new.device.clock
+      by_cause sound (inl broken) = absurd (true≢false (sym broken ∙ sound))
+      by_cause sound (inr more) = failed_within s old.device new.device past same more
+
+  rests : (at : Opened) (files : Files) → wire.Rests s (standing_of at files.last) (standing_of at files.last)
+  rests at files = record {
+    stays = record {
+      later = record {
+        numbers = omega arith;
+        places = omega arith;
+        positions = omega arith;
+        clock = omega arith;
+        breaks = λ sound broken. absurd (true≢false (sym broken ∙ sound));
+        stays_broken = λ broken. broken;
+      };
+      tree = refl;
+      places = refl;
+    };
+    numbers = refl;
+  }
+
+  -- ---- one call of NFS
+
+  module _ (old new : Opened) (files : Files) (credential : Credential) (asked : types.Call) (xid : ℕ)
+      (bytes : List ℕ) (verdict : Verdict) (boot_is : old.boot ≡ boot) (is_open : IsOpenFor old files)
+      (spelled : bytes ≡ reply_bytes xid (reply_for verdict)) where
+    abbrev o : store.Outset
+    o = outset_of moment old files credential asked
+
+    abbrev left : Option Entry → Tree → Files
+    left entry last = filed files entry last
+
+    told_as : (is : Verdict) → verdict ≡ is → bytes ≡ reply_bytes xid (reply_for is)
+    told_as is same = spelled ∙ ap (λ (v : Verdict). reply_bytes xid (reply_for v)) same
+
+    steps : (entry : Entry) (last : Tree) → store.IsMadeFor o new entry last
+        → IsOpenFor new (left (Some entry) last)
+        → wire.IsLater s (standing_of old files.last) (standing_of new last)
+        → wire.Steps s (standing_of old files.last) credential asked entry.reply
+        (standing_of new last)
+    steps entry last made after later =
+        let fresh = made.begun_for.fresh in
+        let taken = made.begun_for.taken in
+        let before = places_of old files is_open in
+        let now = places_of new (left (Some entry) last) after in
+        let long = length-append files.entries (entry ∷ []) in record {
+          later = later;
+          number = made.begun.number;
+          fresh = omega (arith, fresh);
+          rising = omega (arith, taken);
+          place = omega (arith, before, now, long);
+          step = subst (λ (ctx : Ctx). procedures.step files.last ctx asked entry.reply last)
+              (made.ctx ∙ ap (λ (b : ℕ). ctx_of b o.asked made.begun) boot_is)
+              (subst (λ (c : types.Call). procedures.step files.last entry.ctx c entry.reply last) made.call made.step);
+        }
+
+    stays : (last : Tree) → last ≡ files.last → IsOpenFor new (left None last)
+        → wire.IsLater s (standing_of old files.last) (standing_of new last)
+        → wire.Stays s (standing_of old files.last) (standing_of new last)
+    stays last same after later =
+        let before = places_of old files is_open in
+        let now = places_of new (left None last) after in
+        let long = length-append files.entries [] in record {
+          later = later;
+          tree = same;
+          places = omega (arith, before, now, long);
+        }
+
+    spent : store.IsSpent asked new.core → (later : Files) → wire.IsSpent (standing_of new later.last)
+    spent (inl number) later = inl number
+    spent (inr none) later = elim (cases_lt (new.core.log.places + 1) (2 ^ 64)) [
+      | inl place ↦ elim (cases_lt (end_of new.core.log + most_changed asked) (2 ^ 64)) [
+        | inl room ↦ absurd (none (place, room))
+        | inr full ↦ inr (inr (let few = few_changed asked in omega (arith, full, few)))
+      ]
+      | inr full ↦ inr (inl full)
+    ]
+
+    refused_so : (why : Cause) (later : Files) → IsLater old.device new.device → AgreesWith new
+        → verdict ≡ refusal asked why → store.HasCause o new why
+        → wire.Stays s (standing_of old files.last) (standing_of new later.last)
+        → wire.IsReplyWithRules s (standing_of old files.last) xid credential asked bytes (standing_of new later.last)
+    refused_so cause.Io later past same is because at =
+        wire.Failed at (has_failed old new files later past same because) (told_as (refusal asked cause.Io) is)
+    refused_so cause.Spent later past same is because at =
+        wire.Spent at (spent because later) (told_as (refusal asked cause.Spent) is)
+    refused_so cause.NoMemory later past same is because at =
+        wire.NoMemory at (told_as (refusal asked cause.NoMemory) is)
+
+    by_rules : (rules : Bool) (later : Files) → has_rules asked ≡ rules
+        → wire.IsNfsReply s (standing_of old files.last) rules xid credential asked bytes (standing_of new later.last)
+        → wire.IsNfsReply s (standing_of old files.last) (has_rules asked) xid credential asked bytes
+        (standing_of new later.last)
+    by_rules rules later is reply = subst (λ (b : Bool). wire.IsNfsReply s (standing_of old files.last) b xid credential
+        asked bytes (standing_of new later.last)) (sym is) reply
+
+    by_entry : (entry : Option Entry) (last : Tree) → store.ComesTo o new entry last
+        → IsOpenFor new (left entry last) → store.GoesTo old new → IsLater old.device new.device → AgreesWith new
+        → store.Tells o entry verdict new
+        → wire.IsNfsReply s (standing_of old files.last) (has_rules asked) xid credential asked bytes
+        (standing_of new last)
+    by_entry (Some entry) last made after goes past same (inl reply) =
+        by_rules true (left (Some entry) last) made.begun_for.rules
+        (wire.Done entry.reply
+        (steps entry last made after (goes_on old new files (left (Some entry) last) goes past same))
+        (told_as (verdicts.Reply entry.reply) reply.told_is))
+    by_entry (Some entry) last made after goes past same (inr un) =
+        by_rules true (left (Some entry) last) made.begun_for.rules
+        (wire.Unsettled entry.reply
+        (steps entry last made after (goes_on old new files (left (Some entry) last) goes past same))
+        (has_failed old new files (left (Some entry) last) past same un.failed) un.stable
+        (told_as (verdicts.Reply (refused status.Io asked)) un.told_is))
+    by_entry None last comes after goes past same (inl un) =
+        by_rules false (left None last) un.rules (
+          record {
+            stays = stays last comes after (goes_on old new files (left None last) goes past same);
+            numbers = ap (λ (n : ℕ). n + 1) un.begun;
+          },
+          inl (told_as (verdicts.Reply (unsupported asked)) un.told_is),
+        )
+    by_entry None last comes after goes past same (inr why) =
+        by_rules true (left None last) why.rules
+        (refused_so why.why (left None last) past same why.told_is why.because
+        (stays last comes after (goes_on old new files (left None last) goes past same)))
+
+  -- a call for which memory was refused leaves all as it was
+  no_memory : (rules : Bool) (at : Opened) (files : Files) (xid : ℕ) (credential : Credential) (asked : types.Call)
+      (bytes : List ℕ) → IsSystemError xid bytes
+      → wire.IsNfsReply s (standing_of at files.last) rules xid credential asked bytes (standing_of at files.last)
+  no_memory true at files xid credential asked bytes is = wire.NoMemory (rests at files).stays is
+  no_memory false at files xid credential asked bytes is = (rests at files, inr is)
+
+  plain_mount : (xid : ℕ) (asked : MountCall) (bytes : List ℕ) → IsMountReply xid asked bytes
+      → wire.IsPlain xid (calls.Mount asked) bytes
+  plain_mount xid asked bytes (inl (inl spelled)) = inl spelled.0
+  plain_mount xid asked bytes (inl (inr long)) = inr long.1
+  plain_mount xid asked bytes (inr error) = inr error
+
+  -- ---- one message
+
+  one_message : (keeps_model : Type 0) (settled : ℕ) (old : Opened) (files : Files) (j : Judged) (bytes : List ℕ)
+      (new : Opened) (later : Files) (one other : Opened) → old.boot ≡ boot → IsOpenFor old files → AgreesWith new
+      → IsAnswered keeps_model moment one j bytes other → IsFiled settled moment old files j bytes new later
+      → wire.IsReplyTo s (standing_of old files.last) j bytes (standing_of new later.last)
+  one_message K settled old files Closed bytes new later one other is is_open same answered filed = absurd answered
+  one_message K settled old files (Refused xid refusal) bytes new later one other is is_open same answered (at, fs) =
+      (answered.0, same_standing old new files later at fs)
+  one_message K settled old files (Call xid credential (calls.Mount asked)) bytes new later one other is is_open same
+      (inl answered) (at, fs) = (same_standing old new files later at fs, plain_mount xid asked bytes answered.1)
+  one_message K settled old files (Call xid credential (calls.Mount asked)) bytes new later one other is is_open same
+      (inr error) (at, fs) = (same_standing old new files later at fs, inr error.0)
+  one_message K settled old files (Call xid credential (calls.Nfs asked)) bytes new later one other is is_open same
+      answered (inr (error, at, fs)) =
+      subst (λ (to : wire.Standing). wire.IsNfsReply s (standing_of old files.last) (has_rules asked) xid credential asked
+      bytes to) (sym (same_standing old new files later at fs))
+      (no_memory (has_rules asked) old files xid credential asked bytes error)
+  one_message K settled old files (Call xid credential (calls.Nfs asked)) bytes new later one other is is_open same
+      answered (inl (verdict, has, fs, spelled, by)) =
+      subst (λ (f : Files). wire.IsNfsReply s (standing_of old files.last) (has_rules asked) xid credential asked bytes
+      (standing_of new f.last)) (sym fs)
+      (by_entry old new files credential asked xid bytes verdict is is_open spelled has.entry has.last has.comes
+      has.opened has.goes has.files.past same has.tells)
+
+  -- ---- the stream
+
+  pub each_message : (keeps_model : Type 0) (settled : ℕ) (old : Opened) (files : Files)
+      (messages replies : List (List ℕ)) (new : Opened) (later : Files) (one other : Opened)
+      → old.boot ≡ boot → IsOpenFor old files → AgreesWith new
+      → Answered keeps_model moment one messages replies other
+      → AreFiled settled moment old files messages replies new later
+      → wire.served s (standing_of old files.last) messages replies (standing_of new later.last)
+  each_message K settled old files [] [] new later one other is is_open same answered (at, fs) =
+      (tt, same_standing old new files later at fs)
+  each_message K settled old files [] (reply ∷ replies) new later one other is is_open same answered filed =
+      absurd filed
+  each_message K settled old files (message ∷ messages) [] new later one other is is_open same answered filed =
+      absurd filed
+  each_message K settled old files (message ∷ messages) (reply ∷ replies) new later one other is is_open same
+      (mid, answered, more) (middle, between, filed, all) =
+      let left = leaves settled moment old files (judged message) reply middle between is_open filed in
+      let past = past_all settled moment middle between messages replies new later left.is_open all in
+      let at_middle : AgreesWith middle = λ number below.
+      same number (let clock = past.clock in omega (arith, below, clock)) ∙ past.failed number below in (
+        standing_of middle between.last,
+        one_message K settled old files (judged message) reply middle between one mid is is_open at_middle answered filed,
+        each_message K settled middle between messages replies new later mid other (left.boot ∙ is) left.is_open
+            same more all,
+      )

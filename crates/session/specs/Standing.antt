@@ -1,0 +1,22 @@
+-- How a store stands between two messages of the stream that it serves.
+use Rattle.std.specs.Prelude.{ℕ, ◌+◌, Bool}
+use Rattle.model.specs.Tree.{Tree}
+use Rattle.nfs_types.specs.declared.ctx.Moment.{Moment}
+use Rattle.session_wire.specs.Served.{Serving, Standing}
+use Rattle.store_images.specs.Further.{end_of}
+use Rattle.store_images.specs.Opening.{Opened}
+
+-- the tree of its files, what its core gives out next, and its device's clock
+abbrev pub standing_of : Opened → Tree → Standing
+standing_of store tree = record {
+  tree = tree;
+  number = store.core.begun + 1;
+  places = store.core.log.places;
+  positions = end_of store.core.log;
+  clock = store.device.clock;
+  is_broken = store.core.log.broken;
+}
+
+-- the calls of the stream are of this boot and this moment, and so the device's calls failed
+abbrev pub serving_of : ℕ → Moment → (ℕ → Bool) → Serving
+serving_of boot moment failed = record { boot = boot; moment = moment; failed = failed }

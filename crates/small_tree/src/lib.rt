@@ -1,0 +1,14 @@
+//! The small tree of worked calls: the root with one name, `a`, in its first slot, and the file 2 of user 7
+//! that it leads to. The root is of user 0, with mode 755. A helper whose name asks something answers false
+//! also where memory is wanted.
+#![tactic(auto)]
+
+mod calls;
+mod trees;
+
+pub use calls::{
+    Done, Linked, Made, are_linked, are_removed, handle_at, handle_of_new, has_links,
+    is_directory_made, is_link_told, is_linked, is_removal_told, is_removed, linked, made, name_in,
+    root, set_links,
+};
+pub use trees::{MADE, NOTHING_WANTED, add_file, called_by, handle_of, set_root, sizes, tree};

@@ -1,6 +1,0 @@
-use Rattle.store.proofs.Noted.{work_noted}
-use Rattle.store.proofs.workers.telling.a_run_notes_its_workers_steps.Goals as goal
-
-pub returns : goal.returns
-returns c = λ boot clock old new made before after at places has.
-    work_noted boot clock old made new before after at places has

@@ -1,0 +1,17 @@
+pub mod CallsLeft
+pub mod CallsMade
+pub mod ComingHome
+pub mod FormatStops
+pub mod Formatted
+pub mod HeldTaken
+pub mod Later
+pub mod LogMoves
+pub mod LogSteps
+pub mod Made
+pub mod Opens
+pub mod OutCalls
+pub mod Raising
+pub mod Refusing
+pub mod SameNumbers
+pub mod Staying
+pub mod StillOpen

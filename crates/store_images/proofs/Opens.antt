@@ -1,0 +1,323 @@
+-- What comes of an opening: the image's tree stays at each stop.
+use Rattle.std.proofs.Common.{arith, ◌≡◌, ◌∙◌, refl, sym, ap, subst, ℕ, ◌+◌, ◌-◌, inl, inr}
+use Rattle.std.proofs.Common.{List, [], ◌∷◌, ◌++◌, Bool, true, false, ◌&&◌, ◌||◌, if◌then◌else◌, Ok}
+use Rattle.std.proofs.Common.{length, nat_eq}
+use Rattle.std.specs.List.{Contains}
+use Rattle.std.proofs.lemmas.Bool.Decides.{nat_tests}
+use Rattle.std.proofs.lemmas.List.Elements.{Contains-append_left}
+use Rattle.limits.specs.declared.TheConstants.{BLOCK_BYTES, LOG_HEADER_BLOCK, START_BLOCK}
+use Rattle.limits.specs.declared.TheConstants.{SUPER_BLOCK}
+use Rattle.disk.specs.Blocks.{AreBlocks}
+use Rattle.disk.specs.Crash.{Image, IsCrashImage}
+use Rattle.disk.specs.Device.{Content, Device, current, newest}
+use Rattle.model.specs.Tree.{Tree}
+use Rattle.layout.specs.declared.geometry.Geometry.{Geometry}
+use Rattle.layout.specs.declared.super_block.Super.{Super}
+use Rattle.layout.specs.SuperForm.{IsSuper}
+use Rattle.layout.proofs.OneGeometry.{one_geometry}
+use Rattle.layout.proofs.Versions.{one_version}
+use Rattle.wal_law.specs.declared.change.LogChange.{LogChange}
+use Rattle.wal_law.specs.Calls.{AgreesBeside, idle}
+use Rattle.wal_law.specs.Installer.{may_install}
+use Rattle.wal_law.specs.Log.{IsLawful, Log}
+use Rattle.wal_law.specs.Overlay.{end_in, start_in}
+use Rattle.wal_law.specs.Recovery.{HasOnlyRead, IsUnspoiled, image_of}
+use Rattle.wal_law.proofs.Boundary.{crash_boundary}
+use Rattle.wal_law.proofs.HomeWrites.{home_settled}
+use Rattle.txn_law.specs.Core.{CoreState}
+use Rattle.txn_law.specs.CoreLaw.{IsFresh}
+use Rattle.txn_law.specs.CoreWindow.{AreBlocks as AreWhole}
+use Rattle.txn_law.specs.Tidy.{AreTidy}
+use Rattle.txn_law.proofs.Fresh.{fresh_window}
+use Rattle.store_promise.specs.declared.fault.OpenFault.{OpenFault}
+use Rattle.store_promise.specs.declared.fault.OpenFault.TheVariants as fault
+use Rattle.store_promise.specs.GoodImage.{IsGoodImage}
+use Rattle.store_promise.specs.Openings.{HasTree, IsCauseOf, IsLater, IsOpened, IsRefused, IsRefusedFor, KeepsTree}
+use Rattle.store_promise.specs.OpenStore.{IsNewOver}
+use Rattle.store_promise.proofs.Later.{past_more, past_one, read_later}
+use Rattle.store_promise.proofs.Shown.{has_blocks, not_magic, not_range, not_version}
+use Rattle.store_images.specs.BringingHome.{BringsHome, CountsCause, HasBlocksOf, HasBlocksWith}
+use Rattle.store_images.specs.BringingHome.{HasRaised, IsComingHome}
+use Rattle.store_images.specs.BringingHome.{IsFound, KeepsBlocks}
+use Rattle.store_images.specs.Opening.{HoldsTree}
+use Rattle.store_images.proofs.ComingHome.{good_under, stop_blocks, found_home, found_stops}
+use Rattle.store_images.proofs.Later.{blocks_before, some_image}
+use Rattle.store_images.proofs.Raising.{outside, raised_stops, settled_stops, under, under_raised, unlogged}
+
+one_there : (contents : List Content) → length contents ≡ 1 → Contains contents (newest contents)
+one_there [] one = absurd (omega (arith, one))
+one_there (content ∷ []) one = (0, omega arith, refl)
+one_there (content ∷ (other ∷ later)) one = absurd (omega (arith, one))
+
+-- where the installer has nothing to bring home, nothing is in the log
+pub none_home : (log : Log) → IsLawful log → log.broken ≡ false → log.inst_out ≡ false → may_install log ≡ false
+    → log.logged ≡ length log.changes → log.changes ≡ []
+none_home log lawful sound quiet may logged = empty log.changes (omega (arith, none, logged))
+  where
+    none : log.logged ≡ 0
+    none = grind (arith, nat_tests)
+
+    empty : {A : Type 0} (xs : List A) → length xs ≡ 0 → xs ≡ []
+    empty [] length_is = refl
+    empty (x ∷ xs) length_is = absurd (omega (arith, length_is))
+
+module _ (before : Device) (tree : Tree) (first : ℕ) (holds : HoldsTree before tree first) where
+  pub good : IsGoodImage before.size (image_of before) tree first
+  good = holds.good (image_of before) (λ block within. one_there (current before block) (holds.rest.one block within))
+
+  -- ---- a refusal that has only read
+
+  only_read_keeps : (later : Device) → HasOnlyRead before later → KeepsTree before later tree first
+  only_read_keeps later reads clock image above below is = record {
+    boot = first;
+    boot_is = inl refl;
+    good = subst (λ (size : ℕ). IsGoodImage size image tree first) (sym reads.size) (holds.good image (λ block within.
+        subst (λ (cs : List Content). Contains cs (image block)) (reads.during clock block above below)
+        (is block (omega (arith, within, reads.size)))));
+  }
+
+  cause_is : (keeps_model : Type 0) (cause : OpenFault) (later : Device) → keeps_model
+      → CountsCause cause before later
+      → IsRefusedFor keeps_model cause before later → IsCauseOf cause before later first
+  cause_is keeps_model fault.Device later kept counts shows = counts
+  cause_is keeps_model fault.NoMemory later kept counts shows = tt
+  cause_is keeps_model fault.Magic later kept counts shows = elim (shows.1 kept holds.rest.unspoiled) [
+    | inl none ↦ absurd (has_blocks before.size (image_of before SUPER_BLOCK) good.super good.is_super good.size_is none)
+    | inr other ↦ not_magic (image_of before SUPER_BLOCK) good.super good.is_super other
+  ]
+  cause_is keeps_model fault.Version later kept counts shows =
+      not_version (image_of before SUPER_BLOCK) good.super good.is_super (shows.1 kept holds.rest.unspoiled)
+  cause_is keeps_model fault.Range later kept counts shows = elim (shows.1 kept holds.rest.unspoiled) [
+    | inl other ↦ absurd (not_range (image_of before SUPER_BLOCK) good.super good.is_super other)
+    | inr (super, is, inl other) ↦ absurd (other (is.blocks ∙ sym good.is_super.blocks ∙ good.size_is))
+    | inr (super, is, inr last) ↦
+        let same : super.boot ≡ first = is.boot ∙ sym good.is_super.boot ∙ good.boot_is in omega (arith, last, same)
+  ]
+  cause_is keeps_model fault.Log later kept counts shows =
+      (shows.1 kept holds.rest.unspoiled).1 (good.range, good.homes)
+
+  pub read_refused : (keeps_model : Type 0) (cause : OpenFault) (later : Device) → keeps_model → AreBlocks later
+      → HasOnlyRead before later → CountsCause cause before later → IsRefusedFor keeps_model cause before later
+      → IsRefused before later tree first cause
+  read_refused keeps_model cause later kept blocks reads counts shows = record {
+    past = read_later before later reads;
+    left = some_image before later blocks;
+    keeps = only_read_keeps later reads;
+    because = cause_is keeps_model cause later kept counts shows;
+  }
+
+  -- ---- what was found comes home
+
+  pub begins : (found : Super) (log : Log) (now : Device) (raised : Content) → HasOnlyRead before now
+      → IsFound before found log → IsLawful log → AreBlocks now → BringsHome before raised now log
+  begins found log now raised reads is lawful blocks =
+      let size : log.blocks ≡ before.size = ap (λ (l : Log). l.blocks) is.log_is in
+      let some = lawful.disk in
+      let coming = subst (IsComingHome (image_of before) now) (sym is.log_is)
+      (found_home before now reads holds.rest (omega (arith, some, size)) is.range blocks) in
+      record {
+        coming = coming;
+        keeps = found_stops before now reads holds.rest
+            (omega (arith, some, size)) is.range blocks raised log lawful coming;
+      }
+
+  -- ---- the raised super block
+
+  module _ (found raised : Super) (content : Content) (is_super : IsSuper (image_of before SUPER_BLOCK) found)
+      (geometry : raised.geometry ≡ found.geometry) (boot : raised.boot ≡ found.boot + 1)
+      (is_raised : IsSuper content raised) (full : length content ≡ BLOCK_BYTES) where
+    same_geometry : raised.geometry ≡ good.super.geometry
+    same_geometry = geometry ∙ one_geometry found.geometry good.super.geometry
+        (one_version found.geometry.version good.super.geometry.version)
+        (is_super.blocks ∙ sym good.is_super.blocks) (is_super.inodes ∙ sym good.is_super.inodes)
+
+    pub next_boot : raised.boot ≡ first + 1
+    next_boot = boot ∙ ap (λ n. n + 1) (is_super.boot ∙ sym good.is_super.boot ∙ good.boot_is)
+
+    old_good : (image : Image) → HasBlocksOf before.size (image_of before) (image_of before SUPER_BLOCK) image
+        → IsGoodImage before.size image tree first
+    old_good image same = subst (IsGoodImage before.size image tree) good.boot_is
+        (good_under before.size (image_of before) tree first good (image_of before SUPER_BLOCK) image same
+        good.super good.is_super refl (omega (arith, good.boot_is)))
+
+    new_good : (image : Image) → HasBlocksOf before.size (image_of before) content image
+        → IsGoodImage before.size image tree (first + 1)
+    new_good image same = subst (IsGoodImage before.size image tree) next_boot
+        (good_under before.size (image_of before) tree first good content image same raised is_raised
+        same_geometry (omega (arith, next_boot)))
+
+    has_tree : (image : Image) → HasBlocksWith before.size (image_of before) content image
+        → HasTree before.size first tree image
+    has_tree image (inl same) = record { boot = first; boot_is = inl refl; good = old_good image same }
+    has_tree image (inr same) = record { boot = first + 1; boot_is = inr refl; good = new_good image same }
+
+    keeps_tree : (later : Device) → KeepsBlocks before later content → KeepsTree before later tree first
+    keeps_tree later keeps clock image above below is =
+        subst (λ (size : ℕ). HasTree size first tree image) (sym keeps.past.size)
+        (has_tree image (subst (λ (size : ℕ). HasBlocksWith size (image_of before) content image) keeps.past.size
+        (keeps.stops clock image above below is)))
+
+    pub later_refused : (later : Device) (cause : OpenFault) → AreBlocks later → KeepsBlocks before later content
+        → IsCauseOf cause before later first → IsRefused before later tree first cause
+    later_refused later cause blocks keeps because = record {
+      past = keeps.past;
+      left = some_image before later blocks;
+      keeps = keeps_tree later keeps;
+      because = because;
+    }
+
+    -- ---- once it is settled
+
+    module _ (now later : Device) (log : Log) (lawful : IsLawful log) (none : log.changes ≡ [])
+        (raises : HasRaised before content now later log) (blocks : AreBlocks later) where
+      keeps : KeepsBlocks before later content
+      keeps = settled_stops before raises.written later content (Ok tt) raises.settle
+          (raised_stops before now log content lawful none raises.brings raises.written (Ok tt) raises.write)
+
+      abbrev home : Image
+      home = under before now log content lawful none raises.brings
+
+      agrees : AgreesBeside later home log idle idle
+      agrees = home_settled now raises.written later raises.brings.coming.base log SUPER_BLOCK content idle idle
+          lawful (outside before now log content lawful none raises.brings)
+          (unlogged before now log content lawful none raises.brings) raises.write raises.settle
+          raises.brings.coming.agrees
+
+      size_is : later.size ≡ before.size
+      size_is = keeps.past.size
+
+      blocks_are : log.blocks ≡ before.size
+      blocks_are = sym agrees.agrees.size ∙ size_is
+
+      settled_good : (image : Image) → IsCrashImage later later.clock image
+          → IsGoodImage later.size image tree (first + 1)
+      settled_good image is =
+          subst (λ (size : ℕ). IsGoodImage size image tree (first + 1)) (sym size_is)
+          (new_good image (subst (λ (size : ℕ). HasBlocksOf size (image_of before) content image) blocks_are
+          (under_raised before now log content lawful none raises.brings image
+          (crash_boundary later home log image lawful agrees.agrees is))))
+
+      -- before the last call, the old super block may still be there
+      written_holds : (image : Image) → IsCrashImage now now.clock image
+          → IsCrashImage later (later.clock - 1) image
+      written_holds image is = λ block within.
+          subst (λ (cs : List Content). Contains cs (image block))
+          (sym (ap (λ (n : ℕ). later.contents n block) (omega (arith, raises.settle.later.clock))
+          ∙ raises.settle.later.past raises.written.clock block (omega arith)))
+          (by_block block (nat_eq block SUPER_BLOCK) refl
+          (is block (omega (arith, within, raises.settle.later.size, raises.write.later.size))))
+        where
+          more : (cs : List Content) (one other : Content) → Contains cs one → Contains (cs ++ other ∷ []) one
+          more cs one other (k, lt, at) = Contains-append_left cs (other ∷ []) one (k, lt, at)
+
+          by_block : (block : ℕ) (same : Bool) → nat_eq block SUPER_BLOCK ≡ same
+              → Contains (current now block) (image block)
+              → Contains (current raises.written block) (image block)
+          by_block block true at there =
+              let here : block ≡ SUPER_BLOCK = grind (arith, nat_tests) in
+              subst (λ (b : ℕ). Contains (current now b) (image b) → Contains (current raises.written b) (image b))
+              (sym here) (λ is. subst (λ (cs : List Content). Contains cs (image SUPER_BLOCK))
+              (sym raises.write.written) (more (current now SUPER_BLOCK) (image SUPER_BLOCK) content is)) there
+          by_block block false at there =
+              subst (λ (cs : List Content). Contains cs (image block))
+              (sym (raises.write.others block (λ (here : block ≡ SUPER_BLOCK). let eq = at in grind (arith, nat_tests))))
+              there
+
+      last_left : (image : Image) × IsCrashImage later (later.clock - 1) image
+          × IsGoodImage later.size image tree first
+      last_left =
+          let went_on : IsLater now later = past_more now raises.written later
+          (past_one now raises.written raises.write.later) (past_one raises.written later raises.settle.later) in
+          let found = some_image before now (blocks_before now later went_on blocks) now.clock
+          raises.brings.keeps.past.clock (omega arith) in (
+            found.0,
+            written_holds found.0 found.1,
+            subst (λ (size : ℕ). IsGoodImage size found.0 tree first) (sym size_is)
+                (old_good found.0 (subst (λ (size : ℕ). HasBlocksOf size (image_of before) (image_of before SUPER_BLOCK)
+                found.0) raises.brings.keeps.past.size
+                (stop_blocks (image_of before) now log found.0 lawful raises.brings.coming found.1))),
+          )
+
+      no_log : log.logged ≡ 0
+      no_log = raises.brings.coming.logged ∙ ap (λ (cs : List LogChange). length cs) none
+
+      is_empty : (image : Image) → IsCrashImage later later.clock image
+          → (start_in image ≡ log.start) × (end_in image ≡ log.start)
+      is_empty image is =
+          let some = lawful.disk in
+          let size = agrees.agrees.size in
+          let few = lawful.installing in
+          let idle_log = lawful.log_idle raises.brings.coming.taken in
+          let idle_inst = lawful.inst_idle (omega (arith, few, no_log)) in
+          let start = agrees.agrees.homes.start (omega (arith, idle_inst.0)) (image START_BLOCK)
+          (is START_BLOCK (omega (arith, some, size))) in
+          let header = agrees.agrees.own.header (omega (arith, idle_log.0)) (image LOG_HEADER_BLOCK)
+          (is LOG_HEADER_BLOCK (omega (arith, some, size))) in
+          (omega (arith, start), omega (arith, header.0, no_log))
+
+      pub is_opened : later.failures ≡ before.failures → IsOpened before later tree first log.start
+      is_opened same = record {
+        past = keeps.past;
+        begun = omega (arith, raises.settle.later.clock, raises.write.later.clock, raises.brings.keeps.past.clock);
+        failures = same;
+        left = some_image before later blocks;
+        keeps = keeps_tree later keeps;
+        last = last_left;
+        settled = settled_good;
+        empty = is_empty;
+      }
+
+      whole_home : AreWhole log.blocks home
+      whole_home block within = by_test (nat_eq block SUPER_BLOCK)
+        where
+          by_test : (same : Bool) → length (if same then content else raises.brings.coming.base block) ≡ BLOCK_BYTES
+          by_test true = full
+          by_test false = raises.brings.coming.whole block within
+
+      clean : IsUnspoiled now → IsUnspoiled later
+      clean before_clean block =
+          raises.settle.spoiled block ∙ raises.write.spoiled block ∙ none_more (now.spoiled block) (before_clean block)
+        where
+          none_more : (old : Bool) → old ≡ false → (old || (false && nat_eq block SUPER_BLOCK)) ≡ false
+          none_more true is = cc
+          none_more false is = refl
+
+      inodes_are : (super : Super) → IsSuper content super → super.geometry.inodes ≡ raised.geometry.inodes
+      inodes_are super is = is.inodes ∙ sym is_raised.inodes
+
+      pub is_new : (core : CoreState) → core ≡ record {
+        log = log;
+        inodes = found.geometry.inodes;
+        begun = 0;
+        out = [];
+        holds = [];
+        present = [];
+        records = [];
+      } → AreTidy core → IsFresh log → log.broken ≡ false → IsUnspoiled now
+          → (base : Image) × IsNewOver base later core
+      is_new core is tidy fresh sound spoiled =
+          subst (λ (c : CoreState). AreTidy c → (base : Image) × IsNewOver base later c) (sym is) (λ tidy. (
+            home,
+            record {
+              lawful = lawful;
+              agrees = agrees;
+              readable = record {
+                logged = λ block within is_spoiled unlogged_is. absurd (
+                    let clean_is = clean spoiled block in let yes : later.spoiled block ≡ true = is_spoiled in cc
+                    );
+                stuck = λ block within is_spoiled. absurd (
+                    let clean_is = clean spoiled block in let yes : later.spoiled block ≡ true = is_spoiled in cc
+                    );
+              };
+              tidy = tidy;
+              home = record { whole = whole_home; window = fresh_window home log lawful fresh };
+              changes = none;
+              records = refl;
+              present = refl;
+              begun = refl;
+              places = fresh.places;
+              sound = sound;
+              inodes = λ super is_super_of.
+                  inodes_are super is_super_of ∙ ap (λ (g : Geometry). g.inodes) geometry;
+            },
+          )) tidy

@@ -1,0 +1,111 @@
+-- An opening that has only read, and what it refuses.
+use Rattle.std.proofs.Common.{arith, ◌≡◌, ◌∙◌, refl, sym, ap, subst, ℕ, ◌+◌, ◌<◌, ◌^◌, inl, inr, Ok, Err, Result, List}
+use Rattle.std.specs.Prelude.{IfErr}
+use Rattle.limits.specs.declared.TheConstants.{SUPER_BLOCK}
+use Rattle.disk.specs.Device.{Content, Device}
+use Rattle.layout.specs.declared.super_block.Super.{Super}
+use Rattle.layout.specs.SuperForm.{IsSuper}
+use Rattle.disk.specs.declared.block.BlockNo.{BlockNo}
+use Rattle.wal_law.specs.Log.{Log, opened}
+use Rattle.wal_law.specs.Overlay.{HasHomes, IsInRange, logged_in, start_in}
+use Rattle.wal_law.specs.Recovery.{HasOnlyRead, IsUnspoiled, image_of}
+use Rattle.wal_law.proofs.OnlyRead.{image_then, reads_then, unspoiled_then}
+use Rattle.store_promise.specs.declared.fault.OpenFault.{OpenFault}
+use Rattle.store_promise.specs.declared.fault.OpenFault.TheVariants as fault
+use Rattle.store_promise.specs.Openings.{IsRefusedFor, ShowsNoCause}
+use Rattle.store_promise.proofs.Shown.{has_blocks, not_another, not_magic, not_range, not_version}
+use Rattle.store_images.specs.BringingHome.{HasNoSuper, IsFound}
+
+-- the block that was read has no super block
+pub no_super : (keeps_model : Type 0) (cause : OpenFault) (before later : Device) (size : ℕ) (content : Content)
+    → HasNoSuper cause size content → HasOnlyRead before later → later.failures ≡ before.failures
+    → size ≡ before.size
+    → (keeps_model → IsUnspoiled before → content ≡ image_of before SUPER_BLOCK)
+    → IsRefusedFor keeps_model cause before later
+no_super keeps_model fault.Magic before later size content none reads same sizes read = (
+  record { only = reads; failures = same },
+  λ kept clean. inr (subst (HasNoSuper fault.Magic size) (read kept clean) none),
+)
+no_super keeps_model fault.Version before later size content none reads same sizes read = (
+  record { only = reads; failures = same },
+  λ kept clean. subst (HasNoSuper fault.Version size) (read kept clean) none,
+)
+no_super keeps_model fault.Range before later size content none reads same sizes read = (
+  record { only = reads; failures = same },
+  λ kept clean. subst (λ (n : ℕ). HasNoSuper fault.Range n (image_of before SUPER_BLOCK)) sizes
+      (subst (HasNoSuper fault.Range size) (read kept clean) none),
+)
+no_super keeps_model fault.Log before later size content none reads same sizes read = absurd none
+no_super keeps_model fault.Device before later size content none reads same sizes read = absurd none
+no_super keeps_model fault.NoMemory before later size content none reads same sizes read = absurd none
+
+-- so it is whatever was found in it
+pub refused_by : {A : Type 0} (keeps_model : Type 0) (result : Result A OpenFault) (before later : Device) (size : ℕ)
+    (content : Content) → IfErr result (λ cause. HasNoSuper cause size content) → HasOnlyRead before later
+    → later.failures ≡ before.failures → size ≡ before.size
+    → (keeps_model → IsUnspoiled before → content ≡ image_of before SUPER_BLOCK)
+    → IfErr result (λ cause. IsRefusedFor keeps_model cause before later)
+refused_by keeps_model (Ok _) before later size content none reads same sizes read = tt
+refused_by keeps_model (Err cause) before later size content none reads same sizes read =
+    no_super keeps_model cause before later size content none reads same sizes read
+
+-- ---- the log
+
+module _ (keeps_model : Type 0) (before middle later : Device) (found : Super) (first : HasOnlyRead before middle)
+    (second : HasOnlyRead middle later) (blocks : found.geometry.blocks ≡ before.size)
+    (left : found.boot + 1 < 2 ^ 64)
+    (is_super : keeps_model → IsUnspoiled before → IsSuper (image_of before SUPER_BLOCK) found) where
+  image_is : image_of middle ≡ image_of before
+  image_is = λ i block. image_then before middle first block i
+
+  -- the log that was read is none
+  pub no_log : later.failures ≡ before.failures
+      → (keeps_model → IsUnspoiled middle
+      → (IsInRange (image_of middle) × HasHomes middle.size (image_of middle)) → ⊥)
+      → IsRefusedFor keeps_model fault.Log before later
+  no_log same none = (
+    record { only = reads_then before middle later first second; failures = same },
+    λ kept clean. (
+      (found, is_super kept clean, blocks, left),
+      λ is. none kept (unspoiled_then before middle first clean) (
+        subst IsInRange (sym image_is) is.0,
+        subst (λ (size : ℕ). HasHomes size (image_of middle)) (sym first.size)
+            (subst (HasHomes before.size) (sym image_is) is.1),
+      ),
+    ),
+  )
+
+  -- the log was read
+  pub is_found : (start : ℕ) (logged : List (BlockNo × Content)) (log : Log)
+      → log ≡ opened found.geometry.blocks start logged
+      → (keeps_model → IsUnspoiled middle → (start ≡ start_in (image_of middle))
+      × (logged ≡ logged_in (image_of middle)) × IsInRange (image_of middle)
+      × HasHomes middle.size (image_of middle))
+      → keeps_model → IsUnspoiled before → IsFound before found log
+  is_found start logged log is read kept clean =
+      let all = read kept (unspoiled_then before middle first clean) in
+      record {
+        is_super = is_super kept clean;
+        range = subst IsInRange image_is all.2;
+        homes = subst (HasHomes before.size) image_is
+            (subst (λ (size : ℕ). HasHomes size (image_of middle)) first.size all.3);
+        log_is = is
+            ∙ ap (λ (size : ℕ). opened size start logged) blocks
+            ∙ ap (λ (n : ℕ). opened before.size n logged) (all.0 ∙ ap start_in image_is)
+            ∙ ap (opened before.size (start_in (image_of before))) (all.1 ∙ ap logged_in image_is);
+      }
+
+  -- and then the image shows no cause
+  pub shows_none : (log : Log) → IsFound before found log → ShowsNoCause before.size (image_of before)
+  shows_none log is fault.Magic shown = elim shown [
+    | inl none ↦ has_blocks before.size (image_of before SUPER_BLOCK) found is.is_super blocks none
+    | inr other ↦ not_magic (image_of before SUPER_BLOCK) found is.is_super other
+  ]
+  shows_none log is fault.Version shown = not_version (image_of before SUPER_BLOCK) found is.is_super shown
+  shows_none log is fault.Range shown = elim shown [
+    | inl other ↦ not_range (image_of before SUPER_BLOCK) found is.is_super other
+    | inr other ↦ not_another before.size (image_of before SUPER_BLOCK) found is.is_super blocks left other
+  ]
+  shows_none log is fault.Log shown = shown.1 (is.range, is.homes)
+  shows_none log is fault.Device shown = shown
+  shows_none log is fault.NoMemory shown = shown

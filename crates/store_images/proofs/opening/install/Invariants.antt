@@ -1,0 +1,27 @@
+-- the log is still that of the disk, no call is out, and no call has failed yet
+use Rattle.std.proofs.Common.{◌≡◌, ◌<◌, ◌+◌, true, false, if◌then◌else◌}
+use Rattle.disk.specs.Device.{Content, Device}
+use Rattle.txn.specs.CoreLaw.{IsFresh}
+use Rattle.wal_law.specs.Recovery.{IsUnspoiled}
+use Rattle.store_promise.specs.Openings.{IsLater}
+use Rattle.store_images.specs.BringingHome.{BringsHome}
+use Rattle.store_images.specs.Settling.{IsQuiet, calls_left}
+use Rattle.store_images.proofs.opening.install.Given as goal
+
+abbrev pub invariant-calls : goal.invariant-calls
+invariant-calls g l = record {
+  later : IsLater (g.D.CrashDisk.device l.fn.disk) (g.D.CrashDisk.device l.disk);
+  blocks : l.wal.blocks ≡ l.fn.wal.blocks;
+  fresh : IsFresh l.wal;
+  quiet : IsQuiet l.wal;
+  model : g.D.CrashDisk.keeps_model l.disk → g.D.CrashDisk.keeps_model l.fn.disk;
+  same : (g.D.CrashDisk.device l.disk).size ≡ l.wal.blocks;
+  sound : l.wal.broken ≡ false → (g.D.CrashDisk.device l.disk).failures ≡ (g.D.CrashDisk.device l.fn.disk).failures;
+  failed : l.wal.broken ≡ true → (g.D.CrashDisk.device l.fn.disk).failures < (g.D.CrashDisk.device l.disk).failures;
+  clean : l.wal.broken ≡ false → IsUnspoiled (g.D.CrashDisk.device l.fn.disk) → IsUnspoiled (g.D.CrashDisk.device l.disk);
+  home : (before : Device) (raised : Content) → BringsHome before raised (g.D.CrashDisk.device l.fn.disk) l.fn.wal
+      → BringsHome before raised (g.D.CrashDisk.device l.disk) l.wal;
+}
+
+abbrev pub decreases-calls : goal.decreases-calls
+decreases-calls g l = if l.wal.broken then 0 else calls_left l.wal + 1

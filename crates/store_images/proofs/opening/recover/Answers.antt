@@ -1,0 +1,113 @@
+-- At each stop of an opening the image has its tree.
+use Rattle.std.proofs.Common.{arith, ◌≡◌, ◌+◌, ◌∙◌, refl, sym, inl, inr, length, subst}
+use Rattle.limits.specs.declared.TheConstants.{BLOCK_BYTES}
+use Rattle.layout.specs.declared.super_block.Super.{Super}
+use Rattle.layout.specs.Fields.{eight_bytes, four_bytes}
+use Rattle.layout.specs.SuperForm.{super_bytes, super_head}
+use Rattle.store_promise.specs.Openings.{IsCauseOf}
+use Rattle.store_promise.specs.declared.fault.OpenFault.TheVariants as fault
+use Rattle.wal_law.proofs.OnlyRead.{unspoiled_then}
+use Rattle.store_promise.proofs.Later.{past_none}
+use Rattle.store_images.proofs.Opens.{begins, is_new, is_opened, later_refused, next_boot}
+use Rattle.store_images.proofs.Opens.{none_home, read_refused}
+use Rattle.wal_law.proofs.OnlyRead.{no_read}
+use Rattle.store_images.proofs.opening.recover.Goals as goal
+
+full : (super : Super) → length (super_bytes super) ≡ BLOCK_BYTES
+unfolding super_head four_bytes eight_bytes
+full super = refl
+
+-- the super block with the next boot number
+abbrev next : Super → Super
+next found = record { geometry = found.geometry; boot = found.boot + 1 }
+
+pub returns-in_default-clause-keeps : goal.returns-in_default-clause-keeps
+returns-in_default-clause-keeps g c = λ tree first holds kept.
+    let before = g.D.CrashDisk.device c.args.disk.now in
+    read_refused before tree first holds (g.D.CrashDisk.keeps_model c.args.disk.now) fault.NoMemory before kept
+    (g.met.D.CrashDisk.whole c.args.disk.now kept) (no_read before) refl (past_none before)
+
+pub returns-in-Err-clause-keeps : goal.returns-in-Err-clause-keeps
+returns-in-Err-clause-keeps g c = λ tree first holds kept.
+    read_refused (g.D.CrashDisk.device c.args.disk.now) tree first holds (g.D.CrashDisk.keeps_model c.find.new.disk)
+    c.in-Err.fault (g.D.CrashDisk.device c.find.new.disk) kept (g.met.D.CrashDisk.whole c.find.new.disk kept)
+    c.in-Err.ensures.reads c.in-Err.ensures.failure c.in-Err.ensures.refused
+
+pub returns-in-Err-install-clause-keeps : goal.returns-in-Err-install-clause-keeps
+returns-in-Err-install-clause-keeps g c = λ tree first holds kept.
+    let before = g.D.CrashDisk.device c.args.disk.now in
+    let now = g.D.CrashDisk.device c.find.new.disk in
+    let later = g.D.CrashDisk.device c.install.new.disk in
+    let found = c.in-Ok-find.found.0 in
+    let log = c.in-Ok-find.found.1 in
+    let kept_now = c.install.ensures.model kept in
+    let is = c.in-Ok-find.ensures.found kept_now holds.rest.unspoiled in
+    let brings = c.install.ensures.home before (super_bytes (next found))
+    (begins before tree first holds found log now (super_bytes (next found)) c.in-Ok-find.ensures.reads is
+    c.lawful.ensures (g.met.D.CrashDisk.whole c.find.new.disk kept_now)) in
+    let failed = c.in-Err-install.ensures.failure in
+    let same = c.in-Ok-find.ensures.failure in
+    later_refused before tree first holds found (next found) (super_bytes (next found)) is.is_super refl refl
+    (c.a_super_block_is_its_bytes.ensures (next found) found.geometry.lawful c.in-Ok-find.ensures.boot)
+    (full (next found)) later c.in-Err-install.fault (g.met.D.CrashDisk.whole c.install.new.disk kept) brings.keeps
+    (subst (λ cause. IsCauseOf cause before later first) (sym failed.0) (omega (arith, failed.1, same)))
+
+pub returns-in-Err-raise-clause-keeps : goal.returns-in-Err-raise-clause-keeps
+returns-in-Err-raise-clause-keeps g c = λ tree first holds kept.
+    let before = g.D.CrashDisk.device c.args.disk.now in
+    let now = g.D.CrashDisk.device c.find.new.disk in
+    let home = g.D.CrashDisk.device c.install.new.disk in
+    let later = g.D.CrashDisk.device c.raise.new.disk in
+    let found = c.in-Ok-find.found.0 in
+    let log = c.install.new.wal in
+    let kept_now = c.install.ensures.model (c.raise.ensures.model kept) in
+    let is = c.in-Ok-find.ensures.found kept_now holds.rest.unspoiled in
+    let brings = c.install.ensures.home before (super_bytes (next found))
+    (begins before tree first holds found c.in-Ok-find.found.1 now (super_bytes (next found)) c.in-Ok-find.ensures.reads
+    is c.lawful.ensures (g.met.D.CrashDisk.whole c.find.new.disk kept_now)) in
+    let none = c.in_default-install.ensures.none in
+    let empty = none_home log c.lawful-2.ensures none.0 c.install.ensures.quiet.installing none.1
+    brings.coming.logged in
+    let keeps = c.in-Err-raise.ensures.raised before log c.lawful-2.ensures empty brings in
+    later_refused before tree first holds found (next found) (super_bytes (next found)) is.is_super refl refl
+    (c.a_super_block_is_its_bytes.ensures (next found) found.geometry.lawful c.in-Ok-find.ensures.boot)
+    (full (next found)) later c.in-Err-raise.fault (g.met.D.CrashDisk.whole c.raise.new.disk kept) keeps
+    (elim c.in-Err-raise.ensures.failure [
+      | inl failed ↦ subst (λ cause. IsCauseOf cause before later first) (sym failed.0)
+          (omega (arith, failed.1, c.in_default-install.ensures.failure, c.in-Ok-find.ensures.failure))
+      | inr memory ↦ subst (λ cause. IsCauseOf cause before later first) (sym memory.0) tt
+    ])
+
+pub returns-clause-keeps : goal.returns-clause-keeps
+returns-clause-keeps g c = λ tree first holds kept.
+    let before = g.D.CrashDisk.device c.args.disk.now in
+    let now = g.D.CrashDisk.device c.find.new.disk in
+    let home = g.D.CrashDisk.device c.install.new.disk in
+    let later = g.D.CrashDisk.device c.raise.new.disk in
+    let found = c.in-Ok-find.found.0 in
+    let log = c.install.new.wal in
+    let kept_now = c.install.ensures.model (c.raise.ensures.model kept) in
+    let is = c.in-Ok-find.ensures.found kept_now holds.rest.unspoiled in
+    let brings = c.install.ensures.home before (super_bytes (next found))
+    (begins before tree first holds found c.in-Ok-find.found.1 now (super_bytes (next found)) c.in-Ok-find.ensures.reads
+    is c.lawful.ensures (g.met.D.CrashDisk.whole c.find.new.disk kept_now)) in
+    let none = c.in_default-install.ensures.none in
+    let empty = none_home log c.lawful-2.ensures none.0 c.install.ensures.quiet.installing none.1
+    brings.coming.logged in
+    let raises = c.in_default-raise.ensures.raised before log c.lawful-2.ensures empty brings in
+    let is_raised = c.a_super_block_is_its_bytes.ensures (next found) found.geometry.lawful c.in-Ok-find.ensures.boot in
+    let blocks = g.met.D.CrashDisk.whole c.raise.new.disk kept in
+    let clean = c.in_default-install.ensures.clean
+    (unspoiled_then before now c.in-Ok-find.ensures.reads holds.rest.unspoiled) in
+    let over = is_new before tree first holds found (next found) (super_bytes (next found)) is.is_super refl refl
+    is_raised (full (next found)) home later log c.lawful-2.ensures empty raises blocks c.new-core.result
+    c.new-core.ensures c.lawful-3.ensures.tidy c.install.ensures.fresh none.0 clean in (
+      next_boot before tree first holds found (next found) (super_bytes (next found)) is.is_super refl refl is_raised
+          (full (next found)),
+      log.start,
+      is_opened before tree first holds found (next found) (super_bytes (next found)) is.is_super refl refl
+          is_raised (full (next found)) home later log c.lawful-2.ensures empty raises blocks
+          (c.in_default-raise.ensures.failure ∙ c.in_default-install.ensures.failure ∙ c.in-Ok-find.ensures.failure),
+      over.0,
+      over.1,
+    )

@@ -1,0 +1,9 @@
+pub mod BringingHome
+pub mod Counts
+pub mod Fetches
+pub mod Formatting
+pub mod Further
+pub mod LogSide
+pub mod Opening
+pub mod Settling
+pub mod SettlingStops

@@ -1,0 +1,180 @@
+//! An open store: a disk with the core over it.
+ghost use Rattle.std.specs.Prelude.{◌≡◌, ◌+◌, ◌<◌, ◌≤◌, ◌↔◌, IsTrue, IsFalse, OnOk, OnErr, length, true};
+ghost use Rattle.limits.specs.declared.TheConstants.{MOST_KEPT_COMMITS};
+ghost use Rattle.layout.specs.Geometry.{IsLawful};
+ghost use Rattle.store_images.specs.Counts.{SameFrame};
+ghost use Rattle.store_images.specs.Fetches.{KeepsFetches};
+ghost use Rattle.store_images.specs.Further.{LeavesOpen};
+ghost use Rattle.store_images.specs.Opening.{IsSettled};
+ghost use Rattle.store_images.specs.Settling.{HasCalled, HasFailed, IsQuiet, SameNumbers};
+ghost use Rattle.store_images.specs.Settling.{SpendsCalls, most_calls};
+ghost use Rattle.store_images.specs.SettlingStops.{KeepsPrefixes, StayOpen};
+ghost use Rattle.wal_law.specs.Installer.{may_install};
+ghost use Rattle.wal_law.specs.Logger.{may_log};
+
+use disk::{CrashDisk, Failed};
+use limits::MOST_KEPT_COMMITS;
+use procs::Done;
+use store_promise::{
+    a_device_counts_the_calls_of_its_steps, a_stop_leaves_a_beginning,
+    an_open_store_keeps_its_files, the_installer_leaves_the_store_open,
+    the_logger_leaves_the_store_open, what_is_settled_stays_settled, what_was_read_is_at_home,
+};
+use txn::Core;
+
+/// A store that was opened.
+pub struct Store<D: CrashDisk> {
+    /// The disk.
+    pub disk: D,
+    /// The core over it.
+    pub core: Core<Done>,
+    /// The boot number.
+    pub boot: u64,
+    pub ghost size: { (D.device disk).size ≡ core.log.blocks },
+    pub ghost lawful: { IsLawful core.log.blocks core.inodes },
+}
+
+impl<D: CrashDisk> Store<D> {
+    /// The boot number.
+    pub fn boot(&self) -> u64
+        ensures { result ≡ self.now.boot }
+    {
+        self.boot
+    }
+
+    /// How many commits it keeps in memory: those that aren't home.
+    pub fn kept(&self) -> usize
+        ensures { result ≡ length self.now.core.records }
+    {
+        self.core.kept()
+    }
+}
+
+/// Gives the disk back. It makes no device call: what isn't settled is lost, as in a crash.
+pub fn close<D: CrashDisk>(store: Store<D>) -> D
+    ensures { result ≡ store.disk }
+{
+    let Store {
+        disk,
+        core: _,
+        boot: _,
+    } = store;
+    disk
+}
+
+/// Makes every change settled in the log. What is logged is brought home only where the log has no room
+/// behind its settled start for the changes that wait, or where more than MOST_KEPT_COMMITS commits are kept;
+/// what is left, the next opening brings home. It fails only where a device call fails in it, or where a
+/// write or a barrier failed since the opening. It makes at most `most_calls` device calls. Whatever comes of it, a store that is open for some entries stays
+/// open for them, and each stop leaves the files after a beginning of them, in which is what was settled before,
+/// and behind each device call what is settled by then.
+pub fn settle<D: CrashDisk>(store: &mut Store<D>) -> Result<(), Failed>
+    requires { IsQuiet store.old.core.log }
+    ensures out { store.new.core.out ≡ store.old.core.out }
+    ensures boot { store.new.boot ≡ store.old.boot }
+    ensures open { LeavesOpen (D.device store.old.disk) store.old.core (D.device store.new.disk) store.new.core }
+    ensures counts { SameFrame store.old.core store.new.core }
+    ensures numbers { SameNumbers store.old.core store.new.core }
+    ensures fetches { KeepsFetches store.old.core store.new.core }
+    ensures settled { OnOk result (IsSettled store.new.core) }
+    ensures failed { OnErr result (HasFailed store.old.core.log (D.device store.old.disk) (D.device store.new.disk)) }
+    ensures broken { OnErr result (store.new.core.log.broken ≡ true) }
+    ensures few { (D.device store.new.disk).clock ≤ (D.device store.old.disk).clock + most_calls store.old.core.log }
+    ensures keeps { D.keeps_model store.new.disk → KeepsPrefixes (D.device store.old.disk) store.old.core
+        (D.device store.new.disk) store.new.core }
+    ensures model { D.keeps_model store.new.disk → D.keeps_model store.old.disk }
+{
+    a_stop_leaves_a_beginning();
+    an_open_store_keeps_its_files();
+    'calls: loop {
+        if store.core.broken() {
+            return Err(Failed);
+        }
+        if store.core.is_settled() && !keeps_too_many(store) {
+            return Ok(());
+        }
+        store.core.lawful();
+        if !log_one(store) && !install_one(store) {
+            unreachable!();
+        }
+    }
+}
+
+/// Whether more commits are kept than a store keeps once it has settled.
+pub fn keeps_too_many<D: CrashDisk>(store: &Store<D>) -> bool
+    ensures { IsTrue result ↔ (MOST_KEPT_COMMITS < length store.now.core.records) }
+{
+    store.kept() > MOST_KEPT_COMMITS
+}
+
+// Makes the next device call of the log, if there is one.
+#[tactic(auto, using(crate::proofs::Made::made_size, crate::proofs::CallsLeft::log_called))]
+fn log_one<D: CrashDisk>(store: &mut Store<D>) -> bool
+    requires { IsQuiet store.old.core.log }
+    ensures out { store.new.core.out ≡ store.old.core.out }
+    ensures boot { store.new.boot ≡ store.old.boot }
+    ensures open { LeavesOpen (D.device store.old.disk) store.old.core (D.device store.new.disk) store.new.core }
+    ensures counts { SameFrame store.old.core store.new.core }
+    ensures numbers { SameNumbers store.old.core store.new.core }
+    ensures fetches { KeepsFetches store.old.core store.new.core }
+    ensures may { result ≡ may_log store.old.core.log }
+    ensures called { IsTrue result
+        → HasCalled store.old.core.log (D.device store.old.disk) store.new.core.log (D.device store.new.disk) }
+    ensures none { IsFalse result
+        → (store.new.core ≡ store.old.core) × (D.device store.new.disk ≡ D.device store.old.disk) }
+    ensures few { SpendsCalls (D.device store.old.disk) store.old.core.log (D.device store.new.disk) store.new.core.log }
+    ensures stays { StayOpen (D.device store.old.disk) store.old.core (D.device store.new.disk) store.new.core }
+    ensures model { D.keeps_model store.new.disk → D.keeps_model store.old.disk }
+{
+    a_stop_leaves_a_beginning();
+    the_logger_leaves_the_store_open();
+    an_open_store_keeps_its_files();
+    a_device_counts_the_calls_of_its_steps();
+    what_was_read_is_at_home();
+    what_is_settled_stays_settled();
+    store.core.lawful();
+    let Some(io) = store.core.log_next() else {
+        return false;
+    };
+    store.core.lawful();
+    let ok = io.perform(&mut store.disk).is_ok();
+    store.core.log_done(io, ok);
+    store.core.lawful();
+    true
+}
+
+// Makes the next device call of the installer, if there is one.
+#[tactic(auto, using(crate::proofs::Made::made_size, crate::proofs::CallsLeft::inst_called))]
+fn install_one<D: CrashDisk>(store: &mut Store<D>) -> bool
+    requires { IsQuiet store.old.core.log }
+    ensures out { store.new.core.out ≡ store.old.core.out }
+    ensures boot { store.new.boot ≡ store.old.boot }
+    ensures open { LeavesOpen (D.device store.old.disk) store.old.core (D.device store.new.disk) store.new.core }
+    ensures counts { SameFrame store.old.core store.new.core }
+    ensures numbers { SameNumbers store.old.core store.new.core }
+    ensures fetches { KeepsFetches store.old.core store.new.core }
+    ensures may { result ≡ may_install store.old.core.log }
+    ensures called { IsTrue result
+        → HasCalled store.old.core.log (D.device store.old.disk) store.new.core.log (D.device store.new.disk) }
+    ensures none { IsFalse result
+        → (store.new.core ≡ store.old.core) × (D.device store.new.disk ≡ D.device store.old.disk) }
+    ensures few { SpendsCalls (D.device store.old.disk) store.old.core.log (D.device store.new.disk) store.new.core.log }
+    ensures stays { StayOpen (D.device store.old.disk) store.old.core (D.device store.new.disk) store.new.core }
+    ensures model { D.keeps_model store.new.disk → D.keeps_model store.old.disk }
+{
+    a_stop_leaves_a_beginning();
+    the_installer_leaves_the_store_open();
+    an_open_store_keeps_its_files();
+    a_device_counts_the_calls_of_its_steps();
+    what_was_read_is_at_home();
+    what_is_settled_stays_settled();
+    store.core.lawful();
+    let Some(io) = store.core.inst_next() else {
+        return false;
+    };
+    store.core.lawful();
+    let ok = io.perform(&mut store.disk).is_ok();
+    store.core.inst_done(io, ok);
+    store.core.lawful();
+    true
+}

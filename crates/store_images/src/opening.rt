@@ -1,0 +1,294 @@
+//! Opening a store: what a crash left in the log is brought home, and the boot number rises.
+ghost use Rattle.std.specs.Prelude.{◌≡◌, ◌+◌, ◌^◌, ◌<◌, IfErr, IfOk, IsFalse, IsTrue, MatchResult, OnOk, [], ℕ, length};
+ghost use Rattle.std.specs.Prelude.{◌⊎◌, Ok, Err, Some, None, true, false};
+ghost use Rattle.limits.specs.declared.TheConstants.{BLOCK_BYTES, SUPER_BLOCK};
+ghost use Rattle.disk.specs.Device.{Content, Device};
+ghost use Rattle.layout.specs.Geometry.{IsLawful};
+ghost use Rattle.layout.specs.SuperForm.{IsSuper, super_bytes};
+ghost use Rattle.model.specs.Tree.{Tree};
+ghost use Rattle.txn.specs.CoreLaw.{IsFresh};
+ghost use Rattle.wal_law.specs.Installer.{may_install};
+ghost use Rattle.wal_law.specs.Log.{IsLawful as IsLawfulLog, Log};
+ghost use Rattle.wal_law.specs.Recovery.{HasOnlyRead, IsUnspoiled, image_of};
+ghost use Rattle.store_promise.specs.Openings.{IsAnsweredFor, IsLater, IsRefusedFor, ShowsNoCause};
+ghost use Rattle.store_images.specs.BringingHome.{BringsHome, CountsCause, HasNoSuper, HasRaised};
+ghost use Rattle.store_images.specs.BringingHome.{IsFound, KeepsBlocks};
+ghost use Rattle.store_images.specs.Opening.{HasOpened, HoldsTree, Opens, store_of};
+ghost use Rattle.store_images.specs.Settling.{HasCalled, IsIdle, IsQuiet};
+
+use crate::opened::Store;
+use disk::{Block, BlockNo, CrashDisk, Failed, Side};
+use layout::{LayoutFault, Super};
+use limits::SUPER_BLOCK;
+use procs::Done;
+use std::alloc::{AllocError, Global};
+use store_promise::OpenFault;
+use txn::Core;
+use wal::Wal;
+use wal::circ::{self, LogFault};
+
+/// Opens a store: brings home what the log holds, and counts the opening. An image is refused by the first of
+/// these that holds: an allocation failed (NoMemory), its device has no blocks (Magic), the super block can't
+/// be read (Device) or is refused as `Super::read` says, its sizes aren't the device's or no boot number is left
+/// (Range), the log isn't one (Log). Until then nothing is written. Later only Device and NoMemory come. A refusal
+/// hands the disk back, and is Device just where a call of the device failed and was counted. A device at rest with a good image keeps its tree at each stop, and so it does when it is
+/// opened again.
+#[tactic(auto, using(crate::specs::Opening::has_opened))]
+pub fn open<D: CrashDisk>(alloc: Global, disk: D) -> Result<Store<D>, (D, OpenFault)>
+    ensures idle { IfOk result (λ store. IsIdle store.core) }
+    ensures opened { MatchResult result
+        (λ store. HasOpened (D.device disk) (Ok (store_of (D.device store.disk) store.core store.boot)))
+        (λ refused. HasOpened (D.device disk) (Err (D.device refused.0, refused.1))) }
+    ensures answered { MatchResult result
+        (λ store. IsAnsweredFor (D.keeps_model store.disk) None (D.device disk) (D.device store.disk))
+        (λ refused. IsAnsweredFor (D.keeps_model refused.0) (Some refused.1) (D.device disk) (D.device refused.0)) }
+    ensures counted { IfErr result (λ refused. CountsCause refused.1 (D.device disk) (D.device refused.0)) }
+    ensures keeps { (tree : Tree) (first : ℕ) → HoldsTree (D.device disk) tree first → MatchResult result
+        (λ store. D.keeps_model store.disk → Opens (D.device disk)
+        (Ok (store_of (D.device store.disk) store.core store.boot)) tree first)
+        (λ refused. D.keeps_model refused.0 → Opens (D.device disk)
+        (Err (D.device refused.0, refused.1)) tree first) }
+    ensures model { MatchResult result (λ store. D.keeps_model store.disk → D.keeps_model disk)
+        (λ refused. D.keeps_model refused.0 → D.keeps_model disk) }
+{
+    let mut disk = disk;
+    match recover(alloc, &mut disk) {
+        Ok((core, boot)) => Ok(Store { disk, core, boot }),
+        Err(fault) => Err((disk, fault)),
+    }
+}
+
+// Brings home what the log has, and settles the next boot number.
+#[tactic(auto, using(store_promise::proofs::Later::past_none, store_promise::proofs::Later::past_more, store_promise::proofs::Later::read_later))]
+fn recover<D: CrashDisk>(alloc: Global, disk: &mut D) -> Result<(Core<Done>, u64), OpenFault>
+    ensures size { IfOk result (λ opened. (D.device disk.new).size ≡ opened.0.log.blocks) }
+    ensures lawful { IfOk result (λ opened. IsLawful opened.0.log.blocks opened.0.inodes) }
+    ensures idle { IfOk result (λ opened. IsIdle opened.0) }
+    ensures answered { MatchResult result
+        (λ _. IsAnsweredFor (D.keeps_model disk.new) None (D.device disk.old) (D.device disk.new))
+        (λ cause. IsAnsweredFor (D.keeps_model disk.new) (Some cause) (D.device disk.old) (D.device disk.new)) }
+    ensures counted { IfErr result (λ cause. CountsCause cause (D.device disk.old) (D.device disk.new)) }
+    ensures keeps { (tree : Tree) (first : ℕ) → HoldsTree (D.device disk.old) tree first → D.keeps_model disk.new
+        → MatchResult result (λ opened. Opens (D.device disk.old)
+        (Ok (store_of (D.device disk.new) opened.0 opened.1)) tree first)
+        (λ cause. Opens (D.device disk.old) (Err (D.device disk.new, cause)) tree first) }
+    ensures model { D.keeps_model disk.new → D.keeps_model disk.old }
+{
+    let Ok(mut block) = Block::zeros(alloc) else {
+        return Err(OpenFault::NoMemory);
+    };
+    let (found, mut wal) = match find(alloc, disk, &mut block) {
+        Ok(found) => found,
+        Err(fault) => return Err(fault),
+    };
+    wal.lawful();
+    layout::a_super_block_is_its_bytes();
+    if let Err(fault) = install(disk, &mut wal) {
+        return Err(fault);
+    }
+    wal.lawful();
+    let raised = Super {
+        geometry: found.geometry,
+        boot: found.boot + 1,
+    };
+    if let Err(fault) = raise(alloc, disk, &mut block, raised) {
+        return Err(fault);
+    }
+    let core = Core::new(alloc, wal, found.geometry.inodes);
+    core.lawful();
+    Ok((core, raised.boot))
+}
+
+// The super block and the log of an image that may be opened. It only reads.
+#[tactic(auto, using(store_promise::proofs::Later::read_later, wal_law::proofs::OnlyRead::reads_then))]
+fn find<D: CrashDisk>(
+    alloc: Global,
+    disk: &mut D,
+    block: &mut Block,
+) -> Result<(Super, Wal), OpenFault>
+    ensures reads { HasOnlyRead (D.device disk.old) (D.device disk.new) }
+    ensures failure { MatchResult result (λ found. (D.device disk.new).failures ≡ (D.device disk.old).failures)
+        (λ cause. CountsCause cause (D.device disk.old) (D.device disk.new)) }
+    ensures size { IfOk result (λ found. (D.device disk.old).size ≡ found.1.blocks) }
+    ensures blocks { IfOk result (λ found. found.0.geometry.blocks ≡ (D.device disk.old).size) }
+    ensures boot { IfOk result (λ found. found.0.boot + 1 < 2 ^ 64) }
+    ensures fresh { IfOk result (λ found. IsFresh found.1) }
+    ensures quiet { IfOk result (λ found. IsQuiet found.1) }
+    ensures sound { IfOk result (λ found. found.1.broken ≡ false) }
+    ensures found { D.keeps_model disk.new → IsUnspoiled (D.device disk.old)
+        → IfOk result (λ found. IsFound (D.device disk.old) found.0 found.1) }
+    ensures none { D.keeps_model disk.new → IsUnspoiled (D.device disk.old)
+        → IfOk result (λ _. ShowsNoCause (D.device disk.old).size (image_of (D.device disk.old))) }
+    ensures refused { IfErr result
+        (λ cause. IsRefusedFor (D.keeps_model disk.new) cause (D.device disk.old) (D.device disk.new)) }
+    ensures model { D.keeps_model disk.new → D.keeps_model disk.old }
+{
+    let found = read_super(disk, block)?;
+    match circ::recover(alloc, disk) {
+        Ok(log) => match Wal::new(alloc, found.geometry.blocks, log) {
+            Ok(wal) => Ok((found, wal)),
+            Err(AllocError) => Err(OpenFault::NoMemory),
+        },
+        Err(LogFault::Range) => Err(OpenFault::Log),
+        Err(LogFault::Address) => Err(OpenFault::Log),
+        Err(LogFault::Device) => Err(OpenFault::Device),
+        Err(LogFault::NoMemory) => Err(OpenFault::NoMemory),
+    }
+}
+
+// The super block of an image that may be opened, as far as it shows. It only reads.
+#[tactic(auto, using(wal_law::proofs::OnlyRead::read_alone, wal_law::proofs::OnlyRead::no_read, store_promise::proofs::Later::read_later))]
+fn read_super<D: CrashDisk>(disk: &mut D, block: &mut Block) -> Result<Super, OpenFault>
+    ensures reads { HasOnlyRead (D.device disk.old) (D.device disk.new) }
+    ensures failure { MatchResult result (λ found. (D.device disk.new).failures ≡ (D.device disk.old).failures)
+        (λ cause. CountsCause cause (D.device disk.old) (D.device disk.new)) }
+    ensures blocks { IfOk result (λ found. found.geometry.blocks ≡ (D.device disk.old).size) }
+    ensures boot { IfOk result (λ found. found.boot + 1 < 2 ^ 64) }
+    ensures found { D.keeps_model disk.new → IsUnspoiled (D.device disk.old)
+        → IfOk result (IsSuper (image_of (D.device disk.old) SUPER_BLOCK)) }
+    ensures refused { IfErr result
+        (λ cause. IsRefusedFor (D.keeps_model disk.new) cause (D.device disk.old) (D.device disk.new)) }
+    ensures model { D.keeps_model disk.new → D.keeps_model disk.old }
+{
+    if disk.blocks() == 0 {
+        return Err(OpenFault::Magic);
+    }
+    match disk.read(BlockNo(SUPER_BLOCK), block) {
+        Ok(()) => super_in(block, disk.blocks()),
+        Err(Failed) => Err(OpenFault::Device),
+    }
+}
+
+// The super block that a block has, of an image of so many blocks that may be opened.
+fn super_in(block: &Block, blocks: u32) -> Result<Super, OpenFault>
+    ensures found { IfOk result (IsSuper block.now) }
+    ensures blocks { IfOk result (λ found. found.geometry.blocks ≡ blocks) }
+    ensures boot { IfOk result (λ found. found.boot + 1 < 2 ^ 64) }
+    ensures refused { IfErr result (λ cause. HasNoSuper cause blocks block.now) }
+{
+    match Super::read(block.as_slice()) {
+        Ok(found) => {
+            if found.geometry.blocks != blocks || found.boot == u64::MAX {
+                return Err(OpenFault::Range);
+            }
+            Ok(found)
+        }
+        Err(LayoutFault::Magic) => Err(OpenFault::Magic),
+        Err(LayoutFault::Version) => Err(OpenFault::Version),
+        Err(LayoutFault::Range) => Err(OpenFault::Range),
+    }
+}
+
+// Makes the calls of an installation of all that is logged.
+fn install<D: CrashDisk>(disk: &mut D, wal: &mut Wal) -> Result<(), OpenFault>
+    requires size { (D.device disk.old).size ≡ wal.old.blocks }
+    requires fresh { IsFresh wal.old }
+    requires quiet { IsQuiet wal.old }
+    requires sound { wal.old.broken ≡ false }
+    ensures quiet { IsQuiet wal.new }
+    ensures later { IsLater (D.device disk.old) (D.device disk.new) }
+    ensures blocks { wal.new.blocks ≡ wal.old.blocks }
+    ensures fresh { IsFresh wal.new }
+    ensures none { OnOk result ((wal.new.broken ≡ false) × (may_install wal.new ≡ false)) }
+    ensures clean { OnOk result (IsUnspoiled (D.device disk.old) → IsUnspoiled (D.device disk.new)) }
+    ensures home { (before : Device) (raised : Content) → BringsHome before raised (D.device disk.old) wal.old
+        → BringsHome before raised (D.device disk.new) wal.new }
+    ensures failure { MatchResult result (λ _. (D.device disk.new).failures ≡ (D.device disk.old).failures)
+        (λ cause. (cause ≡ OpenFault.Device) × ((D.device disk.old).failures < (D.device disk.new).failures)) }
+    ensures model { D.keeps_model disk.new → D.keeps_model disk.old }
+{
+    'calls: loop {
+        if wal.broken() {
+            return Err(OpenFault::Device);
+        }
+        if !install_one(disk, wal) {
+            return Ok(());
+        }
+    }
+}
+
+// Makes the installer's next call, where it has one.
+#[tactic(auto, using(crate::proofs::Made::made_size, crate::proofs::Made::made_later, crate::proofs::Made::made_clean))]
+fn install_one<D: CrashDisk>(disk: &mut D, wal: &mut Wal) -> bool
+    requires size { (D.device disk.old).size ≡ wal.old.blocks }
+    requires fresh { IsFresh wal.old }
+    requires quiet { IsQuiet wal.old }
+    ensures quiet { IsQuiet wal.new }
+    ensures later { IsLater (D.device disk.old) (D.device disk.new) }
+    ensures blocks { wal.new.blocks ≡ wal.old.blocks }
+    ensures fresh { IsFresh wal.new }
+    ensures may { result ≡ may_install wal.old }
+    ensures called { IsTrue result
+        → HasCalled wal.old (D.device disk.old) wal.new (D.device disk.new) }
+    ensures counted { wal.new.broken ≡ false → (D.device disk.new).failures ≡ (D.device disk.old).failures }
+    ensures clean { wal.new.broken ≡ false → IsUnspoiled (D.device disk.old) → IsUnspoiled (D.device disk.new) }
+    ensures none { IsFalse result
+        → (wal.new ≡ wal.old) × (D.device disk.new ≡ D.device disk.old) }
+    ensures home { (before : Device) (raised : Content) → BringsHome before raised (D.device disk.old) wal.old
+        → BringsHome before raised (D.device disk.new) wal.new }
+    ensures model { D.keeps_model disk.new → D.keeps_model disk.old }
+{
+    wal.lawful();
+    wal.whole();
+    let Some(io) = wal.inst_next() else {
+        return false;
+    };
+    wal.lawful();
+    let ok = io.perform(disk).is_ok();
+    wal.inst_done(io, ok);
+    wal.lawful();
+    true
+}
+
+// Writes the super block, and settles it.
+fn raise<D: CrashDisk>(
+    alloc: Global,
+    disk: &mut D,
+    block: &mut Block,
+    raised: Super,
+) -> Result<(), OpenFault>
+    requires { 0 < (D.device disk.old).size }
+    ensures later { IsLater (D.device disk.old) (D.device disk.new) }
+    ensures failure { MatchResult result (λ _. (D.device disk.new).failures ≡ (D.device disk.old).failures)
+        (λ cause. ((cause ≡ OpenFault.Device) × ((D.device disk.old).failures < (D.device disk.new).failures))
+        ⊎ ((cause ≡ OpenFault.NoMemory) × (D.device disk.new ≡ D.device disk.old))) }
+    ensures raised { (before : Device) (log : Log) → IsLawfulLog log → log.changes ≡ []
+        → BringsHome before (super_bytes raised) (D.device disk.old) log
+        → MatchResult result (λ _. HasRaised before (super_bytes raised) (D.device disk.old) (D.device disk.new) log)
+        (λ cause. KeepsBlocks before (D.device disk.new) (super_bytes raised)) }
+    ensures model { D.keeps_model disk.new → D.keeps_model disk.old }
+{
+    let Ok(bytes) = raised.write(alloc) else {
+        return Err(OpenFault::NoMemory);
+    };
+    put_whole(block, &bytes);
+    match put_super(disk, block) {
+        Ok(()) => Ok(()),
+        Err(Failed) => Err(OpenFault::Device),
+    }
+}
+
+// Makes a block these bytes.
+#[tactic(auto, using(crate::proofs::Raising::all_of))]
+fn put_whole(block: &mut Block, bytes: &[u8])
+    requires { length bytes.now ≡ BLOCK_BYTES }
+    ensures { block.new ≡ bytes.now }
+{
+    block.put(0, bytes);
+}
+
+// Writes a block as the super block, and settles it.
+fn put_super<D: CrashDisk>(disk: &mut D, block: &Block) -> Result<(), Failed>
+    requires { 0 < (D.device disk.old).size }
+    ensures later { IsLater (D.device disk.old) (D.device disk.new) }
+    ensures failure { MatchResult result (λ _. (D.device disk.new).failures ≡ (D.device disk.old).failures)
+        (λ _. (D.device disk.old).failures < (D.device disk.new).failures) }
+    ensures raised { (before : Device) (log : Log) → IsLawfulLog log → log.changes ≡ []
+        → BringsHome before block.now (D.device disk.old) log
+        → MatchResult result (λ _. HasRaised before block.now (D.device disk.old) (D.device disk.new) log)
+        (λ _. KeepsBlocks before (D.device disk.new) block.now) }
+    ensures model { D.keeps_model disk.new → D.keeps_model disk.old }
+{
+    disk.write(BlockNo(SUPER_BLOCK), block)?;
+    disk.barrier(Side::Home)
+}

@@ -1,0 +1,400 @@
+-- Each step of a worker that is alone is one that may be made.
+use Rattle.std.proofs.Common.{◌≡◌, ◌∙◌, ◌↔◌, refl, sym, ap, subst, true≢false, ℕ, ◌+◌, ◌^◌, ◌≤◌, arith, Bool}
+use Rattle.std.proofs.Common.{true, false, ◌||◌, nat_eq, nat_le, IsTrue, Option, Some, None, List, [], ◌∷◌, length, map, All}
+use Rattle.std.proofs.Common.{Ok, Err}
+use Rattle.std.specs.Prelude.{IsSomeAnd}
+use Rattle.std.specs.List.{list_any}
+use Rattle.std.proofs.lemmas.Bool.{eqb-true}
+use Rattle.std.proofs.lemmas.Bool.Decides.{nat_tests}
+use Rattle.std.proofs.lemmas.List.Elements.{All-head, All-tail, All-weaker}
+use Rattle.disk.specs.Crash.{Image}
+use Rattle.disk.specs.Device.{Content}
+use Rattle.disk.specs.declared.block.BlockNo.{BlockNo}
+use Rattle.layout.specs.declared.geometry.Geometry.{Geometry}
+use Rattle.model.specs.Entry.{Entry}
+use Rattle.model.specs.Calls.{has_rules}
+use Rattle.model.specs.Tree.{Tree}
+use Rattle.nfs_types.specs.declared.call.Call.{Call}
+use Rattle.objects.specs.declared.addr.Addr.{Addr}
+use Rattle.objects.specs.declared.mode.Mode.TheVariants as modes
+use Rattle.procs.specs.Asks.{Asks}
+use Rattle.procs.specs.MostChanged.{most_changed}
+use Rattle.procs.specs.Outcome.{Outcome}
+use Rattle.procs.specs.declared.next.Plan.TheVariants as plan
+use Rattle.procs.specs.declared.snap.Snap.{Snap}
+use Rattle.procs.specs.Snap.{is_seen, same_addr}
+use Rattle.procs.proofs.AskedFor.{is_home}
+use Rattle.txn.specs.Outcomes.{IsCommit, IsWanted}
+use Rattle.txn.specs.declared.outcomes.BeginFault.{BeginFault}
+use Rattle.txn.specs.declared.outcomes.BeginFault.TheVariants as fault
+use Rattle.txn.specs.declared.outcomes.Commit.{Commit}
+use Rattle.txn.specs.declared.outcomes.Commit.TheVariants as commit
+use Rattle.txn.specs.declared.outcomes.Want.{Want}
+use Rattle.txn.specs.declared.outcomes.Want.TheVariants as want
+use Rattle.txn_law.specs.Commit.{IsReadBy, Planned}
+use Rattle.txn_law.specs.Core.{CoreState}
+use Rattle.txn_law.specs.Fetch.{Fetch}
+use Rattle.txn_law.specs.Group.{blocks_of}
+use Rattle.txn_law.specs.Leaves.{in_memory}
+use Rattle.txn_law.specs.Object.{ObjectBytes}
+use Rattle.txn_law.specs.Window.{IsAsRead, object_at}
+use Rattle.txn_law.proofs.Entries.{same_block}
+use Rattle.wal_law.specs.Log.{IsHomeOn, added_blocks, settled_place}
+use Rattle.wal_law.specs.Room.{HasPlaces}
+use Rattle.wal_law.specs.declared.outcomes.Seq.{Seq}
+use Rattle.store_promise.specs.LogTold.{LogTold, settled_told}
+use Rattle.store_promise.specs.OpenSince.{file_blocks}
+use Rattle.store_promise.specs.Progress.{Begun, Progress, Taken, addrs_of, is_loaded}
+use Rattle.store_promise.specs.Progress as how
+use Rattle.store_promise.specs.Running.{IsRunningOver, IsTold, StoreSide}
+use Rattle.store_promise.specs.Schedule.{HasNumbers, IsAskedFor, IsBeginning, IsCommitting, IsStepByPlan}
+use Rattle.store_promise.specs.Schedule.{IsStepOfCalled, IsStepOfWork}
+use Rattle.store_promise.specs.Schedule.{IsStepOfWaiting, IsWish, Setting, Told, is_held, objects_at, read_of}
+use Rattle.store_promise.specs.Schedule as schedule
+use Rattle.store_promise.specs.ToldOf.{log_told}
+use Rattle.store_promise.specs.declared.events.Ending.TheVariants as ending
+use Rattle.store_promise.specs.declared.events.Step.{Step}
+use Rattle.store_promise.specs.declared.events.Step.TheVariants as step
+use Rattle.store_promise.proofs.FileBlocks.{held_now}
+use Rattle.store_promise.proofs.ToldLog.{numbers_are, settled_is}
+use Rattle.store_runs.proofs.AtWorkStays.{some_of}
+use Rattle.store_workers.proofs.LoneWorker.{has_of, never_kept_off, seen_of}
+use Rattle.store_workers.proofs.WorkCases.{Cases, by_cases}
+use Rattle.store_workers.specs.Alone.{HasOfCall, PlansAlone, is_kept_off}
+use Rattle.store_runs.specs.AtWork.{AreLoadedFor, IsCoreAtWork, IsLoadedFor, LoadsFor}
+use Rattle.store_workers.specs.Seen.{Seen, seen_in}
+use Rattle.store_workers.specs.Stages.{IsFetchOf, IsJobIn, IsWorkerAt, RunsIn, StandsAt, alone, at_fetch}
+use Rattle.store_workers.specs.Stages.{at_stage, begun_of}
+use Rattle.store_workers.specs.Stages.{progress_in, progress_of}
+use Rattle.store_workers.specs.WorkerAnswers.{committing_of, wish_of}
+use Rattle.store_workers.specs.WorkerSteps.{GoesOn, HasCommitted, HasLacked, HasWanted, IsNext}
+use Rattle.store_workers.specs.WorkerSteps.{IsNoBeginning, Side}
+use Rattle.store_workers.specs.WorkerSteps.{given_step, planned_of, side}
+use Rattle.store_workers.specs.declared.workers.parts.Job.{Job}
+use Rattle.store_workers.specs.declared.workers.parts.Phase.{Phase}
+use Rattle.store_workers.specs.declared.workers.parts.Phase.TheVariants.{Planning, Read, Reading}
+use Rattle.store_workers.specs.declared.workers.parts.State.{State}
+
+-- ---- what was read
+
+-- what blocks have at the addresses of what was read is what was read
+read_there : (blocks : Image) (objects : List ObjectBytes) → All (IsAsRead blocks) objects
+    → objects_at blocks (addrs_of (map (λ (object : ObjectBytes). alone object.addr) objects)) ≡ objects
+read_there blocks [] as_read = refl
+read_there blocks (x ∷ xs) as_read = λ i.
+    record { addr = x.addr; bytes = All-head (IsAsRead blocks) x xs as_read i }
+    ∷ read_there blocks xs (All-tail (IsAsRead blocks) x xs as_read) i
+
+-- an address is told just where it was seen
+held_as_seen : (addr : Addr) (objects : List ObjectBytes)
+    → is_held addr (map (λ (object : ObjectBytes). alone object.addr) objects) ≡ is_seen addr objects
+held_as_seen addr [] = refl
+held_as_seen addr (x ∷ xs) = ap (λ (b : Bool). same_addr addr x.addr || b) (held_as_seen addr xs)
+
+-- none of these lies in the block
+none_in : (block : BlockNo) (addrs : List Addr) → All (λ (a : Addr). nat_eq a.block.0 block.0 ≡ false) addrs
+    → list_any (λ (taken : Taken). nat_eq taken.addr.block.0 block.0) (map alone addrs) ≡ false
+none_in block [] none = refl
+none_in block (x ∷ xs) none =
+    let P : Addr → Type 0 = λ a. nat_eq a.block.0 block.0 ≡ false in
+    ap (λ (b : Bool). b || list_any (λ (taken : Taken). nat_eq taken.addr.block.0 block.0) (map alone xs))
+    (All-head P x xs none)
+    ∙ none_in block xs (All-tail P x xs none)
+
+none_read : (block : BlockNo) (objects : List ObjectBytes)
+    → All (λ (object : ObjectBytes). nat_eq object.addr.block.0 block.0 ≡ false) objects
+    → list_any (λ (taken : Taken). nat_eq taken.addr.block.0 block.0)
+    (map (λ (object : ObjectBytes). alone object.addr) objects)
+    ≡ false
+none_read block [] none = refl
+none_read block (x ∷ xs) none =
+    let P : ObjectBytes → Type 0 = λ object. nat_eq object.addr.block.0 block.0 ≡ false in
+    ap (λ (b : Bool). b || list_any (λ (taken : Taken). nat_eq taken.addr.block.0 block.0)
+    (map (λ (object : ObjectBytes). alone object.addr) xs)) (All-head P x xs none)
+    ∙ none_read block xs (All-tail P x xs none)
+
+-- a block that is in memory isn't one that isn't
+differs : (core : CoreState) (one other : BlockNo) (content : Content) → in_memory core one ≡ Some content
+    → in_memory core other ≡ None → nat_eq one.0 other.0 ≡ false
+differs core one other content there absent = by (nat_eq one.0 other.0) refl
+  where
+    by : (same : Bool) → nat_eq one.0 other.0 ≡ same → same ≡ false
+    by false is = refl
+    by true is = absurd (let at = same_block one other (eqb-true one.0 other.0 is) in
+        let none : Some content ≡ None = sym there ∙ ap (λ (b : BlockNo). in_memory core b) at ∙ absent in cc)
+
+-- ---- a step by a plan
+
+module _ (o : Setting) (told : Told) (worker : ℕ) (base : Image) (store : StoreSide) (fetches : List Fetch) (boot : ℕ)
+    (first last : Tree) (entries : List Entry) (run : IsRunningOver o base store fetches boot first entries last)
+    (is_told : IsTold o told store) (inodes : o.geometry.inodes ≡ store.core.inodes)
+    (files : o.blocks told.log.places ≡ file_blocks base store.core) (job : Job) (tx : ℕ) (seen : Seen)
+    (fetched : List Addr) (has : HasOfCall job tx store.core seen) (loaded : AreLoadedFor store.core tx fetched)
+    (one_geometry : (g h : Geometry) → g.blocks ≡ h.blocks → g.inodes ≡ h.inodes → g ≡ h) where
+  abbrev begun : Begun
+  begun = begun_of (Some tx) (Some seen) fetched
+
+  geometry_is : seen.geometry ≡ o.geometry
+  geometry_is = one_geometry seen.geometry o.geometry (has.blocks ∙ sym run.blocks) (has.inodes ∙ sym inodes)
+
+  as_read : All (IsAsRead (o.blocks told.log.places)) seen.objects
+  as_read = All-weaker (IsReadBy store.core tx) (IsAsRead (o.blocks told.log.places))
+      (λ object read. ap (λ (blocks : Image). object_at blocks object.addr) files
+      ∙ held_now base store.device store.core store.logging store.installing boot first last entries run.since tx object
+      read) seen.objects has.read
+
+  read_is : read_of o told.log.places begun ≡ seen.objects
+  read_is = read_there (o.blocks told.log.places) seen.objects as_read
+
+  module _ (addr : Addr) (asks : Asks seen.geometry job.call seen.objects addr)
+      (new_to_it : is_seen addr seen.objects ≡ false) where
+    asked_for : IsAskedFor o told.log.places job.call begun addr modes.Exclusive
+    asked_for = record {
+      unheld = held_as_seen addr seen.objects ∙ new_to_it;
+      asks = subst (λ (g : Geometry). Asks g job.call (read_of o told.log.places begun) addr) geometry_is
+          (subst (λ (objects : List ObjectBytes). Asks seen.geometry job.call objects addr) (sym read_is) asks);
+      alone = refl;
+    }
+
+    -- nothing of a block that has to be fetched was had
+    not_loaded : in_memory store.core addr.block ≡ None → is_loaded addr.block begun ≡ false
+    not_loaded absent =
+        λ i. none_read addr.block seen.objects (All-weaker (IsReadBy store.core tx)
+        (λ (object : ObjectBytes). nat_eq object.addr.block.0 addr.block.0 ≡ false)
+        (λ object read. differs store.core object.addr.block addr.block read.current.content read.current.there absent)
+        seen.objects has.read) i
+        || none_in addr.block fetched (All-weaker (IsLoadedFor store.core tx)
+        (λ (a : Addr). nat_eq a.block.0 addr.block.0 ≡ false)
+        (λ a is. differs store.core a.block addr.block is.content is.there absent) fetched loaded) i
+
+    wish_may : (new : CoreState) (answer : Want) → IsWanted store.core tx addr modes.Exclusive answer new
+        → is_kept_off (Some (step.Wanted addr modes.Exclusive (wish_of answer))) ≡ false
+        → IsWish told worker begun (schedule.wish_of addr modes.Exclusive) (wish_of answer)
+    wish_may new (want.Held back bytes) is off = tt
+    wish_may new (want.NoMemory back) is off = tt
+    wish_may new (want.Busy back) is off = absurd (true≢false off)
+    wish_may new (want.Loading back) is off = absurd (true≢false off)
+    wish_may new (want.Outside back) is off = absurd (is.1 (subst (λ (n : ℕ). IsHomeOn n addr.block) has.blocks
+        (is_home seen.geometry job.call seen.objects addr asks)))
+    wish_may new (want.Fetch back io) is off = not_loaded is.2.absent
+
+    pub wanted_may : (new : CoreState) (answer : Want) → IsWanted store.core tx addr modes.Exclusive answer new
+        → is_kept_off (Some (step.Wanted addr modes.Exclusive (wish_of answer))) ≡ false
+        → IsStepByPlan o told worker job.call begun (step.Wanted addr modes.Exclusive (wish_of answer))
+    wanted_may new answer is off = (asked_for, wish_may new answer is off)
+
+-- ---- a commit
+
+module _ (o : Setting) (base : Image) (store : StoreSide) (fetches : List Fetch) (boot : ℕ) (first last : Tree)
+    (entries : List Entry) (run : IsRunningOver o base store fetches boot first entries last) (tx : ℕ)
+    (plan : Planned) where
+  abbrev log : LogTold
+  log = log_told o.position store.core.log store.logging store.installing
+
+  abbrev added : ℕ
+  added = added_blocks store.core.log (blocks_of plan.written)
+
+  numbers : HasNumbers o log added ↔ HasPlaces store.core.log (blocks_of plan.written)
+  numbers = numbers_are o store.core.log store.logging store.installing (blocks_of plan.written)
+      run.since.over.lawful run.position
+
+  by_answer : {C : Type 0} (change : C) (answer : Commit C) (new : CoreState)
+      → IsCommit store.core tx plan change answer new
+      → is_kept_off (Some (step.Commit added (committing_of answer))) ≡ false
+      → IsCommitting o log added (committing_of answer)
+  by_answer change (commit.Committed place) new is off =
+      (is.tried.sound, is.next, numbers.1 is.tried.room.0, is.tried.room.1)
+  by_answer change (commit.Full back same) new is off =
+      (is.1.sound, numbers.1 is.1.room.0, is.1.room.1)
+  by_answer change (commit.Foreign back same) new is off = absurd (true≢false off)
+  by_answer change (commit.NoMemory back same) new is off =
+      (is.1.sound, numbers.1 is.1.room.0, is.1.room.1)
+  by_answer change (commit.Broken back same) new is off = is.1
+  by_answer change (commit.Spent back same) new is off = (is.1.sound, λ has. is.1.room (numbers.0 has))
+
+  pub commit_may : {C : Type 0} (told : Told) (worker : ℕ) (call : Call) (far : Begun) (change : C)
+      (answer : Commit C) (new : CoreState) → IsTold o told store → length (blocks_of plan.written) ≤ most_changed call
+      → IsCommit store.core tx plan change answer new
+      → is_kept_off (Some (step.Commit added (committing_of answer))) ≡ false
+      → IsStepByPlan o told worker call far (step.Commit added (committing_of answer))
+  commit_may told worker call far change answer new is_told few is off = (
+    few,
+    subst (λ (l : LogTold). IsCommitting o l added (committing_of answer)) (sym is_told.log)
+        (by_answer change answer new is off),
+  )
+
+-- ---- a place that is waited for
+
+waits_by : (log settled : ℕ) (place : ℕ) (found : Bool) → settled ≡ log → IsTrue found ↔ (place ≤ log)
+    → found ≡ nat_le place settled
+waits_by log settled place true same is =
+    let within = is.0 refl in grind (arith, nat_tests)
+waits_by log settled place false same is = by (nat_le place settled) refl
+  where
+    by : (least : Bool) → nat_le place settled ≡ least → false ≡ least
+    by false at = refl
+    by true at = absurd (let le : place ≤ log = grind (arith, nat_tests) in true≢false (sym (is.1 le)))
+
+pub waits_may : (o : Setting) (told : Told) (base : Image) (store : StoreSide) (fetches : List Fetch) (boot : ℕ)
+    (first last : Tree) (entries : List Entry) → IsRunningOver o base store fetches boot first entries last
+    → IsTold o told store → (place : Seq) (settled : Bool)
+    → IsTrue settled ↔ (place.0 ≤ settled_place store.core.log)
+    → IsStepOfWaiting told.log place.0 (step.Stable place settled)
+waits_may o told base store fetches boot first last entries run is_told place settled is = (
+  refl,
+  waits_by (settled_place store.core.log) (settled_told told.log) place.0 settled
+      (ap (λ (l : LogTold). settled_told l) is_told.log
+      ∙ settled_is o.position store.core.log store.logging store.installing run.since.over.lawful) is,
+)
+
+-- ---- any step
+
+module _ (o : Setting) (told : Told) (number : ℕ) (base : Image) (store : StoreSide) (fetches : List Fetch) (boot : ℕ)
+    (first last : Tree) (entries : List Entry) (run : IsRunningOver o base store fetches boot first entries last)
+    (is_told : IsTold o told store) (inodes : o.geometry.inodes ≡ store.core.inodes)
+    (files : o.blocks told.log.places ≡ file_blocks base store.core) (worker : State) (new : Side)
+    (one_geometry : (g h : Geometry) → g.blocks ≡ h.blocks → g.inodes ≡ h.inodes → g ≡ h) where
+  abbrev old : Side
+  old = side worker store.core
+
+  abbrev all_begun : Begun
+  all_begun = begun_of worker.begun.tx (seen_in worker.work.snap) worker.asked.fetched
+
+  -- the step may be made by a worker that is so far
+  abbrev MayFrom : Progress → Option Step → Type 0
+  MayFrom progress made = IsStepOfWork o told number progress made
+
+  abbrev May : Phase → Option Step → Type 0
+  May phase made = PlansAlone phase worker store.core
+      → LoadsFor phase worker.begun.tx worker.asked store.core → StandsAt boot entries phase worker
+      → is_kept_off made ≡ false → MayFrom (progress_in phase worker.work.job all_begun worker.asked) made
+
+  broken_is : told.log.broken ≡ store.core.log.broken
+  broken_is = ap (λ (log : LogTold). log.broken) is_told.log
+
+  -- a call begins
+  from_called : (job : Job) (served : Bool) (made : Step) → worker.work.job ≡ Some job → has_rules job.call ≡ served
+      → IsStepOfCalled told served made → MayFrom (at_stage worker.work.job how.Called) (Some made)
+  from_called job served made job_is is may =
+      subst (λ (found : Option Job). MayFrom (at_stage found how.Called) (Some made)) (sym job_is)
+      (subst (λ (b : Bool). IsStepOfCalled told b made) (sym is) may)
+
+  begun_may : (one : ℕ) → one ≡ store.core.begun + 1 → store.core.log.broken ≡ false
+      → IsBeginning told (step.Begun (Ok one))
+  begun_may one is sound = (broken_is ∙ sound, is ∙ ap (λ (n : ℕ). n + 1) (sym is_told.begun))
+
+  not_begun_may : (why : BeginFault) → IsNoBeginning why store.core → IsBeginning told (step.Begun (Err why))
+  not_begun_may fault.Broken none = broken_is ∙ none
+  not_begun_may fault.Spent none = (
+    broken_is ∙ none.0,
+    subst (λ (n : ℕ). 2 ^ 64 ≤ n + 1) (sym is_told.begun) (let spent = none.1 in omega (arith, spent)),
+  )
+  not_begun_may fault.NoMemory none = absurd none
+
+  -- it goes by a plan
+  from_plan : (job : Job) (tx : ℕ) (snap : Snap) (made : Step) → worker.work.job ≡ Some job
+      → worker.begun.tx ≡ Some tx → seen_in worker.work.snap ≡ Some (seen_of snap)
+      → IsStepByPlan o told number job.call (begun_of (Some tx) (Some (seen_of snap)) worker.asked.fetched) made
+      → MayFrom (at_stage worker.work.job (how.Planning all_begun)) (Some made)
+  from_plan job tx snap made job_is tx_is snap_is may =
+      subst (λ (found : Option Job). MayFrom (at_stage found (how.Planning all_begun)) (Some made)) (sym job_is)
+      (subst (λ (begun : Begun). IsStepByPlan o told number job.call begun made)
+      (λ i. begun_of (sym tx_is i) (sym snap_is i) worker.asked.fetched) may)
+
+  wanted_so : (tx : ℕ) (addr : Addr) (made : Step) → worker.begun.tx ≡ Some tx → IsNext worker (plan.Need addr)
+      → (has : HasWanted tx addr old made new)
+      → May Planning (Some (step.Wanted addr modes.Exclusive (wish_of has.answer)))
+  wanted_so tx addr made tx_is is has plans loads stands off =
+      from_plan is.job tx is.snap _ is.job_is tx_is is.snap_is
+      (wanted_may o told number base store fetches boot first last entries run is_told inodes files is.job tx
+      (seen_of is.snap) worker.asked.fetched
+      (has_of worker store.core is.job tx (seen_of is.snap) is.job_is tx_is is.snap_is plans)
+      (some_of (λ n. AreLoadedFor store.core n worker.asked.fetched) worker.begun.tx tx tx_is loads)
+      one_geometry addr is.plan.1 is.plan.0 new.core has.answer has.core off)
+
+  committed_so : (job : Job) (tx : ℕ) (done : Outcome) (made : Step) → worker.begun.tx ≡ Some tx
+      → IsNext worker (plan.Done done) → worker.work.job ≡ Some job → (has : HasCommitted job tx done old made new)
+      → May Planning (Some (step.Commit (added_blocks store.core.log (blocks_of done.written))
+      (committing_of has.answer)))
+  committed_so job tx done made tx_is is job_is has plans loads stands off =
+      from_plan is.job tx is.snap _ is.job_is tx_is is.snap_is
+      (commit_may o base store fetches boot first last entries run tx (planned_of done) told number is.job.call
+      (begun_of (Some tx) (Some (seen_of is.snap)) worker.asked.fetched) done has.answer new.core is_told is.plan.1
+      has.core off)
+
+  lacked_so : (tx : ℕ) (made : Step) → worker.begun.tx ≡ Some tx → HasLacked tx old made new
+      → May Planning (Some (step.Ended ending.NoMemory))
+  lacked_so tx made tx_is has plans loads stands off = by worker.work.job plans
+    where
+      by : (job : Option Job) → IsSomeAnd job (λ job. IsSomeAnd worker.begun.tx (λ t.
+          IsSomeAnd (seen_in worker.work.snap) (λ seen. HasOfCall job t store.core seen)))
+          → MayFrom (at_stage job (how.Planning all_begun)) (Some (step.Ended ending.NoMemory))
+      by None plans = absurd plans
+      by (Some job) plans = tt
+
+  -- its read is due, or made
+  reading_so : RunsIn boot worker × IsFetchOf worker
+      → MayFrom (progress_in Reading worker.work.job all_begun worker.asked) None
+  reading_so stands = by worker.work.job worker.asked.wish stands.0 stands.1
+    where
+      by : (job : Option Job) (wish : Option Addr) → IsSomeAnd job (λ j. IsJobIn boot worker.begun.tx j)
+          → IsSomeAnd wish (λ addr. IsSomeAnd worker.begun.io (λ (io : Fetch). io.block ≡ addr.block))
+          → MayFrom (at_stage job (at_fetch (λ taken. how.Reading all_begun taken) all_begun wish)) None
+      by None wish job_in at = absurd job_in
+      by (Some job) None job_in at = absurd at
+      by (Some job) (Some addr) job_in at = refl
+
+  given_so : (ok : Bool) (io : Fetch) → worker.begun.io ≡ Some io → RunsIn boot worker × IsFetchOf worker
+      → MayFrom (progress_in (Read ok) worker.work.job all_begun worker.asked) (Some (given_step ok io))
+  given_so ok io io_is stands = by worker.work.job worker.asked.wish ok stands.0
+      (subst (λ (found : Option Fetch). IsSomeAnd worker.asked.wish (λ addr.
+      IsSomeAnd found (λ (one : Fetch). one.block ≡ addr.block))) io_is stands.1)
+    where
+      by : (job : Option Job) (wish : Option Addr) (ok : Bool) → IsSomeAnd job (λ j. IsJobIn boot worker.begun.tx j)
+          → IsSomeAnd wish (λ addr. io.block ≡ addr.block)
+          → MayFrom (at_stage job (at_fetch (λ taken. how.Read all_begun taken ok) all_begun wish))
+          (Some (given_step ok io))
+      by None wish ok job_in at = absurd job_in
+      by (Some job) None ok job_in at = absurd at
+      by (Some job) (Some addr) true job_in at = ap (λ (block : BlockNo). step.Fetched block) at
+      by (Some job) (Some addr) false job_in at = ap (λ (block : BlockNo). step.FetchFailed block) at
+
+  left_so : RunsIn boot worker → MayFrom (at_stage worker.work.job (how.Again all_begun)) (Some (step.Ended ending.Again))
+  left_so stands = by worker.work.job stands
+    where
+      by : (job : Option Job) → IsSomeAnd job (λ j. IsJobIn boot worker.begun.tx j)
+          → MayFrom (at_stage job (how.Again all_begun)) (Some (step.Ended ending.Again))
+      by None job_in = absurd job_in
+      by (Some job) job_in = refl
+
+  may_cases : Cases old new May
+  may_cases = record {
+    idle = λ is plans loads stands off. refl;
+    reading = λ is plans loads stands off. reading_so stands;
+    begun = λ job one job_is served has plans loads stands off.
+        from_called job true (step.Begun (Ok one)) job_is served (begun_may one has.next has.sound);
+    not_begun = λ job why job_is served none core is plans loads stands off.
+        from_called job true (step.Begun (Err why)) job_is served (not_begun_may why none);
+    replied = λ job job_is served core is plans loads stands off.
+        from_called job false step.Replied job_is served refl;
+    wanted = wanted_so;
+    claimed = λ tx block made tx_is next has plans loads stands off. absurd next.plan.1;
+    committed = committed_so;
+    lacked = lacked_so;
+    given = λ ok io made io_is has plans loads stands off. given_so ok io io_is stands;
+    refused = λ why job tx made job_is tx_is has plans loads stands off.
+        subst (λ (found : Option Job). MayFrom (at_stage found (how.Refused all_begun why))
+        (Some (step.Ended ending.Refused))) (sym job_is) refl;
+    left = λ tx made tx_is has plans loads stands off. left_so stands;
+    waited = λ place made has plans loads stands off.
+        subst (λ (found : Option Job). MayFrom (at_stage found (how.Waiting place.0))
+        (Some (step.Stable place has.settled))) (sym stands.job_is)
+        (waits_may o told base store fetches boot first last entries run is_told place has.settled has.settled_is);
+  }
+
+  pub step_may : (made : Option Step) → GoesOn worker.phase old made new → IsCoreAtWork worker store.core
+      → IsWorkerAt boot entries worker → MayFrom (progress_of worker) made
+  step_may made goes at worker_at = by_cases old new May may_cases worker.phase made goes at.alone.plans at.loads
+      worker_at.stands
+      (never_kept_off old new run.since.over.tidy at.with.core_of at.alone.fetches worker.phase made
+      at.with.sound.fetch at.alone.plans goes)

@@ -1,0 +1,287 @@
+-- A core stays at work for its worker by each step: what was fetched is in memory while the worker goes by its plans.
+use Rattle.std.proofs.Common.{◌≡◌, ◌∙◌, refl, sym, ap, subst, true≢false, ℕ, Bool, true, false, Option, Some, None}
+use Rattle.std.proofs.Common.{List, ◌++◌}
+use Rattle.std.specs.Prelude.{IsSomeAnd, option_to_list}
+use Rattle.std.proofs.lemmas.Bool.{eq-eqb}
+use Rattle.std.proofs.lemmas.List.Elements.{All-nil}
+use Rattle.model.specs.Entry.{Entry}
+use Rattle.model.specs.Calls.{is_answered_stable}
+use Rattle.nfs_types.specs.declared.reply.Reply.{Reply}
+use Rattle.objects.specs.declared.addr.Addr.{Addr}
+use Rattle.objects.specs.declared.mode.Mode.TheVariants as modes
+use Rattle.procs.specs.Outcome.{Outcome}
+use Rattle.wal_law.specs.Log.{added_blocks}
+use Rattle.wal_law.specs.declared.outcomes.Seq.{Seq}
+use Rattle.txn.specs.Outcomes.{IsCommit, IsWanted}
+use Rattle.txn.specs.declared.outcomes.Commit.{Commit}
+use Rattle.txn.specs.declared.outcomes.Commit.TheVariants as commit
+use Rattle.txn.specs.declared.outcomes.Want.{Want}
+use Rattle.txn.specs.declared.outcomes.Want.TheVariants as want
+use Rattle.txn_law.specs.Core.{CoreState}
+use Rattle.txn_law.specs.Fetch.{Fetch}
+use Rattle.txn_law.specs.Group.{blocks_of}
+use Rattle.txn_law.specs.Leaves.{Leaves, is_fetching, taken_by, without_fetch}
+use Rattle.txn_law.specs.Tidy.{AreTidy}
+use Rattle.store_promise.specs.declared.answers.Verdict.TheVariants as verdict
+use Rattle.store_promise.specs.declared.events.Step.{Step}
+use Rattle.store_promise.specs.declared.events.Step.TheVariants as step
+use Rattle.store_runs.proofs.AtWorkFetched.{after_given, after_held, after_wanted, wanted_taken}
+use Rattle.store_workers.proofs.StaysAlone.{stays_alone}
+use Rattle.store_workers.proofs.WorkCases.{Cases, by_cases}
+use Rattle.store_workers.specs.Alone.{HasOfCall, HasTaken, PlansAlone, StaysAlone, is_full}
+use Rattle.store_images.specs.Fetches.{FetchesOnly, is_fetch_of}
+use Rattle.store_runs.specs.AtWork.{AreLoadedFor, FetchesFor, IsCoreAtWork, IsLoadedFor, Loads}
+use Rattle.store_runs.specs.AtWork.{LoadsFor, has_taken}
+use Rattle.store_workers.specs.Asked.{Asking}
+use Rattle.store_workers.specs.Seen.{Seen, seen_in}
+use Rattle.store_workers.specs.Stages.{IsFetchOf, IsWorkerAt, StandsAt}
+use Rattle.store_workers.specs.Telling.{told}
+use Rattle.store_workers.specs.Worker.{GoesWith}
+use Rattle.store_workers.specs.WorkerAnswers.{after_commit, asked_wanted, begun_wanted}
+use Rattle.store_workers.specs.WorkerAnswers.{committing_of, phase_wanted}
+use Rattle.store_workers.specs.WorkerAnswers.{told_of, with_answer, with_entry}
+use Rattle.store_workers.specs.WorkerSteps.{GoesOn, HasGivenBack, IsTold, KeepsReadsOf, Side}
+use Rattle.store_workers.specs.WorkerSteps.{given_step, planned_of, there_given}
+use Rattle.store_workers.specs.declared.workers.parts.Job.{Job}
+use Rattle.store_workers.specs.declared.workers.parts.Phase.{Phase}
+use Rattle.store_workers.specs.declared.workers.parts.Phase.TheVariants.{Idle, Called, Planning}
+use Rattle.store_workers.specs.declared.workers.parts.Phase.TheVariants.{Reading, Read}
+use Rattle.store_workers.specs.declared.workers.parts.Phase.TheVariants.{Refused, Again, Waiting}
+use Rattle.store_workers.specs.declared.workers.parts.State.{State}
+
+-- what holds of what is there, holds of this
+pub some_of : {X : Type 0} (P : X → Type 0) (found : Option X) (one : X) → found ≡ Some one → IsSomeAnd found P → P one
+some_of P found one is has = subst (λ o. IsSomeAnd o P) is has
+
+module _ (old new : Side) where
+  loads_by : (worker : State) → new.worker ≡ worker → Loads worker new.core → Loads new.worker new.core
+  loads_by worker is loads = subst (λ (w : State). Loads w new.core) (sym is) loads
+
+  loads_same : (phase : Phase) → new ≡ old → old.worker.phase ≡ phase
+      → LoadsFor phase old.worker.begun.tx old.worker.asked old.core → Loads new.worker new.core
+  loads_same phase is phase_is loads = subst (λ (s : Side). Loads s.worker s.core) (sym is)
+      (subst (λ (p : Phase). LoadsFor p old.worker.begun.tx old.worker.asked old.core) (sym phase_is) loads)
+
+  same_loads : (back tx : ℕ) → back ≡ tx → new.core ≡ old.core
+      → AreLoadedFor old.core tx old.worker.asked.fetched → AreLoadedFor new.core back old.worker.asked.fetched
+  same_loads back tx is same loaded = subst (λ (n : ℕ). AreLoadedFor new.core n old.worker.asked.fetched) (sym is)
+      (subst (λ (c : CoreState). AreLoadedFor c tx old.worker.asked.fetched) (sym same) loaded)
+
+  -- a wish
+  wanted_loads : (tx : ℕ) (addr : Addr) (answer : Want) → IsWanted old.core tx addr modes.Exclusive answer new.core
+      → AreLoadedFor old.core tx old.worker.asked.fetched
+      → LoadsFor (phase_wanted answer) (begun_wanted answer).tx (asked_wanted addr answer old.worker.asked) new.core
+  wanted_loads tx addr (want.Held back bytes) is loaded =
+      subst (λ (n : ℕ). AreLoadedFor new.core n old.worker.asked.fetched) (sym is.0)
+      (after_held old.core new.core tx old.worker.asked.fetched addr bytes.items is.2 loaded)
+  wanted_loads tx addr (want.Fetch back io) is loaded =
+      subst (λ (n : ℕ). AreLoadedFor new.core n old.worker.asked.fetched × (has_taken new.core n addr ≡ true)) (sym is.0) (
+        after_wanted old.core new.core tx old.worker.asked.fetched addr io is.2 loaded,
+        wanted_taken old.core new.core tx old.worker.asked.fetched addr io is.2,
+      )
+  wanted_loads tx addr (want.Busy back) is loaded = same_loads back tx is.0 is.2 loaded
+  wanted_loads tx addr (want.Loading back) is loaded = same_loads back tx is.0 is.2 loaded
+  wanted_loads tx addr (want.Outside back) is loaded = tt
+  wanted_loads tx addr (want.NoMemory back) is loaded = tt
+
+  -- a commit
+  placed_loads : (job : Job) (reply : Reply) (place : Seq) (base : State) (stable : Bool)
+      → Loads (with_entry job reply (told_of stable job reply place base)) new.core
+  placed_loads job reply place base true = tt
+  placed_loads job reply place base false = tt
+
+  committed_loads : (tx : ℕ) (job : Job) (done : Outcome) (base : State) (answer : Commit Outcome)
+      → base.asked ≡ old.worker.asked → IsCommit old.core tx (planned_of done) done answer new.core
+      → AreLoadedFor old.core tx old.worker.asked.fetched → Loads (after_commit job done.reply answer base) new.core
+  committed_loads tx job done base (commit.Committed place) same is loaded =
+      placed_loads job done.reply place base (is_answered_stable job.call)
+  committed_loads tx job done base (commit.Full back change) same is loaded =
+      subst (λ (asked : Asking). AreLoadedFor new.core back asked.fetched) (sym same)
+      (same_loads back tx is.0.transaction is.0.core loaded)
+  committed_loads tx job done base (commit.Foreign back change) same is loaded = tt
+  committed_loads tx job done base (commit.NoMemory back change) same is loaded = tt
+  committed_loads tx job done base (commit.Broken back change) same is loaded = tt
+  committed_loads tx job done base (commit.Spent back change) same is loaded = tt
+
+  -- a block that was read
+  given_loads : (tx : Option ℕ) (asked : Asking) (io : Fetch) → FetchesFor tx asked old.core
+      → IsSomeAnd asked.wish (λ addr. io.block ≡ addr.block) → is_fetching old.core io.block ≡ true
+      → Leaves new.core (taken_by old.core) (without_fetch io.block (is_fetching old.core))
+      (there_given true io old.core)
+      → IsSomeAnd tx (λ number. AreLoadedFor new.core number (asked.fetched ++ option_to_list asked.wish))
+  given_loads tx asked io has at pending leaves = by tx asked.wish has at
+    where
+      by : (tx : Option ℕ) (wish : Option Addr)
+          → IsSomeAnd tx (λ number. AreLoadedFor old.core number asked.fetched
+          × IsSomeAnd wish (λ addr. has_taken old.core number addr ≡ true))
+          → IsSomeAnd wish (λ addr. io.block ≡ addr.block)
+          → IsSomeAnd tx (λ number. AreLoadedFor new.core number (asked.fetched ++ option_to_list wish))
+      by None wish has at = absurd has
+      by (Some number) None has at = absurd at
+      by (Some number) (Some addr) has at =
+          after_given old.core new.core number asked.fetched addr io has.1 at pending leaves has.0
+
+  -- a place that is waited for
+  waited_loads : (place : Seq) (settled broken : Bool) → old.worker.phase ≡ Waiting place
+      → IsTold settled broken place old.worker new.worker → Loads new.worker new.core
+  waited_loads place true broken phase_is told = by old.worker.work.reply told
+    where
+      by : (reply : Option Reply) → IsSomeAnd reply (λ one. new.worker
+          ≡ with_answer (verdict.Reply one) (Some place)
+          (record old.worker { work = record old.worker.work { reply = None } })) → Loads new.worker new.core
+      by None told = absurd told
+      by (Some reply) told = loads_by _ told tt
+  waited_loads place false true phase_is told = by old.worker.work.broken_reply told
+    where
+      by : (reply : Option Reply) → IsSomeAnd reply (λ one. new.worker
+          ≡ with_answer (verdict.Reply one) (Some place)
+          (record old.worker { work = record old.worker.work { broken_reply = None } })) → Loads new.worker new.core
+      by None told = absurd told
+      by (Some reply) told = loads_by _ told tt
+  waited_loads place false false phase_is told =
+      loads_by old.worker told (subst (λ (p : Phase). LoadsFor p old.worker.begun.tx old.worker.asked new.core)
+      (sym phase_is) tt)
+
+  module _ (pending : FetchesOnly old.worker.begun.io old.core) (boot : ℕ) (entries : List Entry) where
+    abbrev Stays : Phase → Option Step → Type 0
+    Stays phase made = old.worker.phase ≡ phase → LoadsFor phase old.worker.begun.tx old.worker.asked old.core
+        → StandsAt boot entries phase old.worker → Loads new.worker new.core
+
+    fetch_of : (io : Fetch) → old.worker.begun.io ≡ Some io → IsFetchOf old.worker
+        → IsSomeAnd old.worker.asked.wish (λ addr. io.block ≡ addr.block)
+    fetch_of io io_is at = subst (λ (found : Option Fetch). IsSomeAnd old.worker.asked.wish (λ addr.
+        IsSomeAnd found (λ (one : Fetch). one.block ≡ addr.block))) io_is at
+
+    given_so : (ok : Bool) (io : Fetch) (made : Step) → old.worker.begun.io ≡ Some io
+        → HasGivenBack ok io old made new → Stays (Read ok) (Some (given_step ok io))
+    given_so true io made io_is has phase_is loads at =
+        loads_by _ has.worker (given_loads old.worker.begun.tx old.worker.asked io loads (fetch_of io io_is at.1)
+        (pending io.block ∙ ap (λ (o : Option Fetch). is_fetch_of o io.block) io_is ∙ eq-eqb io.block.0 io.block.0 refl)
+        has.leaves)
+    given_so false io made io_is has phase_is loads at = loads_by _ has.worker tt
+
+    loads_cases : Cases old new Stays
+    loads_cases = record {
+      idle = λ is phase_is loads at. loads_same Idle is phase_is tt;
+      reading = λ is phase_is loads at. loads_same Reading is phase_is loads;
+      begun = λ job number job_is served has phase_is loads at.
+          loads_by _ has.worker (All-nil (IsLoadedFor new.core number));
+      not_begun = λ job why job_is served none core is phase_is loads at. loads_by _ is tt;
+      replied = λ job job_is served core is phase_is loads at. loads_by _ is tt;
+      wanted = λ tx addr made tx_is next has phase_is loads at.
+          loads_by _ has.worker (wanted_loads tx addr has.answer has.core
+          (some_of (λ n. AreLoadedFor old.core n old.worker.asked.fetched) old.worker.begun.tx tx tx_is loads));
+      claimed = λ tx block made tx_is next has phase_is loads at. absurd next.plan.1;
+      committed = λ job tx done made tx_is next job_is has phase_is loads at.
+          loads_by _ has.worker (committed_loads tx job done _ has.answer refl has.core
+          (some_of (λ n. AreLoadedFor old.core n old.worker.asked.fetched) old.worker.begun.tx tx tx_is loads));
+      lacked = λ tx made tx_is has phase_is loads at. loads_by _ has.worker tt;
+      given = given_so;
+      refused = λ why job tx made job_is tx_is has phase_is loads at. loads_by _ has.worker tt;
+      left = λ tx made tx_is has phase_is loads at. loads_by _ has.worker tt;
+      waited = λ place made has phase_is loads at.
+          waited_loads place has.settled old.core.log.broken phase_is has.told;
+    }
+
+    pub loads_still : (made : Option Step) → GoesOn old.worker.phase old made new → Loads old.worker old.core
+        → IsWorkerAt boot entries old.worker → Loads new.worker new.core
+    loads_still made goes loads at = by_cases old new Stays loads_cases old.worker.phase made goes refl loads at.stands
+
+  -- ---- a commit that found no room
+
+  -- what was read is what it was
+  abbrev Full : Phase → Option Step → Type 0
+  Full phase made = is_full made ≡ true → PlansAlone phase old.worker old.core
+      → PlansAlone new.worker.phase new.worker new.core
+
+  no_room : (one : Bool) → one ≡ false → one ≡ true → ⊥
+  no_room one is room = true≢false (sym room ∙ is)
+
+  full_so : (tx : ℕ) (job : Job) (done : Outcome) (base : State) (answer : Commit Outcome) (added : ℕ)
+      → old.worker.begun.tx ≡ Some tx → base.work.job ≡ old.worker.work.job → base.work.snap ≡ new.worker.work.snap
+      → IsCommit old.core tx (planned_of done) done answer new.core
+      → new.worker ≡ after_commit job done.reply answer base
+      → seen_in new.worker.work.snap ≡ seen_in old.worker.work.snap
+      → Full Planning (Some (step.Commit added (committing_of answer)))
+  full_so tx job done base (commit.Full back change) added tx_is job_is snap_is core is seen room plans =
+      subst (λ (p : Phase). PlansAlone p new.worker new.core) (sym (ap (λ (s : State). s.phase) is))
+      (subst (λ (j : Option Job). IsSomeAnd j (λ job. IsSomeAnd new.worker.begun.tx (λ t.
+      IsSomeAnd (seen_in new.worker.work.snap) (λ s. HasOfCall job t new.core s))))
+      (sym (ap (λ (s : State). s.work.job) is ∙ job_is))
+      (subst (λ (t : Option ℕ). IsSomeAnd old.worker.work.job (λ job. IsSomeAnd t (λ t.
+      IsSomeAnd (seen_in new.worker.work.snap) (λ s. HasOfCall job t new.core s))))
+      (tx_is ∙ ap (λ (n : ℕ). Some n) (sym core.0.transaction) ∙ sym (ap (λ (s : State). s.begun.tx) is))
+      (subst (λ (found : Option Seen). IsSomeAnd old.worker.work.job (λ job. IsSomeAnd old.worker.begun.tx (λ t.
+      IsSomeAnd found (λ s. HasOfCall job t new.core s)))) (sym seen)
+      (subst (λ (c : CoreState). HasTaken old.worker c) (sym core.0.core) plans))))
+  full_so tx job done base (commit.Committed place) added tx_is job_is snap_is core is seen room plans =
+      absurd (true≢false (sym room))
+  full_so tx job done base (commit.Foreign back change) added tx_is job_is snap_is core is seen room plans =
+      absurd (true≢false (sym room))
+  full_so tx job done base (commit.NoMemory back change) added tx_is job_is snap_is core is seen room plans =
+      absurd (true≢false (sym room))
+  full_so tx job done base (commit.Broken back change) added tx_is job_is snap_is core is seen room plans =
+      absurd (true≢false (sym room))
+  full_so tx job done base (commit.Spent back change) added tx_is job_is snap_is core is seen room plans =
+      absurd (true≢false (sym room))
+
+  full_cases : Cases old new Full
+  full_cases = record {
+    idle = λ is room plans. absurd (true≢false (sym room));
+    reading = λ is room plans. absurd (true≢false (sym room));
+    begun = λ job number job_is served has room plans. absurd (true≢false (sym room));
+    not_begun = λ job why job_is served none core is room plans. absurd (true≢false (sym room));
+    replied = λ job job_is served core is room plans. absurd (true≢false (sym room));
+    wanted = λ tx addr made tx_is next has room plans. absurd (true≢false (sym room));
+    claimed = λ tx block made tx_is next has room plans. absurd (true≢false (sym room));
+    committed = λ job tx done made tx_is next job_is has.
+        full_so tx job done _ has.answer (added_blocks old.core.log (blocks_of done.written)) tx_is refl refl has.core
+        has.worker has.seen;
+    lacked = λ tx made tx_is has room plans. absurd (true≢false (sym room));
+    given = given_not_full;
+    refused = λ why job tx made job_is tx_is has room plans. absurd (true≢false (sym room));
+    left = λ tx made tx_is has room plans. absurd (true≢false (sym room));
+    waited = λ place made has room plans. absurd (true≢false (sym room));
+  }
+    where
+      given_not_full : (ok : Bool) (io : Fetch) (made : Step) → old.worker.begun.io ≡ Some io
+          → HasGivenBack ok io old made new → Full (Read ok) (Some (given_step ok io))
+      given_not_full true io made io_is has room plans = absurd (true≢false (sym room))
+      given_not_full false io made io_is has room plans = absurd (true≢false (sym room))
+
+  plans_by : (made : Option Step) (full : Bool) → is_full made ≡ full → StaysAlone made new.worker new.core
+      → (is_full made ≡ true → PlansAlone new.worker.phase new.worker new.core)
+      → PlansAlone new.worker.phase new.worker new.core
+  plans_by made true room stays other = other room
+  plans_by made false room stays other = stays.plans room
+
+-- ---- any step
+
+-- what is told of a worker isn't needed for its plans
+pub plans_told : (phase : Phase) (worker : State) (core : CoreState) → PlansAlone phase worker core
+    → PlansAlone phase (told worker) core
+plans_told Idle worker core plans = tt
+plans_told Called worker core plans = tt
+plans_told Again worker core plans = tt
+plans_told Planning worker core plans = plans
+plans_told Reading worker core plans = plans
+plans_told (Read ok) worker core plans = plans
+plans_told (Refused why) worker core plans = tt
+plans_told (Waiting place) worker core plans = tt
+
+pub at_work_still : (old new : Side) (made : Option Step) (boot : ℕ) (entries : List Entry)
+    → IsCoreAtWork old.worker old.core → IsWorkerAt boot entries old.worker → AreTidy old.core → KeepsReadsOf old new
+    → GoesOn old.worker.phase old made new → GoesWith (told new.worker) new.core
+    → IsCoreAtWork (told new.worker) new.core
+at_work_still old new made boot entries at worker_at tidy reads goes with =
+    let stays = stays_alone old new tidy at.with.core_of at.alone.fetches reads old.worker.phase made refl
+    at.with.sound.transaction at.with.sound.fetch at.alone.plans goes in record {
+      with = with;
+      alone = record {
+        fetches = stays.fetches;
+        plans = plans_told new.worker.phase new.worker new.core
+            (plans_by old new made (is_full made) refl stays (λ room.
+            by_cases old new (Full old new) (full_cases old new) old.worker.phase made goes room at.alone.plans));
+      };
+      loads = loads_still old new at.alone.fetches boot entries made goes at.loads worker_at;
+    }

@@ -1,0 +1,83 @@
+-- A run goes on with an event that commits nothing and ends no call: its step is all that is told with it.
+use Rattle.std.proofs.Common.{◌≡◌, refl, sym, subst, ◌+◌, List, Option, None, take}
+use Rattle.disk.specs.Crash.{Image}
+use Rattle.model.specs.Entry.{Entry}
+use Rattle.procedures.specs.After.{after as leads_to}
+use Rattle.model.specs.Tree.{Tree}
+use Rattle.store_promise.specs.declared.events.Event.{Event}
+use Rattle.store_promise.specs.declared.events.Step.{Step}
+use Rattle.store_promise.specs.declared.transcript.Run.{Run}
+use Rattle.store_promise.specs.Headline.{StandsAfter}
+use Rattle.store_promise.specs.Running.{IsMovedBy, IsRunningOver, IsTold, StoreSide}
+use Rattle.store_promise.specs.Schedule.{IsOfOne, IsTaken, Setting, told_after, worker_of}
+use Rattle.store_promise.specs.Transcript.{Transcript, entries_of, transcript_of}
+use Rattle.run_law.specs.Noting.{TellsOfEvent, told_now, with_noted}
+use Rattle.run_law.specs.Run.{Beginning, GoesOn, IsRun}
+use Rattle.store_runs.specs.AtWork.{IsCoreAtWork, fetches_of}
+use Rattle.store_runs.specs.Going.{IsGoing, IsNextEvent, NotesStep}
+use Rattle.store_workers.specs.Stages.{IsWorkerAt, progress_of}
+use Rattle.store_workers.specs.declared.workers.parts.State.{State}
+use Rattle.store_runs.proofs.GoingOn.{goes_on_with, same_entries, step_alone, tells_step}
+
+-- what such an event leaves of a run: the entries that there were, over what was at home
+pub record Leaves (b : Beginning) (now : Event) (o : Setting) (base : Image) (last : Tree) (t : Transcript)
+    (old new : StoreSide) (made : Option Step) (worker : State) : Type 0 where
+  pub taken : IsTaken o b.workers (told_now b.events t) now made
+  pub device : IsMovedBy old.device made new.device
+  pub running : IsRunningOver o base new (fetches_of worker) (b.first + 1) b.tree (entries_of t) last
+  pub told : IsTold o (told_after (told_now b.events t) now made) new
+  pub stands : IsWorkerAt (b.first + 1) (entries_of t) worker
+  pub at_work : IsCoreAtWork worker new.core
+  pub progress : (told_after (told_now b.events t) now made).workers 0 ≡ progress_of worker
+
+-- an event of a worker that isn't there leaves all as it is
+pub left_alone : (b : Beginning) (now : Event) (store : StoreSide) (worker : State) (before : Run)
+    (going : IsGoing b store worker before) → (IsOfOne b.workers (worker_of now) → ⊥)
+    → IsMovedBy store.device None store.device
+    → Leaves b now going.setting going.base going.last (transcript_of before) store store None worker
+left_alone b now store worker before going absent still = record {
+  taken = record { own = λ one. absurd (absent one); others = λ none. refl };
+  device = still;
+  running = going.run.running;
+  told = going.run.told;
+  stands = going.stands;
+  at_work = going.at_work;
+  progress = going.progress;
+}
+
+module _ (b : Beginning) (now : Event) (old new : StoreSide) (made : Option Step) (worker later : State)
+    (before after : Run) (is_next : IsNextEvent b now before) (notes : NotesStep made before after)
+    (going : IsGoing b old worker before)
+    (left : Leaves b now going.setting going.base going.last (transcript_of before) old new made later) where
+  abbrev pub t : Transcript
+  t = transcript_of before
+
+  abbrev o : Setting
+  o = going.setting
+
+  pub goes : TellsOfEvent b.events t now (step_alone made)
+      → GoesOn b o t old (step_alone made) o going.base new (fetches_of later) going.last
+  goes tells = record {
+    event = now;
+    next = is_next.next;
+    taken = left.taken;
+    notes = tells;
+    device = left.device;
+    same = refl;
+    blocks = λ place within. refl;
+    running = subst (λ (es : List Entry). IsRunningOver o going.base new (fetches_of later) (b.first + 1) b.tree es
+        going.last) (sym (same_entries t made)) left.running;
+    told = left.told;
+    leads = subst (λ (es : List Entry). leads_to b.tree es going.last) (sym (same_entries t made)) going.run.leads;
+    files = λ place. subst (λ (es : List Entry). StandsAfter o.geometry b.tree (take place es) (o.blocks place))
+        (sym (same_entries t made)) (going.run.files place);
+    changes = tt;
+  }
+
+  pub goes_on : IsRun b o (with_noted t (step_alone made)) going.base new (fetches_of later) going.last
+      → told_now b.events (with_noted t (step_alone made)) ≡ told_after (told_now b.events t) now made
+      → IsGoing b new later after
+  goes_on run told_then = goes_on_with b o going.base going.last new later before after (step_alone made) now
+      (tells_step made before after notes) run told_then
+      (subst (λ (es : List Entry). IsWorkerAt (b.first + 1) es later) (sym (same_entries t made)) left.stands)
+      left.at_work left.progress

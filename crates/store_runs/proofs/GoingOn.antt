@@ -1,0 +1,351 @@
+-- A run goes on with each event: what was told, and what the worker and its core have then.
+use Rattle.std.proofs.Common.{◌≡◌, ◌∙◌, refl, sym, ap, subst, ℕ, ◌+◌, Bool, true, false, List, map}
+use Rattle.std.proofs.Common.{Option, Some, None, is_some, take}
+use Rattle.std.specs.Prelude.{IsSomeAnd}
+use Rattle.std.proofs.lemmas.List.{append-nil}
+use Rattle.std.proofs.lemmas.List.Elements.{All-weaker}
+use Rattle.disk.specs.Crash.{Image}
+use Rattle.model.specs.Entry.{Entry}
+use Rattle.procedures.specs.After.{after as leads_to}
+use Rattle.model.specs.Tree.{Tree}
+use Rattle.objects.specs.declared.addr.Addr.{Addr}
+use Rattle.txn_law.specs.Commit.{IsReadBy}
+use Rattle.txn_law.specs.Core.{CoreState}
+use Rattle.store_promise.specs.declared.events.Event.{Event}
+use Rattle.store_promise.specs.declared.events.Event.TheVariants as event
+use Rattle.store_promise.specs.declared.events.Step.{Step}
+use Rattle.store_promise.specs.declared.events.Step.TheVariants as step
+use Rattle.store_promise.specs.declared.transcript.Run.{Run}
+use Rattle.store_promise.specs.Headline.{StandsAfter}
+use Rattle.store_promise.specs.LogTold.{CallTold, LogTold, idle, may_install_told, may_log_told, out, was_made}
+use Rattle.store_promise.specs.NextCall.{IsNextOfInstalling, next_log_call}
+use Rattle.store_promise.specs.Running.{GoesOnBy, IsLogStep, IsRunningOver, KeepsTransactions, StoreSide, home_next, told_next}
+use Rattle.store_promise.specs.Schedule.{IsNextOfInstaller, IsNextOfLog, IsStepOfInstIo, IsStepOfInstaller}
+use Rattle.store_promise.specs.Schedule.{IsStepOfLog, IsStepOfLogIo, IsTaken, Setting, Told, told_after, worker_of}
+use Rattle.store_promise.specs.Transcript.{Transcript, entries_of, entry_of, transcript_of}
+use Rattle.run_law.specs.Noting.{Noted, commits, ends_of, progress_now, told_now, with_noted}
+use Rattle.run_law.specs.Run.{Beginning, GoesOn, IsRun}
+use Rattle.store_workers.specs.Alone.{HasOfCall, HasTaken, PlansAlone}
+use Rattle.store_workers.specs.Asked.{Asking}
+use Rattle.store_runs.specs.AtWork.{AreLoadedFor, FetchesFor, IsCoreAtWork, IsLoadedFor, LoadsFor, fetches_of}
+use Rattle.store_runs.specs.AtWork.{has_taken}
+use Rattle.store_runs.specs.Going.{IsGoing, IsNextEvent, NotesStep, may_make}
+use Rattle.store_workers.specs.Seen.{Seen, seen_in}
+use Rattle.store_workers.specs.Stages.{IsWorkerAt, progress_of}
+use Rattle.store_workers.specs.Worker.{GoesWith}
+use Rattle.store_workers.specs.declared.workers.parts.Job.{Job}
+use Rattle.store_workers.specs.declared.workers.parts.Phase.{Phase}
+use Rattle.store_workers.specs.declared.workers.parts.Phase.TheVariants.{Idle, Called, Planning}
+use Rattle.store_workers.specs.declared.workers.parts.Phase.TheVariants.{Reading, Read}
+use Rattle.store_workers.specs.declared.workers.parts.Phase.TheVariants.{Refused, Again, Waiting}
+use Rattle.store_workers.specs.declared.workers.parts.State.{State}
+
+-- ---- any event
+
+-- with what an event has told the run goes on
+pub goes_on_with : (b : Beginning) (later : Setting) (home : Image) (next : Tree) (new : StoreSide) (worker : State)
+    (before after : Run) (noted : Noted) (now : Event)
+    → transcript_of after ≡ with_noted (transcript_of before) noted
+    → IsRun b later (with_noted (transcript_of before) noted) home new (fetches_of worker) next
+    → told_now b.events (with_noted (transcript_of before) noted)
+    ≡ told_after (told_now b.events (transcript_of before)) now noted.made
+    → IsWorkerAt (b.first + 1) (entries_of (with_noted (transcript_of before) noted)) worker
+    → IsCoreAtWork worker new.core
+    → (told_after (told_now b.events (transcript_of before)) now noted.made).workers 0 ≡ progress_of worker
+    → IsGoing b new worker after
+goes_on_with b later home next new worker before after noted now same run told stands at_work progress = record {
+  setting = later;
+  base = home;
+  last = next;
+  run = subst (λ (t : Transcript). IsRun b later t home new (fetches_of worker) next) (sym same) run;
+  stands = subst (λ (t : Transcript). IsWorkerAt (b.first + 1) (entries_of t) worker) (sym same) stands;
+  at_work = at_work;
+  progress = ap (λ (t : Transcript). progress_now b.events t 0) same ∙ ap (λ (t : Told). t.workers 0) told ∙ progress;
+}
+
+-- an event that tells its step alone
+abbrev pub step_alone : Option Step → Noted
+step_alone made = record { entry = None; answer = None; made = made }
+
+pub tells_step : (made : Option Step) (before after : Run) → NotesStep made before after
+    → transcript_of after ≡ with_noted (transcript_of before) (step_alone made)
+tells_step made before after notes = λ i. record {
+  boot = notes.boot i;
+  history = (notes.history ∙ sym (append-nil before.history.items)) i;
+  answers = (notes.answers ∙ sym (append-nil before.answers.items)) i;
+  steps = notes.steps i;
+}
+
+pub same_entries : (t : Transcript) (made : Option Step) → entries_of (with_noted t (step_alone made)) ≡ entries_of t
+same_entries t made = ap (map entry_of) (append-nil t.history)
+
+-- ---- the worker while the log's side goes on
+
+map_some : {X : Type 0} (P Q : X → Type 0) (found : Option X) → ((x : X) → P x → Q x) → IsSomeAnd found P
+    → IsSomeAnd found Q
+map_some P Q None go has = absurd has
+map_some P Q (Some x) go has = go x has
+
+module _ (old new : CoreState) (kept : KeepsTransactions old new) (blocks : new.log.blocks ≡ old.log.blocks) where
+  same_call : (job : Job) (tx : ℕ) (seen : Seen) → HasOfCall job tx old seen → HasOfCall job tx new seen
+  same_call job tx seen has = record {
+    blocks = has.blocks ∙ sym blocks;
+    inodes = has.inodes ∙ sym kept.inodes;
+    claims = has.claims;
+    were = has.were;
+    read = All-weaker (IsReadBy old tx) (IsReadBy new tx) (kept.reads tx) seen.objects has.read;
+    exclusive = λ addr hold is. has.exclusive addr hold (sym (kept.taken tx addr) ∙ is);
+    asked = λ addr hold is. has.asked addr hold (sym (kept.taken tx addr) ∙ is);
+  }
+
+  same_taken : (worker : State) → HasTaken worker old → HasTaken worker new
+  same_taken worker has =
+      map_some (λ (job : Job). IsSomeAnd worker.begun.tx (λ tx.
+      IsSomeAnd (seen_in worker.work.snap) (λ seen. HasOfCall job tx old seen)))
+      (λ (job : Job). IsSomeAnd worker.begun.tx (λ tx.
+      IsSomeAnd (seen_in worker.work.snap) (λ seen. HasOfCall job tx new seen)))
+      worker.work.job (λ job.
+      map_some (λ (tx : ℕ). IsSomeAnd (seen_in worker.work.snap) (λ seen. HasOfCall job tx old seen))
+      (λ (tx : ℕ). IsSomeAnd (seen_in worker.work.snap) (λ seen. HasOfCall job tx new seen))
+      worker.begun.tx (λ tx.
+      map_some (HasOfCall job tx old) (HasOfCall job tx new) (seen_in worker.work.snap) (same_call job tx))) has
+
+  same_plans : (phase : Phase) (worker : State) → PlansAlone phase worker old → PlansAlone phase worker new
+  same_plans Idle worker has = tt
+  same_plans Called worker has = tt
+  same_plans Again worker has = tt
+  same_plans Planning worker has = same_taken worker has
+  same_plans Reading worker has = same_taken worker has
+  same_plans (Read ok) worker has = same_taken worker has
+  same_plans (Refused why) worker has = tt
+  same_plans (Waiting place) worker has = tt
+
+  still_taken : (tx : ℕ) (addr : Addr) → has_taken old tx addr ≡ true → has_taken new tx addr ≡ true
+  still_taken tx addr has = ap is_some (kept.taken tx addr) ∙ has
+
+  still_loaded : (tx : ℕ) (addr : Addr) → IsLoadedFor old tx addr → IsLoadedFor new tx addr
+  still_loaded tx addr is = record {
+    taken = still_taken tx addr is.taken;
+    content = is.content;
+    there = kept.loaded tx addr is.content is.taken is.there;
+  }
+
+  all_loaded : (tx : ℕ) (addrs : List Addr) → AreLoadedFor old tx addrs → AreLoadedFor new tx addrs
+  all_loaded tx addrs are = All-weaker (IsLoadedFor old tx) (IsLoadedFor new tx) (still_loaded tx) addrs are
+
+  same_fetches : (tx : Option ℕ) (asked : Asking) → FetchesFor tx asked old → FetchesFor tx asked new
+  same_fetches tx asked has =
+      map_some (λ (number : ℕ). AreLoadedFor old number asked.fetched
+      × IsSomeAnd asked.wish (λ addr. has_taken old number addr ≡ true))
+      (λ (number : ℕ). AreLoadedFor new number asked.fetched
+      × IsSomeAnd asked.wish (λ addr. has_taken new number addr ≡ true)) tx (λ number both. (
+        all_loaded number asked.fetched both.0,
+        map_some (λ (addr : Addr). has_taken old number addr ≡ true) (λ (addr : Addr). has_taken new number addr ≡ true)
+            asked.wish (still_taken number) both.1,
+      )) has
+
+  same_loads : (phase : Phase) (tx : Option ℕ) (asked : Asking) → LoadsFor phase tx asked old
+      → LoadsFor phase tx asked new
+  same_loads Idle tx asked has = tt
+  same_loads Called tx asked has = tt
+  same_loads Planning tx asked has =
+      map_some (λ (number : ℕ). AreLoadedFor old number asked.fetched) (λ (number : ℕ). AreLoadedFor new number asked.fetched)
+      tx (λ number. all_loaded number asked.fetched) has
+  same_loads Reading tx asked has = same_fetches tx asked has
+  same_loads (Read ok) tx asked has = same_fetches tx asked has
+  same_loads (Refused why) tx asked has = tt
+  same_loads Again tx asked has = tt
+  same_loads (Waiting place) tx asked has = tt
+
+  pub still_at_work : (worker : State) → GoesWith worker new → IsCoreAtWork worker old → IsCoreAtWork worker new
+  still_at_work worker with at_work = record {
+    with = with;
+    alone = record {
+      fetches = λ block. kept.fetches block ∙ at_work.alone.fetches block;
+      plans = same_plans worker.phase worker at_work.alone.plans;
+    };
+    loads = same_loads worker.phase worker.begun.tx worker.asked at_work.loads;
+  }
+
+-- ---- a step of the log's side commits nothing and begins nothing
+
+pub record IsBesideWorkers (made : Option Step) : Type 0 where
+  pub no_commit : commits made ≡ false
+  pub begun : (told : Told) (now : Event) → (told_after told now made).begun ≡ told.begun
+
+no_step : IsBesideWorkers None
+no_step = record { no_commit = refl; begun = λ told now. refl }
+
+is_none : (made : Option Step) → made ≡ None → IsBesideWorkers made
+is_none made is = subst IsBesideWorkers (sym is) no_step
+
+log_next : (may : Bool) (made : Option Step) (o : Setting) (log : LogTold)
+    → IsNextOfLog may (next_log_call o.position log) made → IsBesideWorkers made
+log_next true (Some (step.LogNext call)) o log is = record { no_commit = refl; begun = λ told now. refl }
+log_next true None o log is = absurd is
+log_next true (Some _) o log is = absurd is
+log_next false made o log is = is_none made is
+
+of_log : (call : CallTold) (made : Option Step) (o : Setting) (log : LogTold) → IsStepOfLog o log call made
+    → IsBesideWorkers made
+of_log idle made o log is = log_next (may_log_told log) made o log is
+of_log (out call) made o log is = is_none made is
+of_log (was_made call ok) made o log is =
+    subst IsBesideWorkers (sym is) (record { no_commit = refl; begun = λ told now. refl })
+
+inst_next : (may : Bool) (made : Option Step) (o : Setting) (log : LogTold)
+    → IsNextOfInstaller may (IsNextOfInstalling o.geometry.blocks log) made → IsBesideWorkers made
+inst_next true (Some (step.InstNext call)) o log is = record { no_commit = refl; begun = λ told now. refl }
+inst_next true None o log is = absurd is
+inst_next true (Some _) o log is = absurd is
+inst_next false made o log is = is_none made is
+
+of_installer : (call : CallTold) (made : Option Step) (o : Setting) (log : LogTold)
+    → IsStepOfInstaller o log call made → IsBesideWorkers made
+of_installer idle made o log is = inst_next (may_install_told log) made o log is
+of_installer (out call) made o log is = is_none made is
+of_installer (was_made call ok) made o log is =
+    subst IsBesideWorkers (sym is) (record { no_commit = refl; begun = λ told now. refl })
+
+of_log_io : (call : CallTold) (made : Option Step) → IsStepOfLogIo call made → IsBesideWorkers made
+of_log_io (out call) (Some (step.LogIo ok)) is = record { no_commit = refl; begun = λ told now. refl }
+of_log_io (out call) None is = absurd is
+of_log_io (out call) (Some _) is = absurd is
+of_log_io idle made is = is_none made is
+of_log_io (was_made call ok) made is = is_none made is
+
+of_inst_io : (call : CallTold) (made : Option Step) → IsStepOfInstIo call made → IsBesideWorkers made
+of_inst_io (out call) (Some (step.InstIo ok)) is = record { no_commit = refl; begun = λ told now. refl }
+of_inst_io (out call) None is = absurd is
+of_inst_io (out call) (Some _) is = absurd is
+of_inst_io idle made is = is_none made is
+of_inst_io (was_made call ok) made is = is_none made is
+
+beside_workers : (now : Event) (o : Setting) (log : LogTold) (made : Option Step) → may_make now o log made
+    → IsBesideWorkers made
+beside_workers event.Log o log made may = of_log log.log_call made o log may
+beside_workers event.LogIo o log made may = of_log_io log.log_call made may
+beside_workers event.Install o log made may = of_installer log.inst_call made o log may
+beside_workers event.InstIo o log made may = of_inst_io log.inst_call made may
+beside_workers (event.Call worker credential moment call) o log made may = absurd may
+beside_workers (event.Work worker) o log made may = absurd may
+beside_workers (event.Read worker) o log made may = absurd may
+
+-- such an event is of no worker, and its step is one that may be made
+pub record IsOfLogSide (o : Setting) (workers : ℕ) (told : Told) (now : Event) (made : Option Step) : Type 0 where
+  pub taken : IsTaken o workers told now made
+  pub of_none : worker_of now ≡ None
+  pub workers_stay : (worker : ℕ) → (told_after told now made).workers worker ≡ told.workers worker
+
+log_workers : (told : Told) (made : Option Step) (worker : ℕ) → (told_after told event.Log made).workers worker ≡ told.workers worker
+log_workers told None worker = refl
+log_workers told (Some one) worker = refl
+
+log_io_workers : (told : Told) (made : Option Step) (worker : ℕ)
+    → (told_after told event.LogIo made).workers worker ≡ told.workers worker
+log_io_workers told None worker = refl
+log_io_workers told (Some one) worker = refl
+
+install_workers : (told : Told) (made : Option Step) (worker : ℕ)
+    → (told_after told event.Install made).workers worker ≡ told.workers worker
+install_workers told None worker = refl
+install_workers told (Some one) worker = refl
+
+inst_io_workers : (told : Told) (made : Option Step) (worker : ℕ)
+    → (told_after told event.InstIo made).workers worker ≡ told.workers worker
+inst_io_workers told None worker = refl
+inst_io_workers told (Some one) worker = refl
+
+pub of_log_side : (o : Setting) (workers : ℕ) (told : Told) (now : Event) (made : Option Step)
+    → may_make now o told.log made → IsOfLogSide o workers told now made
+of_log_side o workers told event.Log made may = record {
+  taken = record { own = λ one. may; others = λ none. absurd (none tt) };
+  of_none = refl;
+  workers_stay = log_workers told made;
+}
+of_log_side o workers told event.LogIo made may = record {
+  taken = record { own = λ one. may; others = λ none. absurd (none tt) };
+  of_none = refl;
+  workers_stay = log_io_workers told made;
+}
+of_log_side o workers told event.Install made may = record {
+  taken = record { own = λ one. may; others = λ none. absurd (none tt) };
+  of_none = refl;
+  workers_stay = install_workers told made;
+}
+of_log_side o workers told event.InstIo made may = record {
+  taken = record { own = λ one. may; others = λ none. absurd (none tt) };
+  of_none = refl;
+  workers_stay = inst_io_workers told made;
+}
+of_log_side o workers told (event.Call worker credential moment call) made may = absurd may
+of_log_side o workers told (event.Work worker) made may = absurd may
+of_log_side o workers told (event.Read worker) made may = absurd may
+
+told_log : (told : Told) (now : Event) (made : Option Step) → (told_after told now made).log ≡ told_next told.log made
+told_log told now None = refl
+told_log told now (Some one) = refl
+
+-- ---- an event of the log's side
+
+module _ (b : Beginning) (now : Event) (old new : StoreSide) (made : Option Step) (worker : State) (before after : Run)
+    (is_next : IsNextEvent b now before) (is : IsLogStep (may_make now) old made new) (with : GoesWith worker new.core)
+    (notes : NotesStep made before after) (going : IsGoing b old worker before) where
+  abbrev pub t : Transcript
+  t = transcript_of before
+
+  abbrev o : Setting
+  o = going.setting
+
+  abbrev told : Told
+  told = told_now b.events t
+
+  went : GoesOnBy (may_make now) o going.base old made new (fetches_of worker) (b.first + 1) b.tree (entries_of t)
+      going.last
+  went = is.runs o going.base (fetches_of worker) (b.first + 1) b.tree going.last (entries_of t) going.run.running
+
+  may : may_make now o told.log made
+  may = subst (λ (log : LogTold). may_make now o log made) (sym going.run.told.log) went.may
+
+  abbrev pub home : Image
+  home = home_next going.base old.core.log made
+
+  of_side : IsOfLogSide o b.workers told now made
+  of_side = of_log_side o b.workers told now made may
+
+  beside : IsBesideWorkers made
+  beside = beside_workers now o told.log made may
+
+  no_answer : (worker : Option ℕ) → worker ≡ None
+      → ends_of told (told_after told now made) worker ≡ false
+  no_answer worker none = ap (λ (w : Option ℕ). ends_of told (told_after told now made) w) none
+
+  pub goes : GoesOn b o t old (step_alone made) o home new (fetches_of worker) going.last
+  goes = record {
+    event = now;
+    next = is_next.next;
+    taken = of_side.taken;
+    notes = record { entry = beside.no_commit; answer = no_answer (worker_of now) of_side.of_none };
+    device = is.device;
+    same = refl;
+    blocks = λ place within. refl;
+    running = subst (λ (es : List Entry). IsRunningOver o home new (fetches_of worker) (b.first + 1) b.tree es going.last)
+        (sym (same_entries t made)) went.running;
+    told = record {
+      log = told_log told now made ∙ ap (λ (log : LogTold). told_next log made) going.run.told.log ∙ sym went.told;
+      begun = beside.begun told now ∙ going.run.told.begun ∙ sym is.core.begun;
+    };
+    leads = subst (λ (es : List Entry). leads_to b.tree es going.last) (sym (same_entries t made)) going.run.leads;
+    files = λ place. subst (λ (es : List Entry). StandsAfter o.geometry b.tree (take place es) (o.blocks place))
+        (sym (same_entries t made)) (going.run.files place);
+    changes = tt;
+  }
+
+  pub goes_on : IsRun b o (with_noted t (step_alone made)) home new (fetches_of worker) going.last
+      → told_now b.events (with_noted t (step_alone made)) ≡ told_after told now made → IsGoing b new worker after
+  goes_on run told_then = goes_on_with b o home going.last new worker before after (step_alone made) now
+      (tells_step made before after notes) run told_then
+      (subst (λ (es : List Entry). IsWorkerAt (b.first + 1) es worker) (sym (same_entries t made)) going.stands)
+      (still_at_work old.core new.core is.core (sym went.running.blocks ∙ going.run.running.blocks) worker with
+      going.at_work)
+      (of_side.workers_stay 0 ∙ going.progress)

@@ -1,0 +1,16 @@
+pub mod AtWorkEvents
+pub mod AtWorkFetched
+pub mod AtWorkGoes
+pub mod AtWorkMay
+pub mod AtWorkStays
+pub mod AtWorkTold
+pub mod CommitTold
+pub mod FormattedRun
+pub mod GoingBeside
+pub mod GoingCall
+pub mod GoingOn
+pub mod GoingRead
+pub mod GoingWork
+pub mod OwnChanges
+pub mod RunTaken
+pub mod WholeRun

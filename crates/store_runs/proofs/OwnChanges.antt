@@ -1,0 +1,147 @@
+-- What a worker's commit writes lies in what its transaction has taken, and so all else stays.
+use Rattle.std.proofs.Common.{◌≡◌, ◌∙◌, sym, ap, subst, ◌⊎◌, inl, inr, ℕ, ◌+◌, ◌<◌, arith, refl}
+use Rattle.std.proofs.Common.{Bool, true, false, ◌&&◌, ◌||◌, nat_eq, nat_lt, List, [], ◌∷◌, map, length, Option, Some, None, All}
+use Rattle.std.specs.List.{list_any}
+use Rattle.std.proofs.lemmas.Bool.{and_from, and_parts, eq-eqb, eqb-true, lt-ltb, or_left, or_right, true≢false}
+use Rattle.std.proofs.lemmas.List.Elements.{All-weaker}
+use Rattle.disk.specs.Crash.{Image}
+use Rattle.disk.specs.declared.block.BlockNo.{BlockNo}
+use Rattle.limits.specs.declared.TheConstants.{BLOCK_BYTES}
+use Rattle.objects.specs.Addr.{Overlap}
+use Rattle.objects.specs.declared.addr.Addr.{Addr}
+use Rattle.objects.specs.declared.mode.Mode.TheVariants as modes
+use Rattle.procs.specs.Snap.{is_claimed, is_seen, same_addr}
+use Rattle.txn_law.specs.Object.{ObjectBytes}
+use Rattle.txn_law.specs.Window.{with_objects}
+use Rattle.txn_law.proofs.Beside.{stays_beside}
+use Rattle.store_promise.specs.Changes.{KeepsOthers}
+use Rattle.store_promise.specs.Progress.{At, Begun, Planning, Progress, Taken, Wished, keeps_off, shares, takes}
+use Rattle.store_promise.specs.Progress as told
+use Rattle.store_promise.specs.Schedule.{wish_of}
+use Rattle.store_workers.specs.Asked.{Asking}
+use Rattle.store_runs.specs.AtWork.{IsSeenIn}
+use Rattle.store_workers.specs.Seen.{Seen, seen_in}
+use Rattle.store_workers.specs.Stages.{alone, at_fetch, at_stage, begun_of, claimed_in, held_in}
+use Rattle.store_workers.specs.Stages.{progress_in, progress_of}
+use Rattle.store_workers.specs.declared.workers.parts.Job.{Job}
+use Rattle.store_workers.specs.declared.workers.parts.Phase.{Phase}
+use Rattle.store_workers.specs.declared.workers.parts.Phase.TheVariants as phases
+use Rattle.store_workers.specs.declared.workers.parts.State.{State}
+
+-- ---- what a planning worker is told to have taken
+
+no_fetch : (job : Option Job) (stage : Taken → told.Stage) (mine : Begun) (wish : Option Addr) (j : told.Job) (b : Begun)
+    → ((taken : Taken) → stage taken ≡ Planning b → ⊥)
+    → at_stage job (at_fetch stage mine wish) ≡ At j (Planning b) → mine ≡ b
+no_fetch None stage mine wish j b never is = cc
+no_fetch (Some job) stage mine None j b never is = let same : Planning mine ≡ Planning b = cc in cc
+no_fetch (Some job) stage mine (Some addr) j b never is =
+    let same : stage (alone addr) ≡ Planning b = cc in absurd (never (alone addr) same)
+
+planned_in : (phase : Phase) (job : Option Job) (mine : Begun) (asked : Asking) (j : told.Job) (b : Begun)
+    → progress_in phase job mine asked ≡ At j (Planning b) → mine ≡ b
+planned_in phases.Idle job mine asked j b is = cc
+planned_in phases.Called None mine asked j b is = cc
+planned_in phases.Called (Some job) mine asked j b is = cc
+planned_in phases.Planning None mine asked j b is = cc
+planned_in phases.Planning (Some job) mine asked j b is = let same : Planning mine ≡ Planning b = cc in cc
+planned_in phases.Reading job mine asked j b is =
+    no_fetch job (λ taken. told.Reading mine taken) mine asked.wish j b (λ taken same. cc) is
+planned_in (phases.Read ok) job mine asked j b is =
+    no_fetch job (λ taken. told.Read mine taken ok) mine asked.wish j b (λ taken same. cc) is
+planned_in (phases.Refused why) None mine asked j b is = cc
+planned_in (phases.Refused why) (Some job) mine asked j b is = cc
+planned_in phases.Again None mine asked j b is = cc
+planned_in phases.Again (Some job) mine asked j b is = cc
+planned_in (phases.Waiting place) job mine asked j b is = by asked.waiting is
+  where
+    by : (waiting : Option Job) → at_stage waiting (told.Waiting place.0) ≡ At j (Planning b) → mine ≡ b
+    by None is = cc
+    by (Some job) is = cc
+
+-- it is what its worker has read and claimed
+pub planned_has : (state : State) (j : told.Job) (b : Begun) → progress_of state ≡ At j (Planning b)
+    → (b.held ≡ held_in (seen_in state.work.snap)) × (b.claimed ≡ claimed_in (seen_in state.work.snap))
+planned_has state j b is =
+    let mine = begun_of state.begun.tx (seen_in state.work.snap) state.asked.fetched in
+    let same = planned_in state.phase state.work.job mine state.asked j b is in
+    (sym (ap (λ (b : Begun). b.held) same), sym (ap (λ (b : Begun). b.claimed) same))
+
+-- ---- what shares a byte with what is written shares one with what was taken
+
+module _ (addr : Addr) where
+  abbrev wished : Wished
+  wished = wish_of addr modes.Exclusive
+
+  abbrev IsAside : ObjectBytes → Type 0
+  IsAside object = Overlap object.addr addr → ⊥
+
+  at_same : (object other : Addr) → same_addr object other ≡ true → Overlap object addr → keeps_off wished (alone other) ≡ true
+  at_same object other same over =
+      let (front, lens) = and_parts (nat_eq object.block.0 other.block.0 && nat_eq object.offset other.offset)
+      (nat_eq object.len other.len) same in
+      let (blocks, offsets) = and_parts (nat_eq object.block.0 other.block.0) (nat_eq object.offset other.offset) front in
+      let block_is = eqb-true object.block.0 other.block.0 blocks in
+      let offset_is = eqb-true object.offset other.offset offsets in
+      let len_is = eqb-true object.len other.len lens in
+      let at : object.block.0 ≡ addr.block.0 = ap (λ (b : BlockNo). b.0) over.0 in
+      let one = over.1 in
+      let two = over.2 in
+      and_from (shares wished other) true
+      (and_from (nat_eq other.block.0 addr.block.0 && nat_lt other.offset (addr.offset + addr.len))
+      (nat_lt addr.offset (other.offset + other.len))
+      (and_from (nat_eq other.block.0 addr.block.0) (nat_lt other.offset (addr.offset + addr.len))
+      (eq-eqb other.block.0 addr.block.0 (sym block_is ∙ at))
+      (lt-ltb other.offset (addr.offset + addr.len) (omega (arith, offset_is, one))))
+      (lt-ltb addr.offset (other.offset + other.len) (omega (arith, offset_is, len_is, two)))) refl
+
+  among_read : (object : Addr) (objects : List ObjectBytes) → is_seen object objects ≡ true → Overlap object addr
+      → list_any (keeps_off wished) (map (λ (o : ObjectBytes). alone o.addr) objects) ≡ true
+  among_read object [] seen over = absurd (true≢false (sym seen))
+  among_read object (o ∷ os) seen over =
+      by (same_addr object o.addr) refl (λ later. among_read object os later over)
+    where
+      by : (t : Bool) → same_addr object o.addr ≡ t → (is_seen object os ≡ true
+          → list_any (keeps_off wished) (map (λ (o : ObjectBytes). alone o.addr) os) ≡ true)
+          → list_any (keeps_off wished) (map (λ (o : ObjectBytes). alone o.addr) (o ∷ os)) ≡ true
+      by true same rest = or_left (keeps_off wished (alone o.addr)) _ (at_same object o.addr same over)
+      by false other rest = or_right (keeps_off wished (alone o.addr)) _
+          (rest (sym (ap (λ (t : Bool). t || is_seen object os) other) ∙ seen))
+
+  among_claimed : (block : BlockNo) (claims : List BlockNo) → is_claimed block claims ≡ true → block.0 ≡ addr.block.0
+      → list_any (λ (claim : BlockNo). nat_eq claim.0 addr.block.0) claims ≡ true
+  among_claimed block [] claimed at = absurd (true≢false (sym claimed))
+  among_claimed block (c ∷ cs) claimed at =
+      by (nat_eq block.0 c.0) refl (λ later. among_claimed block cs later at)
+    where
+      by : (t : Bool) → nat_eq block.0 c.0 ≡ t → (is_claimed block cs ≡ true
+          → list_any (λ (claim : BlockNo). nat_eq claim.0 addr.block.0) cs ≡ true)
+          → list_any (λ (claim : BlockNo). nat_eq claim.0 addr.block.0) (c ∷ cs) ≡ true
+      by true same rest = or_left (nat_eq c.0 addr.block.0) _
+          (eq-eqb c.0 addr.block.0 (sym (eqb-true block.0 c.0 same) ∙ at))
+      by false other rest = or_right (nat_eq c.0 addr.block.0) _
+          (rest (sym (ap (λ (t : Bool). t || is_claimed block cs) other) ∙ claimed))
+
+  module _ (b : Begun) (seen : Seen) (held : b.held ≡ held_in (Some seen)) (claims : b.claimed ≡ seen.claims)
+      (free : takes wished b ≡ false) where
+    apart : (object : ObjectBytes) → IsSeenIn seen object → IsAside object
+    apart object (inl read) over =
+        let one : list_any (keeps_off wished) b.held ≡ true =
+        ap (λ (ts : List Taken). list_any (keeps_off wished) ts) held ∙ among_read object.addr seen.objects read over in
+        true≢false (sym (or_left _ _ (or_left _ _ one)) ∙ free)
+    apart object (inr claimed) over =
+        let one : list_any (λ (claim : BlockNo). nat_eq claim.0 addr.block.0) b.claimed ≡ true =
+        ap (λ (cs : List BlockNo). list_any (λ (claim : BlockNo). nat_eq claim.0 addr.block.0) cs) claims
+        ∙ among_claimed object.addr.block seen.claims claimed (ap (λ (b : BlockNo). b.0) over.0) in
+        true≢false (sym (or_right _ _ one) ∙ free)
+
+-- so nothing else is changed
+pub keeps_others : (size : ℕ) (b : Begun) (seen : Seen) (blocks : Image) (written : List ObjectBytes)
+    → b.held ≡ held_in (Some seen) → b.claimed ≡ seen.claims → All (IsSeenIn seen) written
+    → All (λ object. length object.bytes ≡ object.addr.len) written
+    → ((block : ℕ) → block < size → length (blocks block) ≡ BLOCK_BYTES)
+    → KeepsOthers size b blocks (with_objects blocks written)
+keeps_others size b seen blocks written held claims own sizes whole addr within free =
+    stays_beside addr blocks written
+    (All-weaker (IsSeenIn seen) (IsAside addr) (λ object is. apart addr b seen held claims free object is) written own)
+    sizes (whole addr.block.0 within)

@@ -1,0 +1,134 @@
+-- What the steps of a worker that is alone rest on: the blocks that were fetched for its transaction, and those that
+-- stand for the files after each place.
+use Rattle.std.specs.Prelude.{◌≡◌, ◌⊎◌, ℕ, ◌+◌, ◌++◌, ◌∷◌, Bool, true, false, Option, Some, is_some, IsSomeAnd}
+use Rattle.std.specs.Prelude.{List, [], All, length, option_to_list}
+use Rattle.disk.specs.Crash.{Image}
+use Rattle.disk.specs.Device.{Content}
+use Rattle.objects.specs.declared.addr.Addr.{Addr}
+use Rattle.model.specs.Entry.{Entry as Committed}
+use Rattle.procedures.specs.Step as procedures
+use Rattle.model.specs.Tree.{Tree}
+use Rattle.procs.specs.Snap.{is_claimed, is_seen}
+use Rattle.txn.specs.Outcomes.{TakesPlace}
+use Rattle.txn_law.specs.Commit.{Planned}
+use Rattle.txn_law.specs.Core.{CoreState}
+use Rattle.txn_law.specs.Fetch.{Fetch}
+use Rattle.txn_law.specs.Leaves.{in_memory, taken_by}
+use Rattle.txn_law.specs.Object.{ObjectBytes}
+use Rattle.txn_law.specs.Window.{with_objects}
+use Rattle.store_promise.specs.OpenSince.{TellsOf, file_blocks}
+use Rattle.store_promise.specs.Running.{IsRunningOver, StoreSide, with_blocks}
+use Rattle.store_promise.specs.Schedule.{Setting}
+use Rattle.store_promise.specs.declared.answers.Entry.{Entry}
+use Rattle.store_promise.specs.declared.events.Committing.TheVariants as committing
+use Rattle.store_promise.specs.declared.events.Step.{Step}
+use Rattle.store_promise.specs.declared.events.Step.TheVariants as step
+use Rattle.store_workers.specs.Alone.{IsAlone}
+use Rattle.store_workers.specs.Asked.{Asking}
+use Rattle.store_workers.specs.Seen.{Seen, seen_in}
+use Rattle.store_workers.specs.Worker.{GoesWith}
+use Rattle.store_workers.specs.WorkerSteps.{Side}
+use Rattle.store_workers.specs.declared.workers.parts.Phase.{Phase}
+use Rattle.store_workers.specs.declared.workers.parts.Phase.TheVariants.{Idle, Called, Planning}
+use Rattle.store_workers.specs.declared.workers.parts.Phase.TheVariants.{Reading, Read}
+use Rattle.store_workers.specs.declared.workers.parts.Phase.TheVariants.{Refused, Again, Waiting}
+use Rattle.store_workers.specs.declared.workers.parts.State.{State}
+
+-- ---- what was fetched
+
+-- the transaction has taken the address
+abbrev pub has_taken : CoreState → ℕ → Addr → Bool
+has_taken core tx addr = is_some (taken_by core tx addr)
+
+-- The transaction has taken the address, and its block is in memory.
+pub record IsLoadedFor (core : CoreState) (tx : ℕ) (addr : Addr) : Type 0 where
+  pub taken : has_taken core tx addr ≡ true
+  pub content : Content
+  pub there : in_memory core addr.block ≡ Some content
+
+-- so it is of each of these
+abbrev pub AreLoadedFor : CoreState → ℕ → List Addr → Type 0
+AreLoadedFor core tx addrs = All (IsLoadedFor core tx) addrs
+
+-- ---- the run
+
+-- the run with this core
+abbrev pub with_core : StoreSide → CoreState → StoreSide
+with_core side core = record side { core = core }
+
+-- ---- a worker at work
+
+-- its transaction has taken the object whose block is fetched, and the blocks that were fetched before are in memory
+abbrev pub FetchesFor : Option ℕ → Asking → CoreState → Type 0
+FetchesFor tx asked core = IsSomeAnd tx (λ number. AreLoadedFor core number asked.fetched
+    × IsSomeAnd asked.wish (λ addr. has_taken core number addr ≡ true))
+
+-- what was fetched for a worker's transaction is in memory while it goes by its plans
+abbrev pub LoadsFor : Phase → Option ℕ → Asking → CoreState → Type 0
+LoadsFor Idle tx asked core = Unit {0}
+LoadsFor Called tx asked core = Unit {0}
+LoadsFor Planning tx asked core = IsSomeAnd tx (λ number. AreLoadedFor core number asked.fetched)
+LoadsFor Reading tx asked core = FetchesFor tx asked core
+LoadsFor (Read ok) tx asked core = FetchesFor tx asked core
+LoadsFor (Refused why) tx asked core = Unit {0}
+LoadsFor Again tx asked core = Unit {0}
+LoadsFor (Waiting place) tx asked core = Unit {0}
+
+abbrev pub Loads : State → CoreState → Type 0
+Loads worker core = LoadsFor worker.phase worker.begun.tx worker.asked core
+
+-- A core as its one worker has left it: it fits the worker, nobody else has taken or fetches anything of it, and what
+-- was fetched for the worker is in memory.
+pub record IsCoreAtWork (worker : State) (core : CoreState) : Type 0 where
+  pub with : GoesWith worker core
+  pub alone : IsAlone worker core
+  pub loads : Loads worker core
+
+-- a fetch that was made well, and isn't given back yet
+abbrev pub fetches_in : Phase → Option Fetch → List Fetch
+fetches_in (Read true) io = option_to_list io
+fetches_in _ io = []
+
+abbrev pub fetches_of : State → List Fetch
+fetches_of worker = fetches_in worker.phase worker.begun.io
+
+-- ---- commits
+
+-- the step took a place
+abbrev pub has_committed : Option Step → Bool
+has_committed (Some (step.Commit added (committing.Committed place))) = true
+has_committed _ = false
+
+-- the entry of a worker in a history
+abbrev pub entry_by : ℕ → Entry → Committed
+entry_by number entry = record { worker = number; ctx = entry.ctx; call = entry.call; reply = entry.reply }
+
+-- the object was read for the call, or its block was claimed
+abbrev pub IsSeenIn : Seen → ObjectBytes → Type 0
+IsSeenIn seen object = (is_seen object.addr seen.objects ≡ true)
+    ⊎ (is_claimed object.addr.block seen.claims ≡ true)
+
+-- What a worker's plan ended in took a place, and lies ready as an entry, which tells of a step of the sequential
+-- server. It writes what was read and claimed for it.
+pub record HasTakenPlace (boot number : ℕ) (old new : Side) : Type 0 where
+  pub tx : ℕ
+  pub plan : Planned
+  pub place : ℕ
+  pub entry : Entry
+  pub took : TakesPlace old.core tx plan place new.core
+  pub ready : new.worker.work.entry ≡ Some entry
+  pub tells : TellsOf boot plan (entry_by number entry)
+  pub own : IsSomeAnd (seen_in old.worker.work.snap) (λ seen. All (IsSeenIn seen) plan.written)
+
+-- A place was taken, the next one. In the setting that has from it on the blocks that stand for the files then, the
+-- run goes on with the place's entry, a step of the sequential server from the files as they were; and those blocks are
+-- the old ones with what was written.
+pub record GoesOnWith (o : Setting) (base : Image) (store : StoreSide) (new : Side) (boot number : ℕ) (first : Tree)
+    (entries : List Committed) (last : Tree) (old : Side) : Type 0 where
+  pub taken : HasTakenPlace boot number old new
+  pub next : taken.place ≡ length entries + 1
+  pub left : Tree
+  pub goes : procedures.step last taken.entry.ctx taken.entry.call taken.entry.reply left
+  pub runs : IsRunningOver (with_blocks o (length entries) (file_blocks base new.core)) base (with_core store new.core)
+      (fetches_of new.worker) boot first (entries ++ entry_by number taken.entry ∷ []) left
+  pub writes : file_blocks base new.core ≡ with_objects (file_blocks base old.core) taken.plan.written

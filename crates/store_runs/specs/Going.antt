@@ -1,0 +1,112 @@
+-- What holds of a run between two events, as the code has it.
+use Rattle.std.specs.Prelude.{◌≡◌, ℕ, ◌+◌, ◌++◌, ◌∷◌, [], Option, Some, length, slice_get}
+use Rattle.disk.specs.Crash.{Image}
+use Rattle.disk.specs.Device.{Device}
+use Rattle.model.specs.Tree.{Tree}
+use Rattle.store_promise.specs.declared.events.Event.{Event}
+use Rattle.store_promise.specs.declared.events.Event.TheVariants as event
+use Rattle.store_promise.specs.declared.events.Step.{Step}
+use Rattle.store_promise.specs.declared.transcript.Run.{Run}
+use Rattle.store_promise.specs.LogTold.{LogTold}
+use Rattle.store_promise.specs.Running.{StoreSide}
+use Rattle.store_promise.specs.Headline.{MayRun}
+use Rattle.store_promise.specs.Schedule.{IsTimely, Schedule, Setting}
+use Rattle.store_promise.specs.Transcript.{entries_of, transcript_of}
+use Rattle.run_law.specs.Noting.{progress_now}
+use Rattle.run_law.specs.Run.{Beginning, IsRun}
+use Rattle.store_runs.specs.AtWork.{IsCoreAtWork, fetches_of}
+use Rattle.store_images.specs.LogSide.{MayInstIo, MayInstall, MayLog, MayLogIo}
+use Rattle.store_runs.specs.Running.{side_of}
+use Rattle.store_workers.specs.Stages.{IsWorkerAt, progress_of}
+use Rattle.store_workers.specs.Worker.{GoesWith}
+use Rattle.store_workers.specs.WorkerSteps.{KeepsHomeOf, KeepsReadsOf, Side}
+use Rattle.wal_law.specs.Log.{IsLawful}
+use Rattle.txn_law.specs.Core.{CoreState}
+use Rattle.txn_law.specs.Tidy.{AreTidy}
+use Rattle.store_runs.specs.declared.runs.running.Calls.{Calls}
+use Rattle.store_workers.specs.declared.workers.parts.State.{State}
+
+-- A run goes on, of one worker: it is one so far, and the worker stands where its steps have told, at work on the
+-- core.
+pub record IsGoing (b : Beginning) (store : StoreSide) (worker : State) (told : Run) : Type 0 where
+  pub setting : Setting
+  pub base : Image
+  pub last : Tree
+  pub run : IsRun b setting (transcript_of told) base store (fetches_of worker) last
+  pub stands : IsWorkerAt (b.first + 1) (entries_of (transcript_of told)) worker
+  pub at_work : IsCoreAtWork worker store.core
+  pub progress : progress_now b.events (transcript_of told) 0 ≡ progress_of worker
+
+-- this event is next, and is handed over at a sound time
+pub record IsNextEvent (b : Beginning) (now : Event) (told : Run) : Type 0 where
+  pub alone : b.workers ≡ 1
+  pub next : slice_get b.events (length told.steps.items) ≡ Some now
+  pub timely : IsTimely now
+
+-- what an event notes beside its step, which is told last
+pub record NotesStep (made : Option Step) (before after : Run) : Type 0 where
+  pub steps : after.steps.items ≡ before.steps.items ++ made ∷ []
+  pub boot : after.boot ≡ before.boot
+  pub history : after.history.items ≡ before.history.items
+  pub answers : after.answers.items ≡ before.answers.items
+
+-- the steps of the log's events and of the installer's
+abbrev pub may_make : Event → Setting → LogTold → Option Step → Type 0
+may_make event.Log o log made = MayLog o log made
+may_make event.LogIo o log made = MayLogIo o log made
+may_make event.Install o log made = MayInstall o log made
+may_make event.InstIo o log made = MayInstIo o log made
+may_make (event.Call worker credential moment call) o log made = ⊥
+may_make (event.Work worker) o log made = ⊥
+may_make (event.Read worker) o log made = ⊥
+
+-- what a worker's step keeps of its core, beside what it says
+pub record KeepsCore (old new : Side) : Type 0 where
+  pub home : KeepsHomeOf old new
+  pub reads : KeepsReadsOf old new
+  pub lawful : IsLawful new.core.log
+  pub tidy : AreTidy new.core
+  pub with : GoesWith new.worker new.core
+
+-- ---- with its clock
+
+-- the device and the core with the calls that are out, the worker, and how many device calls the events have made
+pub record RunSide : Type 0 where
+  pub store : StoreSide
+  pub worker : State
+  pub clock : ℕ
+
+abbrev pub run_side : Device → CoreState → Calls → State → ℕ → RunSide
+run_side device core calls worker clock = record { store = side_of device core calls; worker = worker; clock = clock }
+
+-- a run goes on, whose clock has counted the calls since its opening
+pub record IsRunAt (b : Beginning) (run : RunSide) (told : Run) : Type 0 where
+  pub going : IsGoing b run.store run.worker told
+  pub clock : run.store.device.clock ≡ b.opened.clock + run.clock
+
+-- with this event it goes on, where the device keeps its model
+abbrev pub LeavesGoing : Type 0 → Event → RunSide → Run → RunSide → Run → Type 0
+LeavesGoing keeps_model now old before new after =
+    (b : Beginning) → keeps_model → IsNextEvent b now before → IsRunAt b old before → IsRunAt b new after
+
+-- What a run stands on, of a device that was opened for it: one worker takes these events.
+abbrev pub begins : Device → Device → Tree → ℕ → Schedule → Beginning
+begins before opened tree first events = record {
+  before = before;
+  opened = opened;
+  tree = tree;
+  first = first;
+  workers = 1;
+  events = events;
+}
+
+-- a run is on its way, from a device that held this tree
+pub record HasGone (before : Device) (tree : Tree) (first : ℕ) (events : Schedule) (run : RunSide) (told : Run)
+    : Type 0 where
+  pub opened : Device
+  pub at : IsRunAt (begins before opened tree first events) run told
+
+-- so it is where the device held it, the events come at sound times, and the device keeps its model
+abbrev pub GoesOnWell : Type 0 → Device → Schedule → RunSide → Run → Type 0
+GoesOnWell keeps_model before events run told = (tree : Tree) (first : ℕ)
+    → MayRun keeps_model before tree first 1 events → HasGone before tree first events run told

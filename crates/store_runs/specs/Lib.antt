@@ -1,0 +1,4 @@
+pub mod AtWork
+pub mod FormattedRun
+pub mod Going
+pub mod Running

@@ -1,0 +1,46 @@
+-- What is true of a run that goes on.
+use Rattle.std.specs.Prelude.{◌≡◌, ℕ, ◌+◌, ◌-◌, ◌^◌, Bool, Option, Some, None, IfSome, if◌then◌else◌, min}
+use Rattle.disk.specs.Device.{Device}
+use Rattle.txn.specs.Core.{CoreState}
+use Rattle.wal.specs.Io.{Io, IsCallWithin}
+use Rattle.store_promise.specs.declared.events.Step.{Step}
+use Rattle.store_promise.specs.Running.{StoreSide}
+use Rattle.store_promise.specs.Transcript.{calls_device}
+use Rattle.store_images.specs.LogSide.{pending_of}
+use Rattle.store_workers.specs.Worker.{Fits}
+use Rattle.store_runs.specs.declared.runs.running.Calls.{Calls}
+use Rattle.store_workers.specs.declared.workers.Worker.{Worker}
+
+-- a device and a core, with the calls that are out
+abbrev pub side_of : Device → CoreState → Calls → StoreSide
+side_of device core calls = record {
+  device = device;
+  core = core;
+  logging = pending_of calls.log calls.log_made;
+  installing = pending_of calls.inst calls.inst_made;
+}
+
+-- a device call that is out goes to a block of the image
+abbrev pub IsWithin : ℕ → Option Io → Type 0
+IsWithin blocks out = IfSome out (λ io. IsCallWithin blocks io.call)
+
+-- a call was made only where it is out
+abbrev pub IsMadeOf : Option Io → Option Bool → Type 0
+IsMadeOf None made = made ≡ None
+IsMadeOf (Some io) made = Unit {0}
+
+-- the worker fits the core, and what is out goes to blocks of the image
+pub record RunsWell (worker : Worker) (core : CoreState) (calls : Calls) : Type 0 where
+  pub fits : Fits worker core
+  pub log_within : IsWithin core.log.blocks calls.log
+  pub inst_within : IsWithin core.log.blocks calls.inst
+  pub log_made_is : IsMadeOf calls.log calls.log_made
+  pub inst_made_is : IsMadeOf calls.inst calls.inst_made
+
+-- the count of device calls with one more, as far as it can count
+abbrev pub one_more : ℕ → ℕ
+one_more clock = min (clock + 1) (2 ^ 64 - 1)
+
+-- and after a step
+abbrev pub counted : ℕ → Option Step → ℕ
+counted clock made = if calls_device made then one_more clock else clock

@@ -1,0 +1,196 @@
+-- What is told of a call that is handed to a worker, and of its read.
+use Rattle.std.proofs.Common.{◌≡◌, ◌∙◌, refl, sym, ap, subst, ℕ, Bool, Option, Some, None, List}
+use Rattle.std.specs.Prelude.{IsSomeAnd}
+use Rattle.disk.specs.Device.{Content}
+use Rattle.nfs_types.specs.declared.call.Call.{Call}
+use Rattle.nfs_types.specs.declared.ctx.Credential.{Credential}
+use Rattle.nfs_types.specs.declared.ctx.Moment.{Moment}
+use Rattle.objects.specs.declared.addr.Addr.{Addr}
+use Rattle.model.specs.Entry.{Entry}
+use Rattle.model.specs.Sound.{SoundTime}
+use Rattle.txn.specs.Fetch.{Fetch}
+use Rattle.store_promise.specs.Progress.{Progress}
+use Rattle.store_promise.specs.Progress as told
+use Rattle.store_promise.specs.Schedule.{IsStepOfCall, IsStepOfRead}
+use Rattle.store_promise.specs.declared.events.Cause.{Cause}
+use Rattle.store_promise.specs.declared.events.Step.{Step}
+use Rattle.store_promise.specs.declared.events.Step.TheVariants as step
+use Rattle.store_workers.proofs.HowFar.{some_of}
+use Rattle.store_workers.specs.Asked.{Asking}
+use Rattle.store_workers.specs.Seen.{seen_in}
+use Rattle.store_workers.specs.Stages.{IsFetchOf, IsJobIn, IsJobOf, IsWorkerAt, RunsIn, StandsAt, at_fetch}
+use Rattle.store_workers.specs.Stages.{at_stage, begun_of, progress_in}
+use Rattle.store_workers.specs.Stages.{progress_of}
+use Rattle.store_workers.specs.Telling.{TakesCall}
+use Rattle.store_workers.specs.WorkTells.{TellsCall, TellsRead, progress_after}
+use Rattle.store_workers.specs.Worker.{ctx_of}
+use Rattle.store_workers.specs.WorkerReads.{with_read}
+use Rattle.store_workers.specs.declared.workers.parts.Job.{Job}
+use Rattle.store_workers.specs.declared.workers.parts.Phase.{Phase}
+use Rattle.store_workers.specs.declared.workers.parts.Phase.TheVariants.{Idle, Called, Planning}
+use Rattle.store_workers.specs.declared.workers.parts.Phase.TheVariants.{Reading, Read}
+use Rattle.store_workers.specs.declared.workers.parts.Phase.TheVariants.{Refused, Again, Waiting}
+use Rattle.store_workers.specs.declared.workers.parts.State.{State}
+
+-- ---- a call
+
+-- a worker with a call takes none
+takes_none : (boot : ℕ) (entries : List Entry) (state : State) (phase : Phase) → StandsAt boot entries phase state
+    → (phase ≡ Idle → ⊥)
+    → IsStepOfCall (progress_in phase state.work.job (begun_of state.begun.tx (seen_in state.work.snap)
+    state.asked.fetched) state.asked) None
+takes_none boot entries state phase stands busy = by phase stands busy
+  where
+    at : (found : Option Job) (job : Job) (stage : told.Stage) → found ≡ Some job
+        → IsStepOfCall (at_stage found stage) None
+    at found job stage is = subst (λ j. IsStepOfCall (at_stage j stage) None) (sym is) refl
+
+    has : (P : Job → Type 0) (stage : told.Stage) → IsSomeAnd state.work.job P
+        → IsStepOfCall (at_stage state.work.job stage) None
+    has P stage some = let (job, is, rest) = some_of state.work.job some in at state.work.job job stage is
+
+    runs : (stage : told.Stage) → RunsIn boot state → IsStepOfCall (at_stage state.work.job stage) None
+    runs stage stands = has (IsJobIn boot state.begun.tx) stage stands
+
+    by : (phase : Phase) → StandsAt boot entries phase state → (phase ≡ Idle → ⊥)
+        → IsStepOfCall (progress_in phase state.work.job (begun_of state.begun.tx (seen_in state.work.snap)
+        state.asked.fetched) state.asked) None
+    by Idle stands busy = absurd (busy refl)
+    by Called stands busy = has (IsJobOf boot) told.Called stands
+    by Planning stands busy = runs _ stands
+    by Reading stands busy = runs _ stands.0
+    by (Read ok) stands busy = runs _ stands.0
+    by (Refused why) stands busy = runs _ stands
+    by Again stands busy = runs _ stands
+    by (Waiting place) stands busy = at state.asked.waiting stands.job _ stands.job_is
+
+pub call_told : (boot : ℕ) (entries : List Entry) (credential : Credential) (moment : Moment) (call : Call)
+    (old new : State) (made : Option Step) → SoundTime moment → IsWorkerAt boot entries old
+    → TakesCall 0 (ctx_of credential moment old.boot) call old made new
+    → TellsCall boot entries (record { credential = credential; moment = moment; call = call }) old made new
+call_told boot entries credential moment call old new (Some made) timely at takes = record {
+  may = subst (λ p. IsStepOfCall (progress_in p old.work.job (begun_of old.begun.tx (seen_in old.work.snap)
+      old.asked.fetched) old.asked) (Some made)) (sym takes.2) (ap (λ m. Some m) takes.0);
+  progress = ap progress_of takes.3;
+  stands = subst (λ s. IsWorkerAt boot entries s) (sym takes.3) (record {
+    boot_is = at.boot_is;
+    entry = at.entry;
+    answer = at.answer;
+    stands = record { boot_is = at.boot_is; timely = timely };
+  });
+}
+call_told boot entries credential moment call old new None timely at takes = record {
+  may = takes_none boot entries old old.phase at.stands (λ idle. takes.1 (refl, idle));
+  progress = ap progress_of takes.0;
+  stands = subst (λ s. IsWorkerAt boot entries s) (sym takes.0) at;
+}
+
+-- ---- a read
+
+-- nothing is read at another stage
+module _ (found : Option Job) where
+  at_called : IsStepOfRead (at_stage found told.Called) None
+  at_called = by found
+    where
+      by : (o : Option Job) → IsStepOfRead (at_stage o told.Called) None
+      by None = refl
+      by (Some job) = refl
+
+  at_planning : (begun : told.Begun) → IsStepOfRead (at_stage found (told.Planning begun)) None
+  at_planning begun = by found
+    where
+      by : (o : Option Job) → IsStepOfRead (at_stage o (told.Planning begun)) None
+      by None = refl
+      by (Some job) = refl
+
+  at_read : (begun : told.Begun) (ok : Bool) (wish : Option Addr)
+      → IsStepOfRead (at_stage found (at_fetch (λ taken. told.Read begun taken ok) begun wish)) None
+  at_read begun ok wish = by found wish
+    where
+      by : (o : Option Job) (wish : Option Addr)
+          → IsStepOfRead (at_stage o (at_fetch (λ taken. told.Read begun taken ok) begun wish)) None
+      by None wish = refl
+      by (Some job) None = refl
+      by (Some job) (Some addr) = refl
+
+  at_refused : (begun : told.Begun) (why : Cause) → IsStepOfRead (at_stage found (told.Refused begun why)) None
+  at_refused begun why = by found
+    where
+      by : (o : Option Job) → IsStepOfRead (at_stage o (told.Refused begun why)) None
+      by None = refl
+      by (Some job) = refl
+
+  at_again : (begun : told.Begun) → IsStepOfRead (at_stage found (told.Again begun)) None
+  at_again begun = by found
+    where
+      by : (o : Option Job) → IsStepOfRead (at_stage o (told.Again begun)) None
+      by None = refl
+      by (Some job) = refl
+
+  at_waiting : (place : ℕ) → IsStepOfRead (at_stage found (told.Waiting place)) None
+  at_waiting place = by found
+    where
+      by : (o : Option Job) → IsStepOfRead (at_stage o (told.Waiting place)) None
+      by None = refl
+      by (Some job) = refl
+
+none_due : (phase : Phase) (found : Option Job) (begun : told.Begun) (asked : Asking) → (phase ≡ Reading → ⊥)
+    → IsStepOfRead (progress_in phase found begun asked) None
+none_due Idle found begun asked not = refl
+none_due Called found begun asked not = at_called found
+none_due Planning found begun asked not = at_planning found begun
+none_due Reading found begun asked not = absurd (not refl)
+none_due (Read ok) found begun asked not = at_read found begun ok asked.wish
+none_due (Refused why) found begun asked not = at_refused found begun why
+none_due Again found begun asked not = at_again found begun
+none_due (Waiting place) found begun asked not = at_waiting asked.waiting place.0
+
+pub no_read_told : (boot : ℕ) (entries : List Entry) (old : State) → IsWorkerAt boot entries old
+    → (old.phase ≡ Reading → ⊥) → TellsRead boot entries old None old
+no_read_told boot entries old at not = record {
+  may = none_due old.phase old.work.job _ old.asked not;
+  progress = λ broken. refl;
+  stands = at;
+}
+
+-- the block that was due is read
+module _ (boot : ℕ) (entries : List Entry) (old : State) (ok : Bool) (io : Fetch) (content : Content)
+    (phase_is : old.phase ≡ Reading) (io_is : old.begun.io ≡ Some io) (at : IsWorkerAt boot entries old) where
+  abbrev begun_then : told.Begun
+  begun_then = begun_of old.begun.tx (seen_in old.work.snap) old.asked.fetched
+
+  stood : RunsIn boot old × IsFetchOf old
+  stood = subst (λ p. StandsAt boot entries p old) phase_is at.stands
+
+  job_is : (job : Job) × (old.work.job ≡ Some job) × IsJobIn boot old.begun.tx job
+  job_is = some_of old.work.job stood.0
+
+  wish_is : (addr : Addr) × (old.asked.wish ≡ Some addr)
+      × IsSomeAnd old.begun.io (λ (io : Fetch). io.block ≡ addr.block)
+  wish_is = some_of old.asked.wish stood.1
+
+  -- how far the worker was, by parts
+  abbrev was : Phase → Option Job → Option Addr → Progress
+  was phase job wish =
+      progress_in phase job begun_then (record { wish = wish; fetched = old.asked.fetched; waiting = old.asked.waiting })
+
+  was_reading : progress_of old ≡ was Reading (Some job_is.0) (Some wish_is.0)
+  was_reading = ap (λ p. was p old.work.job old.asked.wish) phase_is
+      ∙ ap (λ j. was Reading j old.asked.wish) job_is.1 ∙ ap (λ w. was Reading (Some job_is.0) w) wish_is.1
+
+  same_block : io.block ≡ wish_is.0.block
+  same_block = subst (λ o. IsSomeAnd o (λ (io : Fetch). io.block ≡ wish_is.0.block)) io_is wish_is.2
+
+  pub read_told : TellsRead boot entries old (Some (step.Read io.block ok)) (with_read ok io content old)
+  read_told = record {
+    may = subst (λ p. IsStepOfRead p (Some (step.Read io.block ok))) (sym was_reading) same_block;
+    progress = λ broken. ap (λ j. was (Read ok) j old.asked.wish) job_is.1
+        ∙ ap (λ w. was (Read ok) (Some job_is.0) w) wish_is.1
+        ∙ sym (ap (progress_after broken (Some (step.Read io.block ok))) was_reading);
+    stands = record {
+      boot_is = at.boot_is;
+      entry = at.entry;
+      answer = at.answer;
+      stands = (stood.0, subst (λ o. IsSomeAnd o (λ (addr : Addr). io.block ≡ addr.block)) (sym wish_is.1) same_block);
+    };
+  }

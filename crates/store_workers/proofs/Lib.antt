@@ -1,0 +1,10 @@
+pub mod AfterCommit
+pub mod AskedAlone
+pub mod EventTells
+pub mod HowFar
+pub mod LoneWorker
+pub mod Noted
+pub mod StaysAlone
+pub mod StepKinds
+pub mod StepTells
+pub mod WorkCases

@@ -1,0 +1,217 @@
+-- A worker that is alone in its store is never kept off.
+use Rattle.std.proofs.Common.{◌≡◌, ◌∙◌, refl, sym, ap, subst, true≢false, ℕ, inl, inr, Bool, true, false}
+use Rattle.std.proofs.Common.{◌||◌, nat_eq, Option, Some, None, is_some, List, [], ◌∷◌, All}
+use Rattle.std.specs.Prelude.{Contains, IsSomeAnd}
+use Rattle.std.proofs.lemmas.List.Elements.{All-contains}
+use Rattle.disk.specs.declared.block.BlockNo.{BlockNo}
+use Rattle.objects.specs.declared.addr.Addr.{Addr}
+use Rattle.objects.specs.declared.mode.Mode.TheVariants as modes
+use Rattle.procs.proofs.AllTests.{all_three, same_number}
+use Rattle.procs.specs.Asks.{Asks, IsWritable}
+use Rattle.procs.specs.Finished.{EndsFrom}
+use Rattle.procs.specs.Outcome.{Outcome}
+use Rattle.procs.specs.Planned.{IsPlanFor}
+use Rattle.procs.specs.Snap.{is_claimed, is_seen, same_addr}
+use Rattle.procs.specs.declared.next.Plan.{Plan}
+use Rattle.procs.specs.declared.next.Plan.TheVariants as plan
+use Rattle.procs.specs.declared.snap.Snap.{Snap}
+use Rattle.txn.specs.Commit.{IsOwn, IsReadBy}
+use Rattle.txn.specs.Core.{CoreState}
+use Rattle.txn.specs.Fetch.{Fetch}
+use Rattle.txn.specs.Object.{ObjectBytes}
+use Rattle.txn.specs.Out.{listed}
+use Rattle.txn.specs.Outcomes.{IsCommit, IsWanted}
+use Rattle.txn.specs.Tidy.{AreTidy}
+use Rattle.txn.specs.declared.outcomes.Commit.{Commit}
+use Rattle.txn.specs.declared.outcomes.Commit.TheVariants as commit
+use Rattle.txn.specs.declared.outcomes.Want.{Want}
+use Rattle.txn.specs.declared.outcomes.Want.TheVariants as want
+use Rattle.txn.proofs.LoneTransaction.{is_own, never_busy, never_loading}
+use Rattle.txn_law.proofs.Again as again
+use Rattle.txn_law.proofs.Swept.{in_first, in_more}
+use Rattle.wal_law.specs.Log.{added_blocks}
+use Rattle.txn.specs.Group.{blocks_of}
+use Rattle.store_promise.specs.declared.events.Step.{Step}
+use Rattle.store_promise.specs.declared.events.Step.TheVariants as step
+use Rattle.store_workers.proofs.AskedAlone.{asked_same}
+use Rattle.store_workers.proofs.StepKinds.{Beginning, beginning, ending}
+use Rattle.store_workers.proofs.StepKinds.{begun, refused, replied, lacked, committed}
+use Rattle.store_workers.specs.Alone.{HasOfCall, HasTaken, PlansAlone, is_kept_off}
+use Rattle.store_images.specs.Fetches.{FetchesOnly}
+use Rattle.store_workers.specs.Phases.{has_fetch}
+use Rattle.store_workers.specs.Seen.{Seen, seen_in}
+use Rattle.store_workers.specs.Worker.{IsCoreOf}
+use Rattle.store_workers.specs.WorkerAnswers.{committing_of, wish_of}
+use Rattle.store_workers.specs.WorkerSteps.{GoesByNext, GoesOn, HasGivenBack, HasLeft, HasRefused}
+use Rattle.store_workers.specs.WorkerSteps.{IsNext, Side}
+use Rattle.store_workers.specs.WorkerSteps.{planned_of}
+use Rattle.store_workers.specs.declared.workers.parts.Job.{Job}
+use Rattle.store_workers.specs.declared.workers.parts.Phase.{Phase}
+use Rattle.store_workers.specs.declared.workers.parts.Phase.TheVariants.{Idle, Called, Planning}
+use Rattle.store_workers.specs.declared.workers.parts.Phase.TheVariants.{Reading, Read}
+use Rattle.store_workers.specs.declared.workers.parts.Phase.TheVariants.{Refused, Again, Waiting}
+use Rattle.store_workers.specs.declared.workers.parts.State.{State}
+
+-- ---- what was read
+
+abbrev pub seen_of : Snap → Seen
+seen_of snap = record { geometry = snap.geometry; objects = snap.objects.items; claims = snap.claims.items }
+
+-- an address that was seen is one of an object that was read
+seen_there : (addr : Addr) (objects : List ObjectBytes) → is_seen addr objects ≡ true
+    → (before : ObjectBytes) × Contains objects before × (before.addr ≡ addr)
+seen_there addr [] none = absurd (true≢false (sym none))
+seen_there addr (x ∷ xs) some = go (seen_there addr xs) (same_addr addr x.addr) refl some
+  where
+    go : (is_seen addr xs ≡ true → (before : ObjectBytes) × Contains xs before × (before.addr ≡ addr)) → (t : Bool)
+        → same_addr addr x.addr ≡ t → (t || is_seen addr xs) ≡ true
+        → (before : ObjectBytes) × Contains (x ∷ xs) before × (before.addr ≡ addr)
+    go rest true same some =
+        let all = all_three (nat_eq addr.block.0 x.addr.block.0) (nat_eq addr.offset x.addr.offset)
+        (nat_eq addr.len x.addr.len) same in (
+          x,
+          in_first x x xs refl,
+          sym (again.same_addr addr x.addr (same_number addr.block.0 x.addr.block.0 all.0)
+              (same_number addr.offset x.addr.offset all.1) (same_number addr.len x.addr.len all.2)),
+        )
+    go rest false same some =
+        let found = rest some in (found.0, in_more x found.0 xs found.1, found.2)
+
+-- what a worker has of its call, by its job, its transaction and what was read
+pub has_of : (worker : State) (core : CoreState) (job : Job) (tx : ℕ) (seen : Seen) → worker.work.job ≡ Some job
+    → worker.begun.tx ≡ Some tx → seen_in worker.work.snap ≡ Some seen → HasTaken worker core
+    → HasOfCall job tx core seen
+has_of worker core job tx seen job_is tx_is seen_is has =
+    subst (λ (o : Option Seen). IsSomeAnd o (λ s. HasOfCall job tx core s)) seen_is
+    (subst (λ (o : Option ℕ). IsSomeAnd o (λ t. IsSomeAnd (seen_in worker.work.snap) (λ s. HasOfCall job t core s)))
+    tx_is (subst (λ (o : Option Job). IsSomeAnd o (λ j. IsSomeAnd worker.begun.tx (λ t.
+    IsSomeAnd (seen_in worker.work.snap) (λ s. HasOfCall j t core s)))) job_is has))
+
+pub has_so : (worker : State) (core : CoreState) (job : Job) (tx : ℕ) (seen : Seen) → worker.work.job ≡ Some job
+    → worker.begun.tx ≡ Some tx → seen_in worker.work.snap ≡ Some seen → HasOfCall job tx core seen
+    → HasTaken worker core
+has_so worker core job tx seen job_is tx_is seen_is has =
+    subst (λ (o : Option Job). IsSomeAnd o (λ j. IsSomeAnd worker.begun.tx (λ t.
+    IsSomeAnd (seen_in worker.work.snap) (λ s. HasOfCall j t core s)))) (sym job_is)
+    (subst (λ (o : Option ℕ). IsSomeAnd o (λ t. IsSomeAnd (seen_in worker.work.snap) (λ s. HasOfCall job t core s)))
+    (sym tx_is) (subst (λ (o : Option Seen). IsSomeAnd o (λ s. HasOfCall job tx core s)) (sym seen_is) has))
+
+-- ---- a plan
+
+module _ (core : CoreState) (job : Job) (tx : ℕ) (snap : Snap) (tidy : AreTidy core) (out : core.out ≡ tx ∷ [])
+    (has : HasOfCall job tx core (seen_of snap)) (none : FetchesOnly None core) where
+  wanted_well : (new : CoreState) (addr : Addr) → Asks snap.geometry job.call snap.objects.items addr → (answer : Want)
+      → IsWanted core tx addr modes.Exclusive answer new
+      → is_kept_off (Some (step.Wanted addr modes.Exclusive (wish_of answer))) ≡ false
+  wanted_well new addr asks (want.Held back bytes) is = refl
+  wanted_well new addr asks (want.Fetch back io) is = refl
+  wanted_well new addr asks (want.Outside back) is = refl
+  wanted_well new addr asks (want.NoMemory back) is = refl
+  wanted_well new addr asks (want.Busy back) is =
+      absurd (never_busy core tx tidy out addr modes.Exclusive (λ other hold taken over.
+      asked_same snap.geometry job.call snap.objects.items other addr (has.asked other hold taken) asks over) is.1)
+  wanted_well new addr asks (want.Loading back) is =
+      absurd (never_loading core tx addr modes.Exclusive (none addr.block) is.1)
+
+  module _ (done : Outcome) (ends : EndsFrom snap done) where
+    was_read : (object : ObjectBytes) → IsWritable snap object
+        → (before : ObjectBytes) × Contains done.read before × (before.addr ≡ object.addr)
+    was_read object (inl seen) =
+        let found = seen_there object.addr snap.objects.items seen in (
+          found.0,
+          subst (λ (os : List ObjectBytes). Contains os found.0) (sym ends.named.read) found.1,
+          found.2,
+        )
+    was_read object (inr claimed) =
+        absurd (true≢false (sym claimed.0 ∙ ap (λ (bs : List BlockNo). is_claimed object.addr.block bs) has.claims))
+
+    own : IsOwn core tx (planned_of done)
+    own = is_own core tx tidy out (planned_of done) (ends.named.blocks ∙ has.blocks) (ends.named.inodes ∙ has.inodes)
+        (subst (λ (os : List ObjectBytes). All (IsReadBy core tx) os) (sym ends.named.read) has.read)
+        (λ object there. was_read object (All-contains (IsWritable snap) done.written object ends.writable there))
+        has.exclusive (λ object there. none object.addr.block)
+
+    committed_well : (new : CoreState) (added : ℕ) (answer : Commit Outcome)
+        → IsCommit core tx (planned_of done) done answer new
+        → is_kept_off (Some (step.Commit added (committing_of answer))) ≡ false
+    committed_well new added (commit.Committed place) is = refl
+    committed_well new added (commit.Full back same) is = refl
+    committed_well new added (commit.NoMemory back same) is = refl
+    committed_well new added (commit.Broken back same) is = refl
+    committed_well new added (commit.Spent back same) is = refl
+    committed_well new added (commit.Foreign back same) is = absurd (is.2 own)
+
+-- ---- any step
+
+pub no_fetch : (io : Option Fetch) (core : CoreState) → is_some io ≡ false → FetchesOnly io core → FetchesOnly None core
+no_fetch None core none only = only
+no_fetch (Some io) core some only = absurd (true≢false some)
+
+module _ (old new : Side) (tidy : AreTidy old.core) (fits : IsCoreOf old.worker old.core)
+    (fetches : FetchesOnly old.worker.begun.io old.core) where
+  by_plan : (tx : ℕ) (made : Step) (next : Plan) → old.worker.begun.tx ≡ Some tx → IsNext old.worker next
+      → HasTaken old.worker old.core → FetchesOnly None old.core → GoesByNext next tx old made new
+      → is_kept_off (Some made) ≡ false
+  by_plan tx made next tx_is is taken none goes = of_next next is.plan goes
+    where
+      has : HasOfCall is.job tx old.core (seen_of is.snap)
+      has = has_of old.worker old.core is.job tx (seen_of is.snap) is.job_is tx_is is.snap_is taken
+
+      out : old.core.out ≡ tx ∷ []
+      out = fits.out ∙ ap listed tx_is
+
+      of_next : (next : Plan) → IsPlanFor is.job.call is.snap next → GoesByNext next tx old made new
+          → is_kept_off (Some made) ≡ false
+      of_next (plan.Need addr) planned goes = ap (λ m. is_kept_off (Some m)) goes.made_is
+          ∙ wanted_well old.core is.job tx is.snap tidy out has none new.core addr planned.1 goes.answer goes.core
+      of_next (plan.Claim block) planned goes = absurd planned.1
+      of_next (plan.Done done) planned goes = elim (ending old new tx done made goes) [
+        | lacked has_lacked ↦ ap (λ m. is_kept_off (Some m)) has_lacked.made_is
+        | committed job job_is has_committed ↦ ap (λ m. is_kept_off (Some m)) has_committed.made_is
+            ∙ committed_well old.core is.job tx is.snap tidy out has none done planned.0 new.core
+            (added_blocks old.core.log (blocks_of done.written)) has_committed.answer has_committed.core
+      ]
+      of_next plan.NoMemory planned goes = ap (λ m. is_kept_off (Some m)) goes.made_is
+
+  called_well : (made : Step) → Beginning old made new → is_kept_off (Some made) ≡ false
+  called_well made (begun job number is made_is has) = ap (λ m. is_kept_off (Some m)) made_is
+  called_well made (refused why made_is told) = ap (λ m. is_kept_off (Some m)) made_is
+  called_well made (replied made_is told) = ap (λ m. is_kept_off (Some m)) made_is
+
+  given_well : (ok : Bool) (made : Step) (io : Option Fetch) → IsSomeAnd io (λ io. HasGivenBack ok io old made new)
+      → is_kept_off (Some made) ≡ false
+  given_well ok made None has = absurd has
+  given_well true made (Some io) has = ap (λ m. is_kept_off (Some m)) has.made_is
+  given_well false made (Some io) has = ap (λ m. is_kept_off (Some m)) has.made_is
+
+  refused_well : (why : _) (made : Step) (job : Option Job) (tx : Option ℕ)
+      → IsSomeAnd job (λ job. IsSomeAnd tx (λ tx. HasRefused why job tx old made new))
+      → is_kept_off (Some made) ≡ false
+  refused_well why made None tx has = absurd has
+  refused_well why made (Some job) None has = absurd has
+  refused_well why made (Some job) (Some tx) has = ap (λ m. is_kept_off (Some m)) has.made_is
+
+  left_well : (made : Step) (tx : Option ℕ) → IsSomeAnd tx (λ tx. HasLeft tx old made new)
+      → is_kept_off (Some made) ≡ false
+  left_well made None has = absurd has
+  left_well made (Some tx) has = ap (λ m. is_kept_off (Some m)) has.made_is
+
+  pub never_kept_off : (phase : Phase) (made : Option Step) → is_some old.worker.begun.io ≡ has_fetch phase
+      → PlansAlone phase old.worker old.core → GoesOn phase old made new → is_kept_off made ≡ false
+  never_kept_off Idle made fetch plans has = ap is_kept_off has.0
+  never_kept_off Reading made fetch plans has = ap is_kept_off has.0
+  never_kept_off Called (Some made) fetch plans has = called_well made (beginning old new made has)
+  never_kept_off Planning (Some made) fetch plans has =
+      by_plan has.tx made has.next has.tx_is has.next_is plans
+      (no_fetch old.worker.begun.io old.core fetch fetches) has.goes
+  never_kept_off (Read ok) (Some made) fetch plans has = given_well ok made old.worker.begun.io has
+  never_kept_off (Refused why) (Some made) fetch plans has =
+      refused_well why made old.worker.work.job old.worker.begun.tx has
+  never_kept_off Again (Some made) fetch plans has = left_well made old.worker.begun.tx has
+  never_kept_off (Waiting place) (Some made) fetch plans has = ap (λ m. is_kept_off (Some m)) has.made_is
+  never_kept_off Called None fetch plans has = absurd has
+  never_kept_off Planning None fetch plans has = absurd has
+  never_kept_off (Read ok) None fetch plans has = absurd has
+  never_kept_off (Refused why) None fetch plans has = absurd has
+  never_kept_off Again None fetch plans has = absurd has
+  never_kept_off (Waiting place) None fetch plans has = absurd has

@@ -1,0 +1,150 @@
+-- What a run notes with a step of its worker is what the worker tells.
+use Rattle.std.proofs.Common.{◌≡◌, ◌∙◌, refl, sym, ap, subst, ℕ, ◌+◌, Bool, true, false, not, ◌&&◌, true≢false}
+use Rattle.std.proofs.Common.{Option, Some, None, IfSome, is_some, ◌++◌, length, append-nil}
+use Rattle.std.specs.Prelude.{IsSomeAnd, map}
+use Rattle.std.proofs.lemmas.List.{length-map, map-append}
+use Rattle.store_promise.specs.Progress.{is_idle}
+use Rattle.store_promise.specs.Transcript.{entries_of, entry_of, transcript_of}
+use Rattle.store_promise.specs.declared.answers.CallAnswer.{CallAnswer}
+use Rattle.store_promise.specs.declared.answers.Entry as ready
+use Rattle.store_promise.specs.declared.events.Committing.TheVariants as committing
+use Rattle.store_promise.specs.declared.events.Step.{Step}
+use Rattle.store_promise.specs.declared.events.Step.TheVariants as step
+use Rattle.store_promise.specs.declared.transcript.Run.{Run}
+use Rattle.store_workers.proofs.StepTells.{step_tells}
+use Rattle.store_workers.specs.Noting.{NotesAnswers, NotesHistory, NotesProcedure, NotesWork}
+use Rattle.store_workers.specs.Stages.{IsWorkerAt, progress_of}
+use Rattle.store_workers.specs.Telling.{HasWorked, answers_told, entries_told, told}
+use Rattle.store_workers.specs.WorkTells.{IsAnswerOf, IsEntryOf, TellsEntry, TellsStep}
+use Rattle.store_workers.specs.WorkTells.{entries_ready, with_ready}
+use Rattle.store_workers.specs.WorkerSteps.{Side, side}
+
+-- the entry that is noted is the entry of the step
+as_noted : (worker event clock : ℕ) (entry : Option ready.Entry)
+    → map entry_of (entries_told worker event clock entry) ≡ entries_ready worker entry
+as_noted worker event clock None = refl
+as_noted worker event clock (Some entry) = refl
+
+module _ (boot clock : ℕ) (old : Side) (made : Option Step) (new : Side) (before after : Run)
+    (at : IsWorkerAt boot (entries_of (transcript_of before)) old.worker)
+    (places : old.core.log.places ≡ length before.history.items)
+    (has : HasWorked 0 clock old made new before after) where
+  tells : TellsStep boot 0 (entries_of (transcript_of before)) old made (side has.state new.core)
+  tells = step_tells boot 0 (entries_of (transcript_of before)) old (side has.state new.core) at
+      (places ∙ sym (length-map before.history.items entry_of)) made has.goes
+
+  noted_entries : entries_of (transcript_of after)
+      ≡ with_ready 0 (entries_of (transcript_of before)) has.state
+  noted_entries = ap (map entry_of) has.tells.history
+      ∙ map-append entry_of before.history.items (entries_told 0 (length before.steps.items) clock has.state.work.entry)
+      ∙ ap (λ more. map entry_of before.history.items ++ more)
+      (as_noted 0 (length before.steps.items) clock has.state.work.entry)
+
+  -- the history
+  procedure : (place : ℕ) (entry : Option ready.Entry)
+      → after.history.items ≡ before.history.items ++ entries_told 0 (length before.steps.items) clock entry
+      → place ≡ length (entries_of (transcript_of before)) + 1 → IsSomeAnd entry (IsEntryOf boot (progress_of old.worker))
+      → NotesProcedure boot clock (progress_of old.worker) place before after
+  procedure place None history next of = absurd of
+  procedure place (Some entry) history next of = record {
+    committed = record {
+      worker = 0;
+      ctx = entry.ctx;
+      call = entry.call;
+      reply = entry.reply;
+      event = length before.steps.items;
+      clock = clock;
+    };
+    history = history;
+    next = next ∙ ap (λ n. n + 1) (length-map before.history.items entry_of);
+    worker = refl;
+    event = refl;
+    clock_is = refl;
+    job = of.job;
+    begun = of.begun;
+    planned = of.planned;
+    ctx = of.ctx;
+    call = of.call;
+  }
+
+  unchanged : (entry : Option ready.Entry) → entry ≡ None
+      → after.history.items ≡ before.history.items ++ entries_told 0 (length before.steps.items) clock entry
+      → after.history.items ≡ before.history.items
+  unchanged entry none history =
+      history ∙ ap (λ e. before.history.items ++ entries_told 0 (length before.steps.items) clock e) none
+      ∙ append-nil before.history.items
+
+  history_noted : (made : Option Step) (entry : Option ready.Entry)
+      → after.history.items ≡ before.history.items ++ entries_told 0 (length before.steps.items) clock entry
+      → TellsEntry boot (length (entries_of (transcript_of before))) (progress_of old.worker) made entry
+      → NotesHistory boot clock (progress_of old.worker) made before after
+  history_noted None entry history is = unchanged entry is history
+  history_noted (Some (step.Commit added (committing.Committed place))) entry history is =
+      procedure place.0 entry history is.0 is.1
+  history_noted (Some (step.Commit added committing.Full)) entry history is = unchanged entry is history
+  history_noted (Some (step.Commit added committing.Foreign)) entry history is = unchanged entry is history
+  history_noted (Some (step.Commit added committing.NoMemory)) entry history is = unchanged entry is history
+  history_noted (Some (step.Commit added committing.Broken)) entry history is = unchanged entry is history
+  history_noted (Some (step.Commit added committing.Spent)) entry history is = unchanged entry is history
+  history_noted (Some step.Called) entry history is = unchanged entry is history
+  history_noted (Some step.Replied) entry history is = unchanged entry is history
+  history_noted (Some (step.Begun a)) entry history is = unchanged entry is history
+  history_noted (Some (step.Wanted a b c)) entry history is = unchanged entry is history
+  history_noted (Some (step.Claimed a b)) entry history is = unchanged entry is history
+  history_noted (Some (step.Fetched a)) entry history is = unchanged entry is history
+  history_noted (Some (step.FetchFailed a)) entry history is = unchanged entry is history
+  history_noted (Some (step.Ended a)) entry history is = unchanged entry is history
+  history_noted (Some (step.Stable a b)) entry history is = unchanged entry is history
+  history_noted (Some (step.Read a b)) entry history is = unchanged entry is history
+  history_noted (Some (step.LogNext a)) entry history is = unchanged entry is history
+  history_noted (Some (step.LogIo a)) entry history is = unchanged entry is history
+  history_noted (Some (step.LogDone a)) entry history is = unchanged entry is history
+  history_noted (Some (step.InstNext a)) entry history is = unchanged entry is history
+  history_noted (Some (step.InstIo a)) entry history is = unchanged entry is history
+  history_noted (Some (step.InstDone a)) entry history is = unchanged entry is history
+
+  -- the answers
+  answered : (given : Option CallAnswer) (ends : Bool) → is_some given ≡ ends
+      → after.answers.items ≡ before.answers.items ++ answers_told 0 (length before.steps.items) clock given
+      → IfSome given (IsAnswerOf (entries_of (transcript_of after)) (progress_of old.worker) made)
+      → NotesAnswers ends clock (progress_of old.worker) made before after
+  answered None true is answers of = absurd (true≢false (sym is))
+  answered (Some given) false is answers of = absurd (true≢false is)
+  answered None false is answers of = answers ∙ append-nil before.answers.items
+  answered (Some given) true is answers of = record {
+    answer = record {
+      worker = 0;
+      verdict = given.verdict;
+      place = given.place;
+      event = length before.steps.items;
+      clock = clock;
+    };
+    answers = answers;
+    worker = refl;
+    event = refl;
+    clock_is = refl;
+    job = of.job;
+    stage = of.stage;
+    so_far = of.so_far;
+    step = of.step;
+    made_is = of.made_is;
+    verdict = λ t replies. of.verdict t _ replies refl refl;
+  }
+
+  progress_same : progress_of new.worker ≡ progress_of has.state
+  progress_same = ap progress_of has.taken
+
+  pub work_noted : NotesWork boot clock old made new before after
+  work_noted = record {
+    progress = progress_same ∙ tells.progress;
+    history = history_noted made has.state.work.entry has.tells.history tells.entry;
+    answers = answered has.state.work.answer _
+        (tells.answer.ends ∙ ap (λ p. not (is_idle (progress_of old.worker)) && is_idle p) (sym progress_same))
+        has.tells.answers
+        (subst (λ e. IfSome has.state.work.answer (IsAnswerOf e (progress_of old.worker) made)) (sym noted_entries)
+        tells.answer.is_of);
+    steps = has.tells.steps;
+    boot_is = has.tells.boot;
+    stands = subst (λ s. IsWorkerAt boot (entries_of (transcript_of after)) s) (sym has.taken)
+        (subst (λ e. IsWorkerAt boot e (told has.state)) (sym noted_entries) tells.stands);
+  }

@@ -1,0 +1,497 @@
+-- A worker that is alone in its store stays alone by each of its steps.
+use Rattle.std.proofs.Common.{◌≡◌, ◌∙◌, refl, sym, ap, subst, true≢false, ℕ, Bool, true, false, not, ◌&&◌, ◌||◌}
+use Rattle.std.proofs.Common.{cond, nat_eq, Option, Some, None, is_some, List, [], ◌∷◌, ◌++◌, All}
+use Rattle.std.specs.Prelude.{IsSomeAnd}
+use Rattle.std.specs.List.{list_any}
+use Rattle.std.proofs.lemmas.Bool.{eqb-true}
+use Rattle.std.proofs.lemmas.List.Elements.{All-contains, All-nil, All-push, All-weaker}
+use Rattle.disk.specs.declared.block.BlockNo.{BlockNo}
+use Rattle.objects.specs.declared.addr.Addr.{Addr}
+use Rattle.objects.specs.declared.mode.Mode.TheVariants as modes
+use Rattle.model.specs.Calls.{is_answered_stable}
+use Rattle.nfs_types.specs.declared.reply.Reply.{Reply}
+use Rattle.wal_law.specs.declared.outcomes.Seq.{Seq}
+use Rattle.procs.proofs.FewAsked.{none_read, one_asked_once, stays}
+use Rattle.procs.specs.Asks.{Asks, WereAskedOnce}
+use Rattle.procs.specs.Outcome.{Outcome}
+use Rattle.procs.specs.Planned.{IsPlanFor}
+use Rattle.procs.specs.declared.next.Plan.{Plan}
+use Rattle.procs.specs.declared.next.Plan.TheVariants as plan
+use Rattle.procs.specs.declared.snap.Snap.{Snap}
+use Rattle.txn.specs.Commit.{IsReadBy}
+use Rattle.txn.specs.Core.{CoreState}
+use Rattle.txn.specs.CoreWindow.{KeepsReads}
+use Rattle.txn.specs.Fetch.{Fetch}
+use Rattle.txn.specs.Leaves.{taken_by, with_taken}
+use Rattle.txn.specs.Object.{ObjectBytes}
+use Rattle.txn.specs.Out.{listed}
+use Rattle.txn.specs.Outcomes.{IsCommit, IsWanted}
+use Rattle.txn.specs.Tidy.{AreTidy}
+use Rattle.txn.specs.declared.outcomes.Commit.{Commit}
+use Rattle.txn.specs.declared.outcomes.Commit.TheVariants as commit
+use Rattle.txn.specs.declared.outcomes.Want.{Want}
+use Rattle.txn.specs.declared.outcomes.Want.TheVariants as want
+use Rattle.txn_law.specs.Holds.{for_fetching, for_reading, is_hold_of, joined}
+use Rattle.txn_law.specs.Tidy.{IsOfOne}
+use Rattle.txn_law.specs.Wishes.{IsFetched, IsHeld}
+use Rattle.txn_law.specs.declared.hold.Hold.{Hold}
+use Rattle.txn_law.proofs.Again as again
+use Rattle.txn_law.proofs.Claims.{all_four, found_by}
+use Rattle.wal_law.specs.Log.{added_blocks}
+use Rattle.txn.specs.Group.{blocks_of}
+use Rattle.store_promise.specs.declared.answers.Verdict.{Verdict}
+use Rattle.store_promise.specs.declared.answers.Verdict.TheVariants as verdict
+use Rattle.store_promise.specs.declared.events.Cause.{Cause}
+use Rattle.store_promise.specs.declared.events.Cause.TheVariants as cause
+use Rattle.store_promise.specs.declared.events.Step.{Step}
+use Rattle.store_promise.specs.declared.events.Step.TheVariants as step
+use Rattle.store_workers.proofs.LoneWorker.{has_of, has_so, no_fetch, seen_of}
+use Rattle.store_workers.proofs.StepKinds.{Beginning, IsTold, beginning, ending}
+use Rattle.store_workers.proofs.StepKinds.{begun, refused, replied, lacked, committed}
+use Rattle.store_workers.specs.Alone.{HasOfCall, HasTaken, PlansAlone, StaysAlone, is_full}
+use Rattle.store_images.specs.Fetches.{FetchesOnly, is_fetch_of}
+use Rattle.store_workers.specs.Phases.{has_fetch, has_transaction}
+use Rattle.store_workers.specs.Seen.{Seen, seen_in, with_object}
+use Rattle.store_workers.specs.Worker.{IsCoreOf}
+use Rattle.store_workers.specs.WorkerAnswers.{after_commit, begun_wanted, committing_of, phase_wanted}
+use Rattle.store_workers.specs.WorkerAnswers.{seen_wanted, told_of}
+use Rattle.store_workers.specs.WorkerAnswers.{with_answer, with_entry}
+use Rattle.store_workers.specs.WorkerSteps.{GoesByNext, GoesOn, HasAborted, HasBegun, HasGivenBack, HasLacked}
+use Rattle.store_workers.specs.WorkerSteps.{HasLeft, HasRefused}
+use Rattle.store_workers.specs.WorkerSteps.{HasWanted, IsNext, IsTold as IsHeard, KeepsReadsOf, SawNothing}
+use Rattle.store_workers.specs.WorkerSteps.{Side, Waits}
+use Rattle.store_workers.specs.WorkerSteps.{none_begun, numbered, phase_given, planned_of, with_snap}
+use Rattle.store_workers.specs.declared.workers.parts.Begun.{Begun}
+use Rattle.store_workers.specs.declared.workers.parts.Job.{Job}
+use Rattle.store_workers.specs.declared.workers.parts.Phase.{Phase}
+use Rattle.store_workers.specs.declared.workers.parts.Phase.TheVariants.{Idle, Called, Planning}
+use Rattle.store_workers.specs.declared.workers.parts.Phase.TheVariants.{Reading, Read}
+use Rattle.store_workers.specs.declared.workers.parts.Phase.TheVariants.{Refused, Again, Waiting}
+use Rattle.store_workers.specs.declared.workers.parts.State.{State}
+
+-- ---- what is kept
+
+-- it has of its call what it had, where the core keeps what is taken and what is read
+pub moved : (job : Job) (tx : ℕ) (seen : Seen) (core mid : CoreState) → mid.log.blocks ≡ core.log.blocks
+    → mid.inodes ≡ core.inodes → ((addr : Addr) → taken_by mid tx addr ≡ taken_by core tx addr)
+    → KeepsReads core mid tx → HasOfCall job tx core seen → HasOfCall job tx mid seen
+moved job tx seen core mid blocks inodes same reads has = record {
+  blocks = has.blocks ∙ sym blocks;
+  inodes = has.inodes ∙ sym inodes;
+  claims = has.claims;
+  were = has.were;
+  read = All-weaker (IsReadBy core tx) (IsReadBy mid tx) (λ object is. reads object is) seen.objects has.read;
+  exclusive = λ addr hold is. has.exclusive addr hold (sym (same addr) ∙ is);
+  asked = λ addr hold is. has.asked addr hold (sym (same addr) ∙ is);
+}
+
+-- a worker with the same call, transaction and reads has what it had
+pub same_taken : (was now : State) (core mid : CoreState) → now.work.job ≡ was.work.job
+    → now.begun.tx ≡ was.begun.tx → seen_in now.work.snap ≡ seen_in was.work.snap
+    → ((job : Job) (tx : ℕ) (seen : Seen) → was.begun.tx ≡ Some tx → HasOfCall job tx core seen
+    → HasOfCall job tx mid seen)
+    → HasTaken was core → HasTaken now mid
+same_taken was now core mid job tx seen keeps has =
+    by was.work.job refl was.begun.tx refl (seen_in was.work.snap) refl has
+  where
+    by : (j : Option Job) → was.work.job ≡ j → (t : Option ℕ) → was.begun.tx ≡ t → (s : Option Seen)
+        → seen_in was.work.snap ≡ s
+        → IsSomeAnd j (λ j. IsSomeAnd t (λ t. IsSomeAnd s (λ s. HasOfCall j t core s))) → HasTaken now mid
+    by None j_is t t_is s s_is has = absurd has
+    by (Some j) j_is None t_is s s_is has = absurd has
+    by (Some j) j_is (Some t) t_is None s_is has = absurd has
+    by (Some j) j_is (Some t) t_is (Some s) s_is has =
+        has_so now mid j t s (job ∙ j_is) (tx ∙ t_is) (seen ∙ s_is) (keeps j t s t_is has)
+
+-- what was made is alone, by its phase and its fetch
+alone_by : (made : Option Step) (worker : State) (core : CoreState) (phase : Phase) (io : Option Fetch)
+    → worker.phase ≡ phase → worker.begun.io ≡ io → FetchesOnly io core
+    → (is_full made ≡ false → PlansAlone phase worker core) → StaysAlone made worker core
+alone_by made worker core phase io phase_is io_is fetches plans = record {
+  fetches = subst (λ (o : Option Fetch). FetchesOnly o core) (sym io_is) fetches;
+  plans = λ room. subst (λ p. PlansAlone p worker core) (sym phase_is) (plans room);
+}
+
+-- ---- a wish
+
+-- what is taken then: what was, and the address, alone
+module _ (core mid : CoreState) (tx : ℕ) (addr : Addr) (taken : Hold) (at : taken.addr ≡ addr)
+    (exclusive : (had : Option Hold) → (joined had taken).mode ≡ modes.Exclusive)
+    (now : (a : Addr) → taken_by mid tx a ≡ with_taken taken (taken_by core) tx a) where
+  pub all_exclusive : ((a : Addr) (hold : Hold) → taken_by core tx a ≡ Some hold → hold.mode ≡ modes.Exclusive)
+      → (a : Addr) (hold : Hold) → taken_by mid tx a ≡ Some hold → hold.mode ≡ modes.Exclusive
+  all_exclusive were a hold is = by (is_hold_of tx a taken) (sym (now a) ∙ is)
+    where
+      by : (mine : Bool)
+          → cond mine (Some (joined (taken_by core tx a) taken)) (taken_by core tx a) ≡ Some hold
+          → hold.mode ≡ modes.Exclusive
+      by true is = let same : joined (taken_by core tx a) taken ≡ hold = cc in
+          ap (λ (h : Hold). h.mode) (sym same) ∙ exclusive (taken_by core tx a)
+      by false is = were a hold is
+
+  pub all_asked : (P : Addr → Type 0) → ((a : Addr) (hold : Hold) → taken_by core tx a ≡ Some hold → P a) → P addr
+      → (a : Addr) (hold : Hold) → taken_by mid tx a ≡ Some hold → P a
+  all_asked P were new a hold is = by (is_hold_of tx a taken) refl (sym (now a) ∙ is)
+    where
+      by : (mine : Bool) → is_hold_of tx a taken ≡ mine
+          → cond mine (Some (joined (taken_by core tx a) taken)) (taken_by core tx a) ≡ Some hold → P a
+      by true mine is =
+          let four = all_four (nat_eq taken.transaction tx) (nat_eq taken.addr.block.0 a.block.0)
+          (nat_eq taken.addr.offset a.offset) (nat_eq taken.addr.len a.len) mine in
+          subst P (sym at ∙ again.same_addr taken.addr a (eqb-true taken.addr.block.0 a.block.0 four.1)
+          (eqb-true taken.addr.offset a.offset four.2) (eqb-true taken.addr.len a.len four.3)) new
+      by false mine is = were a hold is
+
+alone_for_reading : (tx : ℕ) (addr : Addr) (had : Option Hold)
+    → (joined had (for_reading tx addr modes.Exclusive)).mode ≡ modes.Exclusive
+alone_for_reading tx addr None = refl
+alone_for_reading tx addr (Some had) = refl
+
+alone_for_fetching : (tx : ℕ) (addr : Addr) (had : Option Hold)
+    → (joined had (for_fetching tx addr modes.Exclusive)).mode ≡ modes.Exclusive
+alone_for_fetching tx addr None = refl
+alone_for_fetching tx addr (Some had) = refl
+
+module _ (core mid : CoreState) (job : Job) (tx : ℕ) (snap : Snap) (addr : Addr)
+    (has : HasOfCall job tx core (seen_of snap)) (is_plan : IsPlanFor job.call snap (plan.Need addr))
+    (reads : KeepsReads core mid tx) where
+  pub read_one : (bytes : List ℕ) → IsHeld core tx addr modes.Exclusive bytes mid
+      → HasOfCall job tx mid (record (seen_of snap) {
+        objects = snap.objects.items ++ record { addr = addr; bytes = bytes } ∷ [];
+      })
+  read_one bytes held =
+      let taken = for_reading tx addr modes.Exclusive in
+      let object : ObjectBytes = record { addr = addr; bytes = bytes } in
+      record {
+        blocks = has.blocks ∙ sym (ap (λ (c : CoreState). c.log.blocks) held.only);
+        inodes = has.inodes ∙ sym (ap (λ (c : CoreState). c.inodes) held.only);
+        claims = has.claims;
+        were = one_asked_once snap.geometry job.call snap.objects.items object has.were is_plan.1 is_plan.0;
+        read = All-push (IsReadBy mid tx) snap.objects.items object
+            (All-weaker (IsReadBy core tx) (IsReadBy mid tx) (λ object is. reads object is) snap.objects.items has.read)
+            held.read;
+        exclusive = all_exclusive core mid tx addr taken refl (alone_for_reading tx addr)
+            (λ a. held.leaves.holds tx a) has.exclusive;
+        asked = all_asked core mid tx addr taken refl (alone_for_reading tx addr) (λ a. held.leaves.holds tx a)
+            (λ a. Asks snap.geometry job.call (snap.objects.items ++ object ∷ []) a)
+            (λ a hold is. stays snap.geometry job.call snap.objects.items (object ∷ []) a (has.asked a hold is))
+            (stays snap.geometry job.call snap.objects.items (object ∷ []) addr is_plan.1);
+      }
+
+  pub fetch_one : (io : Fetch) → IsFetched core tx addr modes.Exclusive io mid → HasOfCall job tx mid (seen_of snap)
+  fetch_one io fetched =
+      let taken = for_fetching tx addr modes.Exclusive in
+      record {
+        blocks = has.blocks ∙ sym (ap (λ (c : CoreState). c.log.blocks) fetched.only);
+        inodes = has.inodes ∙ sym (ap (λ (c : CoreState). c.inodes) fetched.only);
+        claims = has.claims;
+        were = has.were;
+        read = All-weaker (IsReadBy core tx) (IsReadBy mid tx) (λ object is. reads object is) snap.objects.items
+            has.read;
+        exclusive = all_exclusive core mid tx addr taken refl (alone_for_fetching tx addr)
+            (λ a. fetched.leaves.holds tx a) has.exclusive;
+        asked = all_asked core mid tx addr taken refl (alone_for_fetching tx addr) (λ a. fetched.leaves.holds tx a)
+            (λ a. Asks snap.geometry job.call snap.objects.items a) has.asked is_plan.1;
+      }
+
+-- nothing is taken where no transaction is out
+none_taken : (core : CoreState) (tx : ℕ) (addr : Addr) (hold : Hold) → AreTidy core → core.out ≡ []
+    → taken_by core tx addr ≡ Some hold → ⊥
+none_taken core tx addr hold tidy out taken =
+    let found = found_by (is_hold_of tx addr) core.holds hold taken in
+    true≢false (sym (All-contains (IsOfOne core) core.holds hold tidy.owned found.1).0
+    ∙ ap (λ (o : List ℕ). list_any (λ other. nat_eq other hold.transaction) o) out)
+
+-- ---- any step
+
+module _ (old new : Side) (tidy : AreTidy old.core) (fits : IsCoreOf old.worker old.core)
+    (fetches : FetchesOnly old.worker.begun.io old.core) (keeps : KeepsReadsOf old new) where
+  -- the worker is answered, and has its fetch as before
+  told_so : (made : Option Step) → IsTold old new → StaysAlone made new.worker new.core
+  told_so made told = alone_by made new.worker new.core Idle old.worker.begun.io
+      (ap (λ (s : State). s.phase) told.worker) (ap (λ (s : State). s.begun.io) told.worker)
+      (subst (λ (c : CoreState). FetchesOnly old.worker.begun.io c) (sym told.core) fetches) (λ room. tt)
+
+  begun_so : (made : Option Step) (job : Job) (number : ℕ) → old.worker.begun.tx ≡ None → FetchesOnly None old.core
+      → HasBegun job old number new → StaysAlone made new.worker new.core
+  begun_so made job number idle none has =
+      alone_by made new.worker new.core Planning None (ap (λ (s : State). s.phase) has.worker)
+      (ap (λ (s : State). s.begun.io) has.worker)
+      (subst (λ (c : CoreState). FetchesOnly None c) (sym has.core) none)
+      (λ room. by (seen_in new.worker.work.snap) refl has.seen)
+    where
+      by : (found : Option Seen) → seen_in new.worker.work.snap ≡ found → IsSomeAnd found (SawNothing old.core)
+          → HasTaken new.worker new.core
+      by None at saw = absurd saw
+      by (Some seen) at saw =
+          has_so new.worker new.core (numbered number job) number seen (ap (λ (s : State). s.work.job) has.worker)
+          (ap (λ (s : State). s.begun.tx) has.worker) at (record {
+            blocks = saw.blocks ∙ sym (ap (λ (c : CoreState). c.log.blocks) has.core);
+            inodes = saw.inodes ∙ sym (ap (λ (c : CoreState). c.inodes) has.core);
+            claims = saw.claims;
+            were = subst (λ (objects : List ObjectBytes). WereAskedOnce seen.geometry job.call objects)
+                (sym saw.objects) (none_read seen.geometry job.call);
+            read = subst (λ (objects : List ObjectBytes). All (IsReadBy new.core number) objects) (sym saw.objects)
+                (All-nil (IsReadBy new.core number));
+            exclusive = λ addr hold is. absurd (nothing addr hold is);
+            asked = λ addr hold is. absurd (nothing addr hold is);
+          })
+        where
+          nothing : (addr : Addr) (hold : Hold) → taken_by new.core number addr ≡ Some hold → ⊥
+          nothing addr hold is = none_taken old.core number addr hold tidy (fits.out ∙ ap listed idle)
+              (sym (ap (λ (c : CoreState). taken_by c number addr) has.core) ∙ is)
+
+  module _ (tx : ℕ) (tx_is : old.worker.begun.tx ≡ Some tx) (none : FetchesOnly None old.core) where
+    -- what was aborted has no fetch, and nothing is planned
+    aborted_so : (made : Option Step) (phase : Phase) → ((worker : State) (core : CoreState) → PlansAlone phase worker core)
+        → new.worker.phase ≡ phase → new.worker.begun.io ≡ None → HasAborted tx old.core new.core
+        → StaysAlone made new.worker new.core
+    aborted_so made phase plans phase_is io_is has =
+        alone_by made new.worker new.core phase None phase_is io_is
+        (λ block. has.leaves.fetches block ∙ none block) (λ room. plans new.worker new.core)
+
+    module _ (job : Job) (snap : Snap) (job_is : old.worker.work.job ≡ Some job)
+        (snap_is : seen_in old.worker.work.snap ≡ seen_in (Some snap)) (has : HasOfCall job tx old.core (seen_of snap))
+      where
+        wanted_so : (addr : Addr) (made : Step) → IsPlanFor job.call snap (plan.Need addr) → HasWanted tx addr old made new
+            → StaysAlone (Some made) new.worker new.core
+        wanted_so addr made is_plan wanted =
+            by wanted.answer wanted.core (ap (λ (s : State). s.phase) wanted.worker)
+            (ap (λ (s : State). s.begun) wanted.worker) wanted.seen
+          where
+            new_job : new.worker.work.job ≡ Some job
+            new_job = ap (λ (s : State). s.work.job) wanted.worker ∙ job_is
+
+            reads : new.worker.begun.tx ≡ Some tx → KeepsReads old.core new.core tx
+            reads new_tx = keeps tx (λ _. new_tx)
+
+            or_none : (b : Bool) → (b || false) ≡ b
+            or_none true = refl
+            or_none false = refl
+
+            same_core : new.core ≡ old.core → new.worker.begun.tx ≡ Some tx
+                → seen_in new.worker.work.snap ≡ seen_in old.worker.work.snap → HasTaken new.worker new.core
+            same_core core new_tx seen =
+                has_so new.worker new.core job tx (seen_of snap) new_job new_tx (seen ∙ snap_is)
+                (subst (λ (c : CoreState). HasOfCall job tx c (seen_of snap)) (sym core) has)
+
+            still : new.core ≡ old.core → FetchesOnly None new.core
+            still core = subst (λ (c : CoreState). FetchesOnly None c) (sym core) none
+
+            by : (answer : Want) → IsWanted old.core tx addr modes.Exclusive answer new.core
+                → new.worker.phase ≡ phase_wanted answer → new.worker.begun ≡ begun_wanted answer
+                → seen_in new.worker.work.snap ≡ seen_wanted addr answer (seen_in old.worker.work.snap)
+                → StaysAlone (Some made) new.worker new.core
+            by (want.Held back bytes) is phase got seen =
+                let new_tx : new.worker.begun.tx ≡ Some tx = ap (λ (b : Begun). b.tx) got ∙ ap (λ t. Some t) is.0 in
+                alone_by (Some made) new.worker new.core Planning None phase (ap (λ (b : Begun). b.io) got)
+                (λ block. is.2.leaves.fetches block ∙ none block)
+                (λ room. has_so new.worker new.core job tx _ new_job new_tx
+                (seen ∙ ap (with_object addr bytes.items) snap_is)
+                (read_one old.core new.core job tx snap addr has is_plan (reads new_tx) bytes.items is.2))
+            by (want.Fetch back io) is phase got seen =
+                let new_tx : new.worker.begun.tx ≡ Some tx = ap (λ (b : Begun). b.tx) got ∙ ap (λ t. Some t) is.0 in
+                alone_by (Some made) new.worker new.core Reading (Some io) phase (ap (λ (b : Begun). b.io) got)
+                (λ block. is.2.leaves.fetches block ∙ ap (λ b. nat_eq block.0 addr.block.0 || b) (none block)
+                ∙ or_none (nat_eq block.0 addr.block.0)
+                ∙ ap (λ (k : BlockNo). nat_eq block.0 k.0) (sym is.2.block))
+                (λ room. has_so new.worker new.core job tx (seen_of snap) new_job new_tx (seen ∙ snap_is)
+                (fetch_one old.core new.core job tx snap addr has is_plan (reads new_tx) io is.2))
+            by (want.Busy back) is phase got seen =
+                alone_by (Some made) new.worker new.core Planning None phase (ap (λ (b : Begun). b.io) got) (still is.2)
+                (λ room. same_core is.2 (ap (λ (b : Begun). b.tx) got ∙ ap (λ t. Some t) is.0) seen)
+            by (want.Loading back) is phase got seen =
+                alone_by (Some made) new.worker new.core Planning None phase (ap (λ (b : Begun). b.io) got) (still is.2)
+                (λ room. same_core is.2 (ap (λ (b : Begun). b.tx) got ∙ ap (λ t. Some t) is.0) seen)
+            by (want.Outside back) is phase got seen =
+                alone_by (Some made) new.worker new.core (phase_wanted (want.Outside back)) None phase
+                (ap (λ (b : Begun). b.io) got) (still is.2) (λ room. tt)
+            by (want.NoMemory back) is phase got seen =
+                alone_by (Some made) new.worker new.core (phase_wanted (want.NoMemory back)) None phase
+                (ap (λ (b : Begun). b.io) got) (still is.2) (λ room. tt)
+
+    -- what came of a commit
+    module _ (job : Job) (done : Outcome) where
+      placed_so : (made : Option Step) (base : State) (place : Seq) (stable : Bool) → base.begun.io ≡ None
+          → FetchesOnly None new.core
+          → new.worker ≡ with_entry job done.reply (told_of stable job done.reply place base)
+          → StaysAlone made new.worker new.core
+      placed_so made base place true io now is =
+          alone_by made new.worker new.core (Waiting place) None (ap (λ (s : State). s.phase) is)
+          (ap (λ (s : State). s.begun.io) is ∙ io) now (λ room. tt)
+      placed_so made base place false io now is =
+          alone_by made new.worker new.core Idle None (ap (λ (s : State). s.phase) is)
+          (ap (λ (s : State). s.begun.io) is ∙ io) now (λ room. tt)
+
+      committed_so : (made : Step) (base : State) (added : ℕ) (answer : Commit Outcome) → base.begun.io ≡ None
+          → made ≡ step.Commit added (committing_of answer)
+          → IsCommit old.core tx (planned_of done) done answer new.core
+          → new.worker ≡ after_commit job done.reply answer base → StaysAlone (Some made) new.worker new.core
+      committed_so made base added (commit.Committed place) io made_is core is =
+          placed_so (Some made) base place (is_answered_stable job.call) io
+          (λ block. core.leaves.fetches block ∙ none block) is
+      committed_so made base added (commit.Full back same) io made_is core is =
+          alone_by (Some made) new.worker new.core Planning None (ap (λ (s : State). s.phase) is)
+          (ap (λ (s : State). s.begun.io) is)
+          (subst (λ (c : CoreState). FetchesOnly None c) (sym core.0.core) none)
+          (λ room. absurd (true≢false (sym (ap (λ m. is_full (Some m)) made_is) ∙ room)))
+      committed_so made base added (commit.Foreign back same) io made_is core is =
+          alone_by (Some made) new.worker new.core Again None (ap (λ (s : State). s.phase) is)
+          (ap (λ (s : State). s.begun.io) is)
+          (subst (λ (c : CoreState). FetchesOnly None c) (sym core.0.core) none) (λ room. tt)
+      committed_so made base added (commit.NoMemory back same) io made_is core is =
+          alone_by (Some made) new.worker new.core (Refused cause.NoMemory) None (ap (λ (s : State). s.phase) is)
+          (ap (λ (s : State). s.begun.io) is)
+          (subst (λ (c : CoreState). FetchesOnly None c) (sym core.0.core) none) (λ room. tt)
+      committed_so made base added (commit.Broken back same) io made_is core is =
+          alone_by (Some made) new.worker new.core (Refused cause.Io) None (ap (λ (s : State). s.phase) is)
+          (ap (λ (s : State). s.begun.io) is)
+          (subst (λ (c : CoreState). FetchesOnly None c) (sym core.0.core) none) (λ room. tt)
+      committed_so made base added (commit.Spent back same) io made_is core is =
+          alone_by (Some made) new.worker new.core (Refused cause.Spent) None (ap (λ (s : State). s.phase) is)
+          (ap (λ (s : State). s.begun.io) is)
+          (subst (λ (c : CoreState). FetchesOnly None c) (sym core.0.core) none) (λ room. tt)
+
+    lacked_so : (made : Step) → HasLacked tx old made new → StaysAlone (Some made) new.worker new.core
+    lacked_so made has = aborted_so (Some made) Idle (λ worker core. tt) (ap (λ (s : State). s.phase) has.worker)
+        (ap (λ (s : State). s.begun.io) has.worker) has.core
+
+    planned_so : (made : Step) (next : Plan) → IsNext old.worker next → HasTaken old.worker old.core
+        → GoesByNext next tx old made new → StaysAlone (Some made) new.worker new.core
+    planned_so made next is taken goes = of_next next is.plan goes
+      where
+        has : HasOfCall is.job tx old.core (seen_of is.snap)
+        has = has_of old.worker old.core is.job tx (seen_of is.snap) is.job_is tx_is is.snap_is taken
+
+        of_next : (next : Plan) → IsPlanFor is.job.call is.snap next → GoesByNext next tx old made new
+            → StaysAlone (Some made) new.worker new.core
+        of_next (plan.Need addr) is_plan goes = wanted_so is.job is.snap is.job_is is.snap_is has addr made is_plan goes
+        of_next (plan.Claim block) is_plan goes = absurd is_plan.1
+        of_next (plan.Done done) is_plan goes = elim (ending old new tx done made goes) [
+          | lacked has_lacked ↦ lacked_so made has_lacked
+          | committed job job_is has ↦
+              committed_so job done made (record (with_snap new.worker old.worker) { begun = none_begun })
+              (added_blocks old.core.log (blocks_of done.written)) has.answer refl has.made_is has.core has.worker
+        ]
+        of_next plan.NoMemory is_plan goes = lacked_so made goes
+
+  -- a fetch is given back
+  given_so : (ok : Bool) (made : Step) (io : Fetch) → old.worker.begun.io ≡ Some io → HasTaken old.worker old.core
+      → HasGivenBack ok io old made new → StaysAlone (Some made) new.worker new.core
+  given_so ok made io io_is taken has =
+      alone_by (Some made) new.worker new.core (phase_given ok) None (ap (λ (s : State). s.phase) has.worker)
+      (ap (λ (s : State). s.begun.io) has.worker) none (λ room. by ok)
+    where
+      not_both : (b : Bool) → (not b && b) ≡ false
+      not_both true = refl
+      not_both false = refl
+
+      none : FetchesOnly None new.core
+      none block = has.leaves.fetches block
+          ∙ ap (λ b. not (nat_eq block.0 io.block.0) && b)
+          (fetches block ∙ ap (λ (o : Option Fetch). is_fetch_of o block) io_is)
+          ∙ not_both (nat_eq block.0 io.block.0)
+
+      same : HasTaken new.worker new.core
+      same = same_taken old.worker new.worker old.core new.core (ap (λ (s : State). s.work.job) has.worker)
+          (ap (λ (s : State). s.begun.tx) has.worker) (ap (λ (s : State). seen_in s.work.snap) has.worker)
+          (λ job tx seen tx_is of_call. moved job tx seen old.core new.core
+          (ap (λ (c : CoreState). c.log.blocks) has.only) (ap (λ (c : CoreState). c.inodes) has.only)
+          (λ addr. has.leaves.holds tx addr)
+          (keeps tx (λ was. ap (λ (s : State). s.begun.tx) has.worker ∙ was)) of_call) taken
+
+      by : (ok : Bool) → PlansAlone (phase_given ok) new.worker new.core
+      by true = same
+      by false = tt
+
+  waited_so : (place : Seq) (made : Step) → old.worker.phase ≡ Waiting place → Waits place old made new
+      → StaysAlone (Some made) new.worker new.core
+  waited_so place made at has = by has.settled old.core.log.broken has.told
+    where
+      now : FetchesOnly old.worker.begun.io new.core
+      now = subst (λ (c : CoreState). FetchesOnly old.worker.begun.io c) (sym has.core) fetches
+
+      heard : (told : Verdict) (base : State) → base.begun.io ≡ old.worker.begun.io
+          → new.worker ≡ with_answer told (Some place) base → StaysAlone (Some made) new.worker new.core
+      heard told base io is = alone_by (Some made) new.worker new.core Idle old.worker.begun.io
+          (ap (λ (s : State). s.phase) is) (ap (λ (s : State). s.begun.io) is ∙ io) now (λ room. tt)
+
+      reply : (o : Option Reply) (base : State) → base.begun.io ≡ old.worker.begun.io
+          → IsSomeAnd o (λ reply. new.worker ≡ with_answer (verdict.Reply reply) (Some place) base)
+          → StaysAlone (Some made) new.worker new.core
+      reply None base io has = absurd has
+      reply (Some r) base io has = heard (verdict.Reply r) base io has
+
+      by : (settled broken : Bool) → IsHeard settled broken place old.worker new.worker
+          → StaysAlone (Some made) new.worker new.core
+      by true broken has = reply old.worker.work.reply
+          (record old.worker { work = record old.worker.work { reply = None } }) refl has
+      by false true has = reply old.worker.work.broken_reply
+          (record old.worker { work = record old.worker.work { broken_reply = None } }) refl has
+      by false false has = waits has
+        where
+          waits : new.worker ≡ old.worker → StaysAlone (Some made) new.worker new.core
+          waits same = alone_by (Some made) new.worker new.core (Waiting place) old.worker.begun.io
+              (ap (λ (s : State). s.phase) same ∙ at) (ap (λ (s : State). s.begun.io) same) now (λ room. tt)
+
+  refused_so : (why : Cause) (made : Step) → FetchesOnly None old.core → (job : Option Job) (tx : Option ℕ)
+      → old.worker.begun.tx ≡ tx
+      → IsSomeAnd job (λ job. IsSomeAnd tx (λ tx. HasRefused why job tx old made new))
+      → StaysAlone (Some made) new.worker new.core
+  refused_so why made none None tx tx_is has = absurd has
+  refused_so why made none (Some job) None tx_is has = absurd has
+  refused_so why made none (Some job) (Some tx) tx_is has =
+      aborted_so tx tx_is none (Some made) Idle (λ worker core. tt) (ap (λ (s : State). s.phase) has.worker)
+      (ap (λ (s : State). s.begun.io) has.worker) has.core
+
+  left_so : (made : Step) → FetchesOnly None old.core → (tx : Option ℕ) → old.worker.begun.tx ≡ tx
+      → IsSomeAnd tx (λ tx. HasLeft tx old made new) → StaysAlone (Some made) new.worker new.core
+  left_so made none None tx_is has = absurd has
+  left_so made none (Some tx) tx_is has =
+      aborted_so tx tx_is none (Some made) Called (λ worker core. tt) (ap (λ (s : State). s.phase) has.worker)
+      (ap (λ (s : State). s.begun.io) has.worker) has.core
+
+  called_so : (made : Step) → old.worker.begun.tx ≡ None → FetchesOnly None old.core → Beginning old made new
+      → StaysAlone (Some made) new.worker new.core
+  called_so made idle none (begun job number job_is made_is has) = begun_so (Some made) job number idle none has
+  called_so made idle none (refused why made_is told) = told_so (Some made) told
+  called_so made idle none (replied made_is told) = told_so (Some made) told
+
+  read_so : (ok : Bool) (made : Step) (io : Option Fetch) → old.worker.begun.io ≡ io → HasTaken old.worker old.core
+      → IsSomeAnd io (λ io. HasGivenBack ok io old made new) → StaysAlone (Some made) new.worker new.core
+  read_so ok made None io_is taken has = absurd has
+  read_so ok made (Some io) io_is taken has = given_so ok made io io_is taken has
+
+  rests_so : (made : Option Step) (phase : Phase) → old.worker.phase ≡ phase → PlansAlone phase old.worker old.core
+      → new ≡ old → StaysAlone made new.worker new.core
+  rests_so made phase at plans same = subst (λ (s : Side). StaysAlone made s.worker s.core) (sym same)
+      (alone_by made old.worker old.core phase old.worker.begun.io at refl fetches (λ room. plans))
+
+  no_tx : (tx : Option ℕ) → is_some tx ≡ false → tx ≡ None
+  no_tx None none = refl
+  no_tx (Some tx) some = absurd (true≢false some)
+
+  pub stays_alone : (phase : Phase) (made : Option Step) → old.worker.phase ≡ phase
+      → is_some old.worker.begun.tx ≡ has_transaction phase → is_some old.worker.begun.io ≡ has_fetch phase
+      → PlansAlone phase old.worker old.core → GoesOn phase old made new → StaysAlone made new.worker new.core
+  stays_alone Idle made at out fetch plans has = rests_so made Idle at plans has.1
+  stays_alone Reading made at out fetch plans has = rests_so made Reading at plans has.1
+  stays_alone Called (Some made) at out fetch plans has =
+      called_so made (no_tx old.worker.begun.tx out) (no_fetch old.worker.begun.io old.core fetch fetches)
+      (beginning old new made has)
+  stays_alone Planning (Some made) at out fetch plans has =
+      planned_so has.tx has.tx_is (no_fetch old.worker.begun.io old.core fetch fetches) made has.next has.next_is plans
+      has.goes
+  stays_alone (Read ok) (Some made) at out fetch plans has = read_so ok made old.worker.begun.io refl plans has
+  stays_alone (Refused why) (Some made) at out fetch plans has =
+      refused_so why made (no_fetch old.worker.begun.io old.core fetch fetches) old.worker.work.job old.worker.begun.tx
+      refl has
+  stays_alone Again (Some made) at out fetch plans has =
+      left_so made (no_fetch old.worker.begun.io old.core fetch fetches) old.worker.begun.tx refl has
+  stays_alone (Waiting place) (Some made) at out fetch plans has = waited_so place made at has
+  stays_alone Called None at out fetch plans has = absurd has
+  stays_alone Planning None at out fetch plans has = absurd has
+  stays_alone (Read ok) None at out fetch plans has = absurd has
+  stays_alone (Refused why) None at out fetch plans has = absurd has
+  stays_alone Again None at out fetch plans has = absurd has
+  stays_alone (Waiting place) None at out fetch plans has = absurd has

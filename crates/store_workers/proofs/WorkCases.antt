@@ -1,0 +1,172 @@
+-- A worker's step, by cases.
+use Rattle.std.proofs.Common.{◌≡◌, refl, sym, subst, ℕ, Bool, true, false, Option, Some, None, Ok, Err}
+use Rattle.std.specs.Prelude.{IsSomeAnd}
+use Rattle.disk.specs.declared.block.BlockNo.{BlockNo}
+use Rattle.objects.specs.declared.addr.Addr.{Addr}
+use Rattle.objects.specs.declared.mode.Mode.TheVariants as modes
+use Rattle.model.specs.Calls.{has_rules, unsupported}
+use Rattle.wal_law.specs.Log.{added_blocks}
+use Rattle.wal_law.specs.declared.outcomes.Seq.{Seq}
+use Rattle.procs.specs.Outcome.{Outcome}
+use Rattle.procs.specs.declared.next.Plan.{Plan}
+use Rattle.procs.specs.declared.next.Plan.TheVariants as plan
+use Rattle.txn.specs.Fetch.{Fetch}
+use Rattle.txn.specs.Group.{blocks_of}
+use Rattle.txn.specs.declared.outcomes.BeginFault.{BeginFault}
+use Rattle.store_promise.specs.Verdicts.{cause_of, refusal}
+use Rattle.store_promise.specs.declared.answers.Verdict.TheVariants as verdict
+use Rattle.store_promise.specs.declared.events.Cause.{Cause}
+use Rattle.store_promise.specs.declared.events.Ending.TheVariants as ending
+use Rattle.store_promise.specs.declared.events.Step.{Step}
+use Rattle.store_promise.specs.declared.events.Step.TheVariants as step
+use Rattle.store_workers.specs.WorkerAnswers.{claim_wish, committing_of, wish_of, with_answer}
+use Rattle.store_workers.specs.WorkerSteps.{BeginsBy, EndsBy, GoesByNext, GoesOn, HasBegun, HasClaimed}
+use Rattle.store_workers.specs.WorkerSteps.{HasCommitted, HasGivenBack, HasLacked, HasLeft}
+use Rattle.store_workers.specs.WorkerSteps.{HasRefused, HasWanted}
+use Rattle.store_workers.specs.WorkerSteps.{IsNext, IsNoBeginning, Side, Waits, given_step}
+use Rattle.store_workers.specs.declared.workers.parts.Job.{Job}
+use Rattle.store_workers.specs.declared.workers.parts.Phase.{Phase}
+use Rattle.store_workers.specs.declared.workers.parts.Phase.TheVariants.{Idle, Called, Planning}
+use Rattle.store_workers.specs.declared.workers.parts.Phase.TheVariants.{Reading, Read}
+use Rattle.store_workers.specs.declared.workers.parts.Phase.TheVariants.{Refused, Again, Waiting}
+
+-- what is to be shown of each step, where the phase is the one before it
+pub record Cases (old new : Side) (P : Phase → Option Step → Type 0) : Type 0 where
+  pub idle : new ≡ old → P Idle None
+  pub reading : new ≡ old → P Reading None
+  pub begun : (job : Job) (number : ℕ) → old.worker.work.job ≡ Some job → has_rules job.call ≡ true
+      → HasBegun job old number new → P Called (Some (step.Begun (Ok number)))
+  pub not_begun : (job : Job) (why : BeginFault) → old.worker.work.job ≡ Some job → has_rules job.call ≡ true
+      → IsNoBeginning why old.core → new.core ≡ old.core
+      → new.worker ≡ with_answer (refusal job.call (cause_of why)) None old.worker
+      → P Called (Some (step.Begun (Err why)))
+  pub replied : (job : Job) → old.worker.work.job ≡ Some job → has_rules job.call ≡ false → new.core ≡ old.core
+      → new.worker ≡ with_answer (verdict.Reply (unsupported job.call)) None old.worker
+      → P Called (Some step.Replied)
+  pub wanted : (tx : ℕ) (addr : Addr) (made : Step) → old.worker.begun.tx ≡ Some tx
+      → IsNext old.worker (plan.Need addr) → (has : HasWanted tx addr old made new)
+      → P Planning (Some (step.Wanted addr modes.Exclusive (wish_of has.answer)))
+  pub claimed : (tx : ℕ) (block : BlockNo) (made : Step) → old.worker.begun.tx ≡ Some tx
+      → IsNext old.worker (plan.Claim block) → (has : HasClaimed tx block old made new)
+      → P Planning (Some (step.Claimed block (claim_wish has.answer)))
+  pub committed : (job : Job) (tx : ℕ) (done : Outcome) (made : Step) → old.worker.begun.tx ≡ Some tx
+      → IsNext old.worker (plan.Done done) → old.worker.work.job ≡ Some job
+      → (has : HasCommitted job tx done old made new)
+      → P Planning (Some (step.Commit (added_blocks old.core.log (blocks_of done.written))
+      (committing_of has.answer)))
+  pub lacked : (tx : ℕ) (made : Step) → old.worker.begun.tx ≡ Some tx → HasLacked tx old made new
+      → P Planning (Some (step.Ended ending.NoMemory))
+  pub given : (ok : Bool) (io : Fetch) (made : Step) → old.worker.begun.io ≡ Some io
+      → HasGivenBack ok io old made new → P (Read ok) (Some (given_step ok io))
+  pub refused : (why : Cause) (job : Job) (tx : ℕ) (made : Step) → old.worker.work.job ≡ Some job
+      → old.worker.begun.tx ≡ Some tx → HasRefused why job tx old made new
+      → P (Refused why) (Some (step.Ended ending.Refused))
+  pub left : (tx : ℕ) (made : Step) → old.worker.begun.tx ≡ Some tx → HasLeft tx old made new
+      → P Again (Some (step.Ended ending.Again))
+  pub waited : (place : Seq) (made : Step) → (has : Waits place old made new)
+      → P (Waiting place) (Some (step.Stable place has.settled))
+
+-- each is one of these
+module _ (old new : Side) (P : Phase → Option Step → Type 0) (cases : Cases old new P) where
+  so : (phase : Phase) (one other : Step) → one ≡ other → P phase (Some other) → P phase (Some one)
+  so phase one other is shown = subst (λ made. P phase (Some made)) (sym is) shown
+
+  begins : (job : Job) (served : Bool) (made : Step) → old.worker.work.job ≡ Some job
+      → has_rules job.call ≡ served → BeginsBy served job old made new → P Called (Some made)
+  begins job false made job_is served has =
+      so Called made step.Replied has.0 (cases.replied job job_is served has.1 has.2)
+  begins job true (step.Begun (Ok number)) job_is served has = cases.begun job number job_is served has
+  begins job true (step.Begun (Err why)) job_is served has =
+      cases.not_begun job why job_is served has.0 has.1 has.2
+  begins job true step.Called job_is served has = absurd has
+  begins job true step.Replied job_is served has = absurd has
+  begins job true (step.Wanted a b c) job_is served has = absurd has
+  begins job true (step.Claimed a b) job_is served has = absurd has
+  begins job true (step.Fetched a) job_is served has = absurd has
+  begins job true (step.FetchFailed a) job_is served has = absurd has
+  begins job true (step.Commit a b) job_is served has = absurd has
+  begins job true (step.Ended a) job_is served has = absurd has
+  begins job true (step.Stable a b) job_is served has = absurd has
+  begins job true (step.Read a b) job_is served has = absurd has
+  begins job true (step.LogNext a) job_is served has = absurd has
+  begins job true (step.LogIo a) job_is served has = absurd has
+  begins job true (step.LogDone a) job_is served has = absurd has
+  begins job true (step.InstNext a) job_is served has = absurd has
+  begins job true (step.InstIo a) job_is served has = absurd has
+  begins job true (step.InstDone a) job_is served has = absurd has
+
+  called : (found : Option Job) (made : Step) → old.worker.work.job ≡ found
+      → IsSomeAnd found (λ job. BeginsBy (has_rules job.call) job old made new) → P Called (Some made)
+  called None made is has = absurd has
+  called (Some job) made is has = begins job (has_rules job.call) made is refl has
+
+  module _ (tx : ℕ) (tx_is : old.worker.begun.tx ≡ Some tx) where
+    lacks : (made : Step) → HasLacked tx old made new → P Planning (Some made)
+    lacks made has = so Planning made (step.Ended ending.NoMemory) has.made_is (cases.lacked tx made tx_is has)
+
+    module _ (done : Outcome) (next : IsNext old.worker (plan.Done done)) where
+      commits : (found : Option Job) (made : Step) → old.worker.work.job ≡ found
+          → IsSomeAnd found (λ job. HasCommitted job tx done old made new) → P Planning (Some made)
+      commits None made is has = absurd has
+      commits (Some job) made is has =
+          so Planning made _ has.made_is (cases.committed job tx done made tx_is next is has)
+
+      ends : (made : Step) → EndsBy tx done old made new → P Planning (Some made)
+      ends (step.Ended why) has = lacks (step.Ended why) has
+      ends step.Called has = commits old.worker.work.job _ refl has
+      ends step.Replied has = commits old.worker.work.job _ refl has
+      ends (step.Begun a) has = commits old.worker.work.job _ refl has
+      ends (step.Wanted a b c) has = commits old.worker.work.job _ refl has
+      ends (step.Claimed a b) has = commits old.worker.work.job _ refl has
+      ends (step.Fetched a) has = commits old.worker.work.job _ refl has
+      ends (step.FetchFailed a) has = commits old.worker.work.job _ refl has
+      ends (step.Commit a b) has = commits old.worker.work.job _ refl has
+      ends (step.Stable a b) has = commits old.worker.work.job _ refl has
+      ends (step.Read a b) has = commits old.worker.work.job _ refl has
+      ends (step.LogNext a) has = commits old.worker.work.job _ refl has
+      ends (step.LogIo a) has = commits old.worker.work.job _ refl has
+      ends (step.LogDone a) has = commits old.worker.work.job _ refl has
+      ends (step.InstNext a) has = commits old.worker.work.job _ refl has
+      ends (step.InstIo a) has = commits old.worker.work.job _ refl has
+      ends (step.InstDone a) has = commits old.worker.work.job _ refl has
+
+    goes : (next : Plan) (made : Step) → IsNext old.worker next → GoesByNext next tx old made new
+        → P Planning (Some made)
+    goes (plan.Need addr) made is has = so Planning made _ has.made_is (cases.wanted tx addr made tx_is is has)
+    goes (plan.Claim block) made is has = so Planning made _ has.made_is (cases.claimed tx block made tx_is is has)
+    goes (plan.Done done) made is has = ends done is made has
+    goes plan.NoMemory made is has = lacks made has
+
+  gives : (ok : Bool) (found : Option Fetch) (made : Step) → old.worker.begun.io ≡ found
+      → IsSomeAnd found (λ io. HasGivenBack ok io old made new) → P (Read ok) (Some made)
+  gives ok None made is has = absurd has
+  gives ok (Some io) made is has = so (Read ok) made _ has.made_is (cases.given ok io made is has)
+
+  leaves : (found : Option ℕ) (made : Step) → old.worker.begun.tx ≡ found
+      → IsSomeAnd found (λ tx. HasLeft tx old made new) → P Again (Some made)
+  leaves None made is has = absurd has
+  leaves (Some tx) made is has = so Again made _ has.made_is (cases.left tx made is has)
+
+  refuses : (why : Cause) (job : Option Job) (tx : Option ℕ) (made : Step) → old.worker.work.job ≡ job
+      → old.worker.begun.tx ≡ tx
+      → IsSomeAnd job (λ job. IsSomeAnd tx (λ tx. HasRefused why job tx old made new)) → P (Refused why) (Some made)
+  refuses why None tx made job_is tx_is has = absurd has
+  refuses why (Some job) None made job_is tx_is has = absurd has
+  refuses why (Some job) (Some tx) made job_is tx_is has =
+      so (Refused why) made _ has.made_is (cases.refused why job tx made job_is tx_is has)
+
+  pub by_cases : (phase : Phase) (made : Option Step) → GoesOn phase old made new → P phase made
+  by_cases Idle made has = subst (λ m. P Idle m) (sym has.0) (cases.idle has.1)
+  by_cases Reading made has = subst (λ m. P Reading m) (sym has.0) (cases.reading has.1)
+  by_cases Called (Some made) has = called old.worker.work.job made refl has
+  by_cases Planning (Some made) has = goes has.tx has.tx_is has.next made has.next_is has.goes
+  by_cases (Read ok) (Some made) has = gives ok old.worker.begun.io made refl has
+  by_cases (Refused why) (Some made) has = refuses why old.worker.work.job old.worker.begun.tx made refl refl has
+  by_cases Again (Some made) has = leaves old.worker.begun.tx made refl has
+  by_cases (Waiting place) (Some made) has = so (Waiting place) made _ has.made_is (cases.waited place made has)
+  by_cases Called None has = absurd has
+  by_cases Planning None has = absurd has
+  by_cases (Read ok) None has = absurd has
+  by_cases (Refused why) None has = absurd has
+  by_cases Again None has = absurd has
+  by_cases (Waiting place) None has = absurd has

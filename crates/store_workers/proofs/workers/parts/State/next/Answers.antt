@@ -1,0 +1,24 @@
+use Rattle.std.proofs.Common.{rules, ◌≡◌, Some, ap}
+use Rattle.store_workers.specs.Seen.{seen_in}
+use Rattle.store_workers.proofs.workers.parts.State.next.Goals as goal
+
+pub returns-then-is_err-clause-next : goal.returns-then-is_err-clause-next
+returns-then-is_err-clause-next c =
+    let there : c.args.self.now.work.snap ≡ Some c.in-Some-Some.snap.now = search rules in record {
+      job = c.in-Some-Some.job.now;
+      job_is = search rules;
+      snap = c.in-Some-Some.snap.now;
+      snap_is = ap seen_in there;
+      plan = tt;
+      is_step = tt;
+    }
+
+pub returns-clause-next : goal.returns-clause-next
+returns-clause-next c = record {
+  job = c.in-Some-Some.job.now;
+  job_is = search rules;
+  snap = c.make_room.new.self;
+  snap_is = search rules;
+  plan = c.plan.ensures.plan;
+  is_step = c.plan.ensures.step;
+}

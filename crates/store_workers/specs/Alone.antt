@@ -1,0 +1,78 @@
+-- A worker that is alone in its store: whatever is taken of the core and whatever is being read is its own.
+use Rattle.std.specs.Prelude.{◌≡◌, ℕ, Bool, true, false, Option, Some, [], All, IsSomeAnd}
+use Rattle.objects.specs.declared.addr.Addr.{Addr}
+use Rattle.objects.specs.declared.mode.Mode.TheVariants as modes
+use Rattle.procs.specs.Asks.{Asks, WereAskedOnce}
+use Rattle.txn.specs.Commit.{IsReadBy}
+use Rattle.txn.specs.Core.{CoreState}
+use Rattle.txn.specs.Leaves.{taken_by}
+use Rattle.txn_law.specs.declared.hold.Hold.{Hold}
+use Rattle.store_promise.specs.declared.events.Committing.TheVariants as committing
+use Rattle.store_promise.specs.declared.events.Step.{Step}
+use Rattle.store_promise.specs.declared.events.Step.TheVariants as step
+use Rattle.store_promise.specs.declared.events.Wish.TheVariants as wish
+use Rattle.store_images.specs.Fetches.{FetchesOnly}
+use Rattle.store_workers.specs.Seen.{Seen, seen_in}
+use Rattle.store_workers.specs.declared.workers.parts.Job.{Job}
+use Rattle.store_workers.specs.declared.workers.parts.Phase.{Phase}
+use Rattle.store_workers.specs.declared.workers.parts.Phase.TheVariants.{Idle, Called, Planning}
+use Rattle.store_workers.specs.declared.workers.parts.Phase.TheVariants.{Reading, Read}
+use Rattle.store_workers.specs.declared.workers.parts.Phase.TheVariants.{Refused, Again, Waiting}
+use Rattle.store_workers.specs.declared.workers.parts.State.{State}
+
+-- ---- what was read and taken
+
+-- What a transaction has of its call, of this core's image: each object was asked for once, and is held still. What
+-- is taken is taken alone, and the call asks for it by what was read. No call with rules claims a block yet.
+pub record HasOfCall (job : Job) (tx : ℕ) (core : CoreState) (seen : Seen) : Type 0 where
+  pub blocks : seen.geometry.blocks ≡ core.log.blocks
+  pub inodes : seen.geometry.inodes ≡ core.inodes
+  pub claims : seen.claims ≡ []
+  pub were : WereAskedOnce seen.geometry job.call seen.objects
+  pub read : All (IsReadBy core tx) seen.objects
+  pub exclusive : (addr : Addr) (hold : Hold) → taken_by core tx addr ≡ Some hold → hold.mode ≡ modes.Exclusive
+  pub asked : (addr : Addr) (hold : Hold) → taken_by core tx addr ≡ Some hold
+      → Asks seen.geometry job.call seen.objects addr
+
+-- the worker has a call and a transaction, and so much of them
+abbrev pub HasTaken : State → CoreState → Type 0
+HasTaken worker core = IsSomeAnd worker.work.job (λ job. IsSomeAnd worker.begun.tx (λ tx.
+    IsSomeAnd (seen_in worker.work.snap) (λ seen. HasOfCall job tx core seen)))
+
+-- and so it is while it plans
+abbrev pub PlansAlone : Phase → State → CoreState → Type 0
+PlansAlone Idle worker core = Unit {0}
+PlansAlone Called worker core = Unit {0}
+PlansAlone Again worker core = Unit {0}
+PlansAlone Planning worker core = HasTaken worker core
+PlansAlone Reading worker core = HasTaken worker core
+PlansAlone (Read ok) worker core = HasTaken worker core
+PlansAlone (Refused why) worker core = Unit {0}
+PlansAlone (Waiting place) worker core = Unit {0}
+
+-- no fetch is pending but its own, and what is taken while it plans is of its call
+pub record IsAlone (worker : State) (core : CoreState) : Type 0 where
+  pub fetches : FetchesOnly worker.begun.io core
+  pub plans : PlansAlone worker.phase worker core
+
+-- ---- its steps
+
+-- a wish was kept off, or a commit refused as foreign
+abbrev pub is_kept_off : Option Step → Bool
+is_kept_off (Some (step.Wanted addr mode wish.Busy)) = true
+is_kept_off (Some (step.Wanted addr mode wish.Loading)) = true
+is_kept_off (Some (step.Claimed block wish.Busy)) = true
+is_kept_off (Some (step.Claimed block wish.Loading)) = true
+is_kept_off (Some (step.Commit added committing.Foreign)) = true
+is_kept_off _ = false
+
+-- a commit was refused for want of room
+abbrev pub is_full : Option Step → Bool
+is_full (Some (step.Commit added committing.Full)) = true
+is_full _ = false
+
+-- after a step no fetch is pending but its own, and where no room was wanting, what is taken while it plans is of its
+-- call
+pub record StaysAlone (made : Option Step) (worker : State) (core : CoreState) : Type 0 where
+  pub fetches : FetchesOnly worker.begun.io core
+  pub plans : is_full made ≡ false → PlansAlone worker.phase worker core

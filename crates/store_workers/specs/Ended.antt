@@ -1,0 +1,54 @@
+-- What a worker's end leaves of its core.
+use Rattle.std.specs.Prelude.{◌≡◌, ℕ, Bool, Option, Some, None, []}
+use Rattle.disk.specs.Device.{Content}
+use Rattle.disk.specs.declared.block.BlockNo.{BlockNo}
+use Rattle.objects.specs.declared.addr.Addr.{Addr}
+use Rattle.txn_law.specs.Core.{CoreState}
+use Rattle.txn_law.specs.CoreWindow.{KeepsHome, KeepsReads}
+use Rattle.txn_law.specs.Fetch.{Fetch}
+use Rattle.txn_law.specs.Leaves.{but_by, in_memory, is_fetching, taken_by, without_fetch}
+use Rattle.txn_law.specs.declared.hold.Hold.{Hold}
+use Rattle.store_workers.specs.declared.workers.parts.Begun.{Begun}
+
+-- what is taken by the others, where a transaction ends
+abbrev pub but_of : Option ℕ → (ℕ → Addr → Option Hold) → ℕ → Addr → Option Hold
+but_of None taken = taken
+but_of (Some tx) taken = but_by tx taken
+
+-- the fetches that are pending, where one is given back
+abbrev pub without_io : Option Fetch → (BlockNo → Bool) → BlockNo → Bool
+without_io None fetching = fetching
+without_io (Some io) fetching = without_fetch io.block fetching
+
+-- nothing has come into memory
+abbrev pub BringsNothing : CoreState → CoreState → Type 0
+BringsNothing old new = (block : BlockNo) (content : Content) → in_memory new block ≡ Some content
+    → in_memory old block ≡ Some content
+
+-- A fetch was given back, if there was one: it is pending no more, and of the core nothing else has changed.
+pub record GivesFetchBack (io : Option Fetch) (old new : CoreState) : Type 0 where
+  pub only : new ≡ record old { present = new.present }
+  pub fetches : (block : BlockNo) → is_fetching new block ≡ without_io io (is_fetching old) block
+  pub memory : BringsNothing old new
+  pub stays : (other : ℕ) → KeepsReads old new other
+  pub home : KeepsHome old new
+
+-- The transaction that was out has ended, if there was one: what it had taken is free, and what others have taken
+-- stays.
+pub record GivesTransactionBack (tx : Option ℕ) (old new : CoreState) : Type 0 where
+  pub only : new ≡ record old { out = []; holds = new.holds; present = new.present }
+  pub holds : (other : ℕ) (addr : Addr) → taken_by new other addr ≡ but_of tx (taken_by old) other addr
+  pub fetches : (block : BlockNo) → is_fetching new block ≡ is_fetching old block
+  pub memory : BringsNothing old new
+  pub stays : (other : ℕ) → (tx ≡ Some other → ⊥) → KeepsReads old new other
+  pub home : KeepsHome old new
+
+-- What a worker had begun was given back: no transaction is out, what its own had taken is free, and its fetch is
+-- pending no more. What others have taken or fetch stays, and so do the log, the counts and the kept commits.
+pub record GivesAllBack (begun : Begun) (old new : CoreState) : Type 0 where
+  pub only : new ≡ record old { out = []; holds = new.holds; present = new.present }
+  pub holds : (other : ℕ) (addr : Addr) → taken_by new other addr ≡ but_of begun.tx (taken_by old) other addr
+  pub fetches : (block : BlockNo) → is_fetching new block ≡ without_io begun.io (is_fetching old) block
+  pub memory : BringsNothing old new
+  pub stays : (other : ℕ) → (begun.tx ≡ Some other → ⊥) → KeepsReads old new other
+  pub home : KeepsHome old new

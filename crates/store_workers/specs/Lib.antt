@@ -1,0 +1,13 @@
+pub mod Alone
+pub mod Asked
+pub mod Ended
+pub mod Noting
+pub mod Phases
+pub mod Seen
+pub mod Stages
+pub mod Telling
+pub mod WorkTells
+pub mod Worker
+pub mod WorkerAnswers
+pub mod WorkerReads
+pub mod WorkerSteps

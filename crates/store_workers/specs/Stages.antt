@@ -1,0 +1,132 @@
+-- How far a worker is with its call, as a function of its state, and what holds of it between the events of a run.
+use Rattle.std.specs.Prelude.{◌≡◌, ℕ, zero, suc, true, Option, Some, None, IsSomeAnd, List, [], map, slice_get}
+use Rattle.std.specs.Prelude.{unwrap_or}
+use Rattle.disk.specs.declared.block.BlockNo.{BlockNo}
+use Rattle.nfs_types.specs.declared.status.Status.TheVariants as status
+use Rattle.objects.specs.declared.addr.Addr.{Addr}
+use Rattle.objects.specs.declared.mode.Mode.TheVariants.{Exclusive}
+use Rattle.model.specs.Entry.{Entry}
+use Rattle.model.specs.Calls.{is_answered_stable}
+use Rattle.model.specs.Refused.{refused}
+use Rattle.model.specs.Sound.{SoundTime}
+use Rattle.wal_law.specs.declared.outcomes.Seq.{Seq}
+use Rattle.txn.specs.Fetch.{Fetch}
+use Rattle.store_promise.specs.Progress.{Progress, Stage, Taken}
+use Rattle.store_promise.specs.Progress as told
+use Rattle.store_workers.specs.Asked.{Asking}
+use Rattle.store_workers.specs.Seen.{Seen, seen_in}
+use Rattle.store_workers.specs.declared.workers.parts.Job.{Job}
+use Rattle.store_workers.specs.declared.workers.parts.Phase.{Phase}
+use Rattle.store_workers.specs.declared.workers.parts.Phase.TheVariants.{Idle, Called, Planning}
+use Rattle.store_workers.specs.declared.workers.parts.Phase.TheVariants.{Reading, Read}
+use Rattle.store_workers.specs.declared.workers.parts.Phase.TheVariants.{Refused, Again, Waiting}
+use Rattle.store_workers.specs.declared.workers.parts.State.{State}
+
+-- an object that a plan asked for: it takes each alone
+abbrev pub alone : Addr → Taken
+alone addr = record { addr = addr; mode = Exclusive }
+
+-- the objects that were read, and the blocks that were claimed
+abbrev pub held_in : Option Seen → List Taken
+held_in None = []
+held_in (Some seen) = map (λ object. alone object.addr) seen.objects
+
+abbrev pub claimed_in : Option Seen → List BlockNo
+claimed_in None = []
+claimed_in (Some seen) = seen.claims
+
+-- a transaction, with what was read and claimed in it, and the objects whose blocks were fetched for it
+abbrev pub begun_of : Option ℕ → Option Seen → List Addr → told.Begun
+begun_of tx seen fetched = record {
+  number = unwrap_or tx 0;
+  held = held_in seen;
+  fetched = map alone fetched;
+  claimed = claimed_in seen;
+}
+
+-- what the worker was handed
+abbrev pub handed : Job → told.Job
+handed job = record { credential = job.ctx.credential; moment = job.ctx.moment; call = job.call }
+
+-- it is at this stage with a call
+abbrev pub at_stage : Option Job → Stage → Progress
+at_stage None stage = told.Idle
+at_stage (Some job) stage = told.At (handed job) stage
+
+-- a stage of an object whose block is fetched
+abbrev pub at_fetch : (Taken → Stage) → told.Begun → Option Addr → Stage
+at_fetch stage begun None = told.Planning begun
+at_fetch stage begun (Some addr) = stage (alone addr)
+
+abbrev pub progress_in : Phase → Option Job → told.Begun → Asking → Progress
+progress_in Idle job begun asked = told.Idle
+progress_in Called job begun asked = at_stage job told.Called
+progress_in Planning job begun asked = at_stage job (told.Planning begun)
+progress_in Reading job begun asked =
+    at_stage job (at_fetch (λ taken. told.Reading begun taken) begun asked.wish)
+progress_in (Read ok) job begun asked =
+    at_stage job (at_fetch (λ taken. told.Read begun taken ok) begun asked.wish)
+progress_in (Refused why) job begun asked = at_stage job (told.Refused begun why)
+progress_in Again job begun asked = at_stage job (told.Again begun)
+progress_in (Waiting place) job begun asked = at_stage asked.waiting (told.Waiting place.0)
+
+-- how far it is, as its steps tell it
+abbrev pub progress_of : State → Progress
+progress_of state = progress_in state.phase state.work.job
+    (begun_of state.begun.tx (seen_in state.work.snap) state.asked.fetched) state.asked
+
+-- ---- between the events
+
+-- the entry of a place; places count from 1
+abbrev pub entry_at : List Entry → ℕ → Option Entry
+entry_at entries zero = None
+entry_at entries (suc index) = slice_get entries index
+
+-- a call was handed over in this boot, at a sound time,
+pub record IsJobOf (boot : ℕ) (job : Job) : Type 0 where
+  pub boot_is : job.ctx.boot ≡ boot
+  pub timely : SoundTime job.ctx.moment
+
+-- and runs in this transaction
+pub record IsJobIn (boot : ℕ) (tx : Option ℕ) (job : Job) : Type 0 where
+  pub handed : IsJobOf boot job
+  pub transaction : tx ≡ Some job.ctx.transaction
+
+-- the worker's call does
+abbrev pub RunsIn : ℕ → State → Type 0
+RunsIn boot state = IsSomeAnd state.work.job (IsJobIn boot state.begun.tx)
+
+-- the block that is fetched is that of the object that was asked for
+abbrev pub IsFetchOf : State → Type 0
+IsFetchOf state = IsSomeAnd state.asked.wish (λ addr.
+    IsSomeAnd state.begun.io (λ (io : Fetch). io.block ≡ addr.block))
+
+-- The procedure of a call that is to be answered stable was committed at this place: kept for it are its reply and
+-- the refusal in its stead.
+pub record WaitsFor (entries : List Entry) (place : Seq) (state : State) : Type 0 where
+  pub job : Job
+  pub job_is : state.asked.waiting ≡ Some job
+  pub entry : Entry
+  pub entry_is : entry_at entries place.0 ≡ Some entry
+  pub call : entry.call ≡ job.call
+  pub stable : is_answered_stable job.call ≡ true
+  pub reply : state.work.reply ≡ Some entry.reply
+  pub broken_reply : state.work.broken_reply ≡ Some (refused status.Io job.call)
+
+-- what holds of it in each phase
+abbrev pub StandsAt : ℕ → List Entry → Phase → State → Type 0
+StandsAt boot entries Idle state = Unit {0}
+StandsAt boot entries Called state = IsSomeAnd state.work.job (IsJobOf boot)
+StandsAt boot entries Planning state = RunsIn boot state
+StandsAt boot entries Reading state = RunsIn boot state × IsFetchOf state
+StandsAt boot entries (Read ok) state = RunsIn boot state × IsFetchOf state
+StandsAt boot entries (Refused why) state = RunsIn boot state
+StandsAt boot entries Again state = RunsIn boot state
+StandsAt boot entries (Waiting place) state = WaitsFor entries place state
+
+-- A worker of a store of this boot, in which these procedures were committed: all that it gave is told.
+pub record IsWorkerAt (boot : ℕ) (entries : List Entry) (state : State) : Type 0 where
+  pub boot_is : state.boot ≡ boot
+  pub entry : state.work.entry ≡ None
+  pub answer : state.work.answer ≡ None
+  pub stands : StandsAt boot entries state.phase state

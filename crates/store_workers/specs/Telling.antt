@@ -1,0 +1,65 @@
+-- What a run tells of its worker's events.
+use Rattle.std.specs.Prelude.{◌≡◌, ℕ, Option, Some, None, List, [], ◌∷◌, ◌++◌, length}
+use Rattle.nfs_types.specs.declared.call.Call.{Call}
+use Rattle.nfs_types.specs.declared.ctx.Ctx.{Ctx}
+use Rattle.store_promise.specs.declared.answers.CallAnswer.{CallAnswer}
+use Rattle.store_promise.specs.declared.answers.Entry.{Entry}
+use Rattle.store_promise.specs.declared.events.Step.{Step}
+use Rattle.store_promise.specs.declared.events.Step.TheVariants as step
+use Rattle.store_promise.specs.declared.transcript.Answer.{Answer}
+use Rattle.store_promise.specs.declared.transcript.Committed.{Committed}
+use Rattle.store_promise.specs.declared.transcript.Run.{Run}
+use Rattle.store_workers.specs.Worker.{with_call}
+use Rattle.store_workers.specs.WorkerSteps.{GoesOn, Side, side}
+use Rattle.store_workers.specs.declared.workers.parts.Phase.TheVariants.{Idle}
+use Rattle.store_workers.specs.declared.workers.parts.State.{State}
+
+-- the one worker takes a call where it is idle; else nothing happens
+abbrev pub TakesCall : ℕ → Ctx → Call → State → Option Step → State → Type 0
+TakesCall worker ctx call old None new = (new ≡ old) × ((worker ≡ 0) × (old.phase ≡ Idle) → ⊥)
+TakesCall worker ctx call old (Some made) new = (made ≡ step.Called) × (worker ≡ 0) × (old.phase ≡ Idle)
+    × (new ≡ with_call ctx call old)
+
+-- the procedure that was committed at the event now taken, if one was
+abbrev pub entries_told : ℕ → ℕ → ℕ → Option Entry → List Committed
+entries_told worker event clock None = []
+entries_told worker event clock (Some entry) = record {
+  worker = worker;
+  ctx = entry.ctx;
+  call = entry.call;
+  reply = entry.reply;
+  event = event;
+  clock = clock;
+} ∷ []
+
+-- the answer that was given at it, if one was
+abbrev pub answers_told : ℕ → ℕ → ℕ → Option CallAnswer → List Answer
+answers_told worker event clock None = []
+answers_told worker event clock (Some answer) = record {
+  worker = worker;
+  verdict = answer.verdict;
+  place = answer.place;
+  event = event;
+  clock = clock;
+} ∷ []
+
+-- what a run tells with these
+pub record TellsWork (worker clock : ℕ) (work : State) (before after : Run) : Type 0 where
+  pub history : after.history.items
+      ≡ before.history.items ++ entries_told worker (length before.steps.items) clock work.work.entry
+  pub answers : after.answers.items
+      ≡ before.answers.items ++ answers_told worker (length before.steps.items) clock work.work.answer
+  pub steps : after.steps ≡ before.steps
+  pub boot : after.boot ≡ before.boot
+
+-- a worker of whom all is told
+abbrev pub told : State → State
+told state = record state { work = record state.work { entry = None; answer = None } }
+
+-- The worker made its step, and what it committed and answered is told, and doesn't lie ready any more.
+pub record HasWorked (worker clock : ℕ) (old : Side) (made : Option Step) (new : Side) (before after : Run) : Type 0
+  where
+    pub state : State
+    pub goes : GoesOn old.worker.phase old made (side state new.core)
+    pub taken : new.worker ≡ told state
+    pub tells : TellsWork worker clock state before after

@@ -1,0 +1,165 @@
+-- What a worker makes of what the core answered it.
+use Rattle.std.specs.Prelude.{ℕ, Bool, true, false, Option, Some, None}
+use Rattle.objects.specs.declared.addr.Addr.{Addr}
+use Rattle.disk.specs.declared.block.BlockNo.{BlockNo}
+use Rattle.nfs_types.specs.declared.reply.Reply.{Reply}
+use Rattle.nfs_types.specs.declared.status.Status.TheVariants as status
+use Rattle.model.specs.Calls.{is_answered_stable}
+use Rattle.model.specs.Refused.{refused}
+use Rattle.wal_law.specs.declared.outcomes.Seq.{Seq}
+use Rattle.txn.specs.declared.outcomes.Claim.{Claim}
+use Rattle.txn.specs.declared.outcomes.Claim.TheVariants as claim
+use Rattle.txn.specs.declared.outcomes.Commit.{Commit}
+use Rattle.txn.specs.declared.outcomes.Commit.TheVariants as commit
+use Rattle.txn.specs.declared.outcomes.Want.{Want}
+use Rattle.txn.specs.declared.outcomes.Want.TheVariants as want
+use Rattle.store_promise.specs.declared.answers.Verdict.{Verdict}
+use Rattle.store_promise.specs.declared.answers.Verdict.TheVariants as verdict
+use Rattle.store_promise.specs.declared.events.Cause.TheVariants as cause
+use Rattle.store_promise.specs.declared.events.Committing.{Committing}
+use Rattle.store_promise.specs.declared.events.Committing.TheVariants as committing
+use Rattle.store_promise.specs.declared.events.Wish.{Wish}
+use Rattle.store_promise.specs.declared.events.Wish.TheVariants as wish
+use Rattle.store_workers.specs.Asked.{Asking}
+use Rattle.store_workers.specs.declared.workers.parts.Begun.{Begun}
+use Rattle.store_workers.specs.declared.workers.parts.Job.{Job}
+use Rattle.store_workers.specs.declared.workers.parts.Phase.{Phase}
+use Rattle.store_workers.specs.declared.workers.parts.Phase.TheVariants.{Idle, Planning, Reading}
+use Rattle.store_workers.specs.declared.workers.parts.Phase.TheVariants.{Refused, Again}
+use Rattle.store_workers.specs.declared.workers.parts.Phase.TheVariants.{Waiting}
+use Rattle.store_workers.specs.declared.workers.parts.State.{State}
+use Rattle.store_workers.specs.Seen.{Seen, with_claim, with_object}
+
+-- ---- a wish to read
+
+abbrev pub wish_of : Want → Wish
+wish_of (want.Held back bytes) = wish.Held
+wish_of (want.Busy back) = wish.Busy
+wish_of (want.Fetch back io) = wish.Fetch
+wish_of (want.Loading back) = wish.Loading
+wish_of (want.Outside back) = wish.Outside
+wish_of (want.NoMemory back) = wish.NoMemory
+
+abbrev pub phase_wanted : Want → Phase
+phase_wanted (want.Held back bytes) = Planning
+phase_wanted (want.Busy back) = Planning
+phase_wanted (want.Fetch back io) = Reading
+phase_wanted (want.Loading back) = Planning
+phase_wanted (want.Outside back) = Refused cause.Io
+phase_wanted (want.NoMemory back) = Refused cause.NoMemory
+
+-- the transaction comes back, with a fetch where the block has to be read
+abbrev pub begun_wanted : Want → Begun
+begun_wanted (want.Held back bytes) = record { tx = Some back; io = None }
+begun_wanted (want.Busy back) = record { tx = Some back; io = None }
+begun_wanted (want.Fetch back io) = record { tx = Some back; io = Some io }
+begun_wanted (want.Loading back) = record { tx = Some back; io = None }
+begun_wanted (want.Outside back) = record { tx = Some back; io = None }
+begun_wanted (want.NoMemory back) = record { tx = Some back; io = None }
+
+-- what was read then
+abbrev pub seen_wanted : Addr → Want → Option Seen → Option Seen
+seen_wanted addr (want.Held back bytes) seen = with_object addr bytes.items seen
+seen_wanted addr (want.Busy back) seen = seen
+seen_wanted addr (want.Fetch back io) seen = seen
+seen_wanted addr (want.Loading back) seen = seen
+seen_wanted addr (want.Outside back) seen = seen
+seen_wanted addr (want.NoMemory back) seen = seen
+
+-- its block is to be fetched then
+abbrev pub asked_wanted : Addr → Want → Asking → Asking
+asked_wanted addr (want.Fetch back io) asked = record asked { wish = Some addr }
+asked_wanted addr (want.Held back bytes) asked = asked
+asked_wanted addr (want.Busy back) asked = asked
+asked_wanted addr (want.Loading back) asked = asked
+asked_wanted addr (want.Outside back) asked = asked
+asked_wanted addr (want.NoMemory back) asked = asked
+
+-- ---- a wish to claim
+
+abbrev pub claim_wish : Claim → Wish
+claim_wish (claim.Held back) = wish.Held
+claim_wish (claim.Busy back) = wish.Busy
+claim_wish (claim.Loading back) = wish.Loading
+claim_wish (claim.Outside back) = wish.Outside
+claim_wish (claim.NoMemory back) = wish.NoMemory
+
+abbrev pub phase_claimed : Claim → Phase
+phase_claimed (claim.Held back) = Planning
+phase_claimed (claim.Busy back) = Planning
+phase_claimed (claim.Loading back) = Planning
+phase_claimed (claim.Outside back) = Refused cause.Io
+phase_claimed (claim.NoMemory back) = Refused cause.NoMemory
+
+abbrev pub begun_claimed : Claim → Begun
+begun_claimed (claim.Held back) = record { tx = Some back; io = None }
+begun_claimed (claim.Busy back) = record { tx = Some back; io = None }
+begun_claimed (claim.Loading back) = record { tx = Some back; io = None }
+begun_claimed (claim.Outside back) = record { tx = Some back; io = None }
+begun_claimed (claim.NoMemory back) = record { tx = Some back; io = None }
+
+abbrev pub seen_claimed : BlockNo → Claim → Option Seen → Option Seen
+seen_claimed block (claim.Held back) seen = with_claim block seen
+seen_claimed block (claim.Busy back) seen = seen
+seen_claimed block (claim.Loading back) seen = seen
+seen_claimed block (claim.Outside back) seen = seen
+seen_claimed block (claim.NoMemory back) seen = seen
+
+-- ---- answers to calls
+
+-- a worker that has answered its call, and is idle
+abbrev pub with_answer : Verdict → Option Seq → State → State
+with_answer told place state = record state {
+  phase = Idle;
+  work = record state.work { answer = Some (record { verdict = told; place = place }) };
+}
+
+-- one that answers its committed procedure once the place is settled: so, or, if the store breaks before, by IO
+abbrev pub with_replies : Job → Reply → Seq → State → State
+with_replies job reply place state = record state {
+  phase = Waiting place;
+  work = record state.work { reply = Some reply; broken_reply = Some (refused status.Io job.call) };
+  asked = record state.asked { waiting = Some job };
+}
+
+-- ---- commits
+
+abbrev pub committing_of : {C : Type 0} → Commit C → Committing
+committing_of (commit.Committed place) = committing.Committed place
+committing_of (commit.Full back change) = committing.Full
+committing_of (commit.Foreign back change) = committing.Foreign
+committing_of (commit.NoMemory back change) = committing.NoMemory
+committing_of (commit.Broken back change) = committing.Broken
+committing_of (commit.Spent back change) = committing.Spent
+
+-- the procedure is answered at once, or once it is stable
+abbrev pub told_of : Bool → Job → Reply → Seq → State → State
+told_of true job reply place state = with_replies job reply place state
+told_of false job reply place state = with_answer (verdict.Reply reply) (Some place) state
+
+-- the worker has no call any more, and its entry lies ready
+abbrev pub with_entry : Job → Reply → State → State
+with_entry job reply state = record state {
+  work = record state.work {
+    job = None;
+    entry = Some (record { ctx = job.ctx; call = job.call; reply = reply });
+  };
+}
+
+-- the worker once its procedure was committed at this place
+abbrev pub committed : Job → Reply → Seq → State → State
+committed job reply place state =
+    with_entry job reply (told_of (is_answered_stable job.call) job reply place state)
+
+-- it has its transaction still, and goes on in this phase
+abbrev pub with_tx : ℕ → Phase → State → State
+with_tx tx phase state = record state { phase = phase; begun = record { tx = Some tx; io = None } }
+
+-- the worker once its commit was answered
+abbrev pub after_commit : {C : Type 0} → Job → Reply → Commit C → State → State
+after_commit job reply (commit.Committed place) state = committed job reply place state
+after_commit job reply (commit.Full back change) state = with_tx back Planning state
+after_commit job reply (commit.Foreign back change) state = with_tx back Again state
+after_commit job reply (commit.NoMemory back change) state = with_tx back (Refused cause.NoMemory) state
+after_commit job reply (commit.Broken back change) state = with_tx back (Refused cause.Io) state
+after_commit job reply (commit.Spent back change) state = with_tx back (Refused cause.Spent) state

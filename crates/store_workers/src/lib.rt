@@ -1,0 +1,14 @@
+//! A worker, which runs one procedure as steps of the core, and laws on what it tells and on one that is
+//! alone in its store.
+#![tactic(auto)]
+
+mod alone;
+mod options;
+mod workers;
+
+pub use alone::{a_lone_worker_is_never_kept_off, a_lone_worker_stays_alone};
+pub use options::put;
+pub use workers::{
+    Worker, a_run_notes_its_workers_steps, a_worker_tells_its_call, a_worker_tells_its_read,
+    a_worker_tells_its_steps,
+};

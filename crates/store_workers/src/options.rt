@@ -1,0 +1,13 @@
+//! An `Option` of a value that can't be dropped.
+ghost use Rattle.std.specs.Prelude.{◌≡◌, None, Some};
+
+/// Puts a value where none is.
+pub fn put<T>(option: &mut Option<T>, value: T)
+    requires { option.old ≡ None }
+    ensures { option.new ≡ Some value }
+{
+    match option.replace(value) {
+        None => {}
+        Some(_other) => unreachable!(),
+    }
+}

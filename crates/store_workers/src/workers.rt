@@ -1,0 +1,214 @@
+//! One procedure at a time, as steps of the core.
+
+mod asked;
+mod committing;
+mod fitting;
+mod parts;
+mod planning;
+mod steps;
+mod telling;
+
+ghost use Rattle.std.specs.Prelude.{◌≡◌, true, is_some};
+ghost use Rattle.store_workers.specs.Phases.{has_fetch, has_transaction, is_ready};
+
+use asked::Asked;
+use disk::{BlockNo, CrashDisk};
+use fitting::{are_lawful, is_out, reads_within};
+use nfs_types::{Call, Credential, Ctx, Moment};
+use parts::{Begun, Job, Phase, State, Work};
+use procs::Done;
+use std::alloc::Global;
+use store_promise::{CallAnswer, Entry, Step};
+pub use telling::{
+    a_run_notes_its_workers_steps, a_worker_tells_its_call, a_worker_tells_its_read,
+    a_worker_tells_its_steps,
+};
+use txn::Core;
+
+/// A worker: the state of one procedure. What its steps commit and answer lies ready to be taken. Its type keeps
+/// that it has what it needs to go on.
+pub struct Worker {
+    state: State,
+    pub ghost transaction: { is_some state.begun.tx ≡ has_transaction state.phase },
+    pub ghost fetch: { is_some state.begun.io ≡ has_fetch state.phase },
+    pub ghost ready: { is_ready state.phase state.work ≡ true },
+}
+
+impl Worker {
+    ghost use Rattle.std.specs.Prelude.{◌≡◌, ◌↔◌, ◌<◌, IfSome, IsTrue, IsFalse, IsSome, None, MatchOption, []};
+    ghost use Rattle.txn.specs.Core.{CoreState};
+    ghost use Rattle.store_workers.specs.declared.workers.parts.Phase.TheVariants.{Again, Idle, Planning};
+    ghost use Rattle.store_workers.specs.declared.workers.parts.Phase.TheVariants.{Reading};
+    ghost use Rattle.store_images.specs.Counts.{SameFrame};
+    ghost use Rattle.store_workers.specs.Ended.{GivesAllBack};
+    ghost use Rattle.store_images.specs.Fetches.{FetchesOnly};
+    ghost use Rattle.layout.specs.Geometry.{IsLawful};
+    ghost use Rattle.store_workers.specs.Phases.{block_due};
+    ghost use Rattle.store_workers.specs.Worker.{Fits, at_rest, ctx_of, with_call};
+    ghost use Rattle.store_workers.specs.WorkerReads.{HasReadBlock};
+    ghost use Rattle.store_workers.specs.WorkerSteps.{GoesOn, KeepsHomeOf, KeepsReadsOf, side};
+
+    /// An idle worker of a store with this boot number. It fits each core that has no transaction out, and from
+    /// then on that core alone: each method keeps it so.
+    pub fn new(boot: u64) -> Worker
+        ensures fits { (core : CoreState) → core.out ≡ [] → IsLawful core.log.blocks core.inodes
+            → Fits result core }
+        ensures state { result.state ≡ at_rest boot }
+    {
+        Worker {
+            state: State {
+                boot,
+                phase: Phase::Idle,
+                work: Work {
+                    job: None,
+                    snap: None,
+                    reply: None,
+                    broken_reply: None,
+                    entry: None,
+                    answer: None,
+                },
+                begun: Begun { tx: None, io: None },
+                asked: Asked::new(),
+            },
+        }
+    }
+
+    /// Whether the worker has no call.
+    pub fn is_idle(&self) -> bool
+        ensures { IsTrue result ↔ (self.now.state.phase ≡ Idle) }
+    {
+        self.state.phase == Phase::Idle
+    }
+
+    /// The block whose read is due, if one is.
+    pub fn due(&self) -> Option<BlockNo>
+        ensures block { result ≡ block_due self.now.state.phase self.now.state.begun.io }
+        ensures due { IsSome result ↔ (self.now.state.phase ≡ Reading) }
+    {
+        if self.state.phase != Phase::Reading {
+            return None;
+        }
+        let io = self.state.begun.io.as_ref()?;
+        Some(io.block())
+    }
+
+    /// Hands a worker a call, and answers whether it took it: a busy one does nothing.
+    pub fn hand(&mut self, credential: Credential, moment: Moment, call: Call) -> bool
+        ensures fits { (core : CoreState) → Fits self.old core → Fits self.new core }
+        ensures taken { IsTrue result ↔ (self.old.state.phase ≡ Idle) }
+        ensures took { IsTrue result → self.new.state
+            ≡ with_call (ctx_of credential moment self.old.state.boot) call self.old.state }
+        ensures busy { IsFalse result → self.new ≡ self.old }
+    {
+        if !self.is_idle() {
+            return false;
+        }
+        let ctx = Ctx {
+            credential,
+            moment,
+            boot: self.state.boot,
+            transaction: 0,
+        };
+        self.state.take_call(ctx, call);
+        true
+    }
+
+    /// Reads the block that is due, and keeps the answer for the next step. It answers the step, or None
+    /// where no read is due.
+    pub fn read<D: CrashDisk>(&mut self, disk: &mut D) -> Option<Step>
+        requires within { IfSome (block_due self.old.state.phase self.old.state.begun.io)
+            (λ block. block.0 < (D.device disk.old).size) }
+        ensures fits { (core : CoreState) → Fits self.old core → Fits self.new core }
+        ensures size { (D.device disk.new).size ≡ (D.device disk.old).size }
+        ensures due { IsSome result ↔ (self.old.state.phase ≡ Reading) }
+        ensures model { D.keeps_model disk.new → D.keeps_model disk.old }
+        ensures step { MatchOption result
+            ((self.new ≡ self.old) × (D.device disk.new ≡ D.device disk.old))
+            (λ made. HasReadBlock (D.keeps_model disk.new) (D.device disk.old) self.old.state made
+            (D.device disk.new) self.new.state) }
+    {
+        if self.state.phase != Phase::Reading {
+            return None;
+        }
+        Some(self.state.read(disk))
+    }
+
+    /// Makes the next step: one method of the core, or the answer of a call that needs no transaction. None
+    /// where the worker has no call or a read is due.
+    pub fn step(&mut self, alloc: Global, core: &mut Core<Done>) -> Option<Step>
+        requires { Fits self.old core.old }
+        ensures fits { Fits self.new core.new }
+        ensures frame { SameFrame core.old core.new }
+        ensures step { GoesOn self.old.state.phase (side self.old.state core.old) result
+            (side self.new.state core.new) }
+        ensures home { KeepsHomeOf (side self.old.state core.old) (side self.new.state core.new) }
+        ensures stays { KeepsReadsOf (side self.old.state core.old) (side self.new.state core.new) }
+    {
+        self.state.step(alloc, core)
+    }
+
+    /// Has a call that plans begin again with the next step.
+    pub fn begin_again(&mut self)
+        ensures fits { (core : CoreState) → Fits self.old core → Fits self.new core }
+        ensures planning { self.old.state.phase ≡ Planning
+            → self.new.state ≡ record self.old.state { phase = Again } }
+        ensures rest { (self.old.state.phase ≡ Planning → ⊥) → self.new ≡ self.old }
+    {
+        if self.state.phase == Phase::Planning {
+            self.state.phase = Phase::Again;
+        }
+    }
+
+    /// Takes the procedure that the last step committed, if it committed one.
+    pub fn take_entry(&mut self) -> Option<Entry>
+        ensures result { result ≡ self.old.state.work.entry }
+        ensures rest { self.new.state
+            ≡ record self.old.state { work = record self.old.state.work { entry = None } } }
+        ensures fits { (core : CoreState) → Fits self.old core → Fits self.new core }
+    {
+        self.state.work.entry.take()
+    }
+
+    /// Takes the answer that the last step gave, if it gave one.
+    pub fn take_answer(&mut self) -> Option<CallAnswer>
+        ensures result { result ≡ self.old.state.work.answer }
+        ensures rest { self.new.state
+            ≡ record self.old.state { work = record self.old.state.work { answer = None } } }
+        ensures fits { (core : CoreState) → Fits self.old core → Fits self.new core }
+    {
+        self.state.work.answer.take()
+    }
+
+    /// Ends the worker, and gives back what it has begun: its transaction, and the read that is due or was made.
+    /// What it was to answer is lost; what it committed stays, and so does what other transactions have.
+    pub fn end(self, core: &mut Core<Done>)
+        requires { Fits self core.old }
+        ensures frame { SameFrame core.old core.new }
+        ensures ended { core.new.out ≡ [] }
+        ensures fetches { FetchesOnly self.state.begun.io core.old → FetchesOnly None core.new }
+        ensures idle { self.state.phase ≡ Idle → core.new ≡ core.old }
+        ensures gives_back { GivesAllBack self.state.begun core.old core.new }
+    {
+        let Worker { state } = self;
+        let State {
+            boot: _,
+            phase: _,
+            work,
+            begun,
+            asked: _,
+        } = state;
+        drop(work);
+        begun.end(core);
+    }
+
+    /// Whether the core fits the worker, as a step needs it: the transaction that is out of the core is the worker's,
+    /// by its number, or none is out where the worker has none; the block that it has to read is one of the image's;
+    /// and an image may have the core's counts. What the worker does with this core keeps it so.
+    pub fn fits(&self, core: &Core<Done>) -> bool
+        ensures { IsTrue result ↔ Fits self.now core.now }
+    {
+        let (blocks, inodes) = core.counts();
+        let begun = &self.state.begun;
+        is_out(core, &begun.tx) && reads_within(blocks, &begun.io) && are_lawful(blocks, inodes)
+    }
+}

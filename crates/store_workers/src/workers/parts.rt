@@ -1,0 +1,141 @@
+//! What a worker is made of.
+ghost use Rattle.std.specs.Prelude.{◌≡◌, None, []};
+ghost use Rattle.txn.specs.Out.{listed};
+ghost use Rattle.store_images.specs.Counts.{SameFrame};
+ghost use Rattle.store_workers.specs.Ended.{GivesFetchBack, GivesTransactionBack};
+ghost use Rattle.store_images.specs.Fetches.{FetchesOnly, KeepsFetches};
+
+use super::asked::Asked;
+use nfs_types::{Call, Ctx, Reply};
+use procs::{Done, Snap};
+use store_promise::{CallAnswer, Cause, Entry};
+use txn::{Core, FetchIo, Seq, Tx};
+
+// A call that was handed over, with what its procedure is run with.
+#[derive(Drop)]
+pub(crate) struct Job {
+    pub(crate) ctx: Ctx,
+    pub(crate) call: Call,
+}
+
+// How far a worker is with its call.
+#[derive(Clone, Copy, Debug, PartialEq, Eq)]
+pub(crate) enum Phase {
+    Idle,
+    // It has a call, and no transaction.
+    Called,
+    // It has a transaction, and what it has read in it.
+    Planning,
+    // A read is due.
+    Reading,
+    // The read was made, well or not.
+    Read(bool),
+    // The transaction has to be ended, and then the call is answered.
+    Refused(Cause),
+    // The transaction has to be ended, and then the call begins again.
+    Again,
+    // The procedure was committed at this place, and is answered once the place is settled, or can't be any
+    // more.
+    Waiting(Seq),
+}
+
+// What a worker is, whatever it may need in its phase.
+pub(crate) struct State {
+    pub(crate) boot: u64,
+    pub(crate) phase: Phase,
+    pub(crate) work: Work,
+    pub(crate) begun: Begun,
+    pub(crate) asked: Asked,
+}
+
+// What a worker has of its call and of what came of it.
+#[derive(Drop)]
+pub(crate) struct Work {
+    pub(crate) job: Option<Job>,
+    pub(crate) snap: Option<Snap>,
+    // The replies of a committed procedure: that of its plan, and the one in its place where the store is
+    // broken.
+    pub(crate) reply: Option<Reply>,
+    pub(crate) broken_reply: Option<Reply>,
+    pub(crate) entry: Option<Entry>,
+    pub(crate) answer: Option<CallAnswer>,
+}
+
+// What a worker has out of the core, and has to give back.
+pub(crate) struct Begun {
+    pub(crate) tx: Option<Tx>,
+    pub(crate) io: Option<FetchIo>,
+}
+
+impl Begun {
+    ghost use Rattle.std.specs.Prelude.{◌≡◌, Some, None, true, is_some, []};
+    ghost use Rattle.txn.specs.Out.{listed};
+    ghost use Rattle.store_images.specs.Counts.{SameFrame};
+    ghost use Rattle.store_workers.specs.Ended.{GivesAllBack};
+    ghost use Rattle.store_images.specs.Fetches.{FetchesOnly};
+
+    // Takes the transaction that is out.
+    pub(crate) fn take_tx(&mut self) -> Tx
+        requires { is_some self.old.tx ≡ true }
+        ensures tx { self.old.tx ≡ Some result }
+        ensures rest { self.new ≡ record self.old { tx = None } }
+    {
+        match self.tx.take() {
+            Some(tx) => tx,
+            None => unreachable!(),
+        }
+    }
+
+    // Takes the fetch that is out.
+    pub(crate) fn take_fetch(&mut self) -> FetchIo
+        requires { is_some self.old.io ≡ true }
+        ensures io { self.old.io ≡ Some result }
+        ensures rest { self.new ≡ record self.old { io = None } }
+    {
+        match self.io.take() {
+            Some(io) => io,
+            None => unreachable!(),
+        }
+    }
+
+    // Gives the fetch back, and ends the transaction.
+    pub(crate) fn end(self, core: &mut Core<Done>)
+        requires { core.old.out ≡ listed self.tx }
+        ensures frame { SameFrame core.old core.new }
+        ensures ended { core.new.out ≡ [] }
+        ensures fetches { FetchesOnly self.io core.old → FetchesOnly None core.new }
+        ensures none { self.tx ≡ None → self.io ≡ None → core.new ≡ core.old }
+        ensures gives_back { GivesAllBack self core.old core.new }
+    {
+        let Begun { tx, io } = self;
+        give_up(io, core);
+        leave(tx, core);
+    }
+}
+
+// Gives a fetch back that isn't made any more.
+fn give_up(io: Option<FetchIo>, core: &mut Core<Done>)
+    ensures frame { SameFrame core.old core.new }
+    ensures out { core.new.out ≡ core.old.out }
+    ensures fetches { FetchesOnly io core.old → FetchesOnly None core.new }
+    ensures none { io ≡ None → core.new ≡ core.old }
+    ensures gives { GivesFetchBack io core.old core.new }
+{
+    if let Some(io) = io {
+        core.fetch_failed(io);
+    }
+}
+
+// Ends the transaction that is out.
+fn leave(tx: Option<Tx>, core: &mut Core<Done>)
+    requires { core.old.out ≡ listed tx }
+    ensures frame { SameFrame core.old core.new }
+    ensures ended { core.new.out ≡ [] }
+    ensures fetches { KeepsFetches core.old core.new }
+    ensures none { tx ≡ None → core.new ≡ core.old }
+    ensures leaves { GivesTransactionBack tx core.old core.new }
+{
+    if let Some(tx) = tx {
+        core.abort(tx);
+    }
+}

@@ -1,0 +1,253 @@
+//! The steps of a worker besides planning.
+ghost use Rattle.std.specs.Prelude.{◌≡◌, ◌<◌, ℕ, Some, None, true, is_some, IfSome};
+ghost use Rattle.store_promise.specs.Verdicts.{cause_of, refusal};
+
+use super::parts::{Job, Phase, State};
+use crate::options::put;
+use disk::CrashDisk;
+use layout::{FormatVersion, Geometry};
+use nfs_types::{Call, Ctx, Status};
+use procs::{Done, Snap, has_rules, refused_reply};
+use std::alloc::Global;
+use store_promise::{CallAnswer, Cause, Ending, Step, Verdict};
+use txn::{BeginFault, Core, Seq, Tx};
+
+impl State {
+    ghost use Rattle.txn.specs.CoreWindow.{KeepsHome, KeepsReads};
+    ghost use Rattle.store_workers.specs.declared.workers.parts.Phase.TheVariants.{Idle, Called, Reading};
+    ghost use Rattle.store_workers.specs.declared.workers.parts.Phase.TheVariants.{Read, Refused, Again};
+    ghost use Rattle.store_workers.specs.declared.workers.parts.Phase.TheVariants.{Waiting};
+    ghost use Rattle.store_images.specs.Counts.{SameFrame};
+    ghost use Rattle.store_workers.specs.Worker.{GoesWith, with_call};
+    ghost use Rattle.store_workers.specs.WorkerAnswers.{with_answer};
+    ghost use Rattle.store_workers.specs.WorkerReads.{HasReadBlock};
+    ghost use Rattle.store_workers.specs.WorkerSteps.{Begins, BeginsAgain, GivesBack, GoesOn};
+    ghost use Rattle.store_workers.specs.WorkerSteps.{HasToldBroken, HasToldReply};
+    ghost use Rattle.store_workers.specs.WorkerSteps.{KeepsHomeOf, KeepsReadsOf, Refuses, Waits, side};
+
+    // Makes the next step.
+    pub(super) fn step(&mut self, alloc: Global, core: &mut Core<Done>) -> Option<Step>
+        requires { GoesWith self.old core.old }
+        ensures with { GoesWith self.new core.new }
+        ensures frame { SameFrame core.old core.new }
+        ensures step { GoesOn self.old.phase (side self.old core.old) result (side self.new core.new) }
+        ensures home { KeepsHomeOf (side self.old core.old) (side self.new core.new) }
+        ensures stays { KeepsReadsOf (side self.old core.old) (side self.new core.new) }
+    {
+        match self.phase {
+            Phase::Idle | Phase::Reading => None,
+            Phase::Called => Some(self.begin(alloc, core)),
+            Phase::Planning => Some(self.go_by_plan(alloc, core)),
+            Phase::Read(ok) => Some(self.give_back(core, ok)),
+            Phase::Refused(why) => Some(self.refuse(core, why)),
+            Phase::Again => Some(self.begin_again(core)),
+            Phase::Waiting(place) => Some(self.wait(core, place)),
+        }
+    }
+
+    // Takes a call, which begins with the next step.
+    pub(super) fn take_call(&mut self, ctx: Ctx, call: Call)
+        ensures { self.new ≡ with_call ctx call self.old }
+    {
+        drop(self.work.job.replace(Job { ctx, call }));
+        self.phase = Phase::Called;
+    }
+
+    // Reads the block that is due.
+    pub(super) fn read<D: CrashDisk>(&mut self, disk: &mut D) -> Step
+        requires some { is_some self.old.begun.io ≡ true }
+        requires within { IfSome self.old.begun.io (λ io. io.block.0 < (D.device disk.old).size) }
+        ensures model { D.keeps_model disk.new → D.keeps_model disk.old }
+        ensures step { HasReadBlock (D.keeps_model disk.new) (D.device disk.old) self.old result
+            (D.device disk.new) self.new }
+    {
+        let Some(io) = self.begun.io.as_mut() else {
+            unreachable!();
+        };
+        let block = io.block();
+        let ok = io.perform(disk).is_ok();
+        self.phase = Phase::Read(ok);
+        Step::Read(block, ok)
+    }
+
+    // Begins the transaction of a call, or answers a call that needs none.
+    fn begin(&mut self, alloc: Global, core: &mut Core<Done>) -> Step
+        requires with { GoesWith self.old core.old }
+        requires phase { self.old.phase ≡ Called }
+        ensures with { GoesWith self.new core.new }
+        ensures frame { SameFrame core.old core.new }
+        ensures step { Begins (side self.old core.old) result (side self.new core.new) }
+        ensures home { KeepsHome core.old core.new }
+        ensures stays { (tx : ℕ) → KeepsReads core.old core.new tx }
+    {
+        let Some(job) = self.work.job.as_mut() else {
+            unreachable!();
+        };
+        if !has_rules(&job.call) {
+            let reply = refused_reply(&job.call, Status::NotSupp);
+            self.give(Verdict::Reply(reply), None);
+            return Step::Replied;
+        }
+        match core.begin() {
+            Ok(tx) => {
+                let number = tx.number();
+                job.ctx.transaction = number;
+                let (blocks, inodes) = core.counts();
+                let geometry = Geometry {
+                    version: FormatVersion::First,
+                    blocks,
+                    inodes,
+                };
+                self.work.snap = Some(Snap::new(alloc, geometry));
+                self.asked.begin();
+                self.go_on(tx, Phase::Planning);
+                Step::Begun(Ok(number))
+            }
+            Err(fault) => {
+                let told = verdict(&job.call, cause_of(fault));
+                self.give(told, None);
+                Step::Begun(Err(fault))
+            }
+        }
+    }
+
+    // Gives the core the block that was read. Where the read failed the transaction has to be ended.
+    fn give_back(&mut self, core: &mut Core<Done>, ok: bool) -> Step
+        requires with { GoesWith self.old core.old }
+        requires phase { self.old.phase ≡ Read ok }
+        ensures with { GoesWith self.new core.new }
+        ensures frame { SameFrame core.old core.new }
+        ensures step { GivesBack ok (side self.old core.old) result (side self.new core.new) }
+        ensures home { KeepsHomeOf (side self.old core.old) (side self.new core.new) }
+        ensures stays { (tx : ℕ) → KeepsReads core.old core.new tx }
+    {
+        let io = self.begun.take_fetch();
+        let block = io.block();
+        self.asked.was_fetched();
+        if ok {
+            core.fetched(io);
+            self.phase = Phase::Planning;
+            Step::Fetched(block)
+        } else {
+            core.fetch_failed(io);
+            self.phase = Phase::Refused(Cause::Io);
+            Step::FetchFailed(block)
+        }
+    }
+
+    // Ends the transaction, and answers why.
+    fn refuse(&mut self, core: &mut Core<Done>, why: Cause) -> Step
+        requires with { GoesWith self.old core.old }
+        requires phase { self.old.phase ≡ Refused why }
+        ensures with { GoesWith self.new core.new }
+        ensures frame { SameFrame core.old core.new }
+        ensures step { Refuses why (side self.old core.old) result (side self.new core.new) }
+        ensures home { KeepsHome core.old core.new }
+        ensures stays { KeepsReadsOf (side self.old core.old) (side self.new core.new) }
+    {
+        let tx = self.begun.take_tx();
+        core.abort(tx);
+        let Some(job) = self.work.job.as_ref() else {
+            unreachable!();
+        };
+        let told = verdict(&job.call, why);
+        self.give(told, None);
+        Step::Ended(Ending::Refused)
+    }
+
+    // Ends the transaction of a call that begins again.
+    fn begin_again(&mut self, core: &mut Core<Done>) -> Step
+        requires with { GoesWith self.old core.old }
+        requires phase { self.old.phase ≡ Again }
+        ensures with { GoesWith self.new core.new }
+        ensures frame { SameFrame core.old core.new }
+        ensures step { BeginsAgain (side self.old core.old) result (side self.new core.new) }
+        ensures home { KeepsHome core.old core.new }
+        ensures stays { KeepsReadsOf (side self.old core.old) (side self.new core.new) }
+    {
+        let tx = self.begun.take_tx();
+        core.abort(tx);
+        self.phase = Phase::Called;
+        Step::Ended(Ending::Again)
+    }
+
+    // Answers a committed procedure once its place is settled, or once it can't be any more.
+    fn wait(&mut self, core: &Core<Done>, place: Seq) -> Step
+        requires with { GoesWith self.old core.now }
+        requires phase { self.old.phase ≡ Waiting place }
+        ensures with { GoesWith self.new core.now }
+        ensures step { Waits place (side self.old core.now) result (side self.new core.now) }
+    {
+        let settled = core.stable(place).is_some();
+        if settled {
+            self.tell_reply(place);
+        } else if core.broken() {
+            self.tell_broken(place);
+        }
+        Step::Stable(place, settled)
+    }
+
+    // Answers the reply of the procedure.
+    fn tell_reply(&mut self, place: Seq)
+        requires { is_some self.old.work.reply ≡ true }
+        ensures { HasToldReply place self.old self.new }
+    {
+        match self.work.reply.take() {
+            Some(reply) => self.give(Verdict::Reply(reply), Some(place)),
+            None => unreachable!(),
+        }
+    }
+
+    // Answers the one in its place.
+    fn tell_broken(&mut self, place: Seq)
+        requires { is_some self.old.work.broken_reply ≡ true }
+        ensures { HasToldBroken place self.old self.new }
+    {
+        match self.work.broken_reply.take() {
+            Some(reply) => self.give(Verdict::Reply(reply), Some(place)),
+            None => unreachable!(),
+        }
+    }
+
+    // The answer lies ready to be taken, and the worker is idle.
+    pub(super) fn give(&mut self, verdict: Verdict, place: Option<Seq>)
+        ensures { self.new ≡ with_answer verdict place self.old }
+    {
+        self.work.answer = Some(CallAnswer { verdict, place });
+        self.phase = Phase::Idle;
+    }
+
+    // The worker goes on with its transaction.
+    pub(super) fn go_on(&mut self, tx: Tx, phase: Phase)
+        requires { self.old.begun.tx ≡ None }
+        ensures { self.new ≡ record self.old {
+          phase = phase;
+          begun = record self.old.begun { tx = Some tx };
+        } }
+    {
+        self.phase = phase;
+        put(&mut self.begun.tx, tx);
+    }
+}
+
+// What a call is answered that is refused.
+fn verdict(call: &Call, why: Cause) -> Verdict
+    ensures { result ≡ refusal call.now why }
+{
+    match why {
+        Cause::Io => Verdict::Reply(refused_reply(call, Status::Io)),
+        Cause::Spent => Verdict::Reply(refused_reply(call, Status::ServerFault)),
+        Cause::NoMemory => Verdict::NoMemory,
+    }
+}
+
+// Why a call is refused that no transaction could be begun for.
+fn cause_of(fault: BeginFault) -> Cause
+    ensures { result ≡ cause_of fault }
+{
+    match fault {
+        BeginFault::Broken => Cause::Io,
+        BeginFault::Spent => Cause::Spent,
+        BeginFault::NoMemory => Cause::NoMemory,
+    }
+}
