@@ -39,7 +39,7 @@ can_write() {
 
 # Where a build can't be written, says so before an hour is spent on it.
 stop_unless_writable() {
-    local it places=("$kept" "$lock_file" "$log" "$begun" "$stamp") name
+    local it places=("$kept" "$lock_file" "$log" "$begun" "$stamp" "$list") name
     for name in "${order[@]}"; do
         places+=("$root/crates/$name/out")
     done

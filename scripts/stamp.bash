@@ -4,9 +4,10 @@
 program=$root/crates/nfsd/out/nfsd
 # What has to outlast `rt ci` lies here, since that moves crates/*/out aside.
 kept=$root/out
-# A sum of the program and of what it was made from, and then the files and folders of that, below the top,
-# one a line. It is as old as the beginning of the build.
+# A sum of the program and of what it was made from, and the files and folders that it was made from, below the top,
+# each ended by a zero byte. The stamp is as old as the beginning of the build; it is written last.
 stamp=$kept/nfsd.stamp
+list=$kept/nfsd.parts
 # As old as a build that hasn't ended, and whether that is one of this process.
 begun=$kept/nfsd.begun
 has_begun=no
@@ -41,55 +42,51 @@ add_crate() {
     order+=("$1")
 }
 
-# Prints the files and folders, below the top, that the program is made from.
+# Prints the files and folders, below the top, that the program is made from and that pass the given tests of find,
+# each ended by a zero byte.
 parts() {
-    local name part
-    echo crates.txt
+    local name part rooms=(crates.txt)
+    cd "$root"
     for name in "${order[@]}"; do
         for part in src specs proofs; do
-            if [ -d "$root/crates/$name/$part" ]; then
-                echo "crates/$name/$part"
+            if [ -d "crates/$name/$part" ]; then
+                rooms+=("crates/$name/$part")
             fi
         done
     done
+    find "${rooms[@]}" \( -type d -o -name '*.rt' -o -name '*.antt' -o -name crates.txt \) "$@" -print0 | LC_ALL=C sort -z
 }
 
-# Prints a stamp's text. The sum is of the program too, which a call of rt may have made from other files
-# meanwhile.
+# Prints a sum of the names and bytes of what the program is made from, and of the program, which a call of rt may
+# have made from other files meanwhile.
 made_from() {
-    local lines
-    mapfile -t lines < <(parts)
     (
         cd "$root"
-        find "${lines[@]}" -type f \( -name '*.rt' -o -name '*.antt' -o -name crates.txt \) -print0 |
-            LC_ALL=C sort -z | xargs -0 sha256sum "${program#"$root/"}" | sha256sum
-    )
-    printf '%s\n' "${lines[@]}"
+        parts -type d
+        parts -type f | xargs -0 sha256sum "${program#"$root/"}"
+    ) | sha256sum
 }
 
-# Prints the first of the given files and folders, or of those in them, that has changed since a file was written.
-# A folder changes too when a file in it is removed or another takes its place. Times of change (ctime) are
-# compared, which nothing sets back. It fails where one of the given isn't there.
+# Prints one of the listed files and folders that has changed since a file was written. A folder changes when a file
+# comes into it or leaves it. Times of change (ctime) are compared, which nothing sets back. It fails where one of the
+# list isn't there. The list is read by find itself: each call of ./nfsd passes here.
 changed_since() {
-    local file=$1
-    shift
-    find "${@/#/$root/}" \( -type d -o -name '*.rt' -o -name '*.antt' -o -name crates.txt \) \
-        -cnewer "$file" -print -quit 2>/dev/null
+    cd "$root"
+    exec find -files0-from "$list" -maxdepth 0 -cnewer "$1" -print -quit 2>/dev/null
 }
 
 # Whether the program stands, and nothing that it is made from has changed since its build began. Nothing is summed.
 is_built() {
-    local lines changed
-    [ -x "$program" ] && [ -s "$stamp" ] || return 1
-    mapfile -t lines <"$stamp"
-    changed=$(changed_since "$stamp" "${lines[@]:1}") && [ -z "$changed" ]
+    local changed
+    [ -x "$program" ] && [ -s "$stamp" ] && [ -s "$list" ] || return 1
+    changed=$(changed_since "$stamp") && [ -z "$changed" ]
 }
 
 # Whether the program stands, and what it is made from has the same bytes still: only times, owners or modes changed.
 # The stamp is then as old as this look, where it can be written, so that the next call need not sum again.
 is_same() {
     local look
-    [ -x "$program" ] && [ -s "$stamp" ] || return 1
+    [ -x "$program" ] && [ -s "$stamp" ] && [ -s "$list" ] || return 1
     look=$(mktemp "$kept/nfsd.look.XXXXXX" 2>/dev/null) || look=
     if [ "$(made_from)" != "$(<"$stamp")" ]; then
         rm -f "$look"
@@ -110,14 +107,14 @@ begin_stamp() {
 # The program that was built is that of the files that stand here, unless one changed meanwhile: then it gets no
 # stamp.
 end_stamp() {
-    local text lines changed
-    text=$(made_from)
-    mapfile -t lines < <(parts)
-    changed=$(changed_since "$begun" "${lines[@]}") || changed="a folder"
+    local changed
+    made_from >"$begun.text"
+    parts >"$list"
+    changed=$(changed_since "$begun") || changed="a folder"
     if [ -n "$changed" ]; then
         say "${0##*/}: $changed changed in mid-build, so the next ./nfsd builds again"
+        rm -f "$begun.text"
     else
-        printf '%s\n' "$text" >"$begun.text"
         touch -r "$begun" "$begun.text"
         mv -f "$begun.text" "$stamp"
     fi

@@ -12,6 +12,8 @@ from cases.running import AS_NOBODY, SECONDS, contents, is_so, read_exactly, sam
 # What the stand-in for the program shows of these arguments and this input.
 ARGUMENTS, DATA = ["once", "an image", "", "*"], b"in\0put\n"
 SHOWN = b"[once]\n[an image]\n[]\n[*]\n" + DATA
+# What a build leaves in out.
+WHAT_IS_LEFT = ["nfsd.lock", "nfsd.log", "nfsd.parts", "nfsd.stamp"]
 
 
 def assert_runs(ran, what="the program"):
@@ -47,7 +49,7 @@ def test_the_first_call_tells_of_each_crate_and_where_the_program_lies(place):
     last = ran.errors.decode().splitlines()[-1]
     same("the last line", last, f"nfsd: built in 0 min: {checkout.path('crates/nfsd/out/nfsd')}")
     same("calls of rt", checkout.builds(), ["run -- --help"])
-    same("what was left in out", sorted(os.listdir(checkout.path("out"))), ["nfsd.lock", "nfsd.log", "nfsd.stamp"])
+    same("what was left in out", sorted(os.listdir(checkout.path("out"))), WHAT_IS_LEFT)
 
 
 def test_a_crate_that_was_proved_before_keeps_its_place(place):
@@ -117,10 +119,12 @@ def test_a_change_of_what_it_is_made_from_builds_again(place):
         put_an_older_one_in_its_place,
         write_it_with_an_old_time,
         lambda: put(checkout.path("crates.txt"), contents(checkout.path("crates.txt")) + b"# more\n"),
+        lambda: put(os.path.join(os.path.dirname(source), "another.rt"), b"// new\n"),
         lambda: os.remove(statements[0]),
         lambda: shutil.rmtree(os.path.dirname(statements[-1])),
         lambda: os.remove(checkout.path("crates/nfsd/out/nfsd")),
         lambda: os.remove(checkout.path("out/nfsd.stamp")),
+        lambda: os.remove(checkout.path("out/nfsd.parts")),
     ]
     for number, it in enumerate(changes):
         it()
@@ -152,7 +156,7 @@ def test_new_times_alone_build_nothing(place):
     stamp = checkout.path("out/nfsd.stamp")
     changed = os.stat(folder).st_ctime
     is_so("the stamp is older than the change", os.stat(stamp).st_mtime > changed)
-    same("what was left in out", sorted(os.listdir(checkout.path("out"))), ["nfsd.lock", "nfsd.log", "nfsd.stamp"])
+    same("what was left in out", sorted(os.listdir(checkout.path("out"))), WHAT_IS_LEFT)
     copy = checkout.top + "2"
     shutil.copytree(checkout.top, copy)
     assert_silent(checkout, "a copy", command=[os.path.join(copy, "nfsd")])

@@ -50,7 +50,7 @@ def test_the_check_adds_both_counts_and_stamps_the_program(place):
     ran = checkout.run(["once"], b"input")
     same("./nfsd after it", (ran.output, ran.errors, ran.status), (b"[once]\ninput", b"", 3))
     same("calls of rt after ./nfsd", len(checkout.calls()), 1)
-    same("what was left in out", sorted(os.listdir(checkout.path("out"))), ["nfsd.lock", "nfsd.stamp"])
+    same("what was left in out", sorted(os.listdir(checkout.path("out"))), ["nfsd.lock", "nfsd.parts", "nfsd.stamp"])
 
 
 def test_what_ci_runs_is_the_check(place):
