@@ -6,7 +6,11 @@ mod files;
 mod order;
 mod room;
 
-use disk::{Block, BlockNo, CrashDisk, Failed, MemDisk, Side};
+ghost use Rattle.std.specs.Prelude.{IfOk};
+ghost use Rattle.disk.specs.Blocks.{AreBlocks};
+ghost use Rattle.disk.specs.Memory.{memory_device};
+
+use disk::{Block, BlockNo, CrashDisk, Failed, MemDisk, Side, a_device_tells_of_blocks};
 use std::alloc::Global;
 use std::test::Fail;
 
@@ -51,8 +55,11 @@ fn write_three(disk: &mut MemDisk, content: &mut Block) -> bool {
         && make(disk, Call::Write(OTHER), content).is_ok()
 }
 
-// A device on which they were each written twice, the second time with no barrier.
-fn written(alloc: Global) -> Result<MemDisk, Fail> {
+// A device on which they were each written twice, the second time with no barrier. By the law of devices, here at this
+// type, it tells of blocks.
+fn written(alloc: Global) -> Result<MemDisk, Fail>
+    ensures { IfOk result (λ disk. AreBlocks (memory_device disk)) }
+{
     let mut one = block(alloc, 1)?;
     let mut two = block(alloc, 2)?;
     let mut disk = MemDisk::new(alloc, BLOCKS)?;
@@ -62,6 +69,7 @@ fn written(alloc: Global) -> Result<MemDisk, Fail> {
     if !made {
         Err("a call failed")?;
     }
+    a_device_tells_of_blocks(&disk);
     Ok(disk)
 }
 
