@@ -36,7 +36,7 @@ use Rattle.session.specs.Filing.{filed, outset_of}
 use Rattle.session.specs.Replying.{IsAnswered}
 use Rattle.session.specs.Streaming.{Answered, IsStream}
 use Rattle.session.proofs.Courses.{longer_answers}
-use Rattle.session.proofs.ServedFiles.{each_message}
+use Rattle.session.proofs.ServedFiles.{each_message, served_along}
 use Rattle.session.proofs.ShortReplies.{never_too_long, spelled_whole}
 
 -- ---- the laws that it rests on
@@ -259,14 +259,16 @@ files_after stops longer K moment old files messages replies served device core 
     further behind settles =
     let done = all stops longer K moment old files messages replies served keeps timely opened a in
     let open_then = behind done.later done.opened in
+    let along = each_message old.boot moment served.device.failed K (settled_place core.log) old files messages replies
+        served done.later old served refl opened (λ number below. refl) a (done.each (settled_place core.log) further) in
     let kept = settles done.opened.base served.boot done.later.first done.later.last done.later.entries
     done.opened.opened.since in
     record {
       later = done.later;
       each = done.each (settled_place core.log) further;
-      answers = each_message old.boot moment served.device.failed K (settled_place core.log) old files messages replies
-          served done.later old served refl opened (λ number below. refl) a
-          (done.each (settled_place core.log) further);
+      along = along;
+      answers = served_along old.boot moment served.device.failed (settled_place core.log) old files messages replies
+          served done.later (done.each (settled_place core.log) further) along;
       goes = done.goes;
       first = done.first;
       made = done.made;

@@ -36,7 +36,7 @@ use Rattle.store_images.specs.Opening.{Opened}
 use Rattle.store_images.specs.Settling.{HasFailed}
 use Rattle.store.proofs.LogRoom.{few_changed}
 use Rattle.store.specs.Calling as store
-use Rattle.session.specs.Filing.{AreFiled, Files, IsFiled, IsOpenFor, filed, outset_of}
+use Rattle.session.specs.Filing.{AreAnswered, AreFiled, Files, IsFiled, IsOpenFor, filed, outset_of}
 use Rattle.session.specs.Replying.{IsAnswered, IsMountReply, IsSystemError}
 use Rattle.session.specs.Serving.{reply_for}
 use Rattle.session.specs.Standing.{serving_of, standing_of}
@@ -316,22 +316,33 @@ module _ (boot : ℕ) (moment : Moment) (failed : ℕ → Bool) where
       (messages replies : List (List ℕ)) (new : Opened) (later : Files) (one other : Opened)
       → old.boot ≡ boot → IsOpenFor old files → AgreesWith new
       → Answered keeps_model moment one messages replies other
-      → AreFiled settled moment old files messages replies new later
-      → wire.served s (standing_of old files.last) messages replies (standing_of new later.last)
-  each_message K settled old files [] [] new later one other is is_open same answered (at, fs) =
-      (tt, same_standing old new files later at fs)
-  each_message K settled old files [] (reply ∷ replies) new later one other is is_open same answered filed =
-      absurd filed
-  each_message K settled old files (message ∷ messages) [] new later one other is is_open same answered filed =
-      absurd filed
+      → (are : AreFiled settled moment old files messages replies new later)
+      → AreAnswered s settled moment old files messages replies new later are
+  each_message K settled old files [] [] new later one other is is_open same answered are = tt
+  each_message K settled old files [] (reply ∷ replies) new later one other is is_open same answered are = absurd are
+  each_message K settled old files (message ∷ messages) [] new later one other is is_open same answered are = absurd are
   each_message K settled old files (message ∷ messages) (reply ∷ replies) new later one other is is_open same
       (mid, answered, more) (middle, between, filed, all) =
       let left = leaves settled moment old files (judged message) reply middle between is_open filed in
       let past = past_all settled moment middle between messages replies new later left.is_open all in
       let at_middle : AgreesWith middle = λ number below.
       same number (let clock = past.clock in omega (arith, below, clock)) ∙ past.failed number below in (
-        standing_of middle between.last,
         one_message K settled old files (judged message) reply middle between one mid is is_open at_middle answered filed,
         each_message K settled middle between messages replies new later mid other (left.boot ∙ is) left.is_open
             same more all,
+      )
+
+  -- what is answered along the stores is what the served stream admits
+  pub served_along : (settled : ℕ) (old : Opened) (files : Files) (messages replies : List (List ℕ)) (new : Opened)
+      (later : Files) (are : AreFiled settled moment old files messages replies new later)
+      → AreAnswered s settled moment old files messages replies new later are
+      → wire.served s (standing_of old files.last) messages replies (standing_of new later.last)
+  served_along settled old files [] [] new later (at, fs) answered = (tt, same_standing old new files later at fs)
+  served_along settled old files [] (reply ∷ replies) new later are answered = absurd are
+  served_along settled old files (message ∷ messages) [] new later are answered = absurd are
+  served_along settled old files (message ∷ messages) (reply ∷ replies) new later (middle, between, is, rest)
+      (answer, answers) = (
+        standing_of middle between.last,
+        answer,
+        served_along settled middle between messages replies new later rest answers,
       )

@@ -85,6 +85,19 @@ AreFiled settled moment old files (message ∷ messages) (reply ∷ replies) new
     × (between : Files) × IsFiled settled moment old files (judged message) reply middle between
     × AreFiled settled moment middle between messages replies new later
 
+-- Along the same stores and files each message was answered what the served stream admits, from how the store stood
+-- before it to how it stands behind it. So the device calls that a cause speaks of are those between the two stores
+-- that the message led from and to.
+abbrev pub AreAnswered : (s : stream.Serving) (settled : ℕ) (moment : Moment) (old : Opened) (files : Files)
+    (messages replies : List (List ℕ)) (new : Opened) (later : Files)
+    → AreFiled settled moment old files messages replies new later → Type 0
+AreAnswered s settled moment old files [] [] new later are = Unit {0}
+AreAnswered s settled moment old files [] (reply ∷ replies) new later are = ⊥
+AreAnswered s settled moment old files (message ∷ messages) [] new later are = ⊥
+AreAnswered s settled moment old files (message ∷ messages) (reply ∷ replies) new later (middle, between, is, rest) =
+    stream.IsReplyTo s (standing_of old files.last) (judged message) reply (standing_of middle between.last)
+    × AreAnswered s settled moment middle between messages replies new later rest
+
 -- the numbers of these entries' transactions rise: each is above the one before it, and none is above the most
 abbrev pub NumbersRise : ℕ → List Entry → ℕ → Type 0
 NumbersRise least [] most = least ≤ most
@@ -92,18 +105,20 @@ NumbersRise least (entry ∷ entries) most =
     (least < entry.ctx.transaction) × NumbersRise entry.ctx.transaction entries most
 
 -- What a stream has made of the files: each message did what is said above, from the store at the call to the one
--- behind the last message, and none took back a failure, a number or a settled place. What they were answered is what
--- the served stream admits: so each cause lies in the device calls of its own message, in a store that was broken
--- before it, or in what the core had left then. The numbers of the transactions
--- of its procedures rise, from above those that there were. The store that is left is open for the files that there
--- are then: those entries, and behind them the stream's. Whatever a stop leaves, from the call on, is good, and has the
--- tree after a beginning of them, in which is each place that was settled at the call. Once the call has returned each
--- place is in it that is settled then, and so the place of each procedure that waits for its place and was answered its
--- reply.
+-- behind the last message, and none took back a failure, a number or a settled place. What they were answered, each along
+-- the way that its procedure went and so all of them, is what the served stream admits: so each cause lies in the
+-- device calls of its own message, in a store that was broken before it, or in what the core had left then. The numbers
+-- of the transactions of its procedures rise, from above those that there were. The store that is left is open for the
+-- files that there are then: those entries, and behind them the stream's. Whatever a stop leaves, from the call on, is
+-- good, and has the tree after a beginning of them, in which is each place that was settled at the call. Once the call
+-- has returned each place is in it that is settled then, and so the place of each procedure that waits for its place and
+-- was answered its reply.
 pub record HasFiled (moment : Moment) (old : Opened) (files : Files) (messages replies : List (List ℕ))
     (served new : Opened) : Type 0 where
   pub later : Files
   pub each : AreFiled (settled_place new.core.log) moment old files messages replies served later
+  pub along : AreAnswered (serving_of old.boot moment served.device.failed) (settled_place new.core.log) moment old files
+      messages replies served later each
   pub answers : stream.served (serving_of old.boot moment served.device.failed) (standing_of old files.last) messages
       replies (standing_of served later.last)
   pub goes : GoesTo old served
