@@ -260,7 +260,7 @@ files_after stops longer K moment old files messages replies served device core 
     let done = all stops longer K moment old files messages replies served keeps timely opened a in
     let open_then = behind done.later done.opened in
     let along = each_message old.boot moment served.device.failed K (settled_place core.log) old files messages replies
-        served done.later old served refl opened (λ number below. refl) a (done.each (settled_place core.log) further) in
+    served done.later old served refl opened (λ number below. refl) a (done.each (settled_place core.log) further) in
     let kept = settles done.opened.base served.boot done.later.first done.later.last done.later.entries
     done.opened.opened.since in
     record {
