@@ -7,14 +7,14 @@ ghost use Rattle.txn.specs.Exactly.{IsCommitExactly};
 ghost use Rattle.txn_law.specs.Commit.{IsOwn, IsReadBy, IsWrittenBy, HasBytes};
 ghost use Rattle.txn_law.specs.Group.{blocks_of};
 
-use crate::group::{are_sized, blocks_of_objects, group_of};
-use crate::holds::{is_read_by, is_written_by};
 use crate::outcomes::Commit;
-use crate::present::{content_of, is_pending, refresh};
 use crate::records::keep;
 use crate::state::State;
 use crate::{Change, Object, Tx};
 use disk::BlockNo;
+use holds::group::{are_sized, blocks_of_objects, group_of};
+use holds::present::{content_of, is_pending, refresh};
+use holds::taken::{is_read_by, is_written_by};
 use std::alloc::Global;
 use wal::{Append, Room};
 

@@ -3,12 +3,8 @@
 
 mod change;
 mod commit;
-mod group;
-mod holds;
 mod laws;
-mod object;
 mod outcomes;
-mod present;
 mod records;
 mod state;
 mod transactions;
@@ -16,8 +12,8 @@ mod tx;
 mod want;
 
 pub use change::Change;
+pub use holds::Object;
 pub use laws::{a_lone_transaction_is_not_kept_off, a_wish_is_met_after_its_fetch};
-pub use object::Object;
 pub use outcomes::{BeginFault, Claim, Commit, Want};
 pub use transactions::Core;
 pub use tx::{FetchIo, Stable, Tx};

@@ -5,9 +5,9 @@ ghost use Rattle.txn_law.specs.Holds.{is_taken};
 ghost use Rattle.txn_law.specs.Records.{lies_in};
 ghost use Rattle.std.specs.VecDeque.{deque_len, deque_capacity};
 
-use crate::holds::is_taken;
 use crate::{Change, Object};
 use disk::BlockNo;
+use holds::taken::is_taken;
 use std::collections::VecDeque;
 use txn_law::{Hold, Present};
 use wal::Seq;

@@ -15,12 +15,12 @@ ghost use Rattle.wal_law.specs.Installer.{IsNextInstCall, may_install, with_inst
 ghost use Rattle.txn_law.specs.Core.{with_begun, without, ended, past, installed};
 ghost use Rattle.txn_law.specs.Records.{swept};
 
-use crate::group::blocks_of_objects;
-use crate::holds::release;
 use crate::outcomes::BeginFault;
 use crate::records::{Record, forget, sweep};
 use crate::{Change, Object, Stable, Tx};
 use disk::BlockNo;
+use holds::group::blocks_of_objects;
+use holds::taken::release;
 use limits::FIRST_HOME_BLOCK;
 use std::alloc::Global;
 use std::collections::VecDeque;

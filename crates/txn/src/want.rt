@@ -9,12 +9,12 @@ ghost use Rattle.txn_law.specs.Wishes.{IsWhole};
 ghost use Rattle.txn_law.specs.Fetched.{fetched, fetch_failed};
 ghost use Rattle.txn.specs.Source.{IsSource, IsSourceWithin};
 
-use crate::holds::{for_fetching, for_reading, for_writing, is_free, take};
 use crate::outcomes::{Claim, Want};
-use crate::present::{add, content_of, fill, is_pending, let_go};
 use crate::state::State;
 use crate::{Change, FetchIo, Tx};
 use disk::{Block, BlockNo};
+use holds::present::{add, content_of, fill, is_pending, let_go};
+use holds::taken::{for_fetching, for_reading, for_writing, is_free, take};
 use objects::{Addr, Mode};
 use std::alloc::{AllocError, Global};
 

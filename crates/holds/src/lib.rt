@@ -1,0 +1,10 @@
+//! What transactions hold of objects: who has taken which part of which block, which blocks are in memory for
+//! it, and the blocks that objects make when they are laid over what is current.
+#![tactic(auto)]
+
+pub mod group;
+mod object;
+pub mod present;
+pub mod taken;
+
+pub use object::Object;
