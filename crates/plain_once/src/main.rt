@@ -32,10 +32,16 @@ fn attend(rt: &HostRuntime) -> u8 {
         return SENSELESS;
     };
     let alloc = rt.alloc();
+    let mut piece = [0; PIECE_BYTES];
     match PlainSession::new(alloc, asked.blocks, asked.inodes, asked.made, asked.time) {
-        Ok(Some(mut session)) => {
-            answer_input(alloc, &mut session, &mut rt.reader(), &mut rt.stdout())
-        }
+        Ok(Some(mut session)) => answer_input(
+            alloc,
+            &mut session,
+            &mut rt.reader(),
+            &mut rt.stdout(),
+            &mut piece,
+            MOST_READS,
+        ),
         Ok(None) => SENSELESS,
         Err(_) => CLOSED,
     }
@@ -53,31 +59,50 @@ fn read_arguments<R: Env + AllocGlobal>(rt: &R) -> Result<Option<Asked>, AllocEr
     Ok(parse(line.as_slice()))
 }
 
-// Answers the records of an input as they come, and gives the exit status.
+// Answers the records of an input as they come, over at most so many reads, and gives the exit status.
 fn answer_input<R: Read, W: Write>(
     alloc: Global,
     session: &mut PlainSession,
     reader: &mut R,
     writer: &mut W,
+    piece: &mut [u8],
+    most_reads: u64,
 ) -> u8 {
-    let mut piece = [0; PIECE_BYTES];
-    for _ in 0..MOST_READS {
-        let count = match reader.read(&mut piece) {
-            Ok(count) => count,
-            Err(error) if error.kind() == ErrorKind::Interrupted => continue,
-            Err(_) => return CLOSED,
-        };
-        if count == 0 {
-            return match session.end() {
-                Progress::Open => ENDED,
-                Progress::Closed => CLOSED,
-            };
-        }
-        if !answer_piece(alloc, session, &piece[..count], writer) {
-            return CLOSED;
+    for _ in 0..most_reads {
+        if let Some(status) = answer_read(alloc, session, reader, writer, piece) {
+            return status;
         }
     }
     CLOSED
+}
+
+// Answers the records that are whole by the next read. Gives the exit status where nothing more comes.
+fn answer_read<R: Read, W: Write>(
+    alloc: Global,
+    session: &mut PlainSession,
+    reader: &mut R,
+    writer: &mut W,
+    piece: &mut [u8],
+) -> Option<u8> {
+    match reader.read(piece) {
+        Ok(0) => Some(status_at_the_end(session)),
+        Ok(count) => {
+            if answer_piece(alloc, session, &piece[..count], writer) {
+                None
+            } else {
+                Some(CLOSED)
+            }
+        }
+        Err(error) if error.kind() == ErrorKind::Interrupted => None,
+        Err(_) => Some(CLOSED),
+    }
+}
+
+fn status_at_the_end(session: &PlainSession) -> u8 {
+    match session.end() {
+        Progress::Open => ENDED,
+        Progress::Closed => CLOSED,
+    }
 }
 
 // Answers the records that are whole by now, and tells whether the session goes on.

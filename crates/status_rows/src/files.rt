@@ -1,8 +1,8 @@
 //! The statuses of the procedures on one file.
 
-use crate::answers::{MADE, is_answered, is_answered_once, tree};
-use crate::calls::{
-    NO_TIME, NOTHING, access, attributes, commit, info, limits, read, read_link, set, space, write,
+use four_files::{
+    MADE, NO_TIME, NOTHING, access, attributes, commit, info, is_answered, is_answered_once,
+    limits, read, read_link, set, space, tree, write,
 };
 use nfs_types::{Moment, NewAttributes, SetTime, Status};
 use std::alloc::{AllocError, Global};

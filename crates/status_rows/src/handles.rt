@@ -1,10 +1,9 @@
 //! Each procedure on a handle that names no file, and those on directories on a file.
 
-use crate::answers::is_answered_once;
-use crate::calls::{
-    NOTHING, ZEROS, access, attributes, commit, guarded, info, limits, link, list, list_plus,
-    look_up, make_directory, make_link, make_special, read, read_link, remove, remove_directory,
-    rename, set, space, write,
+use four_files::{
+    NOTHING, ZEROS, access, attributes, commit, guarded, info, is_answered_once, limits, link,
+    list, list_plus, look_up, make_directory, make_link, make_special, read, read_link, remove,
+    remove_directory, rename, set, space, write,
 };
 use nfs_types::{SpecialFile, Status};
 use std::alloc::Global;

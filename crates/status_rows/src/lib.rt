@@ -3,10 +3,6 @@
 #![tactic(auto)]
 
 #[cfg(test)]
-mod answers;
-#[cfg(test)]
-mod calls;
-#[cfg(test)]
 mod files;
 #[cfg(test)]
 mod handles;
@@ -14,5 +10,3 @@ mod handles;
 mod listings;
 #[cfg(test)]
 mod names;
-#[cfg(test)]
-mod parts;

@@ -1,7 +1,6 @@
 //! The statuses of READDIR and READDIRPLUS.
 
-use crate::answers::{is_answered, set_mode, tree};
-use crate::calls::{ONES, ZEROS, list, list_plus};
+use four_files::{ONES, ZEROS, is_answered, list, list_plus, set_mode, tree};
 use nfs_types::{Status, Verifier};
 use plain_server::PlainTree;
 use std::alloc::{AllocError, Global};

@@ -1,9 +1,9 @@
 //! The statuses of the procedures that make, link and remove files.
 
-use crate::answers::{is_answered, is_answered_once, set_links, set_mode, tree};
-use crate::calls::{
-    NO_TIME, NOTHING, create, guarded, link, look_up, make_directory, make_link, make_special,
-    remove, remove_directory, rename,
+use four_files::{
+    NO_TIME, NOTHING, create, guarded, is_answered, is_answered_once, link, look_up,
+    make_directory, make_link, make_special, remove, remove_directory, rename, set_links, set_mode,
+    tree,
 };
 use nfs_types::{CreateHow, NewAttributes, SpecialFile, Status};
 use plain_server::PlainTree;

@@ -1,7 +1,6 @@
-//! The parts that procedures on names are made of, each once on the small tree of `answers`.
+//! The parts that procedures on names are made of, each once on the tree of four files.
 
-use crate::answers::{MADE, tree};
-use crate::calls::handle;
+use four_files::{MADE, handle, tree};
 use nfs_types::{Credential, NumberList, Status};
 use plain_procedures::{
     Changed, PlainEffect, attributes_at, attributes_of, entry_at, file_at, first_of, found,

@@ -1,6 +1,6 @@
 //! Calls of each procedure. A file or a directory is given by its number, and its stamp is all zeros.
 
-use crate::answers::STAMP;
+use crate::files::STAMP;
 use nfs_types::{
     Call, CreateHow, DirectoryName, Handle, Moment, NewAttributes, Octets, SetTime, SpecialFile,
     Stability, Verifier,
@@ -8,12 +8,13 @@ use nfs_types::{
 use std::alloc::{AllocError, Global};
 
 /// A time with a second of nanoseconds.
-pub(crate) const NO_TIME: SetTime = SetTime::Client(Moment {
+pub const NO_TIME: SetTime = SetTime::Client(Moment {
     seconds: 1,
     nanoseconds: 1_000_000_000,
 });
 
-pub(crate) const NOTHING: NewAttributes = NewAttributes {
+/// Attributes that set nothing.
+pub const NOTHING: NewAttributes = NewAttributes {
     mode: None,
     uid: None,
     gid: None,
@@ -22,11 +23,14 @@ pub(crate) const NOTHING: NewAttributes = NewAttributes {
     mtime: SetTime::Unchanged,
 };
 
-pub(crate) const ZEROS: Verifier = Verifier { bytes: [0; 8] };
+/// The verifier of a listing that begins.
+pub const ZEROS: Verifier = Verifier { bytes: [0; 8] };
 
-pub(crate) const ONES: Verifier = Verifier { bytes: [1; 8] };
+/// Another verifier.
+pub const ONES: Verifier = Verifier { bytes: [1; 8] };
 
-pub(crate) fn handle(alloc: Global, number: u32) -> Result<Handle, AllocError> {
+/// The handle of the file of a number.
+pub fn handle(alloc: Global, number: u32) -> Result<Handle, AllocError> {
     Handle::of(alloc, number, STAMP)
 }
 
@@ -38,13 +42,15 @@ fn place(alloc: Global, number: u32, name: &[u8]) -> Result<DirectoryName, Alloc
     })
 }
 
-pub(crate) fn attributes(alloc: Global, number: u32) -> Result<Call, AllocError> {
+/// A GETATTR.
+pub fn attributes(alloc: Global, number: u32) -> Result<Call, AllocError> {
     Ok(Call::GetAttr {
         object: handle(alloc, number)?,
     })
 }
 
-pub(crate) fn set(
+/// A SETATTR.
+pub fn set(
     alloc: Global,
     number: u32,
     attributes: NewAttributes,
@@ -57,27 +63,30 @@ pub(crate) fn set(
     })
 }
 
-pub(crate) fn look_up(alloc: Global, number: u32, name: &[u8]) -> Result<Call, AllocError> {
+/// A LOOKUP of a name in a directory.
+pub fn look_up(alloc: Global, number: u32, name: &[u8]) -> Result<Call, AllocError> {
     Ok(Call::Lookup {
         name: place(alloc, number, name)?,
     })
 }
 
-pub(crate) fn access(alloc: Global, number: u32, bits: u32) -> Result<Call, AllocError> {
+/// An ACCESS that asks for these bits.
+pub fn access(alloc: Global, number: u32, bits: u32) -> Result<Call, AllocError> {
     Ok(Call::Access {
         object: handle(alloc, number)?,
         bits,
     })
 }
 
-pub(crate) fn read_link(alloc: Global, number: u32) -> Result<Call, AllocError> {
+/// A READLINK.
+pub fn read_link(alloc: Global, number: u32) -> Result<Call, AllocError> {
     Ok(Call::ReadLink {
         link: handle(alloc, number)?,
     })
 }
 
 /// A READ of the first byte.
-pub(crate) fn read(alloc: Global, number: u32) -> Result<Call, AllocError> {
+pub fn read(alloc: Global, number: u32) -> Result<Call, AllocError> {
     Ok(Call::Read {
         file: handle(alloc, number)?,
         offset: 0,
@@ -86,12 +95,7 @@ pub(crate) fn read(alloc: Global, number: u32) -> Result<Call, AllocError> {
 }
 
 /// A WRITE of one byte that announces so many.
-pub(crate) fn write(
-    alloc: Global,
-    number: u32,
-    offset: u64,
-    count: u32,
-) -> Result<Call, AllocError> {
+pub fn write(alloc: Global, number: u32, offset: u64, count: u32) -> Result<Call, AllocError> {
     Ok(Call::Write {
         file: handle(alloc, number)?,
         offset,
@@ -101,12 +105,8 @@ pub(crate) fn write(
     })
 }
 
-pub(crate) fn create(
-    alloc: Global,
-    number: u32,
-    name: &[u8],
-    how: CreateHow,
-) -> Result<Call, AllocError> {
+/// A CREATE of a name in a directory.
+pub fn create(alloc: Global, number: u32, name: &[u8], how: CreateHow) -> Result<Call, AllocError> {
     Ok(Call::Create {
         name: place(alloc, number, name)?,
         how,
@@ -114,7 +114,7 @@ pub(crate) fn create(
 }
 
 /// A GUARDED CREATE.
-pub(crate) fn guarded(
+pub fn guarded(
     alloc: Global,
     number: u32,
     name: &[u8],
@@ -123,7 +123,8 @@ pub(crate) fn guarded(
     create(alloc, number, name, CreateHow::Guarded(attributes))
 }
 
-pub(crate) fn make_directory(
+/// A MKDIR of a name in a directory.
+pub fn make_directory(
     alloc: Global,
     number: u32,
     name: &[u8],
@@ -135,7 +136,8 @@ pub(crate) fn make_directory(
     })
 }
 
-pub(crate) fn make_link(
+/// A SYMLINK of a name in a directory to a target.
+pub fn make_link(
     alloc: Global,
     number: u32,
     name: &[u8],
@@ -149,7 +151,8 @@ pub(crate) fn make_link(
     })
 }
 
-pub(crate) fn make_special(
+/// A MKNOD of a name in a directory.
+pub fn make_special(
     alloc: Global,
     number: u32,
     name: &[u8],
@@ -161,23 +164,22 @@ pub(crate) fn make_special(
     })
 }
 
-pub(crate) fn remove(alloc: Global, number: u32, name: &[u8]) -> Result<Call, AllocError> {
+/// A REMOVE of a name in a directory.
+pub fn remove(alloc: Global, number: u32, name: &[u8]) -> Result<Call, AllocError> {
     Ok(Call::Remove {
         name: place(alloc, number, name)?,
     })
 }
 
-pub(crate) fn remove_directory(
-    alloc: Global,
-    number: u32,
-    name: &[u8],
-) -> Result<Call, AllocError> {
+/// A RMDIR of a name in a directory.
+pub fn remove_directory(alloc: Global, number: u32, name: &[u8]) -> Result<Call, AllocError> {
     Ok(Call::RmDir {
         name: place(alloc, number, name)?,
     })
 }
 
-pub(crate) fn rename(
+/// A RENAME of a name in a directory to one in another.
+pub fn rename(
     alloc: Global,
     from: u32,
     name: &[u8],
@@ -191,14 +193,15 @@ pub(crate) fn rename(
 }
 
 /// A LINK of a file to a name in a directory.
-pub(crate) fn link(alloc: Global, file: u32, number: u32, name: &[u8]) -> Result<Call, AllocError> {
+pub fn link(alloc: Global, file: u32, number: u32, name: &[u8]) -> Result<Call, AllocError> {
     Ok(Call::Link {
         file: handle(alloc, file)?,
         name: place(alloc, number, name)?,
     })
 }
 
-pub(crate) fn list(
+/// A READDIR.
+pub fn list(
     alloc: Global,
     number: u32,
     cookie: u64,
@@ -213,7 +216,8 @@ pub(crate) fn list(
     })
 }
 
-pub(crate) fn list_plus(
+/// A READDIRPLUS.
+pub fn list_plus(
     alloc: Global,
     number: u32,
     cookie: u64,
@@ -230,30 +234,29 @@ pub(crate) fn list_plus(
     })
 }
 
-pub(crate) fn space(alloc: Global, number: u32) -> Result<Call, AllocError> {
+/// A FSSTAT.
+pub fn space(alloc: Global, number: u32) -> Result<Call, AllocError> {
     Ok(Call::FsStat {
         object: handle(alloc, number)?,
     })
 }
 
-pub(crate) fn info(alloc: Global, number: u32) -> Result<Call, AllocError> {
+/// A FSINFO.
+pub fn info(alloc: Global, number: u32) -> Result<Call, AllocError> {
     Ok(Call::FsInfo {
         object: handle(alloc, number)?,
     })
 }
 
-pub(crate) fn limits(alloc: Global, number: u32) -> Result<Call, AllocError> {
+/// A PATHCONF.
+pub fn limits(alloc: Global, number: u32) -> Result<Call, AllocError> {
     Ok(Call::PathConf {
         object: handle(alloc, number)?,
     })
 }
 
-pub(crate) fn commit(
-    alloc: Global,
-    number: u32,
-    offset: u64,
-    count: u32,
-) -> Result<Call, AllocError> {
+/// A COMMIT of so many bytes.
+pub fn commit(alloc: Global, number: u32, offset: u64, count: u32) -> Result<Call, AllocError> {
     Ok(Call::Commit {
         file: handle(alloc, number)?,
         offset,
