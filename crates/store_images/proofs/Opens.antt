@@ -80,7 +80,7 @@ module _ (before : Device) (tree : Tree) (first : ℕ) (holds : HoldsTree before
       → CountsCause cause before later
       → IsRefusedFor keeps_model cause before later → IsCauseOf cause before later first
   cause_is keeps_model fault.Device later kept counts shows = counts
-  cause_is keeps_model fault.NoMemory later kept counts shows = tt
+  cause_is keeps_model fault.NoMemory later kept counts shows = counts
   cause_is keeps_model fault.Magic later kept counts shows = elim (shows.1 kept holds.rest.unspoiled) [
     | inl none ↦ absurd (has_blocks before.size (image_of before SUPER_BLOCK) good.super good.is_super good.size_is none)
     | inr other ↦ not_magic (image_of before SUPER_BLOCK) good.super good.is_super other
@@ -91,7 +91,8 @@ module _ (before : Device) (tree : Tree) (first : ℕ) (holds : HoldsTree before
     | inl other ↦ absurd (not_range (image_of before SUPER_BLOCK) good.super good.is_super other)
     | inr (super, is, inl other) ↦ absurd (other (is.blocks ∙ sym good.is_super.blocks ∙ good.size_is))
     | inr (super, is, inr last) ↦
-        let same : super.boot ≡ first = is.boot ∙ sym good.is_super.boot ∙ good.boot_is in omega (arith, last, same)
+        let same : super.boot ≡ first = is.boot ∙ sym good.is_super.boot ∙ good.boot_is in
+        (omega (arith, last, same), counts)
   ]
   cause_is keeps_model fault.Log later kept counts shows =
       (shows.1 kept holds.rest.unspoiled).1 (good.range, good.homes)

@@ -68,11 +68,12 @@ pub record IsOpened (before opened : Device) (tree : Tree) (first position : ℕ
   pub empty : (image : Image) → IsCrashImage opened opened.clock image → (start_in image ≡ position)
       × (end_in image ≡ position)
 
--- why a good image may not be opened: a device call failed, no boot number is left, or memory was refused
+-- why a good image may not be opened: a device call failed; or none did, and no boot number is left, or memory was
+-- refused
 abbrev pub IsCauseOf : OpenFault → Device → Device → ℕ → Type 0
 IsCauseOf fault.Device before later first = before.failures < later.failures
-IsCauseOf fault.Range before later first = 2 ^ 64 ≤ first + 1
-IsCauseOf fault.NoMemory before later first = Unit {0}
+IsCauseOf fault.Range before later first = (2 ^ 64 ≤ first + 1) × (later.failures ≡ before.failures)
+IsCauseOf fault.NoMemory before later first = later.failures ≡ before.failures
 IsCauseOf fault.Magic before later first = ⊥
 IsCauseOf fault.Version before later first = ⊥
 IsCauseOf fault.Log before later first = ⊥

@@ -29,13 +29,15 @@ pub fn what_shows_a_cause_is_not_opened()
 {}
 
 /// A refusal of a good image breaks the promise where it names what the image can't show, a failure that the device
-/// hasn't counted, or a boot number that is left.
+/// hasn't counted, want of memory where it has counted one, or a boot number that is left.
 pub fn a_good_image_is_refused_for_a_cause()
     ensures shown { (before later : Device) (tree : Tree) (first : ℕ)
         → (IsRefused before later tree first fault.Magic → ⊥) × (IsRefused before later tree first fault.Version → ⊥)
         × (IsRefused before later tree first fault.Log → ⊥) }
     ensures device { (before later : Device) (tree : Tree) (first : ℕ) → later.failures ≡ before.failures
         → IsRefused before later tree first fault.Device → ⊥ }
+    ensures memory { (before later : Device) (tree : Tree) (first : ℕ) → before.failures < later.failures
+        → IsRefused before later tree first fault.NoMemory → ⊥ }
     ensures range { (before later : Device) (tree : Tree) (first : ℕ) → first + 1 < 2 ^ 64
         → IsRefused before later tree first fault.Range → ⊥ }
 {}

@@ -1,6 +1,7 @@
 -- At each stop of an opening the image has its tree.
-use Rattle.std.proofs.Common.{arith, ◌≡◌, ◌+◌, ◌∙◌, refl, sym, inl, inr, length, subst}
+use Rattle.std.proofs.Common.{ap, arith, ◌≡◌, ◌+◌, ◌∙◌, refl, sym, inl, inr, length, subst}
 use Rattle.limits.specs.declared.TheConstants.{BLOCK_BYTES}
+use Rattle.disk.specs.Device.{Device}
 use Rattle.layout.specs.declared.super_block.Super.{Super}
 use Rattle.layout.specs.Fields.{eight_bytes, four_bytes}
 use Rattle.layout.specs.SuperForm.{super_bytes, super_head}
@@ -75,7 +76,8 @@ returns-in-Err-raise-clause-keeps g c = λ tree first holds kept.
     (elim c.in-Err-raise.ensures.failure [
       | inl failed ↦ subst (λ cause. IsCauseOf cause before later first) (sym failed.0)
           (omega (arith, failed.1, c.in_default-install.ensures.failure, c.in-Ok-find.ensures.failure))
-      | inr memory ↦ subst (λ cause. IsCauseOf cause before later first) (sym memory.0) tt
+      | inr memory ↦ subst (λ cause. IsCauseOf cause before later first) (sym memory.0)
+          (ap (λ (d : Device). d.failures) memory.1 ∙ c.in_default-install.ensures.failure ∙ c.in-Ok-find.ensures.failure)
     ])
 
 pub returns-clause-keeps : goal.returns-clause-keeps

@@ -11,4 +11,8 @@ returns-clause-device c = λ before later tree first same refused.
 
 pub returns-clause-range : goal.returns-clause-range
 returns-clause-range c = λ before later tree first left refused.
-    let because = refused.because in omega (arith, because, left)
+    let because = refused.because.0 in omega (arith, because, left)
+
+pub returns-clause-memory : goal.returns-clause-memory
+returns-clause-memory c = λ before later tree first more refused.
+    let because = refused.because in omega (arith, because, more)
