@@ -1,7 +1,8 @@
-//! What is measured: so many rounds of each of the three.
+//! What is measured: so many rounds of each of the three. What was moved in them is what a rate is of.
+ghost use Rattle.std.specs.Prelude.{◌≡◌, ◌+◌, ◌*◌, IfOk, length};
 
 use crate::messages::{data, read_reply, record_of, write_record};
-use limits::{PIECE_BYTES, TRANSFER_BYTES};
+use limits::PIECE_BYTES;
 use nfs_types::{Call, ProgramCall, Reply};
 use plain_items::ItemFault;
 use rpc::{Records, RpcFault};
@@ -84,16 +85,12 @@ const LARGE: u32 = 40_960;
 pub fn measure_bytes<C: Clock>(clock: &C, alloc: Global, rounds: u32) -> Result<ByteRates, Fault> {
     let small = record_of(alloc, SMALL)?;
     let large = record_of(alloc, LARGE)?;
-    let moved = u64::from(rounds).saturating_mul(u64::from(LARGE));
+    let many = rounds.saturating_mul(LARGE / SMALL);
     let start = Instant::now(clock)?;
-    byte_rounds(
-        alloc,
-        rounds.saturating_mul(LARGE / SMALL),
-        small.as_slice(),
-    )?;
+    let moved = byte_rounds(alloc, many, small.as_slice())?;
     let small = rate(moved, start.elapsed(clock)?);
     let start = Instant::now(clock)?;
-    byte_rounds(alloc, rounds, large.as_slice())?;
+    let moved = byte_rounds(alloc, rounds, large.as_slice())?;
     let large = rate(moved, start.elapsed(clock)?);
     Ok(ByteRates { small, large })
 }
@@ -103,15 +100,14 @@ pub fn measure<C: Clock>(clock: &C, alloc: Global, rounds: u32) -> Result<Rates,
     let data = data(alloc)?;
     let record = write_record(alloc, data.as_slice())?;
     let reply = read_reply(alloc, data.as_slice())?;
-    let moved = u64::from(rounds).saturating_mul(data.len() as u64);
     let start = Instant::now(clock)?;
-    copy_rounds(alloc, rounds, data.as_slice())?;
+    let moved = copy_rounds(alloc, rounds, data.as_slice())?;
     let copy = rate(moved, start.elapsed(clock)?);
     let start = Instant::now(clock)?;
-    read_rounds(alloc, rounds, record.as_slice())?;
+    let moved = read_rounds(alloc, rounds, record.as_slice(), data.len())?;
     let read = rate(moved, start.elapsed(clock)?);
     let start = Instant::now(clock)?;
-    write_rounds(alloc, rounds, &reply)?;
+    let moved = write_rounds(alloc, rounds, &reply, data.len())?;
     let written = rate(moved, start.elapsed(clock)?);
     drop(reply);
     Ok(Rates {
@@ -127,37 +123,68 @@ fn rate(moved: u64, time: Duration) -> u64 {
     moved.saturating_mul(1000) / nanoseconds
 }
 
-// Copies the data, each time into memory of its own.
-fn copy_rounds(alloc: Global, rounds: u32, data: &[u8]) -> Result<(), Fault> {
-    let mut kept = Vec::new(alloc);
-    for _ in 0..rounds {
-        let mut copy = Vec::with_capacity(alloc, data.len())?;
-        copy.extend_from_slice(data)?;
-        kept = copy;
+// What was moved, and as many bytes more.
+fn sum(moved: u64, more: usize) -> Result<u64, Fault>
+    ensures { IfOk result (λ all. all ≡ moved + more) }
+{
+    match moved.checked_add(more as u64) {
+        Some(all) => Ok(all),
+        None => Err(Fault::Message),
     }
-    if kept.as_slice() == data {
-        Ok(())
+}
+
+// Copies these bytes, each time into memory of its own, and tells how many the copies have.
+fn copy_rounds(alloc: Global, rounds: u32, bytes: &[u8]) -> Result<u64, Fault>
+    ensures { IfOk result (λ moved. moved ≡ rounds * length bytes.now) }
+{
+    let mut kept = Vec::new(alloc);
+    let mut moved: u64 = 0;
+    for _ in 0..rounds {
+        kept = copied(alloc, bytes)?;
+        moved = sum(moved, kept.len())?;
+    }
+    if kept.as_slice() == bytes {
+        Ok(moved)
     } else {
         Err(Fault::Message)
     }
 }
 
-// Reads the call out of a stream of such records, that comes in the pieces in which the server reads.
-fn read_rounds(alloc: Global, rounds: u32, record: &[u8]) -> Result<(), Fault> {
+// These bytes in memory of their own.
+fn copied(alloc: Global, bytes: &[u8]) -> Result<Vec<u8>, AllocError>
+    ensures { IfOk result (λ copy. copy.items ≡ bytes.now) }
+{
+    let mut copy = Vec::with_capacity(alloc, bytes.len())?;
+    copy.extend_from_slice(bytes)?;
+    Ok(copy)
+}
+
+// Reads the call of a WRITE of so many bytes out of a stream of such records. Tells how many bytes were written.
+fn read_rounds(alloc: Global, rounds: u32, record: &[u8], bytes: usize) -> Result<u64, Fault>
+    ensures { IfOk result (λ moved. moved ≡ rounds * bytes) }
+{
     let mut records = Records::new(alloc);
+    let mut moved: u64 = 0;
     for _ in 0..rounds {
-        let mut count = 0_usize;
-        for piece in record.chunks(PIECE_BYTES) {
-            records.feed(piece)?;
-            if let Some(message) = records.next()? {
-                count = count.saturating_add(count_written(alloc, &message)?);
-            }
-        }
-        if count != TRANSFER_BYTES as usize {
+        let count = read_one(alloc, &mut records, record)?;
+        if count != bytes {
             return Err(Fault::Message);
         }
+        moved = sum(moved, count)?;
     }
-    Ok(())
+    Ok(moved)
+}
+
+// Reads a record in the pieces in which the server reads, and tells how many bytes its calls write.
+fn read_one(alloc: Global, records: &mut Records, record: &[u8]) -> Result<usize, Fault> {
+    let mut count = 0_usize;
+    for piece in record.chunks(PIECE_BYTES) {
+        records.feed(piece)?;
+        if let Some(message) = records.next()? {
+            count = count.saturating_add(count_written(alloc, &message)?);
+        }
+    }
+    Ok(count)
 }
 
 // The count of bytes of the WRITE that a message calls, or 0 where it calls none.
@@ -174,26 +201,35 @@ fn count_written(alloc: Global, message: &[u8]) -> Result<usize, Fault> {
     Ok(count)
 }
 
-// Writes the reply, each time into memory of its own.
-fn write_rounds(alloc: Global, rounds: u32, reply: &Reply) -> Result<(), Fault> {
+// Writes the reply of so many bytes, each time into memory of its own. Tells how many bytes were written.
+fn write_rounds(alloc: Global, rounds: u32, reply: &Reply, bytes: usize) -> Result<u64, Fault>
+    ensures { IfOk result (λ moved. moved ≡ rounds * bytes) }
+{
+    let mut moved: u64 = 0;
     for xid in 0..rounds {
         let record = reply_bytes(alloc, xid, RpcReply::Nfs(reply))?;
-        if record.len() < PIECE_BYTES {
+        if record.len() < bytes {
             return Err(Fault::Message);
         }
+        moved = sum(moved, bytes)?;
     }
-    Ok(())
+    Ok(moved)
 }
 
-// Reads the record out of a stream of such records, that comes byte by byte, and asks for a record after each.
-fn byte_rounds(alloc: Global, rounds: u32, record: &[u8]) -> Result<(), Fault> {
+// Reads the record of these bytes out of a stream of such records, that comes byte by byte, and asks for a record
+// after each. Tells how many bytes came.
+fn byte_rounds(alloc: Global, rounds: u32, bytes: &[u8]) -> Result<u64, Fault>
+    ensures { IfOk result (λ moved. moved ≡ rounds * length bytes.now) }
+{
     let mut records = Records::new(alloc);
+    let mut moved: u64 = 0;
     for _ in 0..rounds {
-        if !is_whole_at_the_end(&mut records, record)? {
+        if !is_whole_at_the_end(&mut records, bytes)? {
             return Err(Fault::Message);
         }
+        moved = sum(moved, bytes.len())?;
     }
-    Ok(())
+    Ok(moved)
 }
 
 // Feeds a stream byte by byte, and tells whether a record is whole with the last byte, and none before.

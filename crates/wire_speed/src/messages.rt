@@ -16,8 +16,10 @@ pub fn data(alloc: Global) -> Result<Vec<u8>, AllocError> {
 // So many bytes that differ from those beside them.
 fn differing(alloc: Global, count: u32) -> Result<Vec<u8>, AllocError> {
     let mut bytes = Vec::new(alloc);
-    for place in 0..count {
-        bytes.push((place % 251) as u8)?;
+    let mut byte: u8 = 0;
+    for _ in 0..count {
+        bytes.push(byte)?;
+        byte = byte.wrapping_add(1);
     }
     Ok(bytes)
 }
