@@ -6,6 +6,9 @@ use std::alloc::{AllocError, Global};
 // The handle of the root: number 1, made at no boot by no transaction.
 const ROOT_HANDLE: [u8; 20] = [0, 0, 0, 1, 0, 0, 0, 0, 0, 0, 0, 0, 0, 0, 0, 0, 0, 0, 0, 0];
 
+// The flavor of credentials that the server takes (RFC 5531, section 8.2).
+const AUTH_SYS: u32 = 1;
+
 /// What a call of MOUNT is answered.
 pub fn mount(alloc: Global, call: &MountCall) -> Result<MountReply, AllocError> {
     match call {
@@ -29,10 +32,13 @@ fn root(alloc: Global) -> Result<Mounted, AllocError> {
 // A directory with this handle, for credentials of AUTH_SYS.
 fn mounted(alloc: Global, handle: &[u8]) -> Result<Mounted, AllocError> {
     let bytes = Octets::copied(alloc, handle)?;
-    let mut flavors = Vec::new(alloc);
-    flavors.push(1)?;
     Ok(Mounted {
         root: Handle { bytes },
-        flavors: NumberList::new(flavors),
+        flavors: flavors(alloc, AUTH_SYS)?,
     })
+}
+
+// The list of this flavor alone.
+fn flavors(alloc: Global, flavor: u32) -> Result<NumberList, AllocError> {
+    Ok(NumberList::new([flavor].to_vec(alloc)?))
 }
