@@ -17,11 +17,12 @@ use Rattle.store_promise.specs.Schedule.{IsStepOf, IsStepOfRead, IsStepOfWork, I
 use Rattle.store_promise.specs.Schedule.{told_after}
 use Rattle.store_promise.specs.Transcript.{Transcript}
 use Rattle.store_promise.specs.Verdicts.{HasVerdict, IsOfNone}
+use Rattle.store_promise.proofs.Told.{may_be}
 use Rattle.run_law.specs.Ledger.{ArePlaced, place_waited}
 use Rattle.run_law.specs.Noting.{IsAnswerOf, IsAnswerWith, Noted, listed, told_now, with_noted}
 use Rattle.run_law.proofs.EntriesCommits.{commit_of, seq}
 use Rattle.run_law.proofs.ToldGrows.{either}
-use Rattle.run_law.proofs.ToldMoves.{IsOwn, Moves, called, goes, may_be, moves, stays}
+use Rattle.run_law.proofs.ToldMoves.{IsOwn, Moves, called, goes, moves, stays}
 use Rattle.run_law.proofs.ToldPlaces.{one_place}
 use Rattle.run_law.proofs.ToldStages.{PlaceComes, commits, place_comes, was_waited}
 

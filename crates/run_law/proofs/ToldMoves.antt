@@ -1,13 +1,12 @@
 -- How a worker moves with an event.
-use Rattle.std.proofs.Common.{◌≡◌, ◌⊎◌, inl, inr, ℕ, ◌<◌, ap, sym, refl, subst, arith, Bool, true, false}
+use Rattle.std.proofs.Common.{◌≡◌, ◌⊎◌, inl, inr, ℕ, ap, refl, arith, Bool, true, false}
 use Rattle.std.proofs.Common.{if◌then◌else◌, nat_eq, Option, Some, None}
-use Rattle.std.proofs.lemmas.Bool.{cases_lt}
 use Rattle.std.proofs.lemmas.Bool.Decides.{nat_tests}
 use Rattle.store_promise.specs.declared.events.Event.{Event}
 use Rattle.store_promise.specs.declared.events.Event.TheVariants as event
 use Rattle.store_promise.specs.declared.events.Step.{Step}
 use Rattle.store_promise.specs.Progress.{At, Called, Job, Progress, progressed}
-use Rattle.store_promise.specs.Schedule.{IsOfOne, IsStepOf, IsTaken, Setting, Told, told_after, worker_of}
+use Rattle.store_promise.specs.Schedule.{Told, told_after}
 
 -- the event is one of its own: of its work, or of its read
 abbrev pub IsOwn : ℕ → Event → Type 0
@@ -65,20 +64,3 @@ pub own_read : (told : Told) (worker : ℕ) (one : Step)
     → (told_after told (event.Read worker) (Some one)).workers worker
     ≡ progressed told.log.broken one (told.workers worker)
 own_read told worker one = own_move told worker one
-
--- ---- a step is one that its event may make
-
-module _ (o : Setting) (workers : ℕ) (told : Told) (e : Event) (one : Step)
-    (taken : IsTaken o workers told e (Some one)) where
-  by_worker : (of : Option ℕ) → worker_of e ≡ of → IsStepOf o told e (Some one)
-  by_worker None is = taken.own (subst (IsOfOne workers) (sym is) tt)
-  by_worker (Some number) is = elim (cases_lt number workers) [
-    | inl less ↦ taken.own (subst (IsOfOne workers) (sym is) less)
-    | inr past ↦
-        let none : Some one ≡ None = taken.others (λ its.
-        let less : number < workers = subst (IsOfOne workers) is its in omega (arith, less, past)) in
-        cc
-  ]
-
-  pub may_be : IsStepOf o told e (Some one)
-  may_be = by_worker (worker_of e) refl

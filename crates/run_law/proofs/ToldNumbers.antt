@@ -11,11 +11,12 @@ use Rattle.store_promise.specs.Progress.{At, Called, Job, Progress, Waiting, goi
 use Rattle.store_promise.specs.Schedule.{IsStepOf, IsStepOfCalled, IsStepOfRead, IsStepOfWork, IsTaken, Schedule}
 use Rattle.store_promise.specs.Schedule.{Setting, Told, told_after}
 use Rattle.store_promise.specs.Transcript.{Transcript}
+use Rattle.store_promise.proofs.Told.{may_be}
 use Rattle.run_law.specs.Ledger.{AreNumbered, number_out}
 use Rattle.run_law.specs.Noting.{IsCommitOf, IsEntryOf, Noted, told_now, with_noted}
 use Rattle.run_law.proofs.EntriesCommits.{commit_of}
 use Rattle.run_law.proofs.EntriesGrow.{EntryComes, entry_comes, number_of}
-use Rattle.run_law.proofs.ToldMoves.{IsOwn, Moves, called, goes, may_be, moves, own_move, stays}
+use Rattle.run_law.proofs.ToldMoves.{IsOwn, Moves, called, goes, moves, own_move, stays}
 use Rattle.run_law.proofs.ToldStages.{NumberComes, begins, number_comes, was_out}
 
 -- ---- the count of transactions

@@ -1,6 +1,6 @@
 -- A worker that waits for a place waits for the procedure of its own call.
-use Rattle.std.proofs.Common.{◌≡◌, inl, inr, ℕ, zero, suc, ◌+◌, ◌<◌, ◌≤◌, ap, sym, ◌∙◌, refl, subst, arith}
-use Rattle.std.proofs.Common.{Bool, true, false, if◌then◌else◌, ◌||◌, nat_eq, List, [], ◌∷◌, Option, Some, None, Ok, Err}
+use Rattle.std.proofs.Common.{◌≡◌, inl, inr, ℕ, zero, suc, ◌+◌, ◌≤◌, ap, sym, ◌∙◌, refl, subst, arith}
+use Rattle.std.proofs.Common.{Bool, true, false, if◌then◌else◌, ◌||◌, nat_eq, Option, Some, None, Ok, Err}
 use Rattle.std.proofs.Common.{length, slice_get}
 use Rattle.std.proofs.lemmas.Bool.{cases_lt}
 use Rattle.std.proofs.lemmas.Bool.Decides.{nat_tests}
@@ -22,7 +22,7 @@ use Rattle.store_promise.specs.Progress.{after_waiting, after_wanted, going_on, 
 use Rattle.store_promise.specs.Schedule.{AreTaken, IsStepOfRead, IsTaken, Schedule, Setting, Told, progress_before}
 use Rattle.store_promise.specs.Schedule.{told_after, told_before}
 use Rattle.store_promise.specs.Transcript.{Transcript, committed_at, made, step_at}
-use Rattle.store_promise.proofs.Told.{told_next}
+use Rattle.store_promise.proofs.Told.{get_within, told_next}
 
 -- ---- the step that brings a worker to wait
 
@@ -200,11 +200,6 @@ module _ (place : ℕ) where
   came o workers told event.InstIo (Some one) worker job taken is = before is
 
 -- ---- along a run
-
-get_within : {X : Type 0} (xs : List X) (index : ℕ) → index < length xs → (x : X) × (slice_get xs index ≡ Some x)
-get_within [] index less = absurd (omega (arith, less))
-get_within (x ∷ xs) zero less = (x, refl)
-get_within (x ∷ xs) (suc index) less = get_within xs index (omega (arith, less))
 
 same_job : (one other : Job) (stage at : Stage) (progress : Progress) → progress ≡ At one stage
     → progress ≡ At other at → one ≡ other

@@ -1,6 +1,6 @@
 -- What steps tell of the device calls that failed, step by step.
 use Rattle.std.proofs.Common.{arith, ◌≡◌, ◌∙◌, refl, sym, subst, ap, ℕ, ◌+◌, ◌-◌, ◌<◌, ◌≤◌, Bool, true, false, List, [], ◌∷◌, ◌++◌}
-use Rattle.std.proofs.Common.{Option, count_by, Result, Ok, Err, is_err}
+use Rattle.std.proofs.Common.{Option, Some, count_by, Result, Ok, Err, is_err, zero, suc, slice_get, take}
 use Rattle.std.proofs.lemmas.List.Sums.{sum_by-cons}
 use Rattle.disk.specs.Device.{Device, OneLater}
 use Rattle.disk.specs.Failures.{failures_from}
@@ -113,3 +113,20 @@ none_is_told before later steps past same clock none =
     none_failed later.failed before.clock (later.clock - before.clock) sum in
     none_told later.failed before.clock steps
     (λ number from below. well number from (omega (arith, below, count))) none
+
+-- the step of an index tells of the call that comes after those of the steps before it
+pub told_at : (failed : ℕ → Bool) (call : ℕ) (steps : List (Option Step)) (index : ℕ) (made : Option Step)
+    → TellEachFailure failed call steps → slice_get steps index ≡ Some made → calls_device made ≡ true
+    → failed (call + count_by calls_device (take index steps)) ≡ fails made
+told_at failed call [] index made told is calls = cc
+told_at failed call (first ∷ steps) zero made told is calls =
+    let same : first ≡ made = cc in
+    let at : call ≡ call + 0 = omega arith in
+    subst (λ (n : ℕ). failed n ≡ fails made) at
+    (subst (λ m. TellsFailure failed call m) same told.0 calls)
+told_at failed call (first ∷ steps) (suc index) made told is calls =
+    let more = calls_more first (take index steps) in
+    let at : call + one_if (calls_device first) + count_by calls_device (take index steps)
+    ≡ call + count_by calls_device (first ∷ take index steps) = omega (arith, more) in
+    subst (λ (n : ℕ). failed n ≡ fails made) at
+    (told_at failed (call + one_if (calls_device first)) steps index made told.1 is calls)

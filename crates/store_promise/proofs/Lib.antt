@@ -19,3 +19,6 @@ pub mod OpenInstalls
 pub mod Shown
 pub mod FileBlocks
 pub mod StableAnswers
+pub mod FailuresTold
+pub mod WorkersFailed
+pub mod AnswersOfIo

@@ -18,7 +18,7 @@ use Rattle.store_promise.specs.Transcript.{Transcript, step_at, committed_at}
 use Rattle.store_promise.specs.Verdicts.{HasVerdict, IsAnswer, IsStableAnswer}
 use Rattle.store_promise.proofs.Told.{own_next, step_is}
 
-one_more : (n : ℕ) → n + 1 ≡ suc n
+pub one_more : (n : ℕ) → n + 1 ≡ suc n
 one_more n = omega arith
 
 abbrev committing_at : ℕ → ℕ → Step

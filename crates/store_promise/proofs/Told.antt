@@ -2,7 +2,7 @@
 use Rattle.std.proofs.Common.{◌≡◌, ℕ, zero, suc, ap, sym, ◌∙◌, refl, subst, Bool, true, false, if◌then◌else◌}
 use Rattle.std.proofs.Common.{◌<◌, ◌≤◌}
 use Rattle.std.proofs.lemmas.Bool.{cases_lt}
-use Rattle.std.proofs.Common.{List, [], ◌∷◌, ◌++◌, Option, Some, None, take, slice_get, nat_eq, arith}
+use Rattle.std.proofs.Common.{List, [], ◌∷◌, ◌++◌, Option, Some, None, length, take, slice_get, nat_eq, arith}
 use Rattle.std.proofs.Common.{◌⊎◌, inl, inr}
 use Rattle.std.specs.List.{zip}
 use Rattle.std.specs.Option.{option_map}
@@ -13,7 +13,7 @@ use Rattle.store_promise.specs.declared.events.Step.{Step}
 use Rattle.store_promise.specs.Progress.{Begun, Job, Progress, Idle, At, Stage, Called, Planning}
 use Rattle.store_promise.specs.Progress.{going_on, progressed}
 use Rattle.store_promise.specs.Schedule.{Schedule, Setting, Told, at_first, told_after, told_along, told_before}
-use Rattle.store_promise.specs.Schedule.{AreTaken, IsOfOne, IsStepByPlan, IsStepOfWork, IsTaken}
+use Rattle.store_promise.specs.Schedule.{AreTaken, IsOfOne, IsStepByPlan, IsStepOf, IsStepOfWork, IsTaken}
 use Rattle.store_promise.specs.Schedule.{progress_before, worker_of}
 use Rattle.store_promise.specs.Transcript.{Transcript, made, step_at}
 
@@ -282,3 +282,26 @@ module _ (o : Setting) (workers : ℕ) (events : Schedule) (steps : List (Option
     pub idle_beyond : (index : ℕ) → stays (told_before events steps index)
     idle_beyond zero = refl
     idle_beyond (suc index) = by_event index (slice_get events index) refl (idle_beyond index)
+
+-- ---- a step is one that its event may make
+
+module _ (o : Setting) (workers : ℕ) (told : Told) (e : Event) (one : Step)
+    (taken : IsTaken o workers told e (Some one)) where
+  by_number : (of : Option ℕ) → worker_of e ≡ of → IsStepOf o told e (Some one)
+  by_number None is = taken.own (subst (IsOfOne workers) (sym is) tt)
+  by_number (Some number) is = elim (cases_lt number workers) [
+    | inl less ↦ taken.own (subst (IsOfOne workers) (sym is) less)
+    | inr past ↦
+        let none : Some one ≡ None = taken.others (λ its.
+        let less : number < workers = subst (IsOfOne workers) is its in omega (arith, less, past)) in
+        cc
+  ]
+
+  pub may_be : IsStepOf o told e (Some one)
+  may_be = by_number (worker_of e) refl
+
+-- there is one of each index within a list
+pub get_within : {X : Type 0} (xs : List X) (index : ℕ) → index < length xs → (x : X) × (slice_get xs index ≡ Some x)
+get_within [] index less = absurd (omega (arith, less))
+get_within (x ∷ xs) zero less = (x, refl)
+get_within (x ∷ xs) (suc index) less = get_within xs index (omega (arith, less))

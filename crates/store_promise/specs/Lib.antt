@@ -8,6 +8,7 @@ pub mod FailedCalls
 pub mod Schedule
 pub mod History
 pub mod Verdicts
+pub mod CauseOfIo
 pub mod Prefix
 pub mod Changes
 pub mod Headline

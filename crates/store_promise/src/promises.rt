@@ -3,16 +3,19 @@ ghost use Rattle.std.specs.Prelude.{◌≡◌, ◌≢◌, ◌+◌, ◌<◌, ◌�
 ghost use Rattle.std.specs.Prelude.{count_by, length, take, true, List, ◌∷◌, ◌++◌, Option};
 ghost use Rattle.disk.specs.Crash.{Image, IsCrashImage};
 ghost use Rattle.disk.specs.Device.{Device};
+ghost use Rattle.nfs_types.specs.declared.reply.Reply.{Reply};
 ghost use Rattle.procedures.specs.After.{after};
 ghost use Rattle.model.specs.Tree.{Tree};
 ghost use Rattle.layout.specs.Homes.{homes_of};
 ghost use Rattle.wal_law.specs.Overlay.{over};
+ghost use Rattle.store_promise.specs.declared.answers.Verdict.TheVariants as verdict;
 ghost use Rattle.store_promise.specs.declared.events.Committing.TheVariants as committing;
 ghost use Rattle.store_promise.specs.declared.events.Event.TheVariants as event;
 ghost use Rattle.store_promise.specs.declared.events.Step.{Step};
 ghost use Rattle.store_promise.specs.declared.events.Step.TheVariants as step;
 ghost use Rattle.store_promise.specs.declared.transcript.Answer.{Answer};
 ghost use Rattle.store_promise.specs.declared.transcript.Committed.{Committed};
+ghost use Rattle.store_promise.specs.CauseOfIo.{HasFailedFor, tells_io};
 ghost use Rattle.store_promise.specs.GoodImage.{IsGoodImage};
 ghost use Rattle.store_promise.specs.Headline.{KeepsPromise};
 ghost use Rattle.store_promise.specs.Openings.{IsOpened};
@@ -80,13 +83,24 @@ pub fn no_stable_answer_bears_place_0()
     ensures { (t : Transcript) (a : Answer) → IsStableAnswer t a 0 → ⊥ }
 {}
 
-/// An answer of IO where no device call failed breaks the promise: what the steps tell of failures the device
-/// has counted.
+/// A step that tells of a failure where the device has counted none breaks the promise.
 pub fn a_failure_that_is_told_was_counted()
     ensures { (before later : Device) (tree : Tree) (first workers : ℕ) (events : Schedule) (t : Transcript)
         → later.failures ≡ before.failures → 0 < count_by fails t.steps
         → KeepsPromise before later tree first workers events t → ⊥ }
 {}
+
+/// Before an answer of IO a device call has failed, and a step before the answer tells so: a call of the log or
+/// of the installer, or a read that was made for the call that is answered.
+pub fn an_answer_of_io_has_its_failed_call()
+    ensures { (before later : Device) (tree : Tree) (first workers start index : ℕ) (events : Schedule)
+        (t : Transcript) (a : Answer) (reply : Reply)
+        → slice_get t.answers index ≡ Some a → a.verdict ≡ verdict.Reply reply → tells_io reply ≡ true
+        → later.clock ≡ start + device_calls t (length t.steps)
+        → KeepsPromise before later tree first workers events t → HasFailedFor later.failed start events t a }
+{
+    procedures::no_step_tells_a_failure();
+}
 
 /// A step that tells that its device call failed where that very call was made, or that it was made where it failed,
 /// breaks the promise.

@@ -1,0 +1,272 @@
+-- A worker whose call a failure ends was so far before, or its read fails now, or the store is broken.
+use Rattle.std.proofs.Common.{◌≡◌, ◌⊎◌, inl, inr, ℕ, ap, refl, subst, arith, Bool, true, false, not, ◌||◌}
+use Rattle.std.proofs.Common.{if◌then◌else◌, nat_eq, Option, Some, None, Ok, Err}
+use Rattle.std.proofs.lemmas.Bool.Decides.{nat_tests}
+use Rattle.disk.specs.declared.block.BlockNo.{BlockNo}
+use Rattle.nfs_types.specs.declared.call.Call.{Call}
+use Rattle.objects.specs.declared.addr.Addr.{Addr}
+use Rattle.objects.specs.declared.mode.Mode.{Mode}
+use Rattle.model.specs.Calls.{has_rules, is_answered_stable}
+use Rattle.store_promise.specs.declared.events.Cause.TheVariants as cause
+use Rattle.store_promise.specs.declared.events.Committing.{Committing}
+use Rattle.store_promise.specs.declared.events.Committing.TheVariants as committing
+use Rattle.store_promise.specs.declared.events.Event.{Event}
+use Rattle.store_promise.specs.declared.events.Event.TheVariants as event
+use Rattle.store_promise.specs.declared.events.Step.{Step}
+use Rattle.store_promise.specs.declared.events.Step.TheVariants as step
+use Rattle.store_promise.specs.declared.events.Wish.{Wish}
+use Rattle.store_promise.specs.declared.events.Wish.TheVariants as wish
+use Rattle.store_promise.specs.CauseOfIo.{IsOfLog}
+use Rattle.store_promise.specs.LogTold.{LogTold, log_moved}
+use Rattle.store_promise.specs.Progress.{Again, At, Begun, Called, Idle, Job, Planning, Progress, Read, Reading, Refused}
+use Rattle.store_promise.specs.Progress.{Stage, Waiting, after_called, after_commit, after_planning, after_waiting}
+use Rattle.store_promise.specs.Progress.{going_on, is_idle, progressed}
+use Rattle.store_promise.specs.Schedule.{IsBeginning, IsCommitting, IsStepByPlan, IsStepOfCall}
+use Rattle.store_promise.specs.Schedule.{IsStepOfCalled, IsStepOfRead, IsStepOfWaiting, IsStepOfWork, IsTaken, Setting}
+use Rattle.store_promise.specs.Schedule.{Told, told_after}
+use Rattle.store_promise.specs.Transcript.{fails}
+use Rattle.store_promise.proofs.FailuresTold.{LogShows, cleared, inst_goes, inst_made, is_broken, is_of_log}
+use Rattle.store_promise.proofs.FailuresTold.{log_goes, log_made, quiet}
+use Rattle.store_promise.proofs.Told.{may_be}
+
+-- its read has failed, or its call is refused with IO
+abbrev pub has_failed : Stage → Bool
+has_failed (Read begun taken ok) = not ok
+has_failed (Refused begun cause.Io) = true
+has_failed _ = false
+
+abbrev pub shows : Progress → Bool
+shows Idle = false
+shows (At job stage) = has_failed stage
+
+-- ---- which steps an event of a worker makes
+
+of_beginning : (told : Told) (one : Step) → IsBeginning told one → is_of_log one ≡ false
+of_beginning told (step.Begun (Ok number)) is = refl
+of_beginning told (step.Begun (Err why)) is = refl
+of_beginning told _ is = absurd is
+
+of_called : (told : Told) (ruled : Bool) (one : Step) → IsStepOfCalled told ruled one → is_of_log one ≡ false
+of_called told true one is = of_beginning told one is
+of_called told false one is = ap is_of_log is
+
+of_plan : (o : Setting) (told : Told) (worker : ℕ) (asked : Call) (begun : Begun) (one : Step)
+    → IsStepByPlan o told worker asked begun one → is_of_log one ≡ false
+of_plan o told worker asked begun (step.Wanted addr mode answer) is = refl
+of_plan o told worker asked begun (step.Claimed block answer) is = refl
+of_plan o told worker asked begun (step.Commit blocks answer) is = refl
+of_plan o told worker asked begun (step.Ended why) is = refl
+of_plan o told worker asked begun _ is = absurd is
+
+of_waiting : (log : LogTold) (place : ℕ) (one : Step) → IsStepOfWaiting log place one → is_of_log one ≡ false
+of_waiting log place (step.Stable seq settled) is = refl
+of_waiting log place _ is = absurd is
+
+of_work : (o : Setting) (told : Told) (worker : ℕ) (so_far : Progress) (one : Step)
+    → IsStepOfWork o told worker so_far (Some one) → is_of_log one ≡ false
+of_work o told worker Idle one is = cc
+of_work o told worker (At job Called) one is = of_called told (has_rules job.call) one is
+of_work o told worker (At job (Planning begun)) one is = of_plan o told worker job.call begun one is
+of_work o told worker (At job (Reading begun taken)) one is = cc
+of_work o told worker (At job (Read begun taken true)) one is = ap is_of_log is
+of_work o told worker (At job (Read begun taken false)) one is = ap is_of_log is
+of_work o told worker (At job (Refused begun why)) one is = ap is_of_log is
+of_work o told worker (At job (Again begun)) one is = ap is_of_log is
+of_work o told worker (At job (Waiting place)) one is = of_waiting told.log place one is
+
+-- a read that is due, which the worker has a call for
+module _ (broken : Bool) where
+  read_goes : (so_far : Progress) (one : Step) → IsStepOfRead so_far (Some one) → is_of_log one ≡ false
+  read_goes (At job (Reading begun taken)) (step.Read block ok) is = refl
+  read_goes (At job (Reading begun taken)) _ is = absurd is
+  read_goes Idle one is = cc
+  read_goes (At job Called) one is = cc
+  read_goes (At job (Planning begun)) one is = cc
+  read_goes (At job (Read begun taken ok)) one is = cc
+  read_goes (At job (Refused begun why)) one is = cc
+  read_goes (At job (Again begun)) one is = cc
+  read_goes (At job (Waiting place)) one is = cc
+
+  read_fails : (so_far : Progress) (one : Step) → IsStepOfRead so_far (Some one)
+      → shows (progressed broken one so_far) ≡ true → (fails (Some one) ≡ true) × (is_idle so_far ≡ false)
+  read_fails (At job (Reading begun taken)) (step.Read block ok) is so = (so, refl)
+  read_fails (At job (Reading begun taken)) _ is so = absurd is
+  read_fails Idle one is so = cc
+  read_fails (At job Called) one is so = cc
+  read_fails (At job (Planning begun)) one is so = cc
+  read_fails (At job (Read begun taken ok)) one is so = cc
+  read_fails (At job (Refused begun why)) one is so = cc
+  read_fails (At job (Again begun)) one is so = cc
+  read_fails (At job (Waiting place)) one is so = cc
+
+-- ---- a step of its work leads to no failure that wasn't there
+
+module _ (o : Setting) (told : Told) (worker : ℕ) (job : Job) where
+  abbrev WasShown : Stage → Type 0
+  WasShown stage = (has_failed stage ≡ true) ⊎ (told.log.broken ≡ true)
+
+  by_called : (one : Step) → shows (going_on job (after_called one)) ≡ true → ⊥
+  by_called (step.Begun (Ok number)) so = cc
+  by_called (step.Begun (Err why)) so = cc
+  by_called _ so = cc
+
+  module _ (begun : Begun) where
+    by_wanted : (addr : Addr) (mode : Mode) (answer : Wish)
+        → IsStepByPlan o told worker job.call begun (step.Wanted addr mode answer)
+        → shows (going_on job (after_planning (is_answered_stable job.call) begun (step.Wanted addr mode answer)))
+        ≡ true → ⊥
+    by_wanted addr mode wish.Held is so = cc
+    by_wanted addr mode wish.Fetch is so = cc
+    by_wanted addr mode wish.Busy is so = cc
+    by_wanted addr mode wish.Loading is so = cc
+    by_wanted addr mode wish.Outside is so = is.1
+    by_wanted addr mode wish.NoMemory is so = cc
+
+    by_claimed : (block : BlockNo) (answer : Wish)
+        → IsStepByPlan o told worker job.call begun (step.Claimed block answer)
+        → shows (going_on job (after_planning (is_answered_stable job.call) begun (step.Claimed block answer)))
+        ≡ true → ⊥
+    by_claimed block wish.Held is so = cc
+    by_claimed block wish.Fetch is so = cc
+    by_claimed block wish.Busy is so = cc
+    by_claimed block wish.Loading is so = cc
+    by_claimed block wish.Outside is so = is.1
+    by_claimed block wish.NoMemory is so = cc
+
+    committed : (stable : Bool) (place : ℕ)
+        → shows (going_on job (if stable then Some (Waiting place) else None)) ≡ true → ⊥
+    committed true place so = cc
+    committed false place so = cc
+
+    by_commit : (stable : Bool) (blocks : ℕ) (answer : Committing) → IsCommitting o told.log blocks answer
+        → shows (going_on job (after_commit stable begun answer)) ≡ true → told.log.broken ≡ true
+    by_commit stable blocks (committing.Committed place) is so = absurd (committed stable place.0 so)
+    by_commit stable blocks committing.Full is so = cc
+    by_commit stable blocks committing.Foreign is so = cc
+    by_commit stable blocks committing.NoMemory is so = cc
+    by_commit stable blocks committing.Broken is so = is
+    by_commit stable blocks committing.Spent is so = cc
+
+    by_plan : (one : Step) → IsStepByPlan o told worker job.call begun one
+        → shows (going_on job (after_planning (is_answered_stable job.call) begun one)) ≡ true
+        → told.log.broken ≡ true
+    by_plan (step.Wanted addr mode answer) is so = absurd (by_wanted addr mode answer is so)
+    by_plan (step.Claimed block answer) is so = absurd (by_claimed block answer is so)
+    by_plan (step.Commit blocks answer) is so = by_commit (is_answered_stable job.call) blocks answer is.1 so
+    by_plan (step.Ended why) is so = cc
+    by_plan _ is so = absurd is
+
+  waited : (done : Bool) (place : ℕ) → shows (going_on job (if done then None else Some (Waiting place))) ≡ true → ⊥
+  waited true place so = cc
+  waited false place so = cc
+
+  by_waiting : (broken : Bool) (place : ℕ) (one : Step) → shows (going_on job (after_waiting broken place one)) ≡ true
+      → ⊥
+  by_waiting broken place (step.Stable seq settled) so = waited (settled || broken) place so
+  by_waiting broken place _ so = cc
+
+  by_stage : (stage : Stage) (one : Step) → IsStepOfWork o told worker (At job stage) (Some one)
+      → shows (progressed told.log.broken one (At job stage)) ≡ true → WasShown stage
+  by_stage Called one is so = absurd (by_called one so)
+  by_stage (Planning begun) one is so = inr (by_plan begun one is so)
+  by_stage (Reading begun taken) one is so = cc
+  by_stage (Read begun taken true) one is so = cc
+  by_stage (Read begun taken false) one is so = inl refl
+  by_stage (Refused begun why) one is so = cc
+  by_stage (Again begun) one is so = cc
+  by_stage (Waiting place) one is so = absurd (by_waiting told.log.broken place one so)
+
+work_shows : (o : Setting) (told : Told) (worker : ℕ) (so_far : Progress) (one : Step)
+    → IsStepOfWork o told worker so_far (Some one) → shows (progressed told.log.broken one so_far) ≡ true
+    → (shows so_far ≡ true) ⊎ (told.log.broken ≡ true)
+work_shows o told worker Idle one is so = cc
+work_shows o told worker (At job stage) one is so = by_stage o told worker job stage one is so
+
+-- ---- an event
+
+-- what comes of an event shows a failure of a worker: so it was, or its read has failed just now, or the log had
+pub data Showed (told : Told) (e : Event) (m : Option Step) (worker : ℕ) : Type 0 where
+  before : shows (told.workers worker) ≡ true → Showed told e m worker
+  of_log : LogShows told.log → Showed told e m worker
+  reads : e ≡ event.Read worker → fails m ≡ true → is_idle (told.workers worker) ≡ false → Showed told e m worker
+
+call_is : (so_far : Progress) (one : Step) → IsStepOfCall so_far (Some one) → is_of_log one ≡ false
+call_is Idle one is =
+    let same : one ≡ step.Called = cc in ap is_of_log same
+call_is (At job stage) one is = cc
+
+module _ (o : Setting) (workers : ℕ) (told : Told) where
+  silent : (one : Step) → is_of_log one ≡ false → LogShows (log_moved told.log one) → LogShows told.log
+  silent one never = cleared told.log (log_moved told.log one) (quiet told.log one never)
+
+  pub log_came : (e : Event) (m : Option Step) → IsTaken o workers told e m → LogShows (told_after told e m).log
+      → LogShows told.log ⊎ ((fails m ≡ true) × IsOfLog (Some e))
+  log_came e None taken so = inl so
+  log_came (event.Call number credential moment call) (Some one) taken so =
+      inl (silent one (call_is (told.workers number) one
+      (may_be o workers told (event.Call number credential moment call) one taken)) so)
+  log_came (event.Work number) (Some one) taken so =
+      inl (silent one (of_work o told number (told.workers number) one
+      (may_be o workers told (event.Work number) one taken)) so)
+  log_came (event.Read number) (Some one) taken so =
+      inl (silent one (read_goes told.log.broken (told.workers number) one
+      (may_be o workers told (event.Read number) one taken)) so)
+  log_came event.Log (Some one) taken so =
+      inl (log_goes o told.log told.log.log_call one refl (may_be o workers told event.Log one taken) so)
+  log_came event.Install (Some one) taken so =
+      inl (inst_goes o told.log told.log.inst_call one refl (may_be o workers told event.Install one taken) so)
+  log_came event.LogIo (Some one) taken so =
+      elim (log_made told.log told.log.log_call one refl (may_be o workers told event.LogIo one taken) so) [
+        | inl earlier ↦ inl earlier
+        | inr now ↦ inr (now, inl refl)
+      ]
+  log_came event.InstIo (Some one) taken so =
+      elim (inst_made told.log told.log.inst_call one refl (may_be o workers told event.InstIo one taken) so) [
+        | inl earlier ↦ inl earlier
+        | inr now ↦ inr (now, inr refl)
+      ]
+
+  module _ (worker : ℕ) where
+    same_number : (number : ℕ) → nat_eq worker number ≡ true → number ≡ worker
+    same_number number is = grind (arith, nat_tests)
+
+    by_call : (job : Job) (e : Event) (m : Option Step) (same : Bool)
+        → shows (if same then At job Called else told.workers worker) ≡ true → Showed told e m worker
+    by_call job e m true so = cc
+    by_call job e m false so = before so
+
+    by_work : (number : ℕ) (one : Step) → IsStepOfWork o told number (told.workers number) (Some one) → (same : Bool)
+        → nat_eq worker number ≡ same
+        → shows (if same then progressed told.log.broken one (told.workers number) else told.workers worker) ≡ true
+        → Showed told (event.Work number) (Some one) worker
+    by_work number one may true same so =
+        elim (work_shows o told number (told.workers number) one may so) [
+          | inl earlier ↦ before (subst (λ n. shows (told.workers n) ≡ true) (same_number number same) earlier)
+          | inr broken ↦ of_log (is_broken broken)
+        ]
+    by_work number one may false same so = before so
+
+    by_read : (number : ℕ) (one : Step) → IsStepOfRead (told.workers number) (Some one) → (same : Bool)
+        → nat_eq worker number ≡ same
+        → shows (if same then progressed told.log.broken one (told.workers number) else told.workers worker) ≡ true
+        → Showed told (event.Read number) (Some one) worker
+    by_read number one may true same so =
+        let numbers = same_number number same in
+        let both = read_fails told.log.broken (told.workers number) one may so in
+        reads (ap event.Read numbers) both.0 (subst (λ n. is_idle (told.workers n) ≡ false) numbers both.1)
+    by_read number one may false same so = before so
+
+    pub worker_came : (e : Event) (m : Option Step) → IsTaken o workers told e m
+        → shows ((told_after told e m).workers worker) ≡ true → Showed told e m worker
+    worker_came e None taken so = before so
+    worker_came (event.Call number credential moment call) (Some one) taken so =
+        by_call (record { credential = credential; moment = moment; call = call })
+        (event.Call number credential moment call) (Some one) (nat_eq worker number) so
+    worker_came (event.Work number) (Some one) taken so =
+        by_work number one (may_be o workers told (event.Work number) one taken) (nat_eq worker number) refl so
+    worker_came (event.Read number) (Some one) taken so =
+        by_read number one (may_be o workers told (event.Read number) one taken) (nat_eq worker number) refl so
+    worker_came event.Log (Some one) taken so = before so
+    worker_came event.LogIo (Some one) taken so = before so
+    worker_came event.Install (Some one) taken so = before so
+    worker_came event.InstIo (Some one) taken so = before so
