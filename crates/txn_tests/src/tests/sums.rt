@@ -1,89 +1,52 @@
 //! A change of two objects that keeps their sum, and what a crash at each device call leaves of it.
-ghost use Rattle.std.specs.Prelude.{◌≡◌, [], IfOk};
-ghost use Rattle.txn_tests.specs.declared.tests.TheConstants.{BLOCKS};
 
-use crate::tests::{
-    BLOCKS, Ended, Seen, Toy, change, commit, core, install_all, log_all, reopened, toy_of, want,
-    want_two,
-};
-use disk::{BlockNo, CrashDisk, MemDisk};
-use limits::FIRST_HOME_BLOCK;
+use crate::tests::bench::{Bench, Ended, Seen, Step};
+use crate::tests::change;
+use crate::tests::toys::{change_of, eight_in};
+use disk::{CrashDisk, MemDisk};
 use objects::Addr;
 use std::alloc::Global;
 use std::test::Fail;
-use txn::*;
-use wal::Seq;
 
 // The object of the one and of the other: 8 bytes, each in a block of its own.
-fn account(other: bool) -> Addr
-    ensures { result.len ≡ 8 }
-{
-    let block = if other {
-        FIRST_HOME_BLOCK + 1
-    } else {
-        FIRST_HOME_BLOCK
-    };
-    Addr {
-        block: BlockNo(block),
-        offset: 16,
-        len: 8,
-    }
-}
-
-// Both objects with these bytes.
-fn both(alloc: Global, one: u8, other: u8) -> Result<Vec<Object>, Fail> {
-    let mut objects = Vec::new(alloc);
-    objects.push(Object::new(account(false), vec![in alloc; one; 8]?))?;
-    objects.push(Object::new(account(true), vec![in alloc; other; 8]?))?;
-    Ok(objects)
+fn account(other: bool) -> Addr {
+    eight_in(u32::from(other), 16)
 }
 
 // Takes 3 from the one, which has 10, for the other, which has nothing.
-fn transfer<D: CrashDisk>(alloc: Global, core: &mut Core<Toy>, disk: &mut D) -> Result<Ended, Fail>
-    requires size { (D.device disk.old).size ≡ core.old.log.blocks }
-    requires idle { core.old.out ≡ [] }
-    ensures size { (D.device disk.new).size ≡ core.new.log.blocks }
-    ensures idle { core.new.out ≡ [] }
-{
-    let toy = toy_of(both(alloc, 10, 0)?, both(alloc, 7, 3)?)?;
-    let tx = core.begin()?;
-    let (tx, _) = want(alloc, core, disk, tx, account(false));
-    let (tx, _) = want(alloc, core, disk, tx, account(false));
-    let (tx, _) = want(alloc, core, disk, tx, account(true));
-    let (tx, _) = want(alloc, core, disk, tx, account(true));
-    Ok(commit(alloc, core, tx, toy))
+fn transfer<D: CrashDisk>(bench: &mut Bench<D>) -> Result<Ended, Fail> {
+    let (one, other) = (account(false), account(true));
+    let toy = change_of(
+        bench.alloc,
+        &[(one, 10), (other, 0)],
+        &[(one, 7), (other, 3)],
+    )?;
+    Ok(bench.commit(&[Step::Read(one), Step::Read(other)], toy))
 }
 
 // What is left where the call of this number failed. The one gets its 10 by calls 1 to 9. The transfer
 // fetches by calls 10 and 11, the log has five calls behind them, and the installer five.
-fn transferred(alloc: Global, failing: u64) -> Result<MemDisk, Fail> {
-    let mut disk = MemDisk::new(alloc, BLOCKS)?;
-    disk.fail_at(&[failing])?;
-    let mut core = core(alloc, 0)?;
-    change(alloc, &mut core, &mut disk, account(false), 0, 10)?;
-    log_all(&mut core, &mut disk);
-    install_all(&mut core, &mut disk);
-    transfer(alloc, &mut core, &mut disk)?;
-    log_all(&mut core, &mut disk);
-    install_all(&mut core, &mut disk);
-    Ok(disk)
+fn transferred(alloc: Global, failing: u64) -> Result<Bench<MemDisk>, Fail> {
+    let mut bench = Bench::new(alloc, 0, &[failing])?;
+    change(&mut bench, account(false), 0, 10)?;
+    bench.log_all();
+    bench.install_all();
+    transfer(&mut bench)?;
+    bench.log_all();
+    bench.install_all();
+    Ok(bench)
 }
 
-// What a new core reads of both after a crash that the digits choose.
-fn left_after(alloc: Global, failing: u64, digits: &[u32]) -> Result<[Seen; 2], Fail> {
-    let mut rest = transferred(alloc, failing)?.crash(digits);
-    if rest.blocks() != BLOCKS {
-        Err("another size")?;
-    }
-    let mut core = reopened(alloc, &mut rest)?;
-    let (_, one) = want_two(alloc, &mut core, &mut rest, account(false), account(false))?;
-    let (_, other) = want_two(alloc, &mut core, &mut rest, account(true), account(true))?;
-    Ok([one[1], other[1]])
+// Whether a new core reads these of both after a crash that the digits choose.
+fn are_left(alloc: Global, failing: u64, digits: &[u32], both: [u8; 2]) -> Result<bool, Fail> {
+    let mut bench = transferred(alloc, failing)?.crashed(digits)?;
+    let steps = [Step::Read(account(false)), Step::Read(account(true))];
+    Ok(bench.sees(1, &steps, &[Seen::Bytes(both[0]), Seen::Bytes(both[1])]))
 }
 
-const OLD: [Seen; 2] = [Seen::Bytes(10), Seen::Bytes(0)];
+const OLD: [u8; 2] = [10, 0];
 
-const NEW: [Seen; 2] = [Seen::Bytes(7), Seen::Bytes(3)];
+const NEW: [u8; 2] = [7, 3];
 
 #[test]
 fn a_crash_keeps_the_sum_of_both(rt: HostRuntime) -> Result<(), Fail> {
@@ -95,11 +58,11 @@ fn a_crash_keeps_the_sum_of_both(rt: HostRuntime) -> Result<(), Fail> {
         };
         let number = u64::from(failing);
         assert!(rt;
-            left_after(rt.alloc(), number, &[])? == oldest,
+            are_left(rt.alloc(), number, &[], oldest)?,
             "oldest at {failing}"
         );
         assert!(rt;
-            left_after(rt.alloc(), number, &[9; 32])? == newest,
+            are_left(rt.alloc(), number, &[9; 32], newest)?,
             "newest at {failing}"
         );
     }

@@ -1,6 +1,6 @@
 use Rattle.std.proofs.Common.{arith}
 use Rattle.txn_tests.proofs.Few.{no_more_blocks}
-use Rattle.txn_tests.proofs.tests.toy_of.Goals as goal
+use Rattle.txn_tests.proofs.tests.toys.toy_of.Goals as goal
 
 pub invariant_of-result : goal.invariant_of-result
 invariant_of-result c = record {
