@@ -1,5 +1,5 @@
 -- What a procedure may tell today is short: the results of GETATTR and SETATTR, and each refusal.
-use Rattle.std.proofs.Common.{◌≡◌, ◌⊎◌, inl, inr, ℕ, ◌+◌, ◌^◌, ◌≤◌, Bool, true, false, List, ◌++◌, length, Option, Some, None}
+use Rattle.std.proofs.Common.{◌≡◌, inl, inr, ℕ, ◌+◌, ◌≤◌, Bool, true, false, List, ◌++◌, length, Option, Some, None}
 use Rattle.std.proofs.Common.{Result, Ok, Err, ◌∙◌, arith, length-append, refl, subst, sym, true≢false}
 use Rattle.std.specs.Prelude.{◌||◌}
 use Rattle.model.specs.Attributes.{untold}
@@ -17,7 +17,7 @@ use Rattle.nfs_types.specs.declared.reply.Reply.{Reply}
 use Rattle.nfs_types.specs.declared.reply.Reply.TheVariants as replies
 use Rattle.nfs_types.specs.declared.status.Status.{Status}
 use Rattle.nfs_types.specs.declared.status.Status.TheVariants as status
-use Rattle.xdr.specs.Codes.{Code, word, double, flag, nothing, ◌then◌, optional, in_some}
+use Rattle.xdr.specs.Codes.{Code, word, nothing, ◌then◌, optional, in_some}
 use Rattle.xdr.specs.Items as items
 use Rattle.nfs_codec.specs.Items.{moment, device, kind, attributes, optional_attributes, weak_cache_attributes}
 use Rattle.nfs_codec.specs.Items.{before_attributes, text, verifier, weak_cache}
@@ -32,7 +32,6 @@ use Rattle.session_wire.specs.declared.message.ReplyBody.TheVariants as bodies
 use Rattle.session_wire.specs.Replies.{IsTooLong, reply_bytes}
 use Rattle.store_promise.specs.Verdicts.{refusal}
 use Rattle.store_promise.specs.declared.answers.Verdict.{Verdict}
-use Rattle.store_promise.specs.declared.answers.Verdict.TheVariants as verdicts
 use Rattle.store_promise.specs.declared.events.Cause.{Cause}
 use Rattle.store_promise.specs.declared.events.Cause.TheVariants as cause
 use Rattle.store.specs.Calling.{ComesTo, Outset, Tells}
