@@ -157,13 +157,6 @@ fn procedure_of(call: &Call) -> u32 {
         Call::ReadLink { .. } => 5,
         Call::Read { .. } => 6,
         Call::Write { .. } => 7,
-        _ => procedure_of_name(call),
-    }
-}
-
-// The same of procedures 8 to 15.
-fn procedure_of_name(call: &Call) -> u32 {
-    match call {
         Call::Create { .. } => 8,
         Call::MkDir { .. } => 9,
         Call::SymLink { .. } => 10,
@@ -172,20 +165,12 @@ fn procedure_of_name(call: &Call) -> u32 {
         Call::RmDir { .. } => 13,
         Call::Rename { .. } => 14,
         Call::Link { .. } => 15,
-        _ => procedure_of_system(call),
-    }
-}
-
-// The same of procedures 16 to 21; another call has 22.
-fn procedure_of_system(call: &Call) -> u32 {
-    match call {
         Call::ReadDir { .. } => 16,
         Call::ReadDirPlus { .. } => 17,
         Call::FsStat { .. } => 18,
         Call::FsInfo { .. } => 19,
         Call::PathConf { .. } => 20,
         Call::Commit { .. } => 21,
-        _ => 22,
     }
 }
 
