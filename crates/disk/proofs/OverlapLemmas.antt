@@ -154,7 +154,8 @@ next_later d lists result spoiled = record {
       (sym (le-ltb d.clock d.clock (omega arith)));
 }
 
-next_current : (d : Device) (lists : ℕ → List Content) (result : Result Unit Failed) (spoiled : ℕ → Bool) (k : ℕ)
+next_current : (d : Device) (lists : ℕ → List Content) (result : Result Unit Failed)
+    (spoiled : ℕ → Bool) (k : ℕ)
     → current (next d lists result spoiled) k ≡ lists k
 next_current d lists result spoiled k =
     ap (λ (t : Bool). if t then d.contents (d.clock + 1) k

@@ -272,7 +272,8 @@ fn digit_at(digits: &[u32], at: usize) -> usize
 fn settle(blocks: &mut [Contents], side: Side)
     requires { length blocks.old < 2 ^ 32 }
     ensures contents { (block : ℕ) → slice_index_or blocks.new block []
-        ≡ (if is_on side block then newest_alone (slice_index_or blocks.old block []) else slice_index_or blocks.old block []) }
+        ≡ (if is_on side block then newest_alone (slice_index_or blocks.old block []) else slice_index_or
+        blocks.old block []) }
     ensures len { length blocks.new ≡ length blocks.old }
     ensures whole { All AreContents blocks.old → All AreContents blocks.new }
 {

@@ -55,8 +55,8 @@ fn write_three(disk: &mut MemDisk, content: &mut Block) -> bool {
         && make(disk, Call::Write(OTHER), content).is_ok()
 }
 
-// A device on which they were each written twice, the second time with no barrier. By the law of devices, here at this
-// type, it tells of blocks.
+// A device on which they were each written twice, the second time with no barrier. By the law of devices,
+// here at this type, it tells of blocks.
 fn written(alloc: Global) -> Result<MemDisk, Fail>
     ensures { IfOk result (λ disk. AreBlocks (memory_device disk)) }
 {

@@ -1,5 +1,6 @@
 -- What is filled in is the first entry of its block.
-use Rattle.std.proofs.Common.{◌≡◌, ◌<◌, ◌≤◌, ℕ, ◌+◌, Bool, true, false, not, cond, if◌then◌else◌, nat_eq, nat_lt}
+use Rattle.std.proofs.Common.{◌≡◌, ◌<◌, ◌≤◌, ℕ, ◌+◌, Bool, true, false, not, cond, if◌then◌else◌, nat_eq}
+use Rattle.std.proofs.Common.{nat_lt}
 use Rattle.std.proofs.Common.{List}
 use Rattle.std.proofs.Common.{[], ◌∷◌, length, Some, None, set, get_or, refl, ap, sym, ◌∙◌, arith, one-add}
 use Rattle.std.specs.Prelude.{position}

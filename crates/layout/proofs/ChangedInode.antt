@@ -20,7 +20,8 @@ use Rattle.layout.specs.declared.fault.LayoutFault.TheVariants.{Range}
 use Rattle.layout.specs.declared.geometry.Geometry.{Geometry}
 use Rattle.layout.specs.declared.inode.Inode.{Inode}
 use Rattle.layout.specs.Decode.{IsFile, node_with, file_of, inode_at}
-use Rattle.layout.specs.InodeForm.{Touch, touched, SoundTouch, FitsInode, SoundInode, inode_bytes, is_sound_inode}
+use Rattle.layout.specs.InodeForm.{Touch, touched, SoundTouch, FitsInode, SoundInode, inode_bytes}
+use Rattle.layout.specs.InodeForm.{is_sound_inode}
 use Rattle.layout.specs.InodeForm.{is_sound_file}
 use Rattle.layout.specs.Owners.{IsMarked, owned, owned_by, is_used}
 use Rattle.layout.specs.Parts.{Parts, parts_of, put, table_of, content_in, with_bytes, with_inode}
@@ -63,7 +64,8 @@ node_of g blocks tree n inode node stands was read =
     (ap (file_of g.inodes (content_in g blocks)) (sym table_is) ∙ sym (stands.parts.has.files n) ∙ was)
 
 module _ (g : Geometry) (blocks : Image) (tree : Tree) (n : ℕ) (inode : Inode) (t : Touch) (node : Node)
-    (stands : Stands g blocks tree) (was : node_at tree n ≡ Some node) (read : inode_at g blocks n ≡ Ok (Some inode))
+    (stands : Stands g blocks tree) (was : node_at tree n ≡ Some node)
+    (read : inode_at g blocks n ≡ Ok (Some inode))
     (good : SoundTouch t) where
   abbrev old : Parts
   old = parts_of g blocks
@@ -229,7 +231,8 @@ module _ (g : Geometry) (blocks : Image) (tree : Tree) (n : ℕ) (inode : Inode)
 
 module _ (g : Geometry) (blocks : Image) (tree : Tree) (n mode : ℕ) (inode : Inode) (node : Node)
     (moment : Moment)
-    (stands : Stands g blocks tree) (was : node_at tree n ≡ Some node) (read : inode_at g blocks n ≡ Ok (Some inode))
+    (stands : Stands g blocks tree) (was : node_at tree n ≡ Some node)
+    (read : inode_at g blocks n ≡ Ok (Some inode))
     (small : mode ≤ MODE_BITS) (now : SoundTime moment) where
   abbrev t : Touch
   t = record {

@@ -13,7 +13,8 @@ abbrev made : FormatVersion → (blocks inodes : ℕ) → IsLawful blocks inodes
 made version blocks inodes lawful =
     record { version = version; blocks = blocks; inodes = inodes; lawful = lawful }
 
-same_blocks : (version : FormatVersion) (a b inodes : ℕ) → a ≡ b → (l : IsLawful a inodes) (m : IsLawful b inodes)
+same_blocks : (version : FormatVersion) (a b inodes : ℕ) → a ≡ b
+    → (l : IsLawful a inodes) (m : IsLawful b inodes)
     → made version a inodes l ≡ made version b inodes m
 same_blocks version a b inodes is l =
     subst (λ b. (m : IsLawful b inodes) → made version a inodes l ≡ made version b inodes m) is

@@ -13,7 +13,8 @@ use Rattle.layout.specs.declared.inode.InodeKind.{InodeKind}
 use Rattle.layout.specs.declared.inode.InodeKind.TheVariants.{Regular, Directory, Link}
 use Rattle.layout.specs.Fields.{four_at, eight_at, numbers_at, four_bytes, eight_bytes, number_bytes, is_zeros}
 use Rattle.layout.specs.InodeForm.{kind_of_number, number_of_kind, fields_of, rest_is_zero}
-use Rattle.layout.specs.InodeForm.{verifier_at, verifier_bytes, time_at, time_bytes, head_bytes, middle_bytes, tail_bytes}
+use Rattle.layout.specs.InodeForm.{verifier_at, verifier_bytes, time_at, time_bytes, head_bytes, middle_bytes}
+use Rattle.layout.specs.InodeForm.{tail_bytes}
 use Rattle.layout.specs.InodeForm.{inode_bytes}
 use Rattle.layout.proofs.Fits.{part-length}
 use Rattle.layout.proofs.WrittenBytes.{taken, dropped}

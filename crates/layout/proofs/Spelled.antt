@@ -71,7 +71,8 @@ module _ (inode : Inode) (fits : FitsInode inode) where
       → IsRead None direct
   unfolding fields_of four_at eight_at numbers_at head_bytes middle_bytes tail_bytes four_bytes eight_bytes
   none_read direct long =
-      eight_of (λ ds. AllByRecursion Fits ds → IsRead None ds) (λ d0 d1 d2 d3 d4 d5 d6 d7 all. λ i. record inode {
+      eight_of (λ ds. AllByRecursion Fits ds → IsRead None ds)
+      (λ d0 d1 d2 d3 d4 d5 d6 d7 all. λ i. record inode {
         mode = four inode.mode fits.mode i;
         uid = four inode.uid fits.uid i;
         gid = four inode.gid fits.gid i;
@@ -98,7 +99,8 @@ module _ (inode : Inode) (fits : FitsInode inode) where
   given_read bytes count direct long =
       eight_of (λ bs. AllByRecursion Fits direct → IsRead (made bs) direct)
       (λ b0 b1 b2 b3 b4 b5 b6 b7. eight_of (λ ds. AllByRecursion Fits ds
-      → IsRead (made (b0 ∷ b1 ∷ b2 ∷ b3 ∷ b4 ∷ b5 ∷ b6 ∷ b7 ∷ [])) ds) (λ d0 d1 d2 d3 d4 d5 d6 d7 all. λ i. record inode {
+      → IsRead (made (b0 ∷ b1 ∷ b2 ∷ b3 ∷ b4 ∷ b5 ∷ b6 ∷ b7 ∷ [])) ds)
+      (λ d0 d1 d2 d3 d4 d5 d6 d7 all. λ i. record inode {
         mode = four inode.mode fits.mode i;
         uid = four inode.uid fits.uid i;
         gid = four inode.gid fits.gid i;

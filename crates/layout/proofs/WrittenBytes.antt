@@ -45,5 +45,6 @@ inode_are i fits = join (join
     (join (four i.mtime.seconds) (four i.mtime.nanoseconds)))
     (join (four i.ctime.seconds) (four i.ctime.nanoseconds))) (eight i.stamp.boot))
     (eight i.stamp.transaction)))
-    (join (join (join (join (four i.parent) (verifiers i.verifier fits.verifier)) (fours i.direct)) (four i.indirect))
+    (join (join (join (join (four i.parent) (verifiers i.verifier fits.verifier)) (fours i.direct))
+    (four i.indirect))
     (four 0))

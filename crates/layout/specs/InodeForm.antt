@@ -5,7 +5,8 @@ use Rattle.std.specs.Prelude.{◌||◌, List, ◌++◌, nat_eq, nat_le, nat_lt, 
 use Rattle.std.specs.Prelude.{is_none, replicate}
 use Rattle.std.specs.Prelude.{Result, Ok, Err}
 use Rattle.std.specs.List.{list_all, AllByRecursion}
-use Rattle.limits.specs.declared.TheConstants.{BLOCK_BYTES, DIRECT_INDEXES, LARGEST_DIRECTORY, LARGEST_FILE, MODE_BITS}
+use Rattle.limits.specs.declared.TheConstants.{BLOCK_BYTES, DIRECT_INDEXES, LARGEST_DIRECTORY, LARGEST_FILE}
+use Rattle.limits.specs.declared.TheConstants.{MODE_BITS}
 use Rattle.limits.specs.declared.TheConstants.{INODE_BYTES, MOST_LINKS, NANOSECONDS, TARGET_BYTES}
 use Rattle.nfs_types.specs.declared.ctx.Moment.{Moment}
 use Rattle.nfs_types.specs.declared.verifier.TheConstants.{VERIFIER_BYTES}
@@ -139,8 +140,8 @@ inode_of_kind g (Some kind) bytes =
     cond (rest_is_zero bytes && is_sound_inode g (fields_of kind bytes))
     (Ok (Some (fields_of kind bytes))) (Err Range)
 
--- The inode that 128 bytes are in an image of this geometry, by the reading of its version, which is one so far;
--- a free one is nothing but zeros.
+-- The inode that 128 bytes are in an image of this geometry, by the reading of its version, which is one so
+-- far; a free one is nothing but zeros.
 unfoldable pub read_inode : Geometry → List ℕ → Result (Option Inode) LayoutFault
 read_inode g bytes =
     cond (is_zeros bytes) (Ok None)

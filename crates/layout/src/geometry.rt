@@ -24,9 +24,9 @@ pub enum GeometryFault {
     Inodes,
 }
 
-/// The version of an image's format, and how many blocks and inodes it has. From these follows where its parts
-/// lie and how they are read: behind the log the bitmap of blocks, the bitmap of inodes, the table of inodes and
-/// the data.
+/// The version of an image's format, and how many blocks and inodes it has. From these follows where its
+/// parts lie and how they are read: behind the log the bitmap of blocks, the bitmap of inodes, the table of
+/// inodes and the data.
 #[derive(Clone, Copy, Debug, PartialEq, Eq)]
 pub struct Geometry {
     pub version: FormatVersion,

@@ -44,8 +44,8 @@ impl Inode {
     ghost use Rattle.layout.specs.InodeForm.{inode_bytes};
     ghost use Rattle.layout.specs.Fields.{count_of};
 
-    /// Reads an inode of an image of this geometry: None where it is free. It is refused (Range) exactly where no
-    /// inode has the bytes, and a free one neither.
+    /// Reads an inode of an image of this geometry: None where it is free. It is refused (Range) exactly
+    /// where no inode has the bytes, and a free one neither.
     pub fn read(geometry: &Geometry, bytes: &[u8]) -> Result<Option<Inode>, LayoutFault>
         requires { length bytes.now ≡ INODE_BYTES }
         ensures value { result ≡ read_inode geometry.now bytes.now }

@@ -30,8 +30,8 @@ impl Model for Numbers {
 }
 
 impl Numbers {
-    /// Reads an indirect block of an image of this geometry. It is refused (Range) where a number is neither 0 nor
-    /// that of a data block.
+    /// Reads an indirect block of an image of this geometry. It is refused (Range) where a number is neither
+    /// 0 nor that of a data block.
     pub fn read(
         alloc: Global,
         geometry: &Geometry,

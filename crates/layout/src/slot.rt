@@ -27,8 +27,8 @@ pub struct Slot {
 }
 
 impl Slot {
-    /// Reads a slot of an image of so many inodes: None where it is free. It is refused (Range) exactly where no slot has
-    /// the bytes, and a free one neither. The characters of a name aren't looked at.
+    /// Reads a slot of an image of so many inodes: None where it is free. It is refused (Range) exactly where
+    /// no slot has the bytes, and a free one neither. The characters of a name aren't looked at.
     pub fn read(
         alloc: Global,
         inodes: u32,

@@ -1,5 +1,6 @@
 -- NOTSUPP, IO and SERVERFAULT are no statuses of a SETATTR.
-use Rattle.std.proofs.Common.{◌≡◌, ◌≢◌, ℕ, sym, subst, Bool, true, false, cond, ◌&&◌, nat_eq, nat_lt, List, [], ◌∷◌}
+use Rattle.std.proofs.Common.{◌≡◌, ◌≢◌, ℕ, sym, subst, Bool, true, false, cond, ◌&&◌, nat_eq, nat_lt, List}
+use Rattle.std.proofs.Common.{[], ◌∷◌}
 use Rattle.std.proofs.Common.{length, Option, Some, None, Result, Ok, Err}
 use Rattle.limits.specs.declared.TheConstants.{HANDLE_BYTES, LARGEST_FILE}
 use Rattle.nfs_types.specs.declared.attributes.NewAttributes.{NewAttributes}
@@ -12,7 +13,8 @@ use Rattle.nfs_types.specs.declared.status.Status.TheVariants as status
 use Rattle.model.specs.Node.{Node}
 use Rattle.model.specs.Tree.{Tree, node_at}
 use Rattle.model.specs.Find.{find_file, stamped, same_stamp, is_number, number_in, stamp_in}
-use Rattle.model.specs.SetAttr.{SetAttrStep, SetFound, SetOrLeft, with_attributes, refusal, first_of_tests, fails_guard}
+use Rattle.model.specs.SetAttr.{SetAttrStep, SetFound, SetOrLeft, with_attributes, refusal, first_of_tests}
+use Rattle.model.specs.SetAttr.{fails_guard}
 use Rattle.model.specs.SetAttr.{is_invalid, is_not_permitted, is_no_access, given}
 
 -- a status that no test answers

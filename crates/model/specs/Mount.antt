@@ -1,5 +1,6 @@
 -- MOUNT (RFC 1813, section 5.2). What is exported is the root alone, under the path `/`.
-use Rattle.std.specs.Prelude.{ℕ, Bool, List, [], ◌∷◌, Result, Ok, Err, length, get_or, ◌==◌, ◌&&◌, if◌then◌else◌}
+use Rattle.std.specs.Prelude.{ℕ, Bool, List, [], ◌∷◌, Result, Ok, Err, length, get_or, ◌==◌, ◌&&◌}
+use Rattle.std.specs.Prelude.{if◌then◌else◌}
 use Rattle.limits.specs.declared.TheConstants.{ROOT}
 use Rattle.nfs_types.specs.declared.mount.MountCall.{MountCall}
 use Rattle.nfs_types.specs.declared.mount.MountCall.TheVariants as call

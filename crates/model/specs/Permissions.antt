@@ -14,7 +14,8 @@ is_own_group caller gid = nat_eq caller.gid gid || list_any (λ own. nat_eq own 
 
 -- the one class whose bits count: the owner's, else the group's, else that of others
 abbrev pub class_of : Credential → Node → ℕ
-class_of caller node = cond (nat_eq caller.uid node.uid) OWNER_CLASS (cond (is_own_group caller node.gid) GROUP_CLASS 1)
+class_of caller node = cond (nat_eq caller.uid node.uid) OWNER_CLASS
+    (cond (is_own_group caller node.gid) GROUP_CLASS 1)
 
 -- whether the caller has the right: uid 0 has each
 abbrev pub has_right : ℕ → Credential → Node → Bool

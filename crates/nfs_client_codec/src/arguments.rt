@@ -229,7 +229,8 @@ fn put_read_dir_plus(
     directory_count: u32,
     greatest_count: u32,
 ) -> Result<(), XdrFault>
-    ensures { Writes codes.read_dir_plus result out.old out.new (directory.now, (cookie, (verifier.now, (directory_count, greatest_count)))) }
+    ensures { Writes codes.read_dir_plus result out.old out.new
+        (directory.now, (cookie, (verifier.now, (directory_count, greatest_count)))) }
 {
     put_handle(out, directory)?;
     out.hyper(cookie)?;

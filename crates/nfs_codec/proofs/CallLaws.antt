@@ -1,5 +1,6 @@
 -- The calls of each procedure are read as they are spelled: a row for each.
-use Rattle.std.proofs.Common.{◌≡◌, ℕ, ◌≤◌, List, ◌++◌, length, Result, Ok, Err, refl, sym, ap, subst, ◌∙◌, arith}
+use Rattle.std.proofs.Common.{◌≡◌, ℕ, ◌≤◌, List, ◌++◌, length, Result, Ok, Err, refl, sym, ap, subst, ◌∙◌}
+use Rattle.std.proofs.Common.{arith}
 use Rattle.nfs_types.specs.declared.call.Call.TheVariants as calls
 use Rattle.nfs_types.specs.declared.mount.MountCall.TheVariants as mount_calls
 use Rattle.nfs_types.specs.declared.mount.TheConstants.{PATH_BYTES}
@@ -19,7 +20,8 @@ use Rattle.xdr.proofs.Never as never
 use Rattle.xdr.proofs.Refusing.{made_err}
 use Rattle.xdr.proofs.Lawful.{IsCode, map_ok, words, doubles, opaques, nothings, thens, fittings, whole_takes}
 use Rattle.xdr.proofs.Lawful.{whole_again, whole_never}
-use Rattle.nfs_codec.specs.Arguments.{get_attr, set_attr, lookup, access, read_link, read, write, create, mk_dir}
+use Rattle.nfs_codec.specs.Arguments.{get_attr, set_attr, lookup, access, read_link, read, write, create}
+use Rattle.nfs_codec.specs.Arguments.{mk_dir}
 use Rattle.nfs_codec.specs.Arguments.{sym_link, mk_nod, remove, rm_dir, rename, link, read_dir, read_dir_plus}
 use Rattle.nfs_codec.specs.Arguments.{fs_stat, fs_info, path_conf, commit, path, arguments, call_at, calls_of}
 use Rattle.nfs_codec.specs.Arguments.{call_refuses, call_of}
@@ -173,7 +175,8 @@ row (procedures.Nfs nfs.Write) = record {
   lawful = write_is;
   make = λ x. program_calls.Nfs (calls.Write x.0 x.1.0 x.1.1.0 x.1.1.1.0 x.1.1.1.1);
   makes = λ x. record { spelled = refl; called = refl; fits = λ f. (f.0, f.1.0, f.1.1.0, f.1.1.1.1) };
-  reads = λ bytes. twice (write.read bytes) (λ x. calls.Write x.0 x.1.0 x.1.1.0 x.1.1.1.0 x.1.1.1.1) program_calls.Nfs;
+  reads = λ bytes. twice (write.read bytes) (λ x. calls.Write x.0 x.1.0 x.1.1.0 x.1.1.1.0 x.1.1.1.1)
+      program_calls.Nfs;
   refuses = λ bytes e r. r;
   refused = λ bytes e r. r;
 }
@@ -272,8 +275,13 @@ row (procedures.Nfs nfs.ReadDirPlus) = record {
   code = read_dir_plus;
   lawful = read_dir_plus_is;
   make = λ x. program_calls.Nfs (calls.ReadDirPlus x.0 x.1.0 x.1.1.0 x.1.1.1.0 x.1.1.1.1);
-  makes = λ x. record { spelled = refl; called = refl; fits = λ f. (f.0, f.1.0, f.1.1.0, f.1.1.1.0, f.1.1.1.1) };
-  reads = λ bytes. twice (read_dir_plus.read bytes) (λ x. calls.ReadDirPlus x.0 x.1.0 x.1.1.0 x.1.1.1.0 x.1.1.1.1) program_calls.Nfs;
+  makes = λ x. record {
+    spelled = refl;
+    called = refl;
+    fits = λ f. (f.0, f.1.0, f.1.1.0, f.1.1.1.0, f.1.1.1.1);
+  };
+  reads = λ bytes. twice (read_dir_plus.read bytes)
+      (λ x. calls.ReadDirPlus x.0 x.1.0 x.1.1.0 x.1.1.1.0 x.1.1.1.1) program_calls.Nfs;
   refuses = λ bytes e r. r;
   refused = λ bytes e r. r;
 }
@@ -353,7 +361,8 @@ record TakesCall (p : ProgramProcedure) (bytes : List ℕ) (c : ProgramCall) (re
   called : called c ≡ p
   fits : ProgramCallFits c
 
-call_takes : (p : ProgramProcedure) (r : Row p) (bytes : List ℕ) (c : ProgramCall) (rest : List ℕ) → IsBytes bytes
+call_takes : (p : ProgramProcedure) (r : Row p) (bytes : List ℕ) (c : ProgramCall) (rest : List ℕ)
+    → IsBytes bytes
     → call_at p bytes ≡ Ok (c, rest) → TakesCall p bytes c rest
 call_takes p r bytes c rest fits e =
     let m = map_ok (r.code.read bytes) r.make c rest (sym (r.reads bytes) ∙ e) in
@@ -381,26 +390,38 @@ call_again : (c : ProgramCall) (rest : List ℕ) → ProgramCallFits c
 unfolding handle text directory_name moment verifier guard new_attributes create_how stability special_file path
 call_again (program_calls.Nfs calls.Null) rest fits = refl
 call_again (program_calls.Nfs (calls.GetAttr a)) rest fits = rw (handles.again a rest fits) refl
-call_again (program_calls.Nfs (calls.SetAttr a b c)) rest fits = rw (set_attr_is.again (a, (b, c)) rest (fits.0, (fits.1, fits.2))) refl
+call_again (program_calls.Nfs (calls.SetAttr a b c)) rest fits =
+    rw (set_attr_is.again (a, (b, c)) rest (fits.0, (fits.1, fits.2))) refl
 call_again (program_calls.Nfs (calls.Lookup a)) rest fits = rw (directory_names.again a rest fits) refl
-call_again (program_calls.Nfs (calls.Access a b)) rest fits = rw (access_is.again (a, b) rest (fits.0, fits.1)) refl
+call_again (program_calls.Nfs (calls.Access a b)) rest fits =
+    rw (access_is.again (a, b) rest (fits.0, fits.1)) refl
 call_again (program_calls.Nfs (calls.ReadLink a)) rest fits = rw (handles.again a rest fits) refl
-call_again (program_calls.Nfs (calls.Read a b c)) rest fits = rw (read_is.again (a, (b, c)) rest (fits.0, (fits.1, fits.2))) refl
-call_again (program_calls.Nfs (calls.Write a b c d e)) rest fits = rw (write_is.again (a, (b, (c, (d, e)))) rest (fits.0, (fits.1, (fits.2, (tt, fits.3))))) refl
-call_again (program_calls.Nfs (calls.Create a b)) rest fits = rw (create_is.again (a, b) rest (fits.0, fits.1)) refl
-call_again (program_calls.Nfs (calls.MkDir a b)) rest fits = rw (mk_dir_is.again (a, b) rest (fits.0, fits.1)) refl
-call_again (program_calls.Nfs (calls.SymLink a b c)) rest fits = rw (sym_link_is.again (a, (b, c)) rest (fits.0, (fits.1, fits.2))) refl
-call_again (program_calls.Nfs (calls.MkNod a b)) rest fits = rw (mk_nod_is.again (a, b) rest (fits.0, fits.1)) refl
+call_again (program_calls.Nfs (calls.Read a b c)) rest fits =
+    rw (read_is.again (a, (b, c)) rest (fits.0, (fits.1, fits.2))) refl
+call_again (program_calls.Nfs (calls.Write a b c d e)) rest fits =
+    rw (write_is.again (a, (b, (c, (d, e)))) rest (fits.0, (fits.1, (fits.2, (tt, fits.3))))) refl
+call_again (program_calls.Nfs (calls.Create a b)) rest fits =
+    rw (create_is.again (a, b) rest (fits.0, fits.1)) refl
+call_again (program_calls.Nfs (calls.MkDir a b)) rest fits =
+    rw (mk_dir_is.again (a, b) rest (fits.0, fits.1)) refl
+call_again (program_calls.Nfs (calls.SymLink a b c)) rest fits =
+    rw (sym_link_is.again (a, (b, c)) rest (fits.0, (fits.1, fits.2))) refl
+call_again (program_calls.Nfs (calls.MkNod a b)) rest fits =
+    rw (mk_nod_is.again (a, b) rest (fits.0, fits.1)) refl
 call_again (program_calls.Nfs (calls.Remove a)) rest fits = rw (directory_names.again a rest fits) refl
 call_again (program_calls.Nfs (calls.RmDir a)) rest fits = rw (directory_names.again a rest fits) refl
-call_again (program_calls.Nfs (calls.Rename a b)) rest fits = rw (rename_is.again (a, b) rest (fits.0, fits.1)) refl
+call_again (program_calls.Nfs (calls.Rename a b)) rest fits =
+    rw (rename_is.again (a, b) rest (fits.0, fits.1)) refl
 call_again (program_calls.Nfs (calls.Link a b)) rest fits = rw (link_is.again (a, b) rest (fits.0, fits.1)) refl
-call_again (program_calls.Nfs (calls.ReadDir a b c d)) rest fits = rw (read_dir_is.again (a, (b, (c, d))) rest (fits.0, (fits.1, (fits.2, fits.3)))) refl
-call_again (program_calls.Nfs (calls.ReadDirPlus a b c d e)) rest fits = rw (read_dir_plus_is.again (a, (b, (c, (d, e)))) rest (fits.0, (fits.1, (fits.2, (fits.3, fits.4))))) refl
+call_again (program_calls.Nfs (calls.ReadDir a b c d)) rest fits =
+    rw (read_dir_is.again (a, (b, (c, d))) rest (fits.0, (fits.1, (fits.2, fits.3)))) refl
+call_again (program_calls.Nfs (calls.ReadDirPlus a b c d e)) rest fits =
+    rw (read_dir_plus_is.again (a, (b, (c, (d, e)))) rest (fits.0, (fits.1, (fits.2, (fits.3, fits.4))))) refl
 call_again (program_calls.Nfs (calls.FsStat a)) rest fits = rw (handles.again a rest fits) refl
 call_again (program_calls.Nfs (calls.FsInfo a)) rest fits = rw (handles.again a rest fits) refl
 call_again (program_calls.Nfs (calls.PathConf a)) rest fits = rw (handles.again a rest fits) refl
-call_again (program_calls.Nfs (calls.Commit a b c)) rest fits = rw (commit_is.again (a, (b, c)) rest (fits.0, (fits.1, fits.2))) refl
+call_again (program_calls.Nfs (calls.Commit a b c)) rest fits =
+    rw (commit_is.again (a, (b, c)) rest (fits.0, (fits.1, fits.2))) refl
 call_again (program_calls.Mount mount_calls.Null) rest fits = refl
 call_again (program_calls.Mount (mount_calls.Mount a)) rest fits = rw (paths.again a rest fits) refl
 call_again (program_calls.Mount (mount_calls.Unmount a)) rest fits = rw (paths.again a rest fits) refl
@@ -417,13 +438,15 @@ calls_are p = record {
   never = λ bytes. call_never p (row p) bytes;
   refuses = λ bytes e fits h.
       let r = row p in
-      r.refuses bytes e (r.lawful.refuses bytes e fits (made_err (r.code.read bytes) r.make e (sym (r.reads bytes) ∙ h)));
+      r.refuses bytes e (r.lawful.refuses bytes e fits
+      (made_err (r.code.read bytes) r.make e (sym (r.reads bytes) ∙ h)));
   refused = λ bytes e h.
       let r = row p in
       r.reads bytes ∙ rw (r.lawful.refused bytes e (r.refused bytes e h)) refl;
 }
 
-pub taken_whole : (p : ProgramProcedure) (bytes : List ℕ) (c : ProgramCall) → IsBytes bytes → call_of p bytes ≡ Ok c
+pub taken_whole : (p : ProgramProcedure) (bytes : List ℕ) (c : ProgramCall) → IsBytes bytes
+    → call_of p bytes ≡ Ok c
     → (called c ≡ p) × ProgramCallFits c × (bytes ≡ arguments c)
 taken_whole p bytes c fits e =
     let t = whole_takes (calls_of p) (calls_are p) bytes c fits e in

@@ -140,7 +140,8 @@ create_how_fitted (Exclusive v) f = f
 pub create_hows : IsCode create_how
 unfolding create_how
 create_hows = fittings _ _ create_how_fits create_how_fitted (vieweds _ _ _ create_how_back create_how_forth
-    (unions _ (or_is _ _ _ (omega arith) refl new_attributes_is (or_is _ _ _ (omega arith) refl new_attributes_is
+    (unions _ (or_is _ _ _ (omega arith) refl new_attributes_is
+    (or_is _ _ _ (omega arith) refl new_attributes_is
     (arm_is _ _ (omega arith) verifiers)))))
 
 stability_numbers : (s : Stability) → HasNumbers stability_number (Unstable ∷ DataSync ∷ FileSync ∷ []) s
@@ -178,7 +179,8 @@ special_forth (specials.Fifo a) = refl
 abbrev special_code : Code SpecialFile
 special_code = viewed special_made special_parts
     (union (arm_or 1 nothing (arm_or 2 nothing (arm_or 3 (new_attributes then device)
-    (arm_or 4 (new_attributes then device) (arm_or 5 nothing (arm_or 6 new_attributes (arm 7 new_attributes))))))))
+    (arm_or 4 (new_attributes then device)
+    (arm_or 5 nothing (arm_or 6 new_attributes (arm 7 new_attributes))))))))
 
 special_fits : (s : SpecialFile) → special_code.Fits s → SpecialFileFits s
 unfolding new_attributes device
@@ -225,7 +227,8 @@ special_devices = arm_or 3 special_device (arm_or 4 special_device special_links
 
 special_devices_arms_are : AreArms special_devices
 special_devices_arms_are = or_is 3 special_device (arm_or 4 special_device special_links) (omega arith) refl
-    special_devices_are (or_is 4 special_device special_links (omega arith) refl special_devices_are special_links_are)
+    special_devices_are (or_is 4 special_device special_links (omega arith) refl special_devices_are
+    special_links_are)
 
 abbrev special_arms : Arms SpecialParts
 special_arms = arm_or 1 nothing (arm_or 2 nothing special_devices)
@@ -259,7 +262,8 @@ kind_is = one_ofs _ _ kind_numbers
 pub attributes_is : IsCode attributes
 unfolding attributes
 attributes_is = vieweds _ _ _ (λ b. refl) (λ a. refl) (thens _ _ kind_is (thens _ _ words (thens _ _ words
-    (thens _ _ words (thens _ _ words (thens _ _ doubles (thens _ _ doubles (thens _ _ devices (thens _ _ doubles
+    (thens _ _ words (thens _ _ words (thens _ _ doubles
+    (thens _ _ doubles (thens _ _ devices (thens _ _ doubles
     (thens _ _ doubles (thens _ _ moments (thens _ _ moments moments))))))))))))
 
 pub optional_attributes_is : IsCode optional_attributes

@@ -1,5 +1,5 @@
--- The arguments of calls (RFC 1813, sections 3.3 and 5.2): how each procedure's are spelled, and the call that they
--- make.
+-- The arguments of calls (RFC 1813, sections 3.3 and 5.2): how each procedure's are spelled, and the call
+-- that they make.
 use Rattle.std.specs.Prelude.{◌≡◌, ℕ, Bool, false, List, [], Option, Result}
 use Rattle.nfs_types.specs.declared.attributes.NewAttributes.{NewAttributes}
 use Rattle.nfs_types.specs.declared.call.Call.{Call}
@@ -118,7 +118,8 @@ nfs_arguments (calls.Remove name) = remove.spell name
 nfs_arguments (calls.RmDir name) = rm_dir.spell name
 nfs_arguments (calls.Rename source target) = rename.spell (source, target)
 nfs_arguments (calls.Link file name) = link.spell (file, name)
-nfs_arguments (calls.ReadDir directory cookie given count) = read_dir.spell (directory, (cookie, (given, count)))
+nfs_arguments (calls.ReadDir directory cookie given count) =
+    read_dir.spell (directory, (cookie, (given, count)))
 nfs_arguments (calls.ReadDirPlus directory cookie given directory_count greatest_count) =
     read_dir_plus.spell (directory, (cookie, (given, (directory_count, greatest_count))))
 nfs_arguments (calls.FsStat object) = fs_stat.spell object
@@ -145,7 +146,8 @@ nfs_too_long (calls.Lookup name) = lookup.too_long name
 nfs_too_long (calls.Access object bits) = access.too_long (object, bits)
 nfs_too_long (calls.ReadLink object) = read_link.too_long object
 nfs_too_long (calls.Read file offset count) = read.too_long (file, (offset, count))
-nfs_too_long (calls.Write file offset count kept bytes) = write.too_long (file, (offset, (count, (kept, bytes))))
+nfs_too_long (calls.Write file offset count kept bytes) =
+    write.too_long (file, (offset, (count, (kept, bytes))))
 nfs_too_long (calls.Create name how) = create.too_long (name, how)
 nfs_too_long (calls.MkDir name wanted) = mk_dir.too_long (name, wanted)
 nfs_too_long (calls.SymLink name wanted target) = sym_link.too_long (name, (wanted, target))
@@ -154,7 +156,8 @@ nfs_too_long (calls.Remove name) = remove.too_long name
 nfs_too_long (calls.RmDir name) = rm_dir.too_long name
 nfs_too_long (calls.Rename source target) = rename.too_long (source, target)
 nfs_too_long (calls.Link file name) = link.too_long (file, name)
-nfs_too_long (calls.ReadDir directory cookie given count) = read_dir.too_long (directory, (cookie, (given, count)))
+nfs_too_long (calls.ReadDir directory cookie given count) =
+    read_dir.too_long (directory, (cookie, (given, count)))
 nfs_too_long (calls.ReadDirPlus directory cookie given directory_count greatest_count) =
     read_dir_plus.too_long (directory, (cookie, (given, (directory_count, greatest_count))))
 nfs_too_long (calls.FsStat object) = fs_stat.too_long object

@@ -1,5 +1,5 @@
--- The items of arguments and results (RFC 1813, sections 2.4 to 2.6). Which values fit is said in `nfs_types` where
--- a call has them.
+-- The items of arguments and results (RFC 1813, sections 2.4 to 2.6). Which values fit is said in `nfs_types`
+-- where a call has them.
 use Rattle.std.specs.Prelude.{◌⊎◌, ℕ, ◌∷◌, [], List, Option}
 use Rattle.std.proofs.Common.{inl, inr}
 use Rattle.limits.specs.declared.TheConstants.{MOST_HANDLE_BYTES, RECORD_BYTES}
@@ -46,7 +46,8 @@ directory_name = fitting DirectoryNameFits
 -- a time (`nfstime3`)
 unfoldable pub moment : Code Moment
 moment = fitting MomentFits
-    (viewed (λ x. record { seconds = x.0; nanoseconds = x.1 }) (λ t. (t.seconds, t.nanoseconds)) (word then word))
+    (viewed (λ x. record { seconds = x.0; nanoseconds = x.1 }) (λ t. (t.seconds, t.nanoseconds))
+    (word then word))
 
 -- eight bytes as they came (`cookieverf3`, `createverf3`, `writeverf3`)
 unfoldable pub verifier : Code Verifier
@@ -151,7 +152,8 @@ special_parts (specials.Fifo a) = inr (inr (inr (inr (inr (inr a)))))
 unfoldable pub special_file : Code SpecialFile
 special_file = fitting SpecialFileFits (viewed special_made special_parts
     (union (arm_or 1 nothing (arm_or 2 nothing (arm_or 3 (new_attributes then device)
-    (arm_or 4 (new_attributes then device) (arm_or 5 nothing (arm_or 6 new_attributes (arm 7 new_attributes)))))))))
+    (arm_or 4 (new_attributes then device)
+    (arm_or 5 nothing (arm_or 6 new_attributes (arm 7 new_attributes)))))))))
 
 -- ---- attributes that a reply tells
 

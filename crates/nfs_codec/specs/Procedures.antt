@@ -52,7 +52,9 @@ nfs_number nfs.Commit = 21
 -- all of them, in the order of their numbers
 abbrev pub nfs_procedures : List Procedure
 nfs_procedures =
-    nfs.Null ∷ nfs.GetAttr ∷ nfs.SetAttr ∷ nfs.Lookup ∷ nfs.Access ∷ nfs.ReadLink ∷ nfs.Read ∷ nfs.Write ∷ nfs.Create ∷ nfs.MkDir ∷ nfs.SymLink ∷ nfs.MkNod ∷ nfs.Remove ∷ nfs.RmDir ∷ nfs.Rename ∷ nfs.Link ∷ nfs.ReadDir ∷ nfs.ReadDirPlus ∷ nfs.FsStat ∷ nfs.FsInfo ∷ nfs.PathConf ∷ nfs.Commit ∷ []
+    nfs.Null ∷ nfs.GetAttr ∷ nfs.SetAttr ∷ nfs.Lookup ∷ nfs.Access ∷ nfs.ReadLink ∷ nfs.Read ∷ nfs.Write
+    ∷ nfs.Create ∷ nfs.MkDir ∷ nfs.SymLink ∷ nfs.MkNod ∷ nfs.Remove ∷ nfs.RmDir ∷ nfs.Rename ∷ nfs.Link
+    ∷ nfs.ReadDir ∷ nfs.ReadDirPlus ∷ nfs.FsStat ∷ nfs.FsInfo ∷ nfs.PathConf ∷ nfs.Commit ∷ []
 
 -- of program 100005 (section 5.2)
 abbrev pub mount_number : MountProcedure → ℕ

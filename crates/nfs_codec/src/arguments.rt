@@ -1,5 +1,5 @@
-//! Reading the arguments of a call (RFC 1813, sections 3.3 and 5.2). Each is read whole before anything is copied, so
-//! that memory is refused only to a call that can be read.
+//! Reading the arguments of a call (RFC 1813, sections 3.3 and 5.2). Each is read whole before anything is
+//! copied, so that memory is refused only to a call that can be read.
 ghost use Rattle.std.specs.Prelude.{◌≡◌, IfOk, IfErr};
 ghost use Rattle.nfs_types.specs.declared.program.MountProcedure.TheVariants as mount;
 ghost use Rattle.nfs_types.specs.declared.program.Procedure.TheVariants as nfs;

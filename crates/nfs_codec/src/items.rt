@@ -1,7 +1,8 @@
 //! Reading the items of arguments and results (RFC 1813, sections 2.4 to 2.6).
 ghost use Rattle.std.specs.Prelude.{◌≡◌};
 ghost use Rattle.xdr.specs.Reading.{Reads};
-ghost use Rattle.nfs_codec.specs.Items.{handle, text, directory_name, moment, verifier as verifier_code, set_time};
+ghost use Rattle.nfs_codec.specs.Items.{handle, text, directory_name, moment, verifier as verifier_code};
+ghost use Rattle.nfs_codec.specs.Items.{set_time};
 ghost use Rattle.nfs_codec.specs.Items.{optional_word, optional_double, guard, new_attributes, create_how};
 ghost use Rattle.nfs_codec.specs.Items.{stability, device, special_file};
 

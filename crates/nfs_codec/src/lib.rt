@@ -1,5 +1,5 @@
-//! The arguments of NFS version 3 and of MOUNT (RFC 1813, sections 3.3 and 5.2), read; and the items that arguments
-//! and results share, read and written. Their grammar stands in `specs/`.
+//! The arguments of NFS version 3 and of MOUNT (RFC 1813, sections 3.3 and 5.2), read; and the items that
+//! arguments and results share, read and written. Their grammar stands in `specs/`.
 #![tactic(auto)]
 
 mod arguments;

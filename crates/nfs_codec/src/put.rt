@@ -1,6 +1,7 @@
 //! Writing the items that arguments and results share (RFC 1813, sections 2.4 to 2.6).
 ghost use Rattle.xdr.specs.Writing.{Writes};
-ghost use Rattle.nfs_codec.specs.Items.{handle as handle_code, text as text_code, verifier as verifier_code, moment};
+ghost use Rattle.nfs_codec.specs.Items.{handle as handle_code, text as text_code, verifier as verifier_code};
+ghost use Rattle.nfs_codec.specs.Items.{moment};
 ghost use Rattle.nfs_codec.specs.Items.{device as device_code, stability as stability_code};
 
 use crate::numbers::number_of_stability;

@@ -1,5 +1,7 @@
--- The replies to each procedure are read as they are spelled: a term for each result, and a row for each procedure.
-use Rattle.std.proofs.Common.{◌≡◌, ◌⊎◌, inl, inr, ℕ, ◌≤◌, List, ◌++◌, length, Result, Ok, Err, refl, sym, ap, subst, ◌∙◌}
+-- The replies to each procedure are read as they are spelled: a term for each result, and a row for each
+-- procedure.
+use Rattle.std.proofs.Common.{◌≡◌, ◌⊎◌, inl, inr, ℕ, ◌≤◌, List, ◌++◌, length, Result, Ok, Err, refl, sym, ap}
+use Rattle.std.proofs.Common.{subst, ◌∙◌}
 use Rattle.std.proofs.Common.{arith}
 use Rattle.nfs_types.specs.declared.mount.MountReply.TheVariants as mount_replies
 use Rattle.nfs_types.specs.declared.program.MountProcedure.TheVariants as mount
@@ -24,9 +26,12 @@ use Rattle.nfs_results.specs.Results.{status_number, refusals, by_status, alone_
 use Rattle.nfs_results.specs.Results.{behind_made, behind_parts, behind, before_made, before_parts, before}
 use Rattle.nfs_results.specs.Results.{looked, read_bytes, written, created, entry, entries, listed, entry_plus}
 use Rattle.nfs_results.specs.Results.{entries_plus, listed_plus, space, info, limits, flavors, mounted}
-use Rattle.nfs_results.specs.Results.{get_attr, set_attr, lookup, access, read_link, read, write, create, remove}
-use Rattle.nfs_results.specs.Results.{rename, link, read_dir, read_dir_plus, fs_stat, fs_info, path_conf, commit}
-use Rattle.nfs_results.specs.Results.{reply_refuses, mount_root, result_bytes, ReplyFits, reply_at, replies_to, reply_of}
+use Rattle.nfs_results.specs.Results.{get_attr, set_attr, lookup, access, read_link, read, write, create}
+use Rattle.nfs_results.specs.Results.{remove}
+use Rattle.nfs_results.specs.Results.{rename, link, read_dir, read_dir_plus, fs_stat, fs_info, path_conf}
+use Rattle.nfs_results.specs.Results.{commit}
+use Rattle.nfs_results.specs.Results.{reply_refuses, mount_root, result_bytes, ReplyFits, reply_at}
+use Rattle.nfs_results.specs.Results.{replies_to, reply_of}
 use Rattle.nfs_codec.specs.Procedures.{replied_to}
 use Rattle.nfs_codec.proofs.ItemLaws.{handles, texts, moments, verifiers, stabilities, attributes_is}
 use Rattle.nfs_codec.proofs.ItemLaws.{optional_attributes_is, weak_caches, optional_handles}
@@ -125,7 +130,9 @@ listed_is = vieweds _ _ _ (λ b. refl) (λ a. refl) (thens _ _ verifiers (thens 
 
 pub entry_plus_is : IsCode entry_plus
 unfolding entry_plus
-entry_plus_is = vieweds _ _ _ (λ b. refl) (λ a. refl) (thens _ _ doubles (thens _ _ texts (thens _ _ doubles (thens _ _ optional_attributes_is optional_handles))))
+entry_plus_is = vieweds _ _ _ (λ b. refl) (λ a. refl)
+    (thens _ _ doubles (thens _ _ texts (thens _ _ doubles
+    (thens _ _ optional_attributes_is optional_handles))))
 
 entries_plus_are : IsCode entries_plus
 unfolding entries_plus
@@ -137,15 +144,21 @@ listed_plus_is = vieweds _ _ _ (λ b. refl) (λ a. refl) (thens _ _ verifiers (t
 
 space_is : IsCode space
 unfolding space
-space_is = vieweds _ _ _ (λ b. refl) (λ a. refl) (thens _ _ doubles (thens _ _ doubles (thens _ _ doubles (thens _ _ doubles (thens _ _ doubles (thens _ _ doubles words))))))
+space_is = vieweds _ _ _ (λ b. refl) (λ a. refl)
+    (thens _ _ doubles (thens _ _ doubles (thens _ _ doubles
+    (thens _ _ doubles (thens _ _ doubles (thens _ _ doubles words))))))
 
 info_is : IsCode info
 unfolding info
-info_is = vieweds _ _ _ (λ b. refl) (λ a. refl) (thens _ _ words (thens _ _ words (thens _ _ words (thens _ _ words (thens _ _ words (thens _ _ words (thens _ _ words (thens _ _ doubles (thens _ _ moments words)))))))))
+info_is = vieweds _ _ _ (λ b. refl) (λ a. refl)
+    (thens _ _ words (thens _ _ words (thens _ _ words
+    (thens _ _ words (thens _ _ words (thens _ _ words
+    (thens _ _ words (thens _ _ doubles (thens _ _ moments words)))))))))
 
 limits_are : IsCode limits
 unfolding limits
-limits_are = vieweds _ _ _ (λ b. refl) (λ a. refl) (thens _ _ words (thens _ _ words (thens _ _ flags (thens _ _ flags (thens _ _ flags flags)))))
+limits_are = vieweds _ _ _ (λ b. refl) (λ a. refl)
+    (thens _ _ words (thens _ _ words (thens _ _ flags (thens _ _ flags (thens _ _ flags flags)))))
 
 flavors_are : IsCode flavors
 unfolding flavors
@@ -549,10 +562,12 @@ reply_again (program_replies.Nfs (replies.SymLink a b)) rest fits = rw (creates.
 reply_again (program_replies.Nfs (replies.MkNod a b)) rest fits = rw (creates.again (a, b) rest fits) refl
 reply_again (program_replies.Nfs (replies.Remove a b)) rest fits = rw (removes.again (a, b) rest fits) refl
 reply_again (program_replies.Nfs (replies.RmDir a b)) rest fits = rw (removes.again (a, b) rest fits) refl
-reply_again (program_replies.Nfs (replies.Rename a b d)) rest fits = rw (renames.again (a, (b, d)) rest fits) refl
+reply_again (program_replies.Nfs (replies.Rename a b d)) rest fits =
+    rw (renames.again (a, (b, d)) rest fits) refl
 reply_again (program_replies.Nfs (replies.Link a b d)) rest fits = rw (links.again (a, (b, d)) rest fits) refl
 reply_again (program_replies.Nfs (replies.ReadDir a b)) rest fits = rw (read_dirs.again (a, b) rest fits) refl
-reply_again (program_replies.Nfs (replies.ReadDirPlus a b)) rest fits = rw (read_dirs_plus.again (a, b) rest fits) refl
+reply_again (program_replies.Nfs (replies.ReadDirPlus a b)) rest fits =
+    rw (read_dirs_plus.again (a, b) rest fits) refl
 reply_again (program_replies.Nfs (replies.FsStat a b)) rest fits = rw (fs_stats.again (a, b) rest fits) refl
 reply_again (program_replies.Nfs (replies.FsInfo a b)) rest fits = rw (fs_infos.again (a, b) rest fits) refl
 reply_again (program_replies.Nfs (replies.PathConf a b)) rest fits = rw (path_confs.again (a, b) rest fits) refl
@@ -573,7 +588,8 @@ replies_are p = record {
   never = λ bytes. reply_never p (row p) bytes;
   refuses = λ bytes e fits h.
       let r = row p in
-      r.refuses bytes e (r.lawful.refuses bytes e fits (made_err (r.code.read bytes) r.make e (sym (r.reads bytes) ∙ h)));
+      r.refuses bytes e (r.lawful.refuses bytes e fits
+      (made_err (r.code.read bytes) r.make e (sym (r.reads bytes) ∙ h)));
   refused = λ bytes e h.
       let r = row p in
       r.reads bytes ∙ rw (r.lawful.refused bytes e (r.refused bytes e h)) refl;

@@ -1,5 +1,5 @@
--- The results of procedures (RFC 1813, sections 3.3 and 5.2): how each is spelled, and the reply that it makes. A
--- result begins with its status; NULL's has none.
+-- The results of procedures (RFC 1813, sections 3.3 and 5.2): how each is spelled, and the reply that it
+-- makes. A result begins with its status; NULL's has none.
 use Rattle.std.specs.Prelude.{◌≡◌, ◌⊎◌, ℕ, Bool, List, [], ◌∷◌, Option, Result, Ok, Err, false}
 use Rattle.std.proofs.Common.{inl, inr}
 use Rattle.limits.specs.declared.TheConstants.{RECORD_BYTES}
@@ -33,7 +33,8 @@ use Rattle.nfs_types.specs.declared.status.Status.{Status}
 use Rattle.nfs_types.specs.declared.status.Status.TheVariants as statuses
 use Rattle.nfs_types.specs.declared.verifier.Verifier.{Verifier}
 use Rattle.xdr.specs.declared.fault.XdrFault.{XdrFault}
-use Rattle.xdr.specs.Codes.{Code, word, double, flag, nothing, ◌then◌, viewed, chain, counted, arm_or, arms, union}
+use Rattle.xdr.specs.Codes.{Code, word, double, flag, nothing, ◌then◌, viewed, chain, counted, arm_or, arms}
+use Rattle.xdr.specs.Codes.{union}
 use Rattle.xdr.specs.Codes.{made_of, whole}
 use Rattle.xdr.specs.Reading.{◌>>=◌}
 use Rattle.nfs_codec.specs.Items.{handle, text, verifier, moment, stability, attributes, optional_attributes}
@@ -68,7 +69,10 @@ status_number statuses.ServerFault = 10006
 -- all of them
 abbrev pub refusals : List Status
 refusals =
-    statuses.Perm ∷ statuses.NoEnt ∷ statuses.Io ∷ statuses.Acces ∷ statuses.Exist ∷ statuses.NotDir ∷ statuses.IsDir ∷ statuses.Inval ∷ statuses.FBig ∷ statuses.NoSpc ∷ statuses.MLink ∷ statuses.NameTooLong ∷ statuses.NotEmpty ∷ statuses.Stale ∷ statuses.BadHandle ∷ statuses.NotSync ∷ statuses.BadCookie ∷ statuses.NotSupp ∷ statuses.TooSmall ∷ statuses.ServerFault ∷ []
+    statuses.Perm ∷ statuses.NoEnt ∷ statuses.Io ∷ statuses.Acces ∷ statuses.Exist ∷ statuses.NotDir
+    ∷ statuses.IsDir ∷ statuses.Inval ∷ statuses.FBig ∷ statuses.NoSpc ∷ statuses.MLink
+    ∷ statuses.NameTooLong ∷ statuses.NotEmpty ∷ statuses.Stale ∷ statuses.BadHandle ∷ statuses.NotSync
+    ∷ statuses.BadCookie ∷ statuses.NotSupp ∷ statuses.TooSmall ∷ statuses.ServerFault ∷ []
 
 -- a status, and what follows OK or another one
 abbrev pub by_status : {A B : Type 0} → Code A → Code B → Code (A ⊎ (Status × B))
@@ -133,8 +137,8 @@ created = viewed (λ x. record { object = x.0; attributes = x.1 }) (λ c. (c.obj
 
 -- `entry3`
 unfoldable pub entry : Code ListedEntry
-entry = viewed (λ x. record { number = x.0; name = x.1.0; cookie = x.1.1 }) (λ e. (e.number, (e.name, e.cookie)))
-    (double then text then double)
+entry = viewed (λ x. record { number = x.0; name = x.1.0; cookie = x.1.1 })
+    (λ e. (e.number, (e.name, e.cookie))) (double then text then double)
 
 unfoldable pub entries : Code (List ListedEntry)
 entries = chain entry
@@ -240,7 +244,16 @@ limits = viewed
       case_insensitive = x.1.1.1.1.0;
       case_preserving = x.1.1.1.1.1;
     })
-    (λ l. (l.links, (l.name_bytes, (l.no_truncation, (l.chown_restricted, (l.case_insensitive, l.case_preserving))))))
+    (λ l. (
+      l.links,
+      (
+        l.name_bytes,
+        (
+          l.no_truncation,
+          (l.chown_restricted, (l.case_insensitive, l.case_preserving)),
+        ),
+      ),
+    ))
     (word then word then flag then flag then flag then flag)
 
 -- the flavors of credentials that are taken

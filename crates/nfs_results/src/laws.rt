@@ -8,7 +8,8 @@ ghost use Rattle.xdr.specs.Codes.{refused_whole};
 ghost use Rattle.xdr.specs.declared.fault.XdrFault.{XdrFault};
 ghost use Rattle.nfs_results.specs.Results.{ReplyFits, replies_to, reply_of, result_bytes};
 
-/// Bytes are read as the result of a reply exactly where the reply is to the procedure and they are its spelling.
+/// Bytes are read as the result of a reply exactly where the reply is to the procedure and they are its
+/// spelling.
 pub fn spelled_results_are_read()
     ensures { (p : ProgramProcedure) (bytes : List ℕ) (r : ProgramReply) → AreBytes bytes
         → (reply_of p bytes ≡ Ok r) ↔ ((replied_to r ≡ p) × ReplyFits r × (bytes ≡ result_bytes r)) }
@@ -19,8 +20,8 @@ pub fn spelling_gives_the_reply()
     ensures { (r : ProgramReply) → ReplyFits r → reply_of (replied_to r) (result_bytes r) ≡ Ok r }
 {}
 
-/// Bytes are refused as the result of a reply exactly for the first item from the left that has no spelling, or for what
-/// is left behind a result.
+/// Bytes are refused as the result of a reply exactly for the first item from the left that has no spelling,
+/// or for what is left behind a result.
 pub fn results_are_refused_so()
     ensures { (p : ProgramProcedure) (bytes : List ℕ) (e : XdrFault) → AreBytes bytes
         → (reply_of p bytes ≡ Err e) ↔ refused_whole (replies_to p) bytes e }

@@ -2,7 +2,8 @@
 ghost use Rattle.xdr.specs.Writing.{Writes, WritesBytes, Encodes};
 ghost use Rattle.xdr.specs.Items.{word};
 ghost use Rattle.nfs_results.specs.Results as codes;
-ghost use Rattle.nfs_results.specs.Results.{result_bytes, nfs_result_bytes, mount_result_bytes, status_number, too_long, nfs_too_long, mount_too_long};
+ghost use Rattle.nfs_results.specs.Results.{result_bytes, nfs_result_bytes, mount_result_bytes};
+ghost use Rattle.nfs_results.specs.Results.{status_number, too_long, nfs_too_long, mount_too_long};
 ghost use Rattle.nfs_types.specs.declared.program.ProgramReply.TheVariants as program_replies;
 
 use crate::entries::{put_listed, put_listed_plus};
@@ -21,7 +22,8 @@ use xdr::{Writer, XdrFault};
 
 /// Writes the result of a procedure of NFS behind what is there.
 pub fn encode_reply(out: Writer, reply: &Reply) -> Result<Writer, XdrFault>
-    ensures { Encodes result out (result_bytes (program_replies.Nfs reply.now)) (too_long (program_replies.Nfs reply.now)) }
+    ensures { Encodes result out (result_bytes (program_replies.Nfs reply.now))
+        (too_long (program_replies.Nfs reply.now)) }
 {
     let mut out = out;
     put_reply(&mut out, reply)?;
@@ -67,7 +69,8 @@ fn put_reply(out: &mut Writer, reply: &Reply) -> Result<(), XdrFault>
 
 /// Writes the result of a procedure of MOUNT behind what is there.
 pub fn encode_mount_reply(out: Writer, reply: &MountReply) -> Result<Writer, XdrFault>
-    ensures { Encodes result out (result_bytes (program_replies.Mount reply.now)) (too_long (program_replies.Mount reply.now)) }
+    ensures { Encodes result out (result_bytes (program_replies.Mount reply.now))
+        (too_long (program_replies.Mount reply.now)) }
 {
     let mut out = out;
     put_mount_reply(&mut out, reply)?;

@@ -1,7 +1,8 @@
 //! Writing what replies tell of files (RFC 1813, section 2.6).
 ghost use Rattle.xdr.specs.Writing.{Writes};
 ghost use Rattle.nfs_codec.specs.Items.{attributes, optional_attributes, optional_handle};
-ghost use Rattle.nfs_codec.specs.Items.{weak_cache_attributes, before_attributes, weak_cache, kind as kind_code};
+ghost use Rattle.nfs_codec.specs.Items.{weak_cache_attributes, before_attributes, weak_cache};
+ghost use Rattle.nfs_codec.specs.Items.{kind as kind_code};
 
 use nfs_codec::{number_of_kind, put_device, put_handle, put_moment};
 use nfs_types::{Attributes, FileKind, Handle, WeakCacheAttributes, WeakCacheData};

@@ -95,7 +95,8 @@ SpecialFileFits specials.Link = Unit {0}
 abbrev pub CallFits : Call → Type 0
 CallFits call.Null = Unit {0}
 CallFits (call.GetAttr object) = HandleFits object
-CallFits (call.SetAttr object wanted guard) = HandleFits object × NewAttributesFit wanted × IfSome guard MomentFits
+CallFits (call.SetAttr object wanted guard) = HandleFits object × NewAttributesFit wanted
+    × IfSome guard MomentFits
 CallFits (call.Lookup name) = DirectoryNameFits name
 CallFits (call.Access object bits) = HandleFits object × (bits < 2 ^ 32)
 CallFits (call.ReadLink link) = HandleFits link

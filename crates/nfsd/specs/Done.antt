@@ -53,7 +53,8 @@ ServesDevice old time client (Ok done) new later = (opened : Opened) × (store :
 ServesDevice old time client (Err (fault.Session why)) new later = (opened : Opened) × (store : Opened)
     × HasOpened old (Ok opened) × HasServed opened client (moment_at time) (Err why) store later
     × (store.device ≡ new)
-ServesDevice old time client (Err (fault.Open why)) new later = HasOpened old (Err (new, why)) × (later ≡ client)
+ServesDevice old time client (Err (fault.Open why)) new later = HasOpened old (Err (new, why))
+    × (later ≡ client)
 ServesDevice old time client (Err other) new later = ⊥
 
 -- the device of so many blocks of a file that held this when it was opened, before any call of it

@@ -17,8 +17,8 @@ pub enum Fault {
     Memory,
     /// The arguments don't parse.
     Words(clap::Error),
-    /// The image's file can't be made, opened, locked, given its length or settled, or a closed stream's descriptor
-    /// can't be taken.
+    /// The image's file can't be made, opened, locked, given its length or settled, or a closed stream's
+    /// descriptor can't be taken.
     File,
     /// The image can't be made.
     Format(FormatFault),

@@ -74,7 +74,8 @@ fn asked<'a>(matches: &ArgMatches<'a>) -> Option<Args<'a>>
 
 fn asked_format<'a>(given: &ArgMatches<'a>) -> Option<Args<'a>>
     ensures asked { IfSome result (Asks (codes "format") (rows_of (found_of given.now))) }
-    ensures senseless { IfNone result ((args : Asked) → ¬ Asks (codes "format") (rows_of (found_of given.now)) args) }
+    ensures senseless { IfNone result ((args : Asked)
+        → ¬ Asks (codes "format") (rows_of (found_of given.now)) args) }
 {
     Some(Args::Format {
         image: given.get_str("IMAGE")?,
@@ -86,7 +87,8 @@ fn asked_format<'a>(given: &ArgMatches<'a>) -> Option<Args<'a>>
 
 fn asked_once<'a>(given: &ArgMatches<'a>) -> Option<Args<'a>>
     ensures asked { IfSome result (Asks (codes "once") (rows_of (found_of given.now))) }
-    ensures senseless { IfNone result ((args : Asked) → ¬ Asks (codes "once") (rows_of (found_of given.now)) args) }
+    ensures senseless { IfNone result ((args : Asked)
+        → ¬ Asks (codes "once") (rows_of (found_of given.now)) args) }
 {
     Some(Args::Once {
         image: given.get_str("IMAGE")?,

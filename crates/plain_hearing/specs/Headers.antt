@@ -1,4 +1,5 @@
--- What stands in the header of a call (RFC 5531, section 9), where a record has one, and what it is refused for.
+-- What stands in the header of a call (RFC 5531, section 9), where a record has one, and what it is refused
+-- for.
 use Rattle.std.specs.Prelude.{⊤, ◌≡◌, ◌≢◌, ◌⊎◌, ℕ, ◌<◌, ◌≤◌, ◌&&◌, ◌||◌, nat_eq, nat_lt, Bool, true, false}
 use Rattle.std.specs.Prelude.{List, [], ◌∷◌, drop, length}
 use Rattle.limits.specs.declared.TheConstants.{MOST_AUTH_BYTES, NOBODY}
@@ -27,7 +28,8 @@ IsNumbered bytes (heard.Call xid credential call) = xid ≡ word_at bytes
 abbrev pub behind_padding : List ℕ → List ℕ
 behind_padding bytes = drop (padding (word_at bytes)) (behind_string bytes)
 
--- Behind the version of RPC stand four words, the body of the credential, and the verifier: its flavor and body.
+-- Behind the version of RPC stand four words, the body of the credential, and the verifier: its flavor and
+-- body.
 abbrev pub has_header : List ℕ → Bool
 has_header rest =
     has 16 rest && has_string MOST_AUTH_BYTES (drop 16 rest) && has 4 (behind_padding (drop 16 rest))
@@ -55,8 +57,8 @@ arguments_at rest = behind_padding (drop 4 (behind_padding (drop 16 rest)))
 abbrev pub nobody : Credential
 nobody = record { uid = NOBODY; gid = NOBODY; gids = [] }
 
--- Whom a credential names: nobody in particular, or by AUTH_SYS, whose body has a stamp, a machine's name, the user,
--- the group, and the further groups behind their count (appendix A).
+-- Whom a credential names: nobody in particular, or by AUTH_SYS, whose body has a stamp, a machine's name,
+-- the user, the group, and the further groups behind their count (appendix A).
 pub record Names (flavor : ℕ) (body : List ℕ) (caller : Credential) : Type 0 where
   pub known : flavor < 2
   pub none : flavor ≡ 0 → caller ≡ nobody
@@ -79,8 +81,8 @@ Asks program version procedure arguments (programs.Nfs call) =
 Asks program version procedure arguments (programs.Mount call) =
     (program ≡ 100005) × (version ≡ 3) × (mount_procedure call ≡ procedure) × (arguments ≡ mount_arguments call)
 
--- A refusal is that of the first of these tests that fails: the credential, the program, its version, the procedure,
--- the arguments. An allocation may fail at any of them.
+-- A refusal is that of the first of these tests that fails: the credential, the program, its version, the
+-- procedure, the arguments. An allocation may fail at any of them.
 abbrev pub Refuses : ℕ → ℕ → ℕ → ℕ → PlainRefusal → Type 0
 Refuses flavor program version procedure refusal.RpcVersion = ⊥
 Refuses flavor program version procedure refusal.BadCredential = flavor < 2

@@ -1,7 +1,9 @@
 //! Reading a record as a call message (RFC 5531, section 9), with the tests of its header in their order.
-ghost use Rattle.std.specs.Prelude.{◌≡◌, ◌<◌, ◌∷◌, ◌++◌, ◌&&◌, [], IfErr, IfOk, OnOk, drop, false, is_ok, length, true};
+ghost use Rattle.std.specs.Prelude.{◌≡◌, ◌<◌, ◌∷◌, ◌++◌, ◌&&◌, [], IfErr, IfOk, OnOk, drop, false, is_ok};
+ghost use Rattle.std.specs.Prelude.{length, true};
 ghost use Rattle.plain_items.specs.Items.{has, has_string, word_at};
-ghost use Rattle.plain_messages.specs.Arguments.{mount_arguments, mount_procedure, nfs_arguments, nfs_procedure};
+ghost use Rattle.plain_messages.specs.Arguments.{mount_arguments, mount_procedure, nfs_arguments};
+ghost use Rattle.plain_messages.specs.Arguments.{nfs_procedure};
 ghost use Rattle.plain_messages.specs.Refused.{words};
 ghost use Rattle.plain_messages.specs.declared.refusal.PlainRefusal.TheVariants as refusal;
 ghost use Rattle.plain_hearing.specs.Headers.{Asks, Hears, IsNumbered, Names, Refuses, arguments_at};
@@ -158,8 +160,8 @@ fn read_call(
     arguments: &[u8],
 ) -> Result<(Credential, ProgramCall), PlainRefusal>
     ensures names { IfOk result (λ told. Names header.now.flavor header.now.body.now told.0) }
-    ensures asks { IfOk result (λ told. Asks header.now.program header.now.version header.now.procedure arguments.now
-        told.1) }
+    ensures asks { IfOk result (λ told. Asks header.now.program header.now.version
+        header.now.procedure arguments.now told.1) }
     ensures refuses { IfErr result (λ why. Refuses header.now.flavor header.now.program header.now.version
         header.now.procedure why) }
 {

@@ -1,6 +1,7 @@
 -- What was read of an image's parts can be read of the image.
 use Rattle.std.proofs.Common.{◌≡◌, ℕ, ◌*◌, ◌/◌, ◌%◌, ◌<◌, ◌≤◌, sym, ap, ◌∙◌, refl, subst, Bool, true, false}
-use Rattle.std.proofs.Common.{◌&&◌, ◌||◌, nat_eq, nat_le, nat_lt, List, [], ◌∷◌, take, drop, get_or, length, All}
+use Rattle.std.proofs.Common.{◌&&◌, ◌||◌, nat_eq, nat_le, nat_lt, List, [], ◌∷◌, take, drop, get_or, length}
+use Rattle.std.proofs.Common.{All}
 use Rattle.std.proofs.Common.{IfErr, IsOk, Ok, Err, Result, arith, inr}
 use Rattle.std.specs.List.{list_all, AllByRecursion}
 use Rattle.std.proofs.lemmas.Bool.Decides.{nat_tests}
@@ -91,7 +92,8 @@ module _ (g : Geometry) (size : ℕ) (fits : g.blocks ≤ size) where
 
   pub all_within : (numbers : List ℕ) → list_all (is_data_block_or_none g) numbers ≡ true
       → All (λ number. number < size) numbers
-  all_within numbers places = All-from_recursion (λ number. number < size) numbers (all_by_recursion numbers places)
+  all_within numbers places = All-from_recursion (λ number. number < size) numbers
+      (all_by_recursion numbers places)
 
   pub far_within : (inode : Inode) → SoundInode g inode → inode.indirect < size
   far_within inode sound = within inode.indirect (maps g inode sound).1
@@ -107,7 +109,8 @@ pub far_refused : (g : Geometry) (image : Image) (inode : Inode) → (inode.indi
     → list_all (is_data_block_or_none g) (numbers_of image inode) ≡ false
 far_refused g image inode some none =
     ap (list_all (is_data_block_or_none g)) (with_indirect image inode some)
-    ∙ list_all-append (is_data_block_or_none g) inode.direct (numbers_at INDIRECT_INDEXES 0 (image inode.indirect))
+    ∙ list_all-append (is_data_block_or_none g) inode.direct
+    (numbers_at INDIRECT_INDEXES 0 (image inode.indirect))
     ∙ no_both (list_all (is_data_block_or_none g) inode.direct) _ none
 
 -- ---- the slots of a directory
@@ -170,7 +173,8 @@ module _ (g : Geometry) (image : Image) (inode : Inode) (sound : SoundInode g in
       let index : get_or (slots_of inode) k 0 ≡ k =
       get_or-range_with_len 0 (SLOTS_PER_BLOCK * span_of inode) k 0 at ∙ omega arith in
       subst (λ part. IsOk (read_slot g.inodes part)) (slot_is k)
-      (subst (λ i. IsOk (read_slot g.inodes (slot_bytes image inode i))) index (all k 0 (omega (arith, count, at))))
+      (subst (λ i. IsOk (read_slot g.inodes (slot_bytes image inode i))) index
+      (all k 0 (omega (arith, count, at))))
 
   pub not_readable : (inode.kind ≡ kind.Directory)
       × (AreSlots g.inodes bytes (length bytes / SLOT_SIZE) → ⊥) → IsReadable g image inode → ⊥

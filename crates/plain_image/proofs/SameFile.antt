@@ -28,7 +28,8 @@ module _ (g : Geometry) (image : Image) where
 
   one_same : (number : ℕ) (none : Bool) → nat_eq number 0 ≡ none
       → (none || is_data g number) ≡ true
-      → (rest : List ℕ) → AllByRecursion IsSame rest → AllByRecursion IsSame (cond (not none) (number ∷ rest) rest)
+      → (rest : List ℕ) → AllByRecursion IsSame rest
+      → AllByRecursion IsSame (cond (not none) (number ∷ rest) rest)
   one_same number true is place rest all = all
   one_same number false is place rest all =
       (ap (λ b. cond b (image number) (replicate BLOCK_BYTES 0)) place, all)

@@ -44,8 +44,8 @@ IsRangeFor cause NoMemory = Unit {0}
 IsRangeFor cause Outside = ⊥
 IsRangeFor cause (Layout fault) = (fault ≡ Range) × cause
 
--- Why an image on a device of so many blocks is refused, in this order: the device has no block, the first is no
--- super block, the device has fewer blocks than the image, or something that a file has can't be read.
+-- Why an image on a device of so many blocks is refused, in this order: the device has no block, the first is
+-- no super block, the device has fewer blocks than the image, or something that a file has can't be read.
 abbrev pub IsRefused : ImageFault → ℕ → Image → Type 0
 IsRefused NoMemory size image = Unit {0}
 IsRefused Outside size image = (size ≡ 0)

@@ -7,7 +7,8 @@ ghost use Rattle.layout.specs.Decode.{SLOT_SIZE, inode_at};
 ghost use Rattle.layout.specs.InodeForm.{SoundInode};
 ghost use Rattle.layout.specs.SuperForm.{IsSuper};
 ghost use Rattle.plain_image.specs.PlainFile.{IsContent, IsDecoded, IsFileOf, if_used, numbers_in, used_below};
-ghost use Rattle.plain_image.specs.Refusal.{AreReadable, AreSlots, CanBeRead, IsRangeFor, IsReadable, IsRefused};
+ghost use Rattle.plain_image.specs.Refusal.{AreReadable, AreSlots, CanBeRead, IsRangeFor, IsReadable};
+ghost use Rattle.plain_image.specs.Refusal.{IsRefused};
 
 use crate::parts::{block_of, bytes_of, count_mapped, inode_of, names_of, numbers_of};
 use crate::{ImageFault, PlainName};
@@ -166,9 +167,9 @@ fn super_of(disk: &MemDisk) -> Result<Super, ImageFault>
     Ok(found)
 }
 
-/// Reads all files of an image, or says what stands in the way: first that the device has no block, or the first
-/// one is no super block; then that the device has fewer blocks than the image; then that an inode, the number of a
-/// block or a directory slot is none. It doesn't look at the bitmaps.
+/// Reads all files of an image, or says what stands in the way: first that the device has no block, or the
+/// first one is no super block; then that the device has fewer blocks than the image; then that an inode, the
+/// number of a block or a directory slot is none. It doesn't look at the bitmaps.
 pub fn read_image(alloc: Global, disk: &MemDisk) -> Result<PlainImage, ImageFault>
     ensures head { IfOk result
         (λ image. IsSuper (image_of disk.now SUPER_BLOCK) (record {
@@ -176,7 +177,8 @@ pub fn read_image(alloc: Global, disk: &MemDisk) -> Result<PlainImage, ImageFaul
           boot = image.boot;
         })) }
     ensures fits { IfOk result (λ image. image.geometry.blocks ≤ (memory_device disk.now).size) }
-    ensures decoded { IfOk result (λ image. All (IsDecoded image.geometry (image_of disk.now)) image.files.items) }
+    ensures decoded { IfOk result (λ image. All (IsDecoded image.geometry (image_of disk.now))
+        image.files.items) }
     ensures all { IfOk result (λ image. numbers_in image.files.items
         ≡ used_below image.geometry (image_of disk.now) image.geometry.inodes) }
     ensures readable { IfOk result (λ image. AreReadable image.geometry (image_of disk.now)) }

@@ -50,7 +50,8 @@ pub(crate) fn inode_of(
     ensures at { IfOk result (λ found. inode_at geometry.now (image_of disk.now) number ≡ Ok found) }
     ensures sound { IfOk result (λ found. IfSome found (λ inode. SoundInode geometry.now inode)) }
     ensures refused { IfErr result
-        (IsRangeFor (CanBeRead geometry.now (image_of disk.now) (inode_at geometry.now (image_of disk.now) number)
+        (IsRangeFor (CanBeRead geometry.now (image_of disk.now)
+        (inode_at geometry.now (image_of disk.now) number)
         → ⊥)) }
 {
     let addr = geometry.inode_addr(number);

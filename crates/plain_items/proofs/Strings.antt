@@ -16,7 +16,8 @@ pub string_stands : (old behind_length behind_bytes new bytes zeros : List ℕ) 
     → behind_bytes ≡ zeros ++ new → length bytes ≡ n → length zeros ≡ padding n
     → list_all (λ byte. nat_eq byte 0) zeros ≡ true → old ≡ spelled_string bytes ++ new
 unfolding spelled_string
-string_stands old behind_length behind_bytes new bytes zeros n at_length at_bytes at_zeros long filled are_zeros =
+string_stands old behind_length behind_bytes new bytes zeros n at_length at_bytes at_zeros long
+    filled are_zeros =
     let fill : List ℕ = replicate (padding (length bytes)) 0 in
     let is : zeros ≡ fill =
     zeros_are zeros are_zeros ∙ ap (λ (k : ℕ). replicate k 0) (filled ∙ ap padding (sym long))

@@ -1,10 +1,12 @@
 //! Reading items, one after another.
 ghost use Rattle.std.specs.Int.{w32, w64, from_be_bytes};
-ghost use Rattle.std.specs.Prelude.{◌≡◌, ◌≤◌, ◌+◌, ◌++◌, [], drop, is_ok, length, nat_eq, take, IfOk, OnErr, OnOk};
+ghost use Rattle.std.specs.Prelude.{◌≡◌, ◌≤◌, ◌+◌, ◌++◌, [], drop, is_ok, length, nat_eq, take, IfOk, OnErr};
+ghost use Rattle.std.specs.Prelude.{OnOk};
 ghost use Rattle.std.specs.List.{list_all};
 ghost use Rattle.plain_items.specs.Items.{behind_optional, behind_string, double_at, flag_at, has, has_flag};
 ghost use Rattle.plain_items.specs.Items.{has_optional, has_string, optional_at, padding, string_at, word_at};
-ghost use Rattle.plain_items.specs.Items.{spelled_double, spelled_flag, spelled_optional, spelled_string, spelled_word};
+ghost use Rattle.plain_items.specs.Items.{spelled_double, spelled_flag, spelled_optional, spelled_string};
+ghost use Rattle.plain_items.specs.Items.{spelled_word};
 
 use crate::ItemFault;
 use std::marker::Model;
@@ -156,7 +158,8 @@ impl<'a> ItemReader<'a> {
         ensures is { IfOk result (λ double. double ≡ optional_at double_at self.old) }
         ensures behind { OnOk result (self.new ≡ behind_optional 8 self.old) }
         ensures known { is_ok result ≡ has_optional 8 self.old }
-        ensures spelled { IfOk result (λ double. self.old ≡ spelled_optional spelled_double double ++ self.new) }
+        ensures spelled { IfOk result (λ double. self.old ≡ spelled_optional spelled_double double
+            ++ self.new) }
     {
         if self.flag()? {
             Ok(Some(self.double()?))

@@ -1,4 +1,5 @@
--- How the arguments of procedures are spelled (RFC 1813, sections 3.3 and 5.2), and which number each procedure has.
+-- How the arguments of procedures are spelled (RFC 1813, sections 3.3 and 5.2), and which number each
+-- procedure has.
 use Rattle.std.specs.Prelude.{ℕ, List, [], ◌++◌}
 use Rattle.plain_items.specs.Items.{spelled_double as double, spelled_optional, spelled_string}
 use Rattle.plain_items.specs.Items.{spelled_word as word}

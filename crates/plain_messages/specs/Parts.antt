@@ -1,6 +1,7 @@
 -- How the parts that arguments and results share are spelled (RFC 1813, sections 2.3 to 2.6).
 use Rattle.std.specs.Prelude.{ℕ, List, [], ◌∷◌, ◌++◌, Option}
-use Rattle.plain_items.specs.Items.{spelled_double as double, spelled_optional, spelled_string, spelled_word as word}
+use Rattle.plain_items.specs.Items.{spelled_double as double, spelled_optional, spelled_string}
+use Rattle.plain_items.specs.Items.{spelled_word as word}
 use Rattle.nfs_types.specs.declared.attributes.Attributes.{Attributes}
 use Rattle.nfs_types.specs.declared.attributes.FileKind.{FileKind}
 use Rattle.nfs_types.specs.declared.attributes.FileKind.TheVariants as kinds

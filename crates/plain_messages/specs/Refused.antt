@@ -20,8 +20,8 @@ denied why = 1 ∷ 1 ∷ why
 abbrev pub accepted : List ℕ → List ℕ
 accepted state = 1 ∷ 0 ∷ 0 ∷ 0 ∷ state
 
--- what stands behind the number of the message: for a version of RPC also the least and the greatest one, and so
--- for a version of the program
+-- what stands behind the number of the message: for a version of RPC also the least and the greatest one, and
+-- so for a version of the program
 abbrev pub refusing : PlainRefusal → List ℕ
 refusing refusal.RpcVersion = denied (0 ∷ 2 ∷ 2 ∷ [])
 refusing refusal.BadCredential = denied (1 ∷ 1 ∷ [])

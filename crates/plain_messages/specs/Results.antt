@@ -84,9 +84,11 @@ nfs_result (replies.SetAttr came object) = word (status_of came) ++ change objec
 nfs_result (replies.Lookup came directory) =
     outcome (λ it. handle it.object ++ after it.attributes ++ after directory) (after directory) came
 nfs_result (replies.Access came object) = outcome (λ bits. after object ++ word bits) (after object) came
-nfs_result (replies.ReadLink came link) = outcome (λ target. after link ++ spelled_string target) (after link) came
+nfs_result (replies.ReadLink came link) =
+    outcome (λ target. after link ++ spelled_string target) (after link) came
 nfs_result (replies.Read came file) =
-    outcome (λ it. after file ++ word it.count ++ spelled_flag it.eof ++ spelled_string it.bytes) (after file) came
+    outcome (λ it. after file ++ word it.count ++ spelled_flag it.eof ++ spelled_string it.bytes)
+    (after file) came
 nfs_result (replies.Write came file) =
     outcome (λ it. change file ++ word it.count ++ word (stability_number it.committed) ++ it.verifier.bytes)
     (change file) came

@@ -63,7 +63,8 @@ pub fn put_listing_plus(
     directory: &Option<Attributes>,
 ) -> Result<(), ItemFault>
     ensures { OnOk result (out.new.items
-        ≡ out.old.items ++ came (λ it. after directory.now ++ listed_plus it) (after directory.now) outcome.now) }
+        ≡ out.old.items ++ came (λ it. after directory.now ++ listed_plus it) (after directory.now)
+        outcome.now) }
 {
     match outcome {
         Ok(listed) => {

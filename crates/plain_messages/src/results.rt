@@ -76,7 +76,8 @@ fn put_changed(
     outcome: &Result<(), Status>,
     change: &WeakCacheData,
 ) -> Result<(), ItemFault>
-    ensures { OnOk result (out.new.items ≡ out.old.items ++ (word (status_of outcome.now) ++ spelled.change change.now)) }
+    ensures { OnOk result (out.new.items ≡ out.old.items
+        ++ (word (status_of outcome.now) ++ spelled.change change.now)) }
 {
     put_outcome(out, outcome)?;
     put_change(out, change)
@@ -129,7 +130,8 @@ fn put_target(
     link: &Option<Attributes>,
 ) -> Result<(), ItemFault>
     ensures { OnOk result (out.new.items
-        ≡ out.old.items ++ came (λ target. after link.now ++ spelled_string target) (after link.now) outcome.now) }
+        ≡ out.old.items ++ came (λ target. after link.now ++ spelled_string target) (after link.now)
+        outcome.now) }
 {
     match outcome {
         Ok(target) => {
@@ -192,7 +194,8 @@ fn put_created(
     directory: &WeakCacheData,
 ) -> Result<(), ItemFault>
     ensures { OnOk result (out.new.items
-        ≡ out.old.items ++ came (λ it. created it ++ spelled.change directory.now) (spelled.change directory.now) outcome.now) }
+        ≡ out.old.items ++ came (λ it. created it ++ spelled.change directory.now)
+        (spelled.change directory.now) outcome.now) }
 {
     match outcome {
         Ok(created) => {
@@ -242,7 +245,8 @@ fn put_committed(
     file: &WeakCacheData,
 ) -> Result<(), ItemFault>
     ensures { OnOk result (out.new.items
-        ≡ out.old.items ++ came (λ it. spelled.change file.now ++ it.bytes) (spelled.change file.now) outcome.now) }
+        ≡ out.old.items ++ came (λ it. spelled.change file.now ++ it.bytes) (spelled.change file.now)
+        outcome.now) }
 {
     match outcome {
         Ok(verifier) => {

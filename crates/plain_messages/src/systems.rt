@@ -14,7 +14,8 @@ pub fn put_space(
     object: &Option<Attributes>,
 ) -> Result<(), ItemFault>
     ensures { OnOk result (out.new.items
-        ≡ out.old.items ++ results.outcome (λ it. after object.now ++ results.space it) (after object.now) outcome.now) }
+        ≡ out.old.items ++ results.outcome (λ it. after object.now ++ results.space it) (after object.now)
+        outcome.now) }
 {
     match outcome {
         Ok(space) => {
@@ -47,7 +48,8 @@ pub fn put_info(
     object: &Option<Attributes>,
 ) -> Result<(), ItemFault>
     ensures { OnOk result (out.new.items
-        ≡ out.old.items ++ results.outcome (λ it. after object.now ++ results.info it) (after object.now) outcome.now) }
+        ≡ out.old.items ++ results.outcome (λ it. after object.now ++ results.info it) (after object.now)
+        outcome.now) }
 {
     match outcome {
         Ok(info) => {
@@ -83,7 +85,8 @@ pub fn put_limits(
     object: &Option<Attributes>,
 ) -> Result<(), ItemFault>
     ensures { OnOk result (out.new.items
-        ≡ out.old.items ++ results.outcome (λ it. after object.now ++ results.limits it) (after object.now) outcome.now) }
+        ≡ out.old.items ++ results.outcome (λ it. after object.now ++ results.limits it) (after object.now)
+        outcome.now) }
 {
     match outcome {
         Ok(limits) => {

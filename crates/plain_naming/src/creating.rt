@@ -146,8 +146,8 @@ fn resize_to(
     size: u64,
     file: &NumberedNode,
 ) -> Result<Result<PlainEffect<Created>, Status>, AllocError>
-    ensures { IfOk result (λ r. effect_in r ≡ resize (tree_of tree.now) ctx.now (Some size) (numbered file.now).0
-        (numbered file.now).1) }
+    ensures { IfOk result (λ r. effect_in r ≡ resize (tree_of tree.now) ctx.now (Some size)
+        (numbered file.now).0 (numbered file.now).1) }
 {
     let wanted = only_size(size);
     match refusal(ctx, &wanted, &None, &file.node) {
@@ -285,8 +285,9 @@ pub fn create(
     name: &DirectoryName,
     how: &CreateHow,
 ) -> Result<Changed<Created>, AllocError>
-    ensures step { IfOk result (λ r. CreateStep (tree_of tree.old) ctx.now name.now.directory.bytes name.now.name
-        how.now (least_unused (tree_of tree.old)) r.outcome r.file (tree_of tree.new)) }
+    ensures step { IfOk result (λ r. CreateStep (tree_of tree.old) ctx.now
+        name.now.directory.bytes name.now.name how.now (least_unused (tree_of tree.old)) r.outcome r.file
+        (tree_of tree.new)) }
     ensures err { OnErr result (tree_of tree.new ≡ tree_of tree.old) }
 {
     let (number, before, effect) = match found(tree, &name.directory) {

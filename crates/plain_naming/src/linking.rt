@@ -131,7 +131,8 @@ fn add_link(
 ) -> Result<Result<PlainEffect<()>, Status>, AllocError>
     requires other { is_directory (body_of file.now.node.body) ≡ false }
     requires room { IfSome (node_at (tree_of tree.now) file.now.number) (λ node. node.nlink < MOST_LINKS) }
-    ensures { IfOk result (λ r. effect_in r ≡ if_entry (tree_of tree.now) (new_entry (Some file.now.number) slot)
+    ensures { IfOk result (λ r. effect_in r ≡ if_entry (tree_of tree.now)
+        (new_entry (Some file.now.number) slot)
         (with_link (tree_of tree.now) moment name.now (numbered file.now).0 (numbered file.now).1 at)) }
 {
     let Some(slot) = slot else {

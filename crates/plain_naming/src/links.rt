@@ -66,8 +66,9 @@ fn make_link_in(
     wanted: &NewAttributes,
     target: &[u8],
 ) -> Result<Result<PlainEffect<Created>, Status>, AllocError>
-    ensures { IfOk result (λ r. effect_in r ≡ make_link (tree_of tree.now) ctx.now name.now wanted.now target.now
-        (least_unused (tree_of tree.now)) (numbered directory.now).0 (numbered directory.now).1) }
+    ensures { IfOk result (λ r. effect_in r ≡ make_link (tree_of tree.now) ctx.now name.now
+        wanted.now target.now (least_unused (tree_of tree.now)) (numbered directory.now).0
+        (numbered directory.now).1) }
 {
     match link_refusal(tree, &ctx.credential, &directory.node, name, target) {
         Some(status) => Ok(Err(status)),
@@ -100,8 +101,9 @@ pub fn make_link(
     wanted: &NewAttributes,
     target: &Octets,
 ) -> Result<Changed<Created>, AllocError>
-    ensures step { IfOk result (λ r. SymLinkStep (tree_of tree.old) ctx.now name.now.directory.bytes name.now.name
-        wanted.now target.now (least_unused (tree_of tree.old)) r.outcome r.file (tree_of tree.new)) }
+    ensures step { IfOk result (λ r. SymLinkStep (tree_of tree.old) ctx.now
+        name.now.directory.bytes name.now.name wanted.now target.now (least_unused (tree_of tree.old))
+        r.outcome r.file (tree_of tree.new)) }
     ensures err { OnErr result (tree_of tree.new ≡ tree_of tree.old) }
 {
     let (number, before, effect) = match found(tree, &name.directory) {

@@ -76,8 +76,8 @@ pub fn remove(
     ctx: &Ctx,
     name: &DirectoryName,
 ) -> Result<Changed<()>, AllocError>
-    ensures step { IfOk result (λ r. RemoveStep (tree_of tree.old) ctx.now name.now.directory.bytes name.now.name
-        r.outcome r.file (tree_of tree.new)) }
+    ensures step { IfOk result (λ r. RemoveStep (tree_of tree.old) ctx.now
+        name.now.directory.bytes name.now.name r.outcome r.file (tree_of tree.new)) }
     ensures err { OnErr result (tree_of tree.new ≡ tree_of tree.old) }
 {
     let (number, before, effect) = match found(tree, &name.directory) {

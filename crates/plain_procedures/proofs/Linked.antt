@@ -1,5 +1,6 @@
 -- Links of directories, and tests that passed.
-use Rattle.std.proofs.Common.{rules, ◌≡◌, ℕ, ◌<◌, sym, ap, subst, ◌∙◌, refl, Bool, true, false, cond, nat_le, List}
+use Rattle.std.proofs.Common.{rules, ◌≡◌, ℕ, ◌<◌, sym, ap, subst, ◌∙◌, refl, Bool, true, false, cond, nat_le}
+use Rattle.std.proofs.Common.{List}
 use Rattle.std.proofs.Common.{[], ◌∷◌, ◌++◌, Option, Some, None, IfSome}
 use Rattle.limits.specs.declared.TheConstants.{MOST_LINKS}
 use Rattle.nfs_types.specs.declared.status.Status.{Status}
@@ -22,7 +23,8 @@ links_kept (Some size) (Regular bytes mapped) = refl
 links_kept (Some size) (Directory named span parent) = refl
 links_kept (Some size) (Link target) = refl
 
-rest_passed : (b : Bool) (status : Status) (rest : Option Status) → cond b (Some status) rest ≡ None → rest ≡ None
+rest_passed : (b : Bool) (status : Status) (rest : Option Status)
+    → cond b (Some status) rest ≡ None → rest ≡ None
 rest_passed true status rest is = cc
 rest_passed false status rest is = is
 
@@ -60,13 +62,15 @@ test_passed (test ∷ tests) later b status is =
 pub no_links : (body : Body) → is_directory body ≡ false → parent_links body ≡ 0
 no_links body is = ap (λ b. cond b 1 0) is
 
-by_number : (m : finmap.FinMap nat_cmp Node) (at number : ℕ) (old new : Node) (b : Bool) → eq_by_cmp nat_cmp number at ≡ b
+by_number : (m : finmap.FinMap nat_cmp Node) (at number : ℕ) (old new : Node) (b : Bool)
+    → eq_by_cmp nat_cmp number at ≡ b
     → finmap.get m at ≡ Some old → new.nlink ≡ old.nlink
     → IfSome (finmap.get m number) (λ n. n.nlink < MOST_LINKS)
     → IfSome (cond b (Some new) (finmap.get m number)) (λ n. n.nlink < MOST_LINKS)
 by_number m at number old new true is here same room =
     let less : old.nlink < MOST_LINKS =
-    subst (λ o. IfSome o (λ n. n.nlink < MOST_LINKS)) (ap (finmap.get m) (eq_by_cmp-is number at is) ∙ here) room in
+    subst (λ o. IfSome o (λ n. n.nlink < MOST_LINKS))
+    (ap (finmap.get m) (eq_by_cmp-is number at is) ∙ here) room in
     subst (λ n. n < MOST_LINKS) (sym same) less
 by_number m at number old new false is here same room = room
 

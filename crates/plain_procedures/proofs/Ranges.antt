@@ -1,6 +1,8 @@
 -- The first number of a range that passes a test.
-use Rattle.std.proofs.Common.{rules, ◌≡◌, ℕ, zero, suc, ◌+◌, ◌-◌, ◌<◌, ◌≤◌, sym, ap, ◌∙◌, refl, Bool, true, false}
-use Rattle.std.proofs.Common.{cond, ◌||◌, List, [], ◌∷◌, map, nat_eq, Option, Some, None, is_none, is_some, arith}
+use Rattle.std.proofs.Common.{rules, ◌≡◌, ℕ, zero, suc, ◌+◌, ◌-◌, ◌<◌, ◌≤◌, sym, ap, ◌∙◌, refl, Bool, true}
+use Rattle.std.proofs.Common.{false}
+use Rattle.std.proofs.Common.{cond, ◌||◌, List, [], ◌∷◌, map, nat_eq, Option, Some, None, is_none, is_some}
+use Rattle.std.proofs.Common.{arith}
 use Rattle.std.specs.List.{find, list_any, range_with_len}
 use Rattle.model.specs.Tree.{Tree, node_at}
 use Rattle.procedures.specs.Fresh.{IsNewNumber}
@@ -44,7 +46,8 @@ module _ (test : ℕ → Bool) where
     pub most : number < from + count
     pub passed : test number ≡ true
 
-  found : (from count number : ℕ) → find test (range_with_len from count) ≡ Some number → Found from count number
+  found : (from count number : ℕ) → find test (range_with_len from count) ≡ Some number
+      → Found from count number
   found from zero number is = cc
   found from (suc count) number is =
       elim (test from) as (λ b. test from ≡ b → cond b (Some from) (find test (range_with_len (from + 1) count))

@@ -111,7 +111,8 @@ put_at [] index new d inside low first = absurd (omega arith)
 put_at (x ∷ xs) zero new d inside low first = put_first x new xs (order new.name x.name) refl low
 put_at (x ∷ xs) (suc index) new d inside low first =
     put_later (order new.name x.name) _ _ _ _ (first 0 (omega arith))
-    (ap (λ es. entry_of x ∷ es) (put_at xs index new d (omega arith) low (λ k below. first (suc k) (omega arith)))
+    (ap (λ es. entry_of x ∷ es) (put_at xs index new d (omega arith) low
+    (λ k below. first (suc k) (omega arith)))
     ∙ placed_later (eq new.name (get_or xs index d).name) x new xs index)
 
 -- an entry goes before the first one whose name isn't below its own, or in its place where the names are one

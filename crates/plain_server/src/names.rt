@@ -1,5 +1,6 @@
 //! The names in a directory (RFC 1813, section 3.2).
-ghost use Rattle.std.specs.Prelude.{◌≡◌, IfSome, IfNone, OnOk, OnErr, Some, None, filter, is_some, map, not, position};
+ghost use Rattle.std.specs.Prelude.{◌≡◌, IfSome, IfNone, OnOk, OnErr, Some, None, filter, is_some, map, not};
+ghost use Rattle.std.specs.Prelude.{position};
 ghost use Rattle.std.specs.Cmp.Lexicographic.{slice_cmp};
 ghost use Rattle.std.specs.FinMap as finmap;
 ghost use Rattle.std.specs.FinMap.{put};

@@ -102,7 +102,8 @@ impl PlainTree {
         requires least { 0 < number }
         requires most { number < self.now.inodes }
         ensures { Locates self.now.nodes.items result
-            (find_file (tree_of self.now) (handle_bytes number (record { boot = boot; transaction = transaction }))) }
+            (find_file (tree_of self.now) (handle_bytes number
+            (record { boot = boot; transaction = transaction }))) }
     {
         let Some(index) = self.position_of(number) else {
             return Err(Status::Stale);

@@ -175,7 +175,8 @@ pub none_spelled : (bytes : List ℕ) (e : XdrFault) → (message_of bytes ≡ E
 none_spelled bytes e (inl refused) not_memory m s = apart m e (sym (message_again bytes m s) ∙ refused)
 none_spelled bytes e (inr memory) not_memory m s = not_memory memory
 
-pub none_replied : (p : ProgramProcedure) (bytes : List ℕ) (e : XdrFault) → (reply_of p bytes ≡ Err e) ⊎ (e ≡ NoMemory)
+pub none_replied : (p : ProgramProcedure) (bytes : List ℕ) (e : XdrFault) → (reply_of p bytes ≡ Err e)
+    ⊎ (e ≡ NoMemory)
     → (e ≡ NoMemory → ⊥) → (m : ReplyMessage) → SpellsReply p bytes m → ⊥
 none_replied p bytes e (inl refused) not_memory m s = reply_apart m e (sym (reply_again p bytes m s) ∙ refused)
 none_replied p bytes e (inr memory) not_memory m s = not_memory memory

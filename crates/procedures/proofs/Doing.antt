@@ -60,7 +60,8 @@ use Rattle.procedures.specs.SymLink.{make_link}
 use Rattle.procedures.specs.Told.{Acts, Effect, tree_after}
 use Rattle.procedures.specs.Step.{numbered_step}
 use Rattle.procedures.specs.Write.{write, write_refusal, written, written_reply}
-use Rattle.procedures.proofs.Deeds.{Deed, Placed, leaves, links, makes, named_is, passed, removes, renames, sets}
+use Rattle.procedures.proofs.Deeds.{Deed, Placed, leaves, links, makes, named_is, passed, removes, renames}
+use Rattle.procedures.proofs.Deeds.{sets}
 use Rattle.procedures.proofs.Deeds.{writes}
 
 -- where a call isn't refused, what is so of the tree that it leads to

@@ -50,7 +50,8 @@ never same = cc
 
 -- ---- what a handle's file is asked for
 
-pub number_read : (number : ℕ) (stamp : Stamp) → number < 2 ^ 32 → number_in (handle_bytes number stamp) ≡ number
+pub number_read : (number : ℕ) (stamp : Stamp) → number < 2 ^ 32
+    → number_in (handle_bytes number stamp) ≡ number
 number_read number stamp small = search rules
 
 module _ (g : Geometry) (handle : List ℕ) where
@@ -109,7 +110,8 @@ are_apart g (call.Lookup name) objects addr new asks k object is before = absurd
 are_apart g (call.Access file bits) objects addr new asks k object is before = absurd asks
 are_apart g (call.ReadLink link) objects addr new asks k object is before = absurd asks
 are_apart g (call.Read file offset count) objects addr new asks k object is before = absurd asks
-are_apart g (call.Write file offset count stability bytes) objects addr new asks k object is before = absurd asks
+are_apart g (call.Write file offset count stability bytes) objects addr new asks k object
+    is before = absurd asks
 are_apart g (call.Create name how) objects addr new asks k object is before = absurd asks
 are_apart g (call.MkDir name attributes) objects addr new asks k object is before = absurd asks
 are_apart g (call.SymLink name attributes target) objects addr new asks k object is before = absurd asks
@@ -118,8 +120,10 @@ are_apart g (call.Remove name) objects addr new asks k object is before = absurd
 are_apart g (call.RmDir name) objects addr new asks k object is before = absurd asks
 are_apart g (call.Rename source target) objects addr new asks k object is before = absurd asks
 are_apart g (call.Link file name) objects addr new asks k object is before = absurd asks
-are_apart g (call.ReadDir directory cookie verifier count) objects addr new asks k object is before = absurd asks
-are_apart g (call.ReadDirPlus directory cookie verifier directory_count greatest_count) objects addr new asks k object is before = absurd asks
+are_apart g (call.ReadDir directory cookie verifier count) objects addr new asks k object
+    is before = absurd asks
+are_apart g (call.ReadDirPlus directory cookie verifier directory_count greatest_count) objects addr new asks
+    k object is before = absurd asks
 are_apart g (call.FsStat file) objects addr new asks k object is before = absurd asks
 are_apart g (call.FsInfo file) objects addr new asks k object is before = absurd asks
 are_apart g (call.PathConf file) objects addr new asks k object is before = absurd asks

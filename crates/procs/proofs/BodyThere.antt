@@ -1,7 +1,8 @@
 -- What was found of a file is its body's kind and size, and the number of blocks that it uses.
 use Rattle.std.proofs.Common.{◌≡◌, ℕ, sym, ap, ◌∙◌, ◌%◌, ◌/◌, length, nat_eq, nat_le, nat_lt}
 use Rattle.std.proofs.Common.{cond, not, min, true, is_none}
-use Rattle.limits.specs.declared.TheConstants.{BLOCK_BYTES, DIRECT_INDEXES, LARGEST_DIRECTORY, LARGEST_FILE, TARGET_BYTES}
+use Rattle.limits.specs.declared.TheConstants.{BLOCK_BYTES, DIRECT_INDEXES, LARGEST_DIRECTORY, LARGEST_FILE}
+use Rattle.limits.specs.declared.TheConstants.{TARGET_BYTES}
 use Rattle.disk.specs.Crash.{Image}
 use Rattle.layout.specs.declared.geometry.Geometry.{Geometry}
 use Rattle.layout.specs.declared.inode.Inode.{Inode}
@@ -36,7 +37,8 @@ module _ (g : Geometry) (content : Image) (found : FoundFile)
   has_body Directory is good file =
       let three = all_three (is_sound_file i) (is_sound_map g i)
       (is_sound_directory g i) good in
-      let rules = all_seven (nat_le 2 i.nlink) (nat_le i.size LARGEST_DIRECTORY) (nat_eq (i.size % BLOCK_BYTES) 0)
+      let rules = all_seven (nat_le 2 i.nlink) (nat_le i.size LARGEST_DIRECTORY)
+      (nat_eq (i.size % BLOCK_BYTES) 0)
       (nat_lt 0 i.parent) (nat_lt i.parent g.inodes)
       (names_first (min (i.size / BLOCK_BYTES) DIRECT_INDEXES) i.direct)
       (cond (nat_lt DIRECT_INDEXES (i.size / BLOCK_BYTES)) (not (nat_eq i.indirect 0)) (nat_eq i.indirect 0))
@@ -44,7 +46,8 @@ module _ (g : Geometry) (content : Image) (found : FoundFile)
       record {
         kind = ap file_kind (sym is);
         size = directory_size i.size (same_number (i.size % BLOCK_BYTES) 0 rules.2);
-        used = directory_counted g content i direct file.spans (no_more i.size LARGEST_DIRECTORY rules.1) rules.6
+        used = directory_counted g content i direct file.spans
+            (no_more i.size LARGEST_DIRECTORY rules.1) rules.6
             ∙ sym used;
       }
   has_body Link is good file =

@@ -65,7 +65,8 @@ stays g (call.RmDir name) objects more addr asks = absurd asks
 stays g (call.Rename source target) objects more addr asks = absurd asks
 stays g (call.Link file name) objects more addr asks = absurd asks
 stays g (call.ReadDir directory cookie verifier count) objects more addr asks = absurd asks
-stays g (call.ReadDirPlus directory cookie verifier directory_count greatest_count) objects more addr asks = absurd asks
+stays g (call.ReadDirPlus directory cookie verifier directory_count greatest_count) objects more addr
+    asks = absurd asks
 stays g (call.FsStat file) objects more addr asks = absurd asks
 stays g (call.FsInfo file) objects more addr asks = absurd asks
 stays g (call.PathConf file) objects more addr asks = absurd asks
@@ -75,7 +76,8 @@ stays g (call.Commit file offset count) objects more addr asks = absurd asks
 
 -- what each object is, by those before it, it is in a longer list, if the last one is so
 one_more : (P : List ObjectBytes → ObjectBytes → Type 0) (objects : List ObjectBytes) (last : ObjectBytes)
-    → ((index : ℕ) (object : ObjectBytes) → slice_get objects index ≡ Some object → P (take index objects) object)
+    → ((index : ℕ) (object : ObjectBytes) → slice_get objects index ≡ Some object
+    → P (take index objects) object)
     → P objects last
     → (index : ℕ) (object : ObjectBytes) → slice_get (objects ++ last ∷ []) index ≡ Some object
     → P (take index (objects ++ last ∷ [])) object
@@ -182,7 +184,8 @@ module _ (g : Geometry) (handle : List ℕ) where
         (new : same_addr b.addr a.addr ≡ false) where
       -- the second is the indirect block of the first
       second_asked : AsksOfFile g handle (a ∷ []) b.addr
-          → (one : Inode) × (block : BlockNo) × (read_inode g a.bytes ≡ Ok (Some one)) × (block.0 ≡ one.indirect)
+          → (one : Inode) × (block : BlockNo) × (read_inode g a.bytes ≡ Ok (Some one))
+          × (block.0 ≡ one.indirect)
           × IsWhole block b.addr
       second_asked (inode m others there) =
           let begins = first_asked a.addr first in
@@ -203,7 +206,8 @@ module _ (g : Geometry) (handle : List ℕ) where
           let place : c.addr.block.0 ≡ b.addr.block.0 =
           ap (λ (k : BlockNo). k.0) whole.0 ∙ is ∙ ap (λ (i : Inode). i.indirect) (sym same) ∙ sym before.3
           ∙ ap (λ (k : BlockNo). k.0) (sym before.4.0) in
-          never (sym (is_same c.addr b.addr place (whole.1 ∙ sym before.4.1) (whole.2 ∙ sym before.4.2)) ∙ another)
+          never (sym (is_same c.addr b.addr place (whole.1 ∙ sym before.4.1)
+          (whole.2 ∙ sym before.4.2)) ∙ another)
 
   few_of_file : (objects : List ObjectBytes)
       → ((index : ℕ) (object : ObjectBytes) → slice_get objects index ≡ Some object
@@ -240,7 +244,8 @@ few g (call.RmDir name) objects were = none g _ objects (λ object asks. asks) w
 few g (call.Rename source target) objects were = none g _ objects (λ object asks. asks) were
 few g (call.Link file name) objects were = none g _ objects (λ object asks. asks) were
 few g (call.ReadDir directory cookie verifier count) objects were = none g _ objects (λ object asks. asks) were
-few g (call.ReadDirPlus directory cookie verifier directory_count greatest_count) objects were = none g _ objects (λ object asks. asks) were
+few g (call.ReadDirPlus directory cookie verifier directory_count greatest_count) objects were =
+    none g _ objects (λ object asks. asks) were
 few g (call.FsStat file) objects were = none g _ objects (λ object asks. asks) were
 few g (call.FsInfo file) objects were = none g _ objects (λ object asks. asks) were
 few g (call.PathConf file) objects were = none g _ objects (λ object asks. asks) were

@@ -1,6 +1,7 @@
 -- An inode that was read is the one of the blocks, and one that is refused lies in no blocks that stand for a
 -- tree.
-use Rattle.std.proofs.Common.{◌≡◌, ℕ, ◌<◌, sym, ap, ◌∙◌, subst, cond, List, take, drop, Option, Some, None, IfSome, Ok, Err, ◌+◌, length}
+use Rattle.std.proofs.Common.{◌≡◌, ℕ, ◌<◌, sym, ap, ◌∙◌, subst, cond, List, take, drop, Option, Some, None}
+use Rattle.std.proofs.Common.{IfSome, Ok, Err, ◌+◌, length}
 use Rattle.std.proofs.Common.{nat_eq, false, arith}
 use Rattle.std.proofs.lemmas.Bool.{lt-ltb}
 use Rattle.limits.specs.declared.TheConstants.{BLOCK_BYTES, INDIRECT_INDEXES, INODE_BYTES}

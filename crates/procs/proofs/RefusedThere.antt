@@ -29,7 +29,8 @@ stamp_read : (number : ℕ) (stamp : Stamp) → stamp.boot < 2 ^ 64 → stamp.tr
     → stamp_in (handle_bytes number stamp) ≡ stamp
 stamp_read number stamp boot transaction =
     let boot_is : (stamp_in (handle_bytes number stamp)).boot ≡ stamp.boot = search rules in
-    let transaction_is : (stamp_in (handle_bytes number stamp)).transaction ≡ stamp.transaction = search rules in
+    let transaction_is : (stamp_in (handle_bytes number stamp)).transaction ≡ stamp.transaction =
+    search rules in
     λ i. record { boot = boot_is i; transaction = transaction_is i }
 
 abbrev Read : Type 0
@@ -83,7 +84,8 @@ module _ (g : Geometry) (blocks : Image) (handle : List ℕ) (number : ℕ) (sta
     not_found places = elim refused.why [
       | inl fault ↦ err_ok (Some inode) (sym fault ∙ at_is (Ok (Some inode)) read)
       | inr some ↦ (let names : NamesNoData g blocks inode =
-          subst (NamesNoData g blocks) (some_same some.0 inode (sym some.1 ∙ at_is (Ok (Some inode)) read)) some.3 in
+          subst (NamesNoData g blocks) (some_same some.0 inode
+          (sym some.1 ∙ at_is (Ok (Some inode)) read)) some.3 in
           never (sym (places names.whole names.some) ∙ names.refused))
     ]
 

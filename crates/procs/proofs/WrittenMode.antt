@@ -162,7 +162,8 @@ module _ (g : Geometry) (blocks : Image) (tree : Tree) (ctx : Ctx) (object : Han
     with_node tree number (node_with new node.body),
     setattr_is_step tree (with_node tree number (node_with new node.body)) ctx object wanted guard (Ok tt)
         (change_of number node (node_with new node.body))
-        (subst (λ one. SetFound tree ctx wanted guard one (Ok tt) (change_of number node (node_with new node.body))
+        (subst (λ one. SetFound tree ctx wanted guard one (Ok tt)
+        (change_of number node (node_with new node.body))
         (with_node tree number (node_with new node.body))) (sym found) set_step),
     stands_now,
   )

@@ -16,8 +16,8 @@ pub fn what_is_asked_for_is_home()
         → Asks g call objects addr → IsHomeOn g.blocks addr.block }
 {}
 
-/// What a call asks for shares no byte with what it asked for and read before, but where it is the same object. So
-/// no worker waits for itself.
+/// What a call asks for shares no byte with what it asked for and read before, but where it is the same
+/// object. So no worker waits for itself.
 pub fn what_is_asked_for_lies_apart()
     ensures { (g : Geometry) (call : Call) (objects : List ObjectBytes) (addr : Addr)
         → WereAsked g call objects → Asks g call objects addr → is_seen addr objects ≡ false
@@ -34,7 +34,8 @@ pub fn what_is_asked_for_stays()
 pub fn what_is_read_was_asked_for()
     ensures none { (g : Geometry) (call : Call) → WereAskedOnce g call [] }
     ensures asked { (g : Geometry) (call : Call) (objects : List ObjectBytes) (object : ObjectBytes)
-        → WereAsked g call objects → Asks g call objects object.addr → WereAsked g call (objects ++ object ∷ []) }
+        → WereAsked g call objects → Asks g call objects object.addr
+        → WereAsked g call (objects ++ object ∷ []) }
     ensures once { (g : Geometry) (call : Call) (objects : List ObjectBytes) (object : ObjectBytes)
         → WereAskedOnce g call objects → Asks g call objects object.addr → is_seen object.addr objects ≡ false
         → WereAskedOnce g call (objects ++ object ∷ []) }

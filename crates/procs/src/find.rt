@@ -1,5 +1,6 @@
 //! The file that a handle names.
-ghost use Rattle.std.specs.Prelude.{◌≡◌, ◌≢◌, true, ◌+◌, ◌<◌, ◌≤◌, length, cond, nat_eq, Ok, IfErr, IfOk, IfSome};
+ghost use Rattle.std.specs.Prelude.{◌≡◌, ◌≢◌, true, ◌+◌, ◌<◌, ◌≤◌, length, cond, nat_eq, Ok, IfErr, IfOk};
+ghost use Rattle.std.specs.Prelude.{IfSome};
 ghost use Rattle.limits.specs.declared.TheConstants.{BLOCK_BYTES, INDIRECT_INDEXES};
 ghost use Rattle.layout.specs.Fields.{numbers_at, count_of};
 ghost use Rattle.disk.specs.Crash.{Image};

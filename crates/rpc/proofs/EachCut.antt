@@ -85,7 +85,8 @@ fragment_there bytes m there =
     ∙ sym (append_assoc (mark m.last m.announced) part (drop m.announced rest))
     ∙ ap (λ (n : ℕ). (mark m.last n ++ part) ++ drop m.announced rest) (sym len)
 
-last_or_more : (k : ℕ) (bytes : List ℕ) (last : Bool) (p more : List ℕ) → k + length p ≤ RECORD_BYTES → AreBytes more
+last_or_more : (k : ℕ) (bytes : List ℕ) (last : Bool) (p more : List ℕ) → k + length p ≤ RECORD_BYTES
+    → AreBytes more
     → bytes ≡ fragment last p ++ more → ((le : k + length p ≤ RECORD_BYTES) → Front (k + length p) more)
     → Front k bytes
 last_or_more k bytes true p more le are e go = Whole [] p more (omega (arith, le)) are e
@@ -128,13 +129,16 @@ step k bytes le are go =
     ]
 
 front : (fuel k : ℕ) (bytes : List ℕ) → length bytes ≤ fuel → k ≤ RECORD_BYTES → AreBytes bytes → Front k bytes
-front zero k bytes short le are = step k bytes le are (λ n more less fits bytes_are. absurd (omega (arith, short, less)))
+front zero k bytes short le are = step k bytes le are
+    (λ n more less fits bytes_are. absurd (omega (arith, short, less)))
 front (suc fuel) k bytes short le are =
-    step k bytes le are (λ n more less fits bytes_are. front fuel n more (omega (arith, short, less)) fits bytes_are)
+    step k bytes le are (λ n more less fits bytes_are. front fuel n more (omega (arith, short, less))
+    fits bytes_are)
 
 -- ---- the cut
 
-record_of : (bytes more last : List ℕ) (parts : List (List ℕ)) → length (joined parts) + length last ≤ RECORD_BYTES
+record_of : (bytes more last : List ℕ) (parts : List (List ℕ))
+    → length (joined parts) + length last ≤ RECORD_BYTES
     → bytes ≡ flat_map (fragment false) parts ++ (fragment true last ++ more)
     → (text : List ℕ) × (bytes ≡ text ++ more) × IsRecord text (joined parts ++ last)
 record_of bytes more last parts fits cut = (
@@ -208,7 +212,8 @@ cuts (suc fuel) bytes short are =
     cut_step bytes (front (length bytes) 0 bytes (omega arith) (omega arith) are)
     (λ more less more_are. cuts fuel more (omega (arith, short, less)) more_are)
 
-pub each_cut : (bytes : List ℕ) → AreBytes bytes → (list : List (List ℕ)) × (rest : List ℕ) × records bytes list rest
+pub each_cut : (bytes : List ℕ) → AreBytes bytes → (list : List (List ℕ)) × (rest : List ℕ)
+    × records bytes list rest
 each_cut bytes are = let c = cuts (length bytes) bytes (omega arith) are in (c.list, c.rest, c.cut)
 
 pub rests : (bytes : List ℕ) (list : List (List ℕ)) (rest : List ℕ) → AreBytes bytes → records bytes list rest

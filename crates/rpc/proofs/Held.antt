@@ -1,4 +1,5 @@
--- How many bytes of a record that isn't whole are content: the bytes tell it, and fragments of no bytes add nothing.
+-- How many bytes of a record that isn't whole are content: the bytes tell it, and fragments of no bytes add
+-- nothing.
 use Rattle.std.proofs.Common.{◌≡◌, ℕ, ◌+◌, ◌^◌, ◌<◌, ◌≤◌, Bool, false, List, [], ◌∷◌, ◌++◌}
 use Rattle.std.proofs.Common.{length, sym, ap, ◌∙◌, append_assoc, arith}
 use Rattle.std.specs.Prelude.{flat_map}
@@ -29,8 +30,10 @@ both_before (p ∷ ps) [] s t small fits few less e =
       has_mark false p (flat_map (fragment false) ps ++ s),
     ))
 both_before (p ∷ ps) (q ∷ qs) s t small fits few less e =
-    let f = strip p q ps qs s t (omega (arith, small, cons_length p ps)) (omega (arith, fits, cons_length q qs)) e in
-    let r = both_before ps qs s t (omega (arith, small, cons_length p ps)) (omega (arith, fits, cons_length q qs))
+    let f = strip p q ps qs s t (omega (arith, small, cons_length p ps))
+    (omega (arith, fits, cons_length q qs)) e in
+    let r = both_before ps qs s t (omega (arith, small, cons_length p ps))
+    (omega (arith, fits, cons_length q qs))
     few less f.1 in
     omega (arith, r, ap length f.0, cons_length p ps, cons_length q qs)
 
@@ -51,7 +54,8 @@ apart (p ∷ ps) [] s l n t small fits few less e =
     too_few l false n t p (flat_map (fragment false) ps ++ s) (omega (arith, fits))
     (omega (arith, small, cons_length p ps)) less (sym e ∙ cons_parts p ps s)
 apart (p ∷ ps) (q ∷ qs) s l n t small fits few less e =
-    apart ps qs s l n t (omega (arith, small, cons_length p ps)) (omega (arith, fits, cons_length q qs)) few less
+    apart ps qs s l n t (omega (arith, small, cons_length p ps))
+    (omega (arith, fits, cons_length q qs)) few less
     (strip p q ps qs s (mark l n ++ t) (omega (arith, small, cons_length p ps))
     (omega (arith, fits, cons_length q qs)) e).1
 

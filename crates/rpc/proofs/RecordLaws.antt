@@ -21,7 +21,8 @@ same_words : (m n : ℕ) (x y : List ℕ) → m < 2 ^ 32 → n < 2 ^ 32 → word
     → (m ≡ n) × (x ≡ y)
 same_words m n x y p q e = alike word (λ k. k < 2 ^ 32) (number_at w32) words m n x y p q e
 
-pub marks_alike : (l k : Bool) (m n : ℕ) (x y : List ℕ) → m < 2 ^ 31 → n < 2 ^ 31 → mark l m ++ x ≡ mark k n ++ y
+pub marks_alike : (l k : Bool) (m n : ℕ) (x y : List ℕ) → m < 2 ^ 31 → n < 2 ^ 31
+    → mark l m ++ x ≡ mark k n ++ y
     → (l ≡ k) × (m ≡ n) × (x ≡ y)
 marks_alike false false m n x y p q e = let s = same_words m n x y (omega arith) (omega arith) e in
     (refl, s.0, s.1)
@@ -326,7 +327,8 @@ inside_long [] (q ∷ qs) l n some m a k t fits each small long few e =
 inside_long (p ∷ ps) [] l n some m a k t fits each small long few e =
     first_long p ps m a k (mark l n ++ some) t (omega (arith, fits)) small (omega (arith, long)) e
 inside_long (p ∷ ps) (q ∷ qs) l n some m a k t fits each small long few e =
-    let f = strip p q ps qs (mark l n ++ some) (mark m a ++ t) (omega (arith, fits, cons_length p ps)) each.0 e in
+    let f = strip p q ps qs (mark l n ++ some) (mark m a ++ t)
+    (omega (arith, fits, cons_length p ps)) each.0 e in
     inside_long ps qs l n some m a (k + length p) t (omega (arith, fits, cons_length p ps)) each.1 small
     (omega (arith, long, cons_length q qs, ap length f.0)) few f.1
 

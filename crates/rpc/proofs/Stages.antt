@@ -1,5 +1,6 @@
 -- How the cutting of a stream goes from stage to stage.
-use Rattle.std.proofs.Common.{◌≡◌, ℕ, ◌+◌, ◌-◌, ◌^◌, ◌<◌, ◌≤◌, Bool, true, false, List, [], ◌∷◌, ◌++◌, length, take, drop}
+use Rattle.std.proofs.Common.{◌≡◌, ℕ, ◌+◌, ◌-◌, ◌^◌, ◌<◌, ◌≤◌, Bool, true, false, List, [], ◌∷◌, ◌++◌, length}
+use Rattle.std.proofs.Common.{take, drop}
 use Rattle.std.proofs.Common.{refl, sym, ap, subst, ◌∙◌, append_assoc, arith, length-append}
 use Rattle.std.specs.Prelude.{flat_map}
 use Rattle.std.specs.List.{AllByRecursion}
@@ -166,7 +167,8 @@ not_fresh (Inside last left) taken content at other =
 
 -- ---- what a step leaves
 
-pub same_text : (n : ℕ) (taken pending : List ℕ) → (taken ++ take n pending) ++ drop n pending ≡ taken ++ pending
+pub same_text : (n : ℕ) (taken pending : List ℕ)
+    → (taken ++ take n pending) ++ drop n pending ≡ taken ++ pending
 same_text n taken pending = append_assoc taken (take n pending) (drop n pending)
     ∙ ap (λ (t : List ℕ). taken ++ t) (take-append-drop n pending)
 
@@ -185,7 +187,8 @@ pub fills_all : (last : Bool) (left n : ℕ) (taken content pending : List ℕ) 
     → n ≤ left → n ≤ length pending → left ≤ n
     → IsInside last 0 (taken ++ take n pending) (content ++ take n pending)
 fills_all last left n taken content pending at le there all =
-    subst (λ (m : ℕ). IsInside last m (taken ++ take n pending) (content ++ take n pending)) (omega (arith, le, all))
+    subst (λ (m : ℕ). IsInside last m (taken ++ take n pending) (content ++ take n pending))
+    (omega (arith, le, all))
     (fills last left n taken content pending at le there)
 
 no_more : (n : ℕ) (pending : List ℕ) → length pending ≤ n → drop n pending ≡ []

@@ -13,10 +13,11 @@ use Rattle.rpc.specs.declared.fault.RpcFault.TheVariants.{TooLong, NoMemory}
 use Rattle.rpc.specs.declared.cutter.Cutter.{Cutter}
 use Rattle.rpc.specs.Records.{mark, fragment, joined, IsPart, IsTooLong, held_of}
 
--- what was taken off the front of the stream since the last record: of each note, the bytes from some place on of
--- those that were there, and so many of them
+-- what was taken off the front of the stream since the last record: of each note, the bytes from some place
+-- on of those that were there, and so many of them
 abbrev pub taken_text : List (Snapshot Filled × (ℕ × ℕ)) → List ℕ
-taken_text notes = flat_map (λ (note : Snapshot Filled × (ℕ × ℕ)). take note.1.1 (drop note.1.0 note.0.value.items)) notes
+taken_text notes = flat_map (λ (note : Snapshot Filled × (ℕ × ℕ)). take note.1.1
+    (drop note.1.0 note.0.value.items)) notes
 
 -- the bytes of the stream that aren't handed out
 abbrev pub text_of : Cutter → List ℕ

@@ -1,5 +1,5 @@
-//! The machine that cuts records out of a stream. It looks at each byte once: what it has looked at it takes off the
-//! front, marks are let go, and the rest is gathered in one buffer.
+//! The machine that cuts records out of a stream. It looks at each byte once: what it has looked at it takes
+//! off the front, marks are let go, and the rest is gathered in one buffer.
 ghost use Rattle.std.specs.Prelude.{◌≡◌, ◌<◌, ◌≤◌, ◌^◌, ◌++◌, ◌==◌, [], Bool, true, false, length, take, drop};
 ghost use Rattle.std.specs.Prelude.{ℕ, IfOk, IfErr, IfSome, IsSome, OnOk, OnErr};
 ghost use Rattle.xdr.specs.Items.{word};
@@ -15,8 +15,8 @@ use limits::RECORD_BYTES;
 use std::alloc::{AllocError, Global};
 use std::snapshot::Snapshot;
 
-/// The bytes that haven't been looked at, the content of the record so far, and how far it has come. What was taken
-/// off the front is noted for proofs alone, in `http_server`'s `Log`: that takes no memory.
+/// The bytes that haven't been looked at, the content of the record so far, and how far it has come. What was
+/// taken off the front is noted for proofs alone, in `http_server`'s `Log`: that takes no memory.
 #[derive(Drop)]
 pub struct Cutter {
     pending: BytesMut,

@@ -48,8 +48,8 @@ pub fn too_long_stays()
     ensures { (bytes more : List ℕ) → IsTooLong bytes → IsTooLong (bytes ++ more) }
 {}
 
-/// How many bytes of a record that isn't whole are held is told by the bytes. A fragment of no bytes adds nothing, so
-/// any number of them adds nothing; and what is held fits a record and a mark that isn't whole.
+/// How many bytes of a record that isn't whole are held is told by the bytes. A fragment of no bytes adds
+/// nothing, so any number of them adds nothing; and what is held fits a record and a mark that isn't whole.
 pub fn fragments_of_no_bytes_are_not_held()
     ensures one { (rest : List ℕ) (part other : IsPart rest) → held_of part ≡ held_of other }
     ensures empty { (rest : List ℕ) (part : IsPart rest) (more : IsPart (fragment false [] ++ rest))

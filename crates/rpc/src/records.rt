@@ -50,8 +50,8 @@ impl Records {
         self.cutter.is_empty()
     }
 
-    /// Hands out the next record, in any fragments, or None while it isn't whole. A refusal changes nothing, so that
-    /// one which isn't for memory comes again at each later call, whatever is fed.
+    /// Hands out the next record, in any fragments, or None while it isn't whole. A refusal changes nothing,
+    /// so that one which isn't for memory comes again at each later call, whatever is fed.
     pub fn next(&mut self) -> Result<Option<Bytes>, RpcFault>
         ensures found { IfOk result (λ o. IfSome o (λ content. (text : List ℕ) × IsRecord text content
             × (self.old ≡ text ++ self.new))) }
@@ -69,9 +69,9 @@ impl Records {
         Ok(None)
     }
 
-    /// How many bytes memory holds for the next record, or None where that is whole. Nothing is handed out. A record
-    /// that isn't whole is held as its content, without the marks that came: so fragments of no bytes, however many,
-    /// are not held.
+    /// How many bytes memory holds for the next record, or None where that is whole. Nothing is handed out. A
+    /// record that isn't whole is held as its content, without the marks that came: so fragments of no bytes,
+    /// however many, are not held.
     pub fn held(&mut self) -> Result<Option<usize>, RpcFault>
         ensures same { self.new ≡ self.old }
         ensures waits { IfOk result (λ o. IfSome o (λ n. (part : IsPart self.new) × (n ≡ held_of part))) }

@@ -13,14 +13,16 @@ use Rattle.store_promise.specs.declared.events.Step.{Step}
 use Rattle.store_promise.specs.declared.events.Step.TheVariants as step
 use Rattle.store_promise.specs.declared.transcript.Answer.{Answer}
 use Rattle.store_promise.specs.Progress.{Called, Planning, Refused, Stage, Waiting, is_idle}
-use Rattle.store_promise.specs.Schedule.{IsTaken, Schedule, Setting, Told, progress_before, told_after, worker_of}
+use Rattle.store_promise.specs.Schedule.{IsTaken, Schedule, Setting, Told, progress_before, told_after}
+use Rattle.store_promise.specs.Schedule.{worker_of}
 use Rattle.store_promise.specs.Transcript.{Transcript, device_calls, step_at}
 use Rattle.store_promise.specs.Verdicts.{AreAnswers, HasVerdict, IsAnswer, IsReplyAt}
 use Rattle.run_law.specs.Ledger.{ArePlaced}
 use Rattle.run_law.specs.Noting.{IsAnswerOf, IsAnswerWith, Noted, ends_of, listed, told_now, with_noted}
 use Rattle.run_law.proofs.AnswersPlaces.{AnswerComes, answer_comes, is_placed, not_again}
 use Rattle.run_law.proofs.EntriesCommits.{seq}
-use Rattle.run_law.proofs.ToldGrows.{calls_earlier, committed_kept, one_longer, progress_earlier, step_kept, step_now}
+use Rattle.run_law.proofs.ToldGrows.{calls_earlier, committed_kept, one_longer, progress_earlier, step_kept}
+use Rattle.run_law.proofs.ToldGrows.{step_now}
 use Rattle.run_law.proofs.ToldGrows.{step_within, told_then}
 
 -- ---- a verdict stays
@@ -38,7 +40,8 @@ module _ (t : Transcript) (noted : Noted) where
       → HasVerdict (with_noted t noted) asked stage made a
   verdict_kept asked Called step.Replied a has = has
   verdict_kept asked Called (step.Begun (Err why)) a has = has
-  verdict_kept asked (Planning begun) (step.Commit blocks (committing.Committed place)) a has = reply_kept place a has
+  verdict_kept asked (Planning begun) (step.Commit blocks (committing.Committed place)) a has =
+      reply_kept place a has
   verdict_kept asked (Planning begun) (step.Ended ending.NoMemory) a has = has
   verdict_kept asked (Refused begun why) (step.Ended ending.Refused) a has = has
   verdict_kept asked (Waiting place) (step.Stable found true) a has = reply_kept (seq place) a has
@@ -82,7 +85,8 @@ module _ (o : Setting) (workers : ℕ) (events : Schedule) (t : Transcript) (now
   before_it : (worker index : ℕ) → index ≡ length t.steps
       → progress_before events grown.steps worker index ≡ told.workers worker
   before_it worker index at =
-      ap (λ (n : ℕ). progress_before events grown.steps worker n) at ∙ earlier worker (length t.steps) (omega arith)
+      ap (λ (n : ℕ). progress_before events grown.steps worker n) at
+      ∙ earlier worker (length t.steps) (omega arith)
 
   still : (a : Answer) → IsAnswer events t a → IsAnswer events grown a
   still a is =
@@ -129,7 +133,8 @@ module _ (o : Setting) (workers : ℕ) (events : Schedule) (t : Transcript) (now
 
   once : (one other place : ℕ) (a b : Answer) → Comes one a → Comes other b → a.place ≡ Some (seq place)
       → b.place ≡ Some (seq place) → one ≡ other
-  once one other place a b (inl first) (inl second) is so = answers.placed_once one other place a b first second is so
+  once one other place a b (inl first) (inl second) is so =
+      answers.placed_once one other place a b first second is so
   once one other place a b (inl first) (inr second) is so = absurd (placed b place second.1 so one a first is)
   once one other place a b (inr first) (inl second) is so = absurd (placed a place first.1 is other b second so)
   once one other place a b (inr first) (inr second) is so = first.0 ∙ sym second.0
@@ -171,7 +176,8 @@ module _ (o : Setting) (workers : ℕ) (events : Schedule) (t : Transcript) (now
       cc
   answer_now (Some a) is of worker own busy idle = (
     a,
-    subst (λ (given : Option Answer). Contains (t.answers ++ listed given) a) (sym is) (Contains-push t.answers a),
+    subst (λ (given : Option Answer). Contains (t.answers ++ listed given) a) (sym is)
+        (Contains-push t.answers a),
     of.event,
   )
 
@@ -181,7 +187,8 @@ module _ (o : Setting) (workers : ℕ) (events : Schedule) (t : Transcript) (now
   whole_before index worker e is_e less own busy idle =
       let few : index ≤ length t.steps = omega (arith, less) in
       let so : index + 1 ≤ length t.steps = omega (arith, less) in
-      let found = answers.whole index worker e is_e less own (ap is_idle (sym (earlier worker index few)) ∙ busy)
+      let found = answers.whole index worker e is_e less own
+      (ap is_idle (sym (earlier worker index few)) ∙ busy)
       (ap is_idle (sym (earlier worker (index + 1) so)) ∙ idle) in
       (found.0, Contains-append_left t.answers (listed noted.answer) found.0 found.1, found.2)
 
@@ -193,7 +200,8 @@ module _ (o : Setting) (workers : ℕ) (events : Schedule) (t : Transcript) (now
       let same : now ≡ e = cc in
       subst HasAnswer (sym at)
       (answer_now noted.answer refl tells worker (ap worker_of same ∙ own)
-      (ap is_idle (sym (before_it worker index at)) ∙ busy) (ap is_idle (sym (after_it worker index at)) ∙ idle))
+      (ap is_idle (sym (before_it worker index at)) ∙ busy)
+      (ap is_idle (sym (after_it worker index at)) ∙ idle))
 
   whole : (index worker : ℕ) (e : Event) → slice_get events index ≡ Some e → index < length grown.steps
       → worker_of e ≡ Some worker → is_idle (progress_before events grown.steps worker index) ≡ false

@@ -51,7 +51,8 @@ answers_at t asked Called step.Replied a place has is = absurd (no_place _ a pla
 answers_at t asked Called (step.Begun (Err why)) a place has is = absurd (no_place _ a place has is)
 answers_at t asked (Planning begun) (step.Commit blocks (committing.Committed at)) a place has is =
     commits_now begun blocks refl (ap (commit_of blocks) (same_seq at (seq place) a.place has.placed is))
-answers_at t asked (Planning begun) (step.Ended ending.NoMemory) a place has is = absurd (no_place _ a place has is)
+answers_at t asked (Planning begun) (step.Ended ending.NoMemory) a place has is =
+    absurd (no_place _ a place has is)
 answers_at t asked (Refused begun why) (step.Ended ending.Refused) a place has is =
     absurd (no_place _ a place has is)
 answers_at t asked (Waiting at) (step.Stable found true) a place has is =
@@ -76,7 +77,8 @@ answer_comes events t now noted tells index a is = by_either (either t.answers n
     by_either (inl old) = inl old
     by_either (inr new) = inr (
       new.0,
-      subst (λ (answer : Option Answer). IsAnswerOf events t (with_noted t noted) now noted.made answer) new.1 tells,
+      subst (λ (answer : Option Answer). IsAnswerOf events t (with_noted t noted) now noted.made
+          answer) new.1 tells,
     )
 
 -- ---- which place is waited for
@@ -155,7 +157,8 @@ module _ (o : Setting) (workers : ℕ) (events : Schedule) (t : Transcript) (now
 
   -- a new answer has the place that its worker waited for, or the next
   abbrev pub IsPlaced : Answer → ℕ → Type 0
-  IsPlaced a place = (place_waited (told.workers a.worker) ≡ Some place) ⊎ Takes told now noted.made a.worker place
+  IsPlaced a place = (place_waited (told.workers a.worker) ≡ Some place)
+      ⊎ Takes told now noted.made a.worker place
 
   pub is_placed : (a : Answer) (place : ℕ) → IsAnswerWith events t (with_noted t noted) now noted.made a
       → a.place ≡ Some (seq place) → IsPlaced a place
@@ -163,7 +166,8 @@ module _ (o : Setting) (workers : ℕ) (events : Schedule) (t : Transcript) (now
       by_case (answers_at (with_noted t noted) new.job.call new.stage new.step a place new.verdict is)
     where
       by_case : AnswersAt new.stage new.step place → IsPlaced a place
-      by_case (waited stage) = inl (ap place_waited new.so_far ∙ ap (λ (s : Stage). place_waited (At new.job s)) stage)
+      by_case (waited stage) = inl (ap place_waited new.so_far
+          ∙ ap (λ (s : Stage). place_waited (At new.job s)) stage)
       by_case (commits_now begun blocks stage is_commit) =
           inr (takes_now o workers told now noted.made is_taken a.worker place blocks new.job begun
           (new.made_is ∙ ap (λ (s : Step). Some s) is_commit) (inl new.event_is)
@@ -183,7 +187,8 @@ module _ (o : Setting) (workers : ℕ) (events : Schedule) (t : Transcript) (now
     longer = let long = length-append t.history (listed noted.entry) in omega (arith, long)
 
     abbrev IsWaited : ℕ → ℕ → Type 0
-    IsWaited worker place = (place_waited (told.workers worker) ≡ Some place) ⊎ Takes told now noted.made worker place
+    IsWaited worker place = (place_waited (told.workers worker) ≡ Some place)
+        ⊎ Takes told now noted.made worker place
 
     is_waited : (worker place : ℕ) → place_waited (next.workers worker) ≡ Some place → IsWaited worker place
     is_waited worker place is = waited_next o workers told now noted.made is_taken worker place is
@@ -218,7 +223,8 @@ module _ (o : Setting) (workers : ℕ) (events : Schedule) (t : Transcript) (now
         → worker ≡ a.worker → is_idle (next.workers a.worker) ≡ true → ⊥
     answered_waits_not worker place a is same idle =
         let none = idle_waits_not (next.workers a.worker) idle in
-        let both : None ≡ Some place = sym none ∙ ap (λ (n : ℕ). place_waited (next.workers n)) (sym same) ∙ is in
+        let both : None ≡ Some place = sym none
+        ∙ ap (λ (n : ℕ). place_waited (next.workers n)) (sym same) ∙ is in
         cc
 
     of_none : (worker place index : ℕ) (a : Answer) → place_waited (next.workers worker) ≡ Some place
@@ -244,7 +250,8 @@ module _ (o : Setting) (workers : ℕ) (events : Schedule) (t : Transcript) (now
     pub waits_on : ArePlaced next (with_noted t noted).history (with_noted t noted).answers
     waits_on = record {
       taken = λ worker place is. within worker place (is_waited worker place is);
-      alone = λ worker other place is so. of_one worker other place (is_waited worker place is) (is_waited other place so);
+      alone = λ worker other place is so. of_one worker other place (is_waited worker place is)
+          (is_waited other place so);
       unanswered = λ worker place index a is answer same.
           of_none worker place index a is (is_waited worker place is) (comes index a answer) same;
       answered = λ index place a answer same. of_answer index place a (comes index a answer) same;

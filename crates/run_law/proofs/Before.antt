@@ -1,5 +1,6 @@
 -- What was told before an event stays so.
-use Rattle.std.proofs.Common.{◌≡◌, ℕ, zero, suc, ◌≤◌, refl, ap, arith, List, [], ◌∷◌, ◌++◌, Option, length, take}
+use Rattle.std.proofs.Common.{◌≡◌, ℕ, zero, suc, ◌≤◌, refl, ap, arith, List, [], ◌∷◌, ◌++◌, Option, length}
+use Rattle.std.proofs.Common.{take}
 use Rattle.std.specs.List.{zip}
 use Rattle.store_promise.specs.declared.events.Event.{Event}
 use Rattle.store_promise.specs.declared.events.Step.{Step}
@@ -17,4 +18,5 @@ same_pairs (event ∷ events) (step ∷ steps) more (suc index) within =
 pub told_stays : (events : Schedule) (steps more : List (Option Step)) (index : ℕ) → index ≤ length steps
     → told_before events (steps ++ more) index ≡ told_before events steps index
 told_stays events steps more index within =
-    ap (λ (pairs : List (Event × Option Step)). told_along at_first pairs) (same_pairs events steps more index within)
+    ap (λ (pairs : List (Event × Option Step)). told_along at_first pairs)
+    (same_pairs events steps more index within)

@@ -1,5 +1,6 @@
 -- Each procedure changed only what its transaction had, with a procedure more or without.
-use Rattle.std.proofs.Common.{◌≡◌, ◌⊎◌, inl, inr, ℕ, ◌+◌, ◌≤◌, ap, sym, ◌∙◌, subst, arith, length, slice_get, Option, Some}
+use Rattle.std.proofs.Common.{◌≡◌, ◌⊎◌, inl, inr, ℕ, ◌+◌, ◌≤◌, ap, sym, ◌∙◌, subst, arith, length, slice_get}
+use Rattle.std.proofs.Common.{Option, Some}
 use Rattle.std.proofs.lemmas.Option.{slice_get_within}
 use Rattle.disk.specs.Crash.{Image}
 use Rattle.store_promise.specs.Changes.{ChangeTheirOwn, ChangesItsOwn, KeepsOthers}
@@ -13,14 +14,16 @@ use Rattle.run_law.specs.Run.{ChangesOwnIn}
 use Rattle.run_law.proofs.EntriesCommits.{commit_of}
 use Rattle.run_law.proofs.ToldGrows.{either, progress_earlier, step_within}
 
-module _ (size : ℕ) (events : Schedule) (t : Transcript) (now : Event) (noted : Noted) (history : IsHistory events t)
-    (tells : IsEntryOf events t now noted.made noted.entry) (old new : ℕ → Image)
-    (same : (place : ℕ) → place ≤ length t.history → new place ≡ old place) (changed : ChangeTheirOwn size events t old)
+module _ (size : ℕ) (events : Schedule) (t : Transcript) (now : Event) (noted : Noted)
+    (history : IsHistory events t) (tells : IsEntryOf events t now noted.made noted.entry) (old new : ℕ → Image)
+    (same : (place : ℕ) → place ≤ length t.history → new place ≡ old place)
+    (changed : ChangeTheirOwn size events t old)
     (adds : ChangesOwnIn size events t new noted.entry) where
   abbrev grown : Transcript
   grown = with_noted t noted
 
-  still : (index : ℕ) (c : Committed) → slice_get t.history index ≡ Some c → ChangesItsOwn size events grown new index c
+  still : (index : ℕ) (c : Committed) → slice_get t.history index ≡ Some c
+      → ChangesItsOwn size events grown new index c
   still index c there =
       let was = history.each index c there in
       let less = step_within t c.event (commit_of was.blocks (index + 1)) was.step in

@@ -18,7 +18,8 @@ use Rattle.run_law.proofs.ToldGrows.{step_kept, step_now, step_within}
 
 -- the number of the transaction of a procedure that is committed is out until then
 pub number_of : (events : Schedule) (t : Transcript) (now : Event) (made : Option Step) (c : Committed)
-    (is : IsCommitOf events t now made c) → number_out ((told_now events t).workers c.worker) ≡ Some c.ctx.transaction
+    (is : IsCommitOf events t now made c) → number_out ((told_now events t).workers c.worker) ≡ Some
+    c.ctx.transaction
 number_of events t now made c is =
     ap number_out is.planned ∙ ap (λ (n : ℕ). Some n) (sym (ap (λ (ctx : Ctx). ctx.transaction) is.ctx))
 
@@ -141,9 +142,11 @@ module _ (events : Schedule) (t : Transcript) (now : Event) (noted : Noted)
       → a.ctx.transaction ≡ b.ctx.transaction → one ≡ other
   alone one other a b (inl first) (inl second) same = history.numbers one other a b first second same
   alone one other a b (inl first) (inr second) same =
-      absurd (numbered.unused b.worker b.ctx.transaction one a (number_of events t now noted.made b second.1) first same)
+      absurd (numbered.unused b.worker b.ctx.transaction one a
+      (number_of events t now noted.made b second.1) first same)
   alone one other a b (inr first) (inl second) same =
-      absurd (numbered.unused a.worker a.ctx.transaction other b (number_of events t now noted.made a first.1) second
+      absurd (numbered.unused a.worker a.ctx.transaction other b
+      (number_of events t now noted.made a first.1) second
       (sym same))
   alone one other a b (inr first) (inr second) same = first.0 ∙ sym second.0
 

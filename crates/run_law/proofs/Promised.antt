@@ -28,7 +28,8 @@ use Rattle.store_promise.specs.LogTold.{settled_told}
 use Rattle.store_promise.specs.Progress.{Again, At, Called, Planning, Read, Reading, Refused, Stage, Waiting}
 use Rattle.store_promise.specs.Schedule.{AreTaken, IsStepOfWork, Schedule, Setting, told_before}
 use Rattle.store_promise.specs.Transcript.{Transcript, committed_at, entries_of, entry_of}
-use Rattle.store_promise.specs.Verdicts.{AreAnswers, HasVerdict, IsAnswer, IsReplyAt, IsStableAnswer, IsUnsettledAt}
+use Rattle.store_promise.specs.Verdicts.{AreAnswers, HasVerdict, IsAnswer, IsReplyAt, IsStableAnswer}
+use Rattle.store_promise.specs.Verdicts.{IsUnsettledAt}
 use Rattle.store_promise.proofs.StableAnswers.{comes_later, entry_index, same_entry}
 use Rattle.store_promise.proofs.Told.{only_of_some, step_is}
 use Rattle.run_law.specs.Past.{WasToldBy}
@@ -45,7 +46,8 @@ data Told (t : Transcript) (asked : Call) (a : Answer) (stage : Stage) (made : S
   unsettled : (place : ℕ) → stage ≡ Waiting place → IsUnsettledAt asked (record { 0 = place }) a
       → Told t asked a stage made
 
-told_of : (t : Transcript) (asked : Call) (a : Answer) (stage : Stage) (made : Step) → HasVerdict t asked stage made a
+told_of : (t : Transcript) (asked : Call) (a : Answer) (stage : Stage) (made : Step)
+    → HasVerdict t asked stage made a
     → Told t asked a stage made
 told_of t asked a Called step.Replied has = of_none has.0
 told_of t asked a Called (step.Begun (Err why)) has = of_none has.0
@@ -120,18 +122,23 @@ module _ (o : Setting) (workers : ℕ) (events : Schedule) (t : Transcript) (tre
     within : a.event ≤ length t.steps
     within = let less = get_less t.steps a.event (Some answer.step) step_there in omega (arith, less)
       where
-        get_less : {X : Type 0} (xs : List X) (index : ℕ) (x : X) → slice_get xs index ≡ Some x → index < length xs
+        get_less : {X : Type 0} (xs : List X) (index : ℕ) (x : X) → slice_get xs index ≡ Some x
+            → index < length xs
         get_less [] index x is = cc
         get_less (first ∷ others) zero x is = omega arith
-        get_less (first ∷ others) (suc index) x is = let less = get_less others index x is in omega (arith, less)
+        get_less (first ∷ others) (suc index) x is = let less = get_less others index x is in
+            omega (arith, less)
 
     by_step : (waited : ℕ) (seq : Seq) → answer.stage ≡ Waiting waited → answer.step ≡ step.Stable seq true
         → waited ≡ place → IsSettled
     by_step waited seq stage_is step_is_stable same =
-        let there = only_of_some o workers events t.steps taken a.event a.worker answer.step answer.event step_there in
-        let own = (taken.each a.event (event.Work a.worker) (Some answer.step) answer.event step_there).own there in
+        let there = only_of_some o workers events t.steps taken a.event a.worker answer.step
+        answer.event step_there in
+        let own = (taken.each a.event (event.Work a.worker) (Some answer.step) answer.event
+        step_there).own there in
         let so_far = answer.so_far ∙ ap (At answer.job) stage_is in
-        let may = subst (λ p. IsStepOfWork o (told_before events t.steps a.event) a.worker p (Some answer.step)) so_far own in
+        let may = subst (λ p. IsStepOfWork o (told_before events t.steps a.event) a.worker p
+        (Some answer.step)) so_far own in
         let stepped = subst (λ one. IsStepOfWork o (told_before events t.steps a.event) a.worker
         (At answer.job (Waiting waited)) (Some one)) step_is_stable may in
         let less = leb-true waited (settled_told (told_before events t.steps a.event).log) (sym stepped.1) in
@@ -142,10 +149,12 @@ module _ (o : Setting) (workers : ℕ) (events : Schedule) (t : Transcript) (tre
         → a.verdict ≡ verdict.Reply (refused status.Io answer.job.call) → ⊥
     not_broken waited stage_is same told =
         let so_far = answer.so_far ∙ ap (At answer.job) stage_is in
-        let own = waits_for_its_own o workers events t taken history a.worker answer.job waited a.event within so_far in
+        let own = waits_for_its_own o workers events t taken history a.worker answer.job waited a.event
+        within so_far in
         let entry_is : own.0 ≡ stable.entry = same_entry t place own.0 stable.entry
         (ap (λ (n : ℕ). committed_at t n) (sym same) ∙ own.1) stable.is_entry in
-        let call_is : stable.entry.call ≡ answer.job.call = ap (λ (c : Committed). c.call) (sym entry_is) ∙ own.2 in
+        let call_is : stable.entry.call ≡ answer.job.call =
+        ap (λ (c : Committed). c.call) (sym entry_is) ∙ own.2 in
         let replies : verdict.Reply stable.entry.reply ≡ verdict.Reply (refused status.Io answer.job.call) =
         sym stable.told ∙ told in
         let reply_is : stable.entry.reply ≡ refused status.Io answer.job.call = cc in

@@ -1,6 +1,7 @@
 -- What is told as settled only grows, along any steps.
 use Rattle.std.proofs.Common.{◌≡◌, ℕ, zero, suc, ◌+◌, ◌-◌, ◌<◌, ◌≤◌, refl, ap, arith}
-use Rattle.std.proofs.Common.{Bool, true, false, if◌then◌else◌, nat_eq, nat_lt, List, [], ◌∷◌, Option, Some, None}
+use Rattle.std.proofs.Common.{Bool, true, false, if◌then◌else◌, nat_eq, nat_lt, List, [], ◌∷◌, Option, Some}
+use Rattle.std.proofs.Common.{None}
 use Rattle.std.proofs.Common.{take}
 use Rattle.std.proofs.lemmas.Bool.Decides.{nat_tests}
 use Rattle.std.specs.List.{zip}
@@ -11,7 +12,8 @@ use Rattle.store_promise.specs.declared.events.Event.{Event}
 use Rattle.store_promise.specs.declared.events.Step.{Step}
 use Rattle.store_promise.specs.declared.events.Step.TheVariants as step
 use Rattle.store_promise.specs.LogTold.{CallTold, LogTold, idle, log_moved, out, settled_told, was_made}
-use Rattle.store_promise.specs.LogTold.{with_commit, with_inst_behind, with_inst_done, with_inst_given, with_inst_taken}
+use Rattle.store_promise.specs.LogTold.{with_commit, with_inst_behind, with_inst_done, with_inst_given}
+use Rattle.store_promise.specs.LogTold.{with_inst_taken}
 use Rattle.store_promise.specs.LogTold.{with_log_done, with_log_given, with_log_taken}
 use Rattle.store_promise.specs.Schedule.{Schedule, Told, at_first, told_after, told_along, told_before}
 
@@ -57,7 +59,8 @@ same_parts old new is same =
     }
   where
     settled_is : settled_told new ≡ settled_told old
-    settled_is = λ i. settled_of (same.taken i) (same.taken_first i) (same.tail i) (same.tail_first i) (same.places i)
+    settled_is = λ i. settled_of (same.taken i) (same.taken_first i) (same.tail i) (same.tail_first i)
+        (same.places i)
 
 -- ---- a commit
 
@@ -243,8 +246,10 @@ along_rises told (first ∷ others) is =
     record { ordered = rest.ordered; settled = omega (arith, a, b) }
 
 -- the later of two moments has all that was settled at the other
-prefix_rises : (told : Told) (steps : List (Event × Option Step)) (one other : ℕ) → one ≤ other → IsOrdered told.log
-    → settled_told (told_along told (take one steps)).log ≤ settled_told (told_along told (take other steps)).log
+prefix_rises : (told : Told) (steps : List (Event × Option Step)) (one other : ℕ) → one ≤ other
+    → IsOrdered told.log
+    → settled_told (told_along told (take one steps)).log ≤ settled_told
+    (told_along told (take other steps)).log
 prefix_rises told steps zero other early is = (along_rises told (take other steps) is).settled
 prefix_rises told [] (suc one) zero early is = absurd (omega (arith, early))
 prefix_rises told [] (suc one) (suc other) early is = omega arith
@@ -262,4 +267,5 @@ none_yet = record {
 
 pub what_was_told_stays : (events : Schedule) (steps : List (Option Step)) (one other : ℕ) → one ≤ other
     → settled_told (told_before events steps one).log ≤ settled_told (told_before events steps other).log
-what_was_told_stays events steps one other early = prefix_rises at_first (zip events steps) one other early none_yet
+what_was_told_stays events steps one other early =
+    prefix_rises at_first (zip events steps) one other early none_yet

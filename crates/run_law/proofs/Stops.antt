@@ -1,5 +1,6 @@
 -- What each stop so far leaves of a run stays so with the next event; and what a stop leaves now.
-use Rattle.std.proofs.Common.{◌≡◌, ◌⊎◌, inl, inr, ℕ, zero, suc, ◌+◌, ◌-◌, ◌<◌, ◌≤◌, refl, sym, subst, ap, ◌∙◌, arith}
+use Rattle.std.proofs.Common.{◌≡◌, ◌⊎◌, inl, inr, ℕ, zero, suc, ◌+◌, ◌-◌, ◌<◌, ◌≤◌, refl, sym, subst, ap, ◌∙◌}
+use Rattle.std.proofs.Common.{arith}
 use Rattle.std.proofs.Common.{Bool, true, false, nat_le, nat_lt, List, [], ◌∷◌, ◌++◌, Option, Some}
 use Rattle.std.proofs.Common.{count_by, length, length-append, map, take, slice_get}
 use Rattle.std.proofs.lemmas.Bool.{le-leb, leb-true, leb-false, ltb-true, ltb-false}
@@ -24,7 +25,8 @@ use Rattle.store_promise.specs.OpenSince.{LeavesBlocks, blocks_after}
 use Rattle.store_promise.specs.FailedCalls.{one_if}
 use Rattle.store_promise.specs.Running.{StoreSide}
 use Rattle.store_promise.specs.Schedule.{Schedule, Setting, told_before}
-use Rattle.store_promise.specs.Transcript.{Transcript, calls_device, commits_by, device_calls, entries_of, entry_of}
+use Rattle.store_promise.specs.Transcript.{Transcript, calls_device, commits_by, device_calls, entries_of}
+use Rattle.store_promise.specs.Transcript.{entry_of}
 use Rattle.run_law.specs.Noting.{Noted, clock_now, listed, told_now, with_noted}
 use Rattle.run_law.specs.Past.{HasLeft, LeavesSoFar, WasToldBy}
 use Rattle.run_law.specs.Run.{Beginning, GoesOn, IsRun}
@@ -123,7 +125,8 @@ module _ (size first : ℕ) (tree : Tree) (events : Schedule) (start : ℕ) (t :
       good = left.prefix.good;
       count = left.prefix.count;
       few = (let a = left.prefix.few in
-          let b = count_more (λ (c : Committed). nat_le (start + c.clock) clock) t.history (listed noted.entry) in
+          let b = count_more (λ (c : Committed). nat_le (start + c.clock) clock) t.history
+          (listed noted.entry) in
           omega (arith, a, b));
       prefix = subst (λ (es : List Entry). after tree es left.prefix.left) (sym entries_are) left.prefix.prefix;
       lasts = λ place told. left.prefix.lasts place (was_told place told);
@@ -152,7 +155,8 @@ all_by_now : (start : ℕ) (t : Transcript) (now : ℕ)
     → commits_by start t now ≡ length t.history
 all_by_now start t now early = go t.history early
   where
-    go : (cs : List Committed) → ((index : ℕ) (c : Committed) → slice_get cs index ≡ Some c → start + c.clock ≤ now)
+    go : (cs : List Committed) → ((index : ℕ) (c : Committed) → slice_get cs index ≡ Some c
+        → start + c.clock ≤ now)
         → count_by (λ (c : Committed). nat_le (start + c.clock) now) cs ≡ length cs
     go [] early = refl
     go (c ∷ cs) early =
@@ -218,7 +222,8 @@ module _ (b : Beginning) (o : Setting) (t : Transcript) (base : Image) (side : S
       boot = stop.files.boot;
       boot_is = record { either = inr stop.files.boot_is; raised = λ since. stop.files.boot_is };
       left = stop.files.left;
-      good = subst (λ (size : ℕ). IsGoodImage size image stop.files.left stop.files.boot) size_is stop.files.good;
+      good = subst (λ (size : ℕ). IsGoodImage size image stop.files.left stop.files.boot) size_is
+          stop.files.good;
       count = stop.files.count;
       few = (let few = stop.files.few in
           let all = all_by_now start t side.device.clock committed_by_now in
@@ -262,7 +267,8 @@ module _ (b : Beginning) (o later : Setting) (t : Transcript) (base home : Image
       later.blocks new.device
   past_then clock image from to crash =
       left_then b.opened.size b.first b.tree b.events b.opened.clock t noted o.blocks later.blocks clock image
-      goes.blocks told_stays (let is = clock_new in omega (arith, to, is)) (by_clock (either clock side.device.clock so_far))
+      goes.blocks told_stays (let is = clock_new in omega (arith, to, is))
+      (by_clock (either clock side.device.clock so_far))
     where
       so_far : clock ≤ side.device.clock
       so_far = let calls = goes.device.calls in let few = at_most (calls_device noted.made) in

@@ -1,5 +1,6 @@
 -- What was told stays when an event more is told.
-use Rattle.std.proofs.Common.{◌≡◌, ◌⊎◌, inl, inr, ℕ, zero, suc, ◌+◌, ◌<◌, ◌≤◌, ap, ◌∙◌, refl, arith, List, [], ◌∷◌}
+use Rattle.std.proofs.Common.{◌≡◌, ◌⊎◌, inl, inr, ℕ, zero, suc, ◌+◌, ◌<◌, ◌≤◌, ap, ◌∙◌, refl, arith, List, []}
+use Rattle.std.proofs.Common.{◌∷◌}
 use Rattle.std.proofs.Common.{◌++◌, length, slice_get, take, zip, count_by, Option, Some, None}
 use Rattle.std.proofs.lemmas.List.{take-append-le}
 use Rattle.std.proofs.lemmas.Option.{slice_get_within}
@@ -76,7 +77,8 @@ module _ (events : Schedule) (steps : List (Option Step)) (added : Option Step) 
 
 -- ---- the transcript
 
-pub step_within : (t : Transcript) (index : ℕ) (one : Step) → step_at t index ≡ Some one → index < length t.steps
+pub step_within : (t : Transcript) (index : ℕ) (one : Step) → step_at t index ≡ Some one
+    → index < length t.steps
 step_within t index one is = slice_get_within t.steps index (Some one) (step_is t index one is)
 
 module _ (t : Transcript) (noted : Noted) where

@@ -43,9 +43,11 @@ moves told (event.Call number credential moment call) (Some one) worker =
     by_call told worker number one (record { credential = credential; moment = moment; call = call })
     (event.Call number credential moment call) (nat_eq worker number)
 moves told (event.Work number) (Some one) worker =
-    by_own told worker number one (event.Work number) (nat_eq worker number) refl (λ same. inl (ap event.Work same))
+    by_own told worker number one (event.Work number) (nat_eq worker number) refl
+    (λ same. inl (ap event.Work same))
 moves told (event.Read number) (Some one) worker =
-    by_own told worker number one (event.Read number) (nat_eq worker number) refl (λ same. inr (ap event.Read same))
+    by_own told worker number one (event.Read number) (nat_eq worker number) refl
+    (λ same. inr (ap event.Read same))
 moves told event.Log (Some one) worker = stays refl
 moves told event.LogIo (Some one) worker = stays refl
 moves told event.Install (Some one) worker = stays refl
@@ -57,7 +59,8 @@ pub own_move : (told : Told) (worker : ℕ) (one : Step)
     ≡ progressed told.log.broken one (told.workers worker)
 own_move told worker one =
     let itself : nat_eq worker worker ≡ true = grind (arith, nat_tests) in
-    ap (λ (b : Bool). if b then progressed told.log.broken one (told.workers worker) else told.workers worker) itself
+    ap (λ (b : Bool). if b then progressed told.log.broken one (told.workers worker) else told.workers
+    worker) itself
 
 -- and one whose read is made goes on by that
 pub own_read : (told : Told) (worker : ℕ) (one : Step)

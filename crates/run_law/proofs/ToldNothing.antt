@@ -12,8 +12,10 @@ use Rattle.store_promise.specs.LogTold.{CallTold, idle, out, was_made, may_insta
 use Rattle.store_promise.specs.NextCall.{IsNextOfInstalling, next_log_call}
 use Rattle.store_promise.specs.Progress.{Again, At, Begun, Called, Idle, Job, Planning, Progress, Read, Reading}
 use Rattle.store_promise.specs.Progress.{Refused, Taken, Waiting, is_idle, progressed}
-use Rattle.store_promise.specs.Schedule.{IsNextOfInstaller, IsNextOfLog, IsOfOne, IsReadOf, IsStepOf, IsStepOfCall}
-use Rattle.store_promise.specs.Schedule.{IsStepOfInstIo, IsStepOfInstaller, IsStepOfLog, IsStepOfLogIo, IsStepOfRead}
+use Rattle.store_promise.specs.Schedule.{IsNextOfInstaller, IsNextOfLog, IsOfOne, IsReadOf, IsStepOf}
+use Rattle.store_promise.specs.Schedule.{IsStepOfCall}
+use Rattle.store_promise.specs.Schedule.{IsStepOfInstIo, IsStepOfInstaller, IsStepOfLog, IsStepOfLogIo}
+use Rattle.store_promise.specs.Schedule.{IsStepOfRead}
 use Rattle.store_promise.specs.Schedule.{IsTaken, Setting, Told, told_after, worker_of}
 use Rattle.run_law.specs.Noting.{commits, ends, ends_of}
 use Rattle.run_law.proofs.ToldMoves.{own_read}
@@ -89,7 +91,8 @@ module _ (told : Told) (worker : ℕ) (made : Option Step) where
 
 -- ---- the log and the installer
 
-next_of_log : (may : Bool) (next : IoCall) (made : Option Step) → IsNextOfLog may next made → commits made ≡ false
+next_of_log : (may : Bool) (next : IoCall) (made : Option Step) → IsNextOfLog may next made
+    → commits made ≡ false
 next_of_log false next made is = ap commits is
 next_of_log true next (Some (step.LogNext call)) is = refl
 next_of_log true next made is = absurd is
@@ -127,7 +130,8 @@ of_inst_io (out call) made may = absurd may
 -- ---- each event but a worker's own step
 
 module _ (o : Setting) (workers : ℕ) (told : Told) where
-  quiet_step : (e : Event) (made : Option Step) → ((worker : ℕ) → e ≢ event.Work worker) → IsStepOf o told e made
+  quiet_step : (e : Event) (made : Option Step) → ((worker : ℕ) → e ≢ event.Work worker)
+      → IsStepOf o told e made
       → IsQuiet told e made
   quiet_step (event.Call worker credential moment call) made other may =
       of_call told worker (event.Call worker credential moment call) refl made (told.workers worker) refl may

@@ -1,5 +1,7 @@
--- The numbers of the transactions that are out stay those that were begun, each of one worker, and of no procedure.
-use Rattle.std.proofs.Common.{◌≡◌, ◌⊎◌, inl, inr, ℕ, ◌+◌, ◌≤◌, ap, sym, ◌∙◌, refl, subst, arith, Bool, true, false}
+-- The numbers of the transactions that are out stay those that were begun, each of one worker, and of no
+-- procedure.
+use Rattle.std.proofs.Common.{◌≡◌, ◌⊎◌, inl, inr, ℕ, ◌+◌, ◌≤◌, ap, sym, ◌∙◌, refl, subst, arith, Bool, true}
+use Rattle.std.proofs.Common.{false}
 use Rattle.std.proofs.Common.{if◌then◌else◌, slice_get, Option, Some, None, Ok, Err}
 use Rattle.model.specs.Calls.{has_rules, is_answered_stable}
 use Rattle.store_promise.specs.declared.events.Event.{Event}
@@ -8,7 +10,8 @@ use Rattle.store_promise.specs.declared.events.Step.{Step}
 use Rattle.store_promise.specs.declared.events.Step.TheVariants as step
 use Rattle.store_promise.specs.declared.transcript.Committed.{Committed}
 use Rattle.store_promise.specs.Progress.{At, Called, Job, Progress, Waiting, going_on, progressed}
-use Rattle.store_promise.specs.Schedule.{IsStepOf, IsStepOfCalled, IsStepOfRead, IsStepOfWork, IsTaken, Schedule}
+use Rattle.store_promise.specs.Schedule.{IsStepOf, IsStepOfCalled, IsStepOfRead, IsStepOfWork, IsTaken}
+use Rattle.store_promise.specs.Schedule.{Schedule}
 use Rattle.store_promise.specs.Schedule.{Setting, Told, told_after}
 use Rattle.store_promise.specs.Transcript.{Transcript}
 use Rattle.store_promise.proofs.Told.{may_be}
@@ -66,7 +69,8 @@ module _ (o : Setting) (workers : ℕ) (told : Told) (now : Event) (made : Optio
             own = work;
             is = is_step;
             fresh = next_number (has_rules job.call) number
-                (subst (λ (p : Progress). IsStepOfWork o told worker p (Some (step.Begun (Ok number)))) at of_work);
+                (subst (λ (p : Progress). IsStepOfWork o told worker p
+                (Some (step.Begun (Ok number)))) at of_work);
           }
       by_event (inr read) =
           let of_read : IsStepOfRead (told.workers worker) (Some (step.Begun (Ok number))) =
@@ -123,7 +127,8 @@ module _ (o : Setting) (workers : ℕ) (events : Schedule) (t : Transcript) (now
   next = told_after told now noted.made
 
   abbrev IsOut : ℕ → ℕ → Type 0
-  IsOut worker number = (number_out (told.workers worker) ≡ Some number) ⊎ Begins told now noted.made worker number
+  IsOut worker number = (number_out (told.workers worker) ≡ Some number)
+      ⊎ Begins told now noted.made worker number
 
   is_out : (worker number : ℕ) → number_out (next.workers worker) ≡ Some number → IsOut worker number
   is_out worker number out = out_next o workers told now noted.made is_taken worker number out
@@ -167,14 +172,16 @@ module _ (o : Setting) (workers : ℕ) (events : Schedule) (t : Transcript) (now
       let had = number_of events t now noted.made c new.1 in
       let its = numbered.alone worker c.worker number out (had ∙ ap (λ (n : ℕ). Some n) same) in
       let left = left_none events t now noted.made c new.1 in
-      let out_still : None ≡ Some number = sym left ∙ ap (λ (n : ℕ). number_out (next.workers n)) (sym its) ∙ is in
+      let out_still : None ≡ Some number = sym left
+      ∙ ap (λ (n : ℕ). number_out (next.workers n)) (sym its) ∙ is in
       cc
   of_none worker number index c is (inr new) (inl old) same =
       let few = numbered.used index c old in
       let fresh = new.fresh in
       omega (arith, few, fresh, same)
   of_none worker number index c is (inr new) (inr commit) same =
-      let both : Some (step.Begun (Ok number)) ≡ Some (commit_of commit.1.blocks _) = sym new.is ∙ commit.1.made_is in
+      let both : Some (step.Begun (Ok number)) ≡ Some (commit_of commit.1.blocks _) =
+      sym new.is ∙ commit.1.made_is in
       cc
 
   was_begun : (index : ℕ) (c : Committed) → Comes index c → c.ctx.transaction ≤ next.begun
@@ -190,7 +197,8 @@ module _ (o : Setting) (workers : ℕ) (events : Schedule) (t : Transcript) (now
   pub numbers_on : AreNumbered next (with_noted t noted).history
   numbers_on = record {
     begun = λ worker number is. has_begun worker number (is_out worker number is);
-    alone = λ worker other number is so. of_one worker other number (is_out worker number is) (is_out other number so);
+    alone = λ worker other number is so. of_one worker other number (is_out worker number is)
+        (is_out other number so);
     unused = λ worker number index c is entry same.
         of_none worker number index c is (is_out worker number is) (comes index c entry) same;
     used = λ index c entry. was_begun index c (comes index c entry);

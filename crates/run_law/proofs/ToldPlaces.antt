@@ -1,6 +1,8 @@
 -- The places that are told only rise, by one with each commit.
-use Rattle.std.proofs.Common.{◌≡◌, ℕ, zero, suc, ◌+◌, ◌≤◌, ap, sym, ◌∙◌, refl, subst, arith, Bool, true, false, if◌then◌else◌}
-use Rattle.std.proofs.Common.{[], ◌∷◌, ◌++◌, append-nil, List, length, take, zip, nat_eq, nat_lt, Option, Some, None}
+use Rattle.std.proofs.Common.{◌≡◌, ℕ, zero, suc, ◌+◌, ◌≤◌, ap, sym, ◌∙◌, refl, subst, arith, Bool, true}
+use Rattle.std.proofs.Common.{false, if◌then◌else◌}
+use Rattle.std.proofs.Common.{[], ◌∷◌, ◌++◌, append-nil, List, length, take, zip, nat_eq, nat_lt, Option}
+use Rattle.std.proofs.Common.{Some, None}
 use Rattle.std.proofs.lemmas.List.{take-take}
 use Rattle.wal_law.specs.declared.calls.IoCall.TheVariants.{Write, Barrier}
 use Rattle.store_promise.specs.declared.events.Committing.TheVariants as committing
@@ -78,7 +80,8 @@ pub places_rise : (events : Schedule) (steps : List (Option Step)) (index : ℕ)
     → (told_before events steps index).log.places ≤ (told_before events steps (length steps)).log.places
 places_rise events steps index few =
     subst (λ (pairs : Pairs). (told_along at_first pairs).log.places
-    ≤ (told_before events steps (length steps)).log.places) (take-take index (length steps) (zip events steps) few)
+    ≤ (told_before events steps (length steps)).log.places)
+    (take-take index (length steps) (zip events steps) few)
     (taken_rises (take (length steps) (zip events steps)) index at_first)
 
 -- ---- the places are those of the history
@@ -93,7 +96,8 @@ pub one_place : (told : Told) (e : Event) (made : Option Step) (blocks place : �
     → made ≡ Some (commit_of blocks place) → (told_after told e made).log.places ≡ told.log.places + 1
 one_place told e made blocks place is = ap (λ (m : Option Step). (told_after told e m).log.places) is
 
-pub places_on : (events : Schedule) (t : Transcript) (now : Event) (made : Option Step) (entry : Option Committed)
+pub places_on : (events : Schedule) (t : Transcript) (now : Event) (made : Option Step)
+    (entry : Option Committed)
     → (told_now events t).log.places ≡ length t.history → IsEntryOf events t now made entry
     → (told_after (told_now events t) now made).log.places ≡ length (t.history ++ listed entry)
 places_on events t now made None places never =

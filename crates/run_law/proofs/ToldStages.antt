@@ -9,7 +9,8 @@ use Rattle.store_promise.specs.declared.events.Step.TheVariants as step
 use Rattle.store_promise.specs.declared.events.Wish.{Wish}
 use Rattle.store_promise.specs.declared.events.Wish.TheVariants as wish
 use Rattle.store_promise.specs.Progress.{Again, At, Begun, Called, Idle, Job, Planning, Progress, Read, Reading}
-use Rattle.store_promise.specs.Progress.{Refused, Stage, Taken, Waiting, after_claimed, after_commit, after_planning}
+use Rattle.store_promise.specs.Progress.{Refused, Stage, Taken, Waiting, after_claimed, after_commit}
+use Rattle.store_promise.specs.Progress.{after_planning}
 use Rattle.store_promise.specs.Progress.{after_waiting, after_wanted, going_on, progressed, stage_after}
 use Rattle.run_law.specs.Ledger.{number_out, place_waited, stage_number, stage_place}
 use Rattle.run_law.proofs.EntriesCommits.{commit_of}
@@ -92,7 +93,8 @@ module _ (number : ℕ) where
 
   of_called : (made : Step) → next_number (stage_after false false made Called) ≡ Some number
       → made ≡ step.Begun (Ok number)
-  of_called (step.Begun (Ok other)) is = let same : other ≡ number = cc in ap (λ (n : ℕ). step.Begun (Ok n)) same
+  of_called (step.Begun (Ok other)) is = let same : other ≡ number = cc in
+      ap (λ (n : ℕ). step.Begun (Ok n)) same
   of_called (step.Begun (Err why)) is = cc
   of_called _ is = cc
 

@@ -19,7 +19,8 @@ MadeStays = (o : Setting) (workers : ℕ) (told : Told) (event : Event) (made : 
 
 module _ (o later : Setting) (workers : ℕ) (events : Schedule) (t : Transcript) (now : Event) (noted : Noted)
     (stays : MadeStays) (is_event : slice_get events (length t.steps) ≡ Some now)
-    (places : (told_now events t).log.places ≡ length t.history) (same : later ≡ record o { blocks = later.blocks })
+    (places : (told_now events t).log.places ≡ length t.history)
+    (same : later ≡ record o { blocks = later.blocks })
     (blocks : (place : ℕ) → place ≤ length t.history → later.blocks place ≡ o.blocks place)
     (taken : AreTaken o workers events t.steps)
     (is_taken : IsTaken o workers (told_now events t) now noted.made) where

@@ -17,9 +17,11 @@ use Rattle.store_promise.specs.declared.events.Wish.TheVariants as wish
 use Rattle.store_promise.specs.declared.transcript.Committed.{Committed}
 use Rattle.store_promise.specs.History.{IsHistory, WasCommitted}
 use Rattle.store_promise.specs.Progress.{Again, At, Begun, Called, Idle, Job, Planning, Progress, Read, Reading}
-use Rattle.store_promise.specs.Progress.{Refused, Stage, Taken, Waiting, after_claimed, after_commit, after_planning}
+use Rattle.store_promise.specs.Progress.{Refused, Stage, Taken, Waiting, after_claimed, after_commit}
+use Rattle.store_promise.specs.Progress.{after_planning}
 use Rattle.store_promise.specs.Progress.{after_waiting, after_wanted, going_on, progressed, stage_after}
-use Rattle.store_promise.specs.Schedule.{AreTaken, IsStepOfRead, IsTaken, Schedule, Setting, Told, progress_before}
+use Rattle.store_promise.specs.Schedule.{AreTaken, IsStepOfRead, IsTaken, Schedule, Setting, Told}
+use Rattle.store_promise.specs.Schedule.{progress_before}
 use Rattle.store_promise.specs.Schedule.{told_after, told_before}
 use Rattle.store_promise.specs.Transcript.{Transcript, committed_at, made, step_at}
 use Rattle.store_promise.proofs.Told.{get_within, told_next}
@@ -36,7 +38,8 @@ module _ (place : ℕ) where
   abbrev there : Option Stage
   there = Some (Waiting place)
 
-  by_wanted : (begun : Begun) (taken : Taken) (answer : Wish) → Some (after_wanted begun taken answer) ≡ there → ⊥
+  by_wanted : (begun : Begun) (taken : Taken) (answer : Wish)
+      → Some (after_wanted begun taken answer) ≡ there → ⊥
   by_wanted begun taken wish.Held is = cc
   by_wanted begun taken wish.Fetch is = cc
   by_wanted begun taken wish.Busy is = cc
@@ -44,7 +47,8 @@ module _ (place : ℕ) where
   by_wanted begun taken wish.Outside is = cc
   by_wanted begun taken wish.NoMemory is = cc
 
-  by_claimed : (begun : Begun) (block : BlockNo) (answer : Wish) → Some (after_claimed begun block answer) ≡ there → ⊥
+  by_claimed : (begun : Begun) (block : BlockNo) (answer : Wish)
+      → Some (after_claimed begun block answer) ≡ there → ⊥
   by_claimed begun block wish.Held is = cc
   by_claimed begun block wish.Fetch is = cc
   by_claimed begun block wish.Busy is = cc
@@ -56,7 +60,8 @@ module _ (place : ℕ) where
       → after_commit stable begun answer ≡ there → Waits (Planning begun) (step.Commit blocks answer) place
   by_commit true begun blocks (committing.Committed seq) is =
       let same : seq.0 ≡ place = cc in
-      since begun blocks refl (ap (λ (n : ℕ). step.Commit blocks (committing.Committed (record { 0 = n }))) same)
+      since begun blocks refl (ap (λ (n : ℕ). step.Commit blocks
+      (committing.Committed (record { 0 = n }))) same)
   by_commit false begun blocks (committing.Committed seq) is = cc
   by_commit stable begun blocks committing.Full is = cc
   by_commit stable begun blocks committing.Foreign is = cc
@@ -73,7 +78,8 @@ module _ (place : ℕ) where
   by_planning stable begun (step.Ended why) is = cc
   by_planning stable begun _ is = cc
 
-  waiting_still : (done : Bool) (at : ℕ) → (if done then None else Some (Waiting at)) ≡ there → Waiting at ≡ Waiting place
+  waiting_still : (done : Bool) (at : ℕ) → (if done then None else Some (Waiting at)) ≡ there
+      → Waiting at ≡ Waiting place
   waiting_still true at is = cc
   waiting_still false at is = cc
 
@@ -132,15 +138,18 @@ module _ (place : ℕ) where
 
   pub data Came (told : Told) (now : Event) (m : Option Step) (worker : ℕ) (job : Job) : Type 0 where
     before : told.workers worker ≡ At job (Waiting place) → Came told now m worker job
-    with_it : (begun : Begun) (blocks : ℕ) → now ≡ event.Work worker → told.workers worker ≡ At job (Planning begun)
-        → m ≡ Some (step.Commit blocks (committing.Committed (record { 0 = place }))) → Came told now m worker job
+    with_it : (begun : Begun) (blocks : ℕ) → now ≡ event.Work worker
+        → told.workers worker ≡ At job (Planning begun)
+        → m ≡ Some (step.Commit blocks (committing.Committed (record { 0 = place })))
+        → Came told now m worker job
 
   module _ (told : Told) (worker : ℕ) (job : Job) where
     same_number : (number : ℕ) → nat_eq worker number ≡ true → number ≡ worker
     same_number number is = grind (arith, nat_tests)
 
     by_call : (one : Job) (now : Event) (m : Option Step) (same : Bool)
-        → (if same then At one Called else told.workers worker) ≡ At job (Waiting place) → Came told now m worker job
+        → (if same then At one Called else told.workers worker) ≡ At job (Waiting place)
+        → Came told now m worker job
     by_call one now m true is = cc
     by_call one now m false is = before is
 
@@ -164,7 +173,8 @@ module _ (place : ℕ) where
         → told.workers worker ≡ At job (Planning begun) → ⊥
     no_read number one begun o workers taken numbers planning = elim (cases_lt number workers) [
       | inl less ↦
-          let none = subst (λ p. IsStepOfRead p (Some one)) (ap told.workers numbers ∙ planning) (taken.own less) in cc
+          let none = subst (λ p. IsStepOfRead p (Some one)) (ap told.workers numbers ∙ planning)
+          (taken.own less) in cc
       | inr far ↦ let none = taken.others (λ less. omega (arith, less, far)) in cc
     ]
 
@@ -181,7 +191,8 @@ module _ (place : ℕ) where
         by_case : number ≡ worker → WaitsWith (told.workers worker) one job
             → Came told (event.Read number) (Some one) worker job
         by_case numbers (waited so) = before so
-        by_case numbers (commits begun blocks so made_is) = absurd (no_read number one begun o workers taken numbers so)
+        by_case numbers (commits begun blocks so made_is) =
+            absurd (no_read number one begun o workers taken numbers so)
 
   came : (o : Setting) (workers : ℕ) (told : Told) (now : Event) (m : Option Step) (worker : ℕ) (job : Job)
       → IsTaken o workers told now m → (told_after told now m).workers worker ≡ At job (Waiting place)
@@ -218,8 +229,9 @@ entry_index : (t : Transcript) (place : ℕ) (c : Committed) → committed_at t 
 entry_index t zero c is = cc
 entry_index t (suc index) c is = (index, is)
 
-module _ (o : Setting) (workers : ℕ) (events : Schedule) (t : Transcript) (taken : AreTaken o workers events t.steps)
-    (history : IsHistory events t) (worker : ℕ) (job : Job) (place : ℕ) where
+module _ (o : Setting) (workers : ℕ) (events : Schedule) (t : Transcript)
+    (taken : AreTaken o workers events t.steps) (history : IsHistory events t) (worker : ℕ) (job : Job)
+    (place : ℕ) where
   abbrev pub IsItsOwn : Type 0
   IsItsOwn = (c : Committed) × (committed_at t place ≡ Some c) × (c.call ≡ job.call)
 
@@ -232,14 +244,16 @@ module _ (o : Setting) (workers : ℕ) (events : Schedule) (t : Transcript) (tak
       let was = history.each at.0 found.0 at.1 in
       (found.0, found.1, call_is found.0 (at.0 + 1) was found.2)
     where
-      call_is : (c : Committed) (entry : ℕ) → WasCommitted events t entry c → c.event ≡ index → c.call ≡ job.call
+      call_is : (c : Committed) (entry : ℕ) → WasCommitted events t entry c → c.event ≡ index
+          → c.call ≡ job.call
       call_is c entry was same =
           let workers_are : c.worker ≡ worker =
           same_worker c.worker worker (slice_get events c.event) was.event
           (ap (slice_get events) same ∙ is_event) in
           let so_far : progress_before events t.steps c.worker c.event ≡ At job (Planning begun) =
           (λ i. progress_before events t.steps (workers_are i) (same i)) ∙ planning in
-          was.call ∙ ap (λ (j : Job). j.call) (same_job was.job job (Planning was.begun) (Planning begun) _ was.planned so_far)
+          was.call ∙ ap (λ (j : Job). j.call)
+          (same_job was.job job (Planning was.begun) (Planning begun) _ was.planned so_far)
 
   pub waits_for_its_own : (index : ℕ) → index ≤ length t.steps
       → progress_before events t.steps worker index ≡ At job (Waiting place) → IsItsOwn
@@ -254,7 +268,8 @@ module _ (o : Setting) (workers : ℕ) (events : Schedule) (t : Transcript) (tak
       (sym (ap (λ (told : Told). told.workers worker)
       (told_next events t.steps index some_event.0 some_step.0 some_event.1 some_step.1)) ∙ is))
     where
-      by_case : (now : Event) (m : Option Step) → slice_get events index ≡ Some now → slice_get t.steps index ≡ Some m
+      by_case : (now : Event) (m : Option Step) → slice_get events index ≡ Some now
+          → slice_get t.steps index ≡ Some m
           → (progress_before events t.steps worker index ≡ At job (Waiting place) → IsItsOwn)
           → Came place (told_before events t.steps index) now m worker job → IsItsOwn
       by_case now m is_event is_step earlier (before so) = earlier so

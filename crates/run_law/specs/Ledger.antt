@@ -37,8 +37,8 @@ abbrev pub place_waited : Progress → Option ℕ
 place_waited Idle = None
 place_waited (At job stage) = stage_place stage
 
--- A transaction that is out has a number that was begun, which no other has that is out, and no procedure that was
--- committed.
+-- A transaction that is out has a number that was begun, which no other has that is out, and no procedure
+-- that was committed.
 pub record AreNumbered (told : Told) (history : List Committed) : Type 0 where
   pub begun : (worker number : ℕ) → number_out (told.workers worker) ≡ Some number → number ≤ told.begun
   pub alone : (worker other number : ℕ) → number_out (told.workers worker) ≡ Some number
@@ -47,8 +47,8 @@ pub record AreNumbered (told : Told) (history : List Committed) : Type 0 where
       → slice_get history index ≡ Some c → c.ctx.transaction ≡ number → ⊥
   pub used : (index : ℕ) (c : Committed) → slice_get history index ≡ Some c → c.ctx.transaction ≤ told.begun
 
--- A place that is waited for was taken, nobody else waits for it, and no answer has it; each answer has a place that
--- was taken.
+-- A place that is waited for was taken, nobody else waits for it, and no answer has it; each answer has a
+-- place that was taken.
 pub record ArePlaced (told : Told) (history : List Committed) (answers : List Answer) : Type 0 where
   pub taken : (worker place : ℕ) → place_waited (told.workers worker) ≡ Some place → place ≤ length history
   pub alone : (worker other place : ℕ) → place_waited (told.workers worker) ≡ Some place

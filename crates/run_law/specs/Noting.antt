@@ -1,5 +1,5 @@
--- What an event adds to what a run tells: its step, and with it a procedure that was committed and an answer, where
--- there is one.
+-- What an event adds to what a run tells: its step, and with it a procedure that was committed and an answer,
+-- where there is one.
 use Rattle.std.specs.Prelude.{◌≡◌, ℕ, ◌+◌, Bool, true, false, not, ◌&&◌, length, List, [], ◌∷◌, ◌++◌}
 use Rattle.std.specs.Prelude.{Option, Some, None}
 use Rattle.store_promise.specs.declared.events.Committing.TheVariants as committing
@@ -52,8 +52,8 @@ abbrev pub commits : Option Step → Bool
 commits (Some (step.Commit blocks (committing.Committed place))) = true
 commits _ = false
 
--- The entry is that of the procedure that the event's step commits, at the next place: of the call that its worker
--- has, in the transaction that was begun for it.
+-- The entry is that of the procedure that the event's step commits, at the next place: of the call that its
+-- worker has, in the transaction that was begun for it.
 pub record IsCommitOf (events : Schedule) (t : Transcript) (now : Event) (made : Option Step) (c : Committed)
     : Type 0 where
   pub event_is : now ≡ event.Work c.worker
@@ -84,8 +84,8 @@ abbrev pub ends : Told → Event → Option Step → Bool
 ends told now made = ends_of told (told_after told now made) (worker_of now)
 
 -- The answer ends the call of its worker with the event's step, in what is told with it.
-pub record IsAnswerWith (events : Schedule) (t told : Transcript) (now : Event) (made : Option Step) (a : Answer)
-    : Type 0 where
+pub record IsAnswerWith (events : Schedule) (t told : Transcript) (now : Event)
+    (made : Option Step) (a : Answer) : Type 0 where
   pub event_is : now ≡ event.Work a.worker
   pub job : Job
   pub stage : Stage

@@ -18,8 +18,8 @@ pub record WasToldBy (events : Schedule) (start : ℕ) (t : Transcript) (clock p
   pub by : start + device_calls t index ≤ clock
   pub settled : place ≤ settled_told (told_before events t.steps index).log
 
--- What a stop at a clock leaves has the files after a beginning of the history, committed by then, in which is each
--- place that the steps told as settled by then; and once the opening has ended their blocks.
+-- What a stop at a clock leaves has the files after a beginning of the history, committed by then, in which
+-- is each place that the steps told as settled by then; and once the opening has ended their blocks.
 pub record LeavesSoFar (size first : ℕ) (tree : Tree) (events : Schedule) (start : ℕ) (t : Transcript)
     (blocks : ℕ → Image) (clock : ℕ) (image : Image) : Type 0 where
   pub prefix : HasPrefix size (IsBootBy first start clock) tree (entries_of t) (commits_by start t clock)
@@ -29,4 +29,5 @@ pub record LeavesSoFar (size first : ℕ) (tree : Tree) (events : Schedule) (sta
 -- so it was whenever a call of the device was next, but for what is next now
 abbrev pub HasLeft : Device → ℕ → ℕ → Tree → Schedule → ℕ → Transcript → (ℕ → Image) → Device → Type 0
 HasLeft before size first tree events start t blocks d = (clock : ℕ) (image : Image) → before.clock ≤ clock
-    → clock < d.clock → IsCrashImage d clock image → LeavesSoFar size first tree events start t blocks clock image
+    → clock < d.clock → IsCrashImage d clock image
+    → LeavesSoFar size first tree events start t blocks clock image

@@ -37,8 +37,8 @@ pub record IsToldWell (b : Beginning) (o : Setting) (t : Transcript) : Type 0 wh
   pub answers : AreAnswers b.events t
   pub ledger : HasLedger b.events t
 
--- The run so far: its store is open, over what is at home, with the entries that were told; what is told is what the
--- store has; and at each stop so far a prefix of the entries was left.
+-- The run so far: its store is open, over what is at home, with the entries that were told; what is told is
+-- what the store has; and at each stop so far a prefix of the entries was left.
 pub record IsRun (b : Beginning) (o : Setting) (t : Transcript) (base : Image) (side : StoreSide)
     (fetches : List Fetch) (last : Tree) : Type 0 where
   pub opens : IsOpened b.before b.opened b.tree b.first o.position
@@ -54,22 +54,22 @@ pub record IsRun (b : Beginning) (o : Setting) (t : Transcript) (base : Image) (
   pub past : HasLeft b.before b.opened.size b.first b.tree b.events b.opened.clock t o.blocks side.device
 
 -- the procedure that an event commits changes the blocks only in what its transaction has taken
-pub record ChangesOwn (size : ℕ) (events : Schedule) (t : Transcript) (blocks : ℕ → Image) (c : Committed) : Type 0
-  where
-    pub job : Job
-    pub begun : Begun
-    pub planned : progress_now events t c.worker ≡ At job (Planning begun)
-    pub others : KeepsOthers size begun (blocks (length t.history)) (blocks (length t.history + 1))
+pub record ChangesOwn (size : ℕ) (events : Schedule) (t : Transcript) (blocks : ℕ → Image)
+    (c : Committed) : Type 0 where
+  pub job : Job
+  pub begun : Begun
+  pub planned : progress_now events t c.worker ≡ At job (Planning begun)
+  pub others : KeepsOthers size begun (blocks (length t.history)) (blocks (length t.history + 1))
 
 abbrev pub ChangesOwnIn : ℕ → Schedule → Transcript → (ℕ → Image) → Option Committed → Type 0
 ChangesOwnIn size events t blocks None = Unit {0}
 ChangesOwnIn size events t blocks (Some c) = ChangesOwn size events t blocks c
 
--- An event was taken: its step is one that may be made, moved the device so far, left the run going, with one entry
--- more where it committed one, in a setting with the same blocks up to the places so far; and what is told with it
--- tells of it.
-pub record GoesOn (b : Beginning) (o : Setting) (t : Transcript) (side : StoreSide) (noted : Noted) (later : Setting)
-    (base : Image) (new : StoreSide) (fetches : List Fetch) (last : Tree) : Type 0 where
+-- An event was taken: its step is one that may be made, moved the device so far, left the run going, with one
+-- entry more where it committed one, in a setting with the same blocks up to the places so far; and what is
+-- told with it tells of it.
+pub record GoesOn (b : Beginning) (o : Setting) (t : Transcript) (side : StoreSide) (noted : Noted)
+    (later : Setting) (base : Image) (new : StoreSide) (fetches : List Fetch) (last : Tree) : Type 0 where
   pub event : Event
   pub next : slice_get b.events (length t.steps) ≡ Some event
   pub taken : IsTaken o b.workers (told_now b.events t) event noted.made

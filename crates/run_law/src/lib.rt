@@ -1,5 +1,5 @@
-//! Laws on a run as it goes on, event by event: what is told of it grows, and each stop so far leaves a prefix of its
-//! procedures. They are contracts of functions that do nothing; `store`'s `run` stands on them.
+//! Laws on a run as it goes on, event by event: what is told of it grows, and each stop so far leaves a
+//! prefix of its procedures. They are contracts of functions that do nothing; `store`'s `run` stands on them.
 #![tactic(auto)]
 
 mod noting;

@@ -8,8 +8,8 @@ ghost use Rattle.run_law.specs.Run.{Beginning, IsToldWell};
 ghost use Rattle.std.specs.Prelude.{◌≡◌, ◌≢◌, ◌≤◌, ◌+◌, ℕ, length, slice_get, Option, Some, None};
 ghost use Rattle.store_promise.specs.Transcript.{Transcript};
 
-/// What is told well stays so with the next event, where its step is one that may be made, and what is added tells of
-/// it; also in a setting that has other blocks for later procedures.
+/// What is told well stays so with the next event, where its step is one that may be made, and what is added
+/// tells of it; also in a setting that has other blocks for later procedures.
 pub fn what_is_told_grows()
     ensures well { (b : Beginning) (o later : Setting) (t : Transcript) (event : Event) (noted : Noted)
         → slice_get b.events (length t.steps) ≡ Some event → IsToldWell b o t
@@ -25,10 +25,11 @@ pub fn what_is_told_grows()
     store_promise::what_was_made_stays();
 }
 
-/// An event that isn't a worker's own step commits no procedure and ends no call: with it nothing is told but its
-/// step.
+/// An event that isn't a worker's own step commits no procedure and ends no call: with it nothing is told but
+/// its step.
 pub fn only_work_tells()
-    ensures { (o : Setting) (workers : ℕ) (events : Schedule) (t : Transcript) (now : Event) (made : Option Step)
+    ensures { (o : Setting) (workers : ℕ) (events : Schedule) (t : Transcript) (now : Event)
+        (made : Option Step)
         → ((worker : ℕ) → now ≢ event.Work worker) → IsTaken o workers (told_now events t) now made
         → TellsOfEvent events t now (record { entry = None; answer = None; made = made }) }
 {}

@@ -43,11 +43,12 @@ pub fn a_run_goes_on()
     crate::what_is_told_grows();
 }
 
-/// So it keeps its promise, whenever no event comes any more: where each stop leaves some image, as on a device that
-/// keeps its model.
+/// So it keeps its promise, whenever no event comes any more: where each stop leaves some image, as on a
+/// device that keeps its model.
 pub fn a_run_keeps_its_promise()
-    ensures { (b : Beginning) (o : Setting) (t : Transcript) (base : Image) (side : StoreSide) (fetches : List Fetch)
-        (last : Tree) → IsRun b o t base side fetches last → LeavesImages b.before side.device
+    ensures { (b : Beginning) (o : Setting) (t : Transcript) (base : Image) (side : StoreSide)
+        (fetches : List Fetch) (last : Tree) → IsRun b o t base side fetches last
+        → LeavesImages b.before side.device
         → KeepsPromise b.before side.device b.tree b.first b.workers b.events t }
 {
     store_promise::a_stop_leaves_a_beginning();

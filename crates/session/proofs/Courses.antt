@@ -1,5 +1,6 @@
 -- How the course of a stream goes on.
-use Rattle.std.proofs.Common.{◌≡◌, ℕ, ◌+◌, ◌-◌, ◌^◌, true, List, [], ◌∷◌, ◌++◌, length, min, take, drop, Option, Some}
+use Rattle.std.proofs.Common.{◌≡◌, ℕ, ◌+◌, ◌-◌, ◌^◌, true, List, [], ◌∷◌, ◌++◌, length, min, take, drop}
+use Rattle.std.proofs.Common.{Option, Some}
 use Rattle.std.proofs.Common.{None, Result, Ok, Err, refl, sym, ap, subst, ◌∙◌, inl, inr, arith, append_assoc}
 use Rattle.std.proofs.Common.{length-append, Bool, false, leb, leb→le, le→leb, T, true≢false}
 use Rattle.std.specs.Prelude.{flat_map, ◌⊎◌, ◌==◌}
@@ -95,7 +96,8 @@ longer_answer K L so moment old (verdicts.Call xid credential call) bytes new (i
     inl (longer_call K L so moment old xid credential call bytes new a)
 longer_answer K L so moment old (verdicts.Call xid credential call) bytes new (inr a) = inr a
 
-pub longer_answers : (K L : Type 0) → (L → K) → (moment : Moment) (old : Opened) (messages replies : List (List ℕ))
+pub longer_answers : (K L : Type 0) → (L → K)
+    → (moment : Moment) (old : Opened) (messages replies : List (List ℕ))
     (new : Opened) → Answered K moment old messages replies new → Answered L moment old messages replies new
 longer_answers K L so moment old [] [] new a = a
 longer_answers K L so moment old [] (r ∷ rs) new a = absurd a
@@ -179,12 +181,14 @@ one_part f p = flat_map-cons f p [] ∙ append-nil (f p)
 
 -- a message is answered
 pub answers : (K : Type 0) (moment : Moment) (old : Opened) (first : Option (List ℕ)) (read left : List ℕ)
-    (count : ℕ) (middle : Opened) (told : Option (List ℕ)) (text m more reply : List ℕ) (next : ℕ) (new : Opened)
+    (count : ℕ) (middle : Opened) (told : Option (List ℕ)) (text m more reply : List ℕ) (next : ℕ)
+    (new : Opened)
     (written : Option (List ℕ)) → IsCourse K moment old first read left count middle told → left ≡ text ++ more
     → IsRecord text m → IsAnswered K moment middle (judged m) reply new
     → Appends told written (fragment true reply) → next ≡ min (count + 1) (2 ^ 64 - 1)
     → IsCourse K moment old first read more next new written
-answers K moment old first read left count middle told text m more reply next new written c e is answered more_told n =
+answers K moment old first read left count middle told text m more reply next new written c e
+    is answered more_told n =
     record {
       messages = c.messages ++ m ∷ [];
       replies = c.replies ++ reply ∷ [];
@@ -193,7 +197,8 @@ answers K moment old first read left count middle told text m more reply next ne
       told = subst (Appends first written)
           (ap (λ (t : List ℕ). flat_map (fragment true) c.replies ++ t) (sym (one_part (fragment true) reply))
           ∙ sym (flat_map-append (fragment true) c.replies (reply ∷ [])))
-          (then_more first told written (flat_map (fragment true) c.replies) (fragment true reply) c.told more_told);
+          (then_more first told written (flat_map (fragment true) c.replies) (fragment true reply)
+          c.told more_told);
       counted = omega (arith, n, c.counted, length-append c.replies (reply ∷ []));
     }
 
@@ -226,8 +231,14 @@ delivers P reply bytes first (Err faults.Device) written is e w = absurd w
 spelled_by : (xid : ℕ) (body : ReplyBody) (long many : Bool) → body_too_long body ≡ long
     → leb (2 ^ 31) (length (reply_bytes xid body)) ≡ many → (bytes : List ℕ) × IsSpelled xid body bytes
 spelled_by xid body true many is more = (refused xid SystemError, inr (inl is, refl))
-spelled_by xid body false true is more =
-    (refused xid SystemError, inr (inr (leb→le (2 ^ 31) (length (reply_bytes xid body)) (subst T (sym more) tt)), refl))
+spelled_by xid body false true is more = (
+  refused xid SystemError,
+  inr (
+    inr (leb→le (2 ^ 31) (length (reply_bytes xid body))
+        (subst T (sym more) tt)),
+    refl,
+  ),
+)
 spelled_by xid body false false is more = (reply_bytes xid body, inl (refl, fits))
   where
     fits : IsTooLongReply xid body → ⊥
@@ -251,7 +262,8 @@ pub judged_refused : (K : Type 0) (moment : Moment) (old : Opened) (j : Judged) 
     → IsAnswered K moment old j bytes old
 judged_refused K moment old verdicts.Closed xid refusal bytes is spelled = absurd cc
 judged_refused K moment old (verdicts.Refused x r) xid refusal bytes is spelled =
-    subst (λ (j : Judged). IsAnswered K moment old j bytes old) is (refusal_fits xid refusal bytes spelled, refl)
+    subst (λ (j : Judged). IsAnswered K moment old j bytes old)
+    is (refusal_fits xid refusal bytes spelled, refl)
 judged_refused K moment old (verdicts.Call x caller call) xid refusal bytes (inl is) spelled = absurd cc
 judged_refused K moment old (verdicts.Call x caller call) xid refusal bytes (inr is) spelled =
     let number : xid ≡ x = cc is in
@@ -259,7 +271,8 @@ judged_refused K moment old (verdicts.Call x caller call) xid refusal bytes (inr
     inr (refusal_fits xid refusal bytes spelled ∙ cc (number, error), refl)
 
 pub judged_call : (K : Type 0) (moment : Moment) (old new : Opened) (j : Judged) (xid : ℕ)
-    (credential : Credential) (call : ProgramCall) (bytes : List ℕ) → Judges (verdicts.Call xid credential call) j
+    (credential : Credential) (call : ProgramCall) (bytes : List ℕ)
+    → Judges (verdicts.Call xid credential call) j
     → IsCallAnswered K moment old xid credential call bytes new → IsAnswered K moment old j bytes new
 judged_call K moment old new verdicts.Closed xid credential call bytes is answered = absurd cc
 judged_call K moment old new (verdicts.Refused x r) xid credential call bytes is answered = absurd cc
@@ -406,8 +419,9 @@ same_course K moment old first read left count middle told new written c is = re
 }
 
 -- a fault while records are answered is one of the stream
-pub stopped : (K : Type 0) (moment : Moment) (old : Opened) (unread first : Option (List ℕ)) (fault : SessionFault)
-    (rest written : Option (List ℕ)) (new : Opened) (read left : List ℕ) (count : ℕ) (middle : Opened)
+pub stopped : (K : Type 0) (moment : Moment) (old : Opened) (unread first : Option (List ℕ))
+    (fault : SessionFault) (rest written : Option (List ℕ)) (new : Opened) (read left : List ℕ) (count : ℕ)
+    (middle : Opened)
     (told : Option (List ℕ)) → Consumes unread rest read
     → IsCourse K moment old first read left count middle told
     → StopsAt K moment fault left middle told new written
@@ -416,26 +430,32 @@ stopped K moment old unread first faults.Record rest written new read left count
     let same = same_course K moment old first read left count middle told new written c stops.0 in
     ends_between K moment old unread first (Err faults.Record) rest written new read left count consumed same
     (stops.1, same.told)
-stopped K moment old unread first faults.NoMemory rest written new read left count middle told consumed c (inl still) =
+stopped K moment old unread first faults.NoMemory rest written new read left count middle told consumed
+    c (inl still) =
     let same = same_course K moment old first read left count middle told new written c still in
     ends_between K moment old unread first (Err faults.NoMemory) rest written new read left count consumed same
     (inl same.told)
-stopped K moment old unread first faults.NoMemory rest written new read left count middle told consumed c (inr short) =
-    ends_short K moment old unread first (Err faults.NoMemory) rest written new read left count middle told consumed c
+stopped K moment old unread first faults.NoMemory rest written new read left count middle told consumed
+    c (inr short) =
+    ends_short K moment old unread first (Err faults.NoMemory) rest written new read left count middle
+    told consumed c
     short.0 (λ off same. inr (off, same ∙ short.1))
 stopped K moment old unread first faults.Output rest written new read left count middle told consumed c short =
-    ends_short K moment old unread first (Err faults.Output) rest written new read left count middle told consumed c
+    ends_short K moment old unread first (Err faults.Output) rest written new read left count middle
+    told consumed c
     short (λ off same. off)
 stopped K moment old unread first faults.Input rest written new read left count middle told consumed c stops =
     absurd stops
-stopped K moment old unread first faults.Truncated rest written new read left count middle told consumed c stops =
+stopped K moment old unread first faults.Truncated rest written new read left count middle told
+    consumed c stops =
     absurd stops
 stopped K moment old unread first faults.Device rest written new read left count middle told consumed c stops =
     absurd stops
 
 -- a stream that has ended, behind which the device failed
 pub failed_behind : (K : Type 0) (moment : Moment) (old : Opened) (unread first : Option (List ℕ)) (count : ℕ)
-    (rest written : Option (List ℕ)) (new : Opened) → IsStream K moment old unread first (Ok count) rest written new
+    (rest written : Option (List ℕ)) (new : Opened)
+    → IsStream K moment old unread first (Ok count) rest written new
     → IsStream K moment old unread first (Err faults.Device) rest written new
 failed_behind K moment old unread first count rest written new s = record {
   read = s.read;

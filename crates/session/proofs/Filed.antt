@@ -1,5 +1,6 @@
 -- What a stream makes of the files, from what each of its messages was answered.
-use Rattle.std.proofs.Common.{◌≡◌, ◌≤◌, ℕ, List, [], ◌∷◌, ◌++◌, option_to_list, refl, sym, ap, subst, ◌∙◌, inl, inr, arith}
+use Rattle.std.proofs.Common.{◌≡◌, ◌≤◌, ℕ, List, [], ◌∷◌, ◌++◌, option_to_list, refl, sym, ap, subst, ◌∙◌}
+use Rattle.std.proofs.Common.{inl, inr, arith}
 use Rattle.std.proofs.Common.{append_assoc, Option, Some, None, Result, Ok, Err, true, OnOk, OnErr}
 use Rattle.std.proofs.lemmas.List.{append-nil}
 use Rattle.disk.specs.Blocks.{AreBlocks}
@@ -31,7 +32,8 @@ use Rattle.store_images.proofs.StillOpen.{same_further}
 use Rattle.store.specs.Calling.{ComesTo, GoesTo, Outset}
 use Rattle.session.specs.declared.serving.SessionFault.{SessionFault}
 use Rattle.session.specs.declared.serving.SessionFault.TheVariants as faults
-use Rattle.session.specs.Filing.{AreFiled, Files, HasFiled, IsFiled, IsOpenFor, IsServed, IsSettledBehind, NumbersRise}
+use Rattle.session.specs.Filing.{AreFiled, Files, HasFiled, IsFiled, IsOpenFor, IsServed, IsSettledBehind}
+use Rattle.session.specs.Filing.{NumbersRise}
 use Rattle.session.specs.Filing.{filed, outset_of}
 use Rattle.session.specs.Replying.{IsAnswered}
 use Rattle.session.specs.Streaming.{Answered, IsStream}
@@ -133,7 +135,8 @@ one stops K moment old files verdicts.Closed bytes new keeps timely opened a = a
 one stops K moment old files (verdicts.Refused xid refusal) bytes new keeps timely opened a =
     subst (λ (x : Opened). FilesOne moment old files (verdicts.Refused xid refusal) bytes x) (sym a.1)
     (untouched stops moment old files (verdicts.Refused xid refusal) bytes opened (λ settled. (refl, refl)))
-one stops K moment old files (verdicts.Call xid credential (calls.Nfs call)) bytes new keeps timely opened (inl a) =
+one stops K moment old files (verdicts.Call xid credential (calls.Nfs call)) bytes new keeps timely
+    opened (inl a) =
     let has = a.1.answered files.first files.last files.entries keeps timely opened in
     record {
       later = filed files has.entry has.last;
@@ -141,8 +144,8 @@ one stops K moment old files (verdicts.Call xid credential (calls.Nfs call)) byt
         a.0,
         has,
         refl,
-        spelled_whole xid a.0 bytes (never_too_long xid (outset_of moment old files credential call) has.entry has.last
-            a.0 new has.comes has.tells) a.2,
+        spelled_whole xid a.0 bytes (never_too_long xid (outset_of moment old files credential call)
+            has.entry has.last a.0 new has.comes has.tells) a.2,
         λ entry is reply stable. let there = reply.settled stable in omega (arith, there, few),
       );
       goes = has.goes;
@@ -156,23 +159,27 @@ one stops K moment old files (verdicts.Call xid credential (calls.Nfs call)) byt
       past = has.files.past;
       during = has.files.stops;
     }
-one stops K moment old files (verdicts.Call xid credential (calls.Nfs call)) bytes new keeps timely opened (inr a) =
-    subst (λ (x : Opened). FilesOne moment old files (verdicts.Call xid credential (calls.Nfs call)) bytes x) (sym a.1)
+one stops K moment old files (verdicts.Call xid credential (calls.Nfs call)) bytes new keeps timely
+    opened (inr a) =
+    subst (λ (x : Opened). FilesOne moment old files (verdicts.Call xid credential (calls.Nfs call))
+    bytes x) (sym a.1)
     (untouched stops moment old files (verdicts.Call xid credential (calls.Nfs call)) bytes opened
     (λ settled. inr (a.0, refl, refl)))
-one stops K moment old files (verdicts.Call xid credential (calls.Mount call)) bytes new keeps timely opened (inl a) =
+one stops K moment old files (verdicts.Call xid credential (calls.Mount call)) bytes new keeps timely
+    opened (inl a) =
     subst (λ (x : Opened). FilesOne moment old files (verdicts.Call xid credential (calls.Mount call)) bytes x)
     (sym a.0) (untouched stops moment old files (verdicts.Call xid credential (calls.Mount call)) bytes opened
     (λ settled. (refl, refl)))
-one stops K moment old files (verdicts.Call xid credential (calls.Mount call)) bytes new keeps timely opened (inr a) =
+one stops K moment old files (verdicts.Call xid credential (calls.Mount call)) bytes new keeps timely
+    opened (inr a) =
     subst (λ (x : Opened). FilesOne moment old files (verdicts.Call xid credential (calls.Mount call)) bytes x)
     (sym a.1) (untouched stops moment old files (verdicts.Call xid credential (calls.Mount call)) bytes opened
     (λ settled. (refl, refl)))
 
 -- ---- one after another
 
-record FilesAll (moment : Moment) (old : Opened) (files : Files) (messages replies : List (List ℕ)) (new : Opened)
-    : Type 0 where
+record FilesAll (moment : Moment) (old : Opened) (files : Files) (messages replies : List (List ℕ))
+    (new : Opened) : Type 0 where
   later : Files
   each : (settled : ℕ) → settled_place new.core.log ≤ settled
       → AreFiled settled moment old files messages replies new later
@@ -202,7 +209,8 @@ during_both longer old mid later files between made all past further boot first 
     between.entries made (λ clock image above below crash. one clock image above (omega (arith, below)) crash)
     (omega arith)))
     (subst (λ (b : ℕ). KeepsFiles mid.device later b files.first all (settled_place mid.core.log)) boot
-    (subst (λ (tree : Tree). KeepsFiles mid.device later mid.boot tree all (settled_place mid.core.log)) first two))
+    (subst (λ (tree : Tree). KeepsFiles mid.device later mid.boot tree all
+    (settled_place mid.core.log)) first two))
 
 all : LeavesFiles → KeepsLonger → (K : Type 0) (moment : Moment) (old : Opened) (files : Files)
     (messages replies : List (List ℕ)) (new : Opened)
@@ -238,7 +246,8 @@ all stops longer K moment old files (m ∷ ms) (r ∷ rs) new keeps timely opene
       made = now.made ++ then.made;
       grown = then.grown ∙ ap (λ (es : List Entry). es ++ then.made) now.grown
           ∙ append_assoc files.entries now.made then.made;
-      numbers = rise_along old.core.begun a.0.core.begun new.core.begun now.made then.made now.numbers then.numbers;
+      numbers = rise_along old.core.begun a.0.core.begun new.core.begun now.made then.made
+          now.numbers then.numbers;
       boot = then.boot ∙ now.boot;
       past = past_more old.device a.0.device new.device now.past then.past;
       during = during_both longer old a.0 new.device files now.later then.made then.later.entries then.past
@@ -255,20 +264,23 @@ pub files_after : LeavesFiles → KeepsLonger → (K : Type 0) (moment : Moment)
     → ((later : Files) → IsOpenFor served later → IsOpenFor (store_of device core boot) later)
     → KeepsPrefixes served.device served.core device core
     → HasFiled moment old files messages replies served (store_of device core boot)
-files_after stops longer K moment old files messages replies served device core boot keeps timely opened a blocks same
+files_after stops longer K moment old files messages replies served device core boot keeps timely
+    opened a blocks same
     further behind settles =
     let done = all stops longer K moment old files messages replies served keeps timely opened a in
     let open_then = behind done.later done.opened in
-    let along = each_message old.boot moment served.device.failed K (settled_place core.log) old files messages replies
-    served done.later old served refl opened (λ number below. refl) a (done.each (settled_place core.log) further) in
+    let along = each_message old.boot moment served.device.failed K (settled_place core.log) old files
+    messages replies
+    served done.later old served refl opened (λ number below. refl) a
+    (done.each (settled_place core.log) further) in
     let kept = settles done.opened.base served.boot done.later.first done.later.last done.later.entries
     done.opened.opened.since in
     record {
       later = done.later;
       each = done.each (settled_place core.log) further;
       along = along;
-      answers = served_along old.boot moment served.device.failed (settled_place core.log) old files messages replies
-          served done.later (done.each (settled_place core.log) further) along;
+      answers = served_along old.boot moment served.device.failed (settled_place core.log) old files
+          messages replies served done.later (done.each (settled_place core.log) further) along;
       goes = done.goes;
       first = done.first;
       made = done.made;
@@ -278,9 +290,11 @@ files_after stops longer K moment old files messages replies served device core 
       past = past_more old.device served.device device done.past kept.past;
       left = some_image old.device device blocks;
       during = during_both longer old served device files done.later [] done.later.entries kept.past
-          done.goes.further.settled done.boot done.first (sym (append-nil done.later.entries)) done.during kept.stops;
+          done.goes.further.settled done.boot done.first (sym (append-nil done.later.entries))
+          done.during kept.stops;
       stops = λ image left.
-          stops open_then.base device core idle idle boot done.later.first done.later.last done.later.entries image
+          stops open_then.base device core idle idle boot done.later.first done.later.last
+          done.later.entries image
           open_then.opened.since left;
     }
 
@@ -295,7 +309,8 @@ pub served_behind : LeavesFiles → KeepsLonger → (K L : Type 0) → (L → K)
     → (L → KeepsPrefixes served.device served.core device core) → (L → AreBlocks device)
     → IsStream K moment old unread first result rest written served → IsSettledBehind result core
     → IsServed L moment old unread first result rest written (store_of device core boot)
-served_behind stops longer K L so moment old unread first result rest written served device core boot leaves same opens
+served_behind stops longer K L so moment old unread first result rest written served device core boot
+    leaves same opens
     settles blocks stream settled = record {
       served = served;
       stream = record {
@@ -311,7 +326,8 @@ served_behind stops longer K L so moment old unread first result rest written se
       goes = record { failures = leaves.failures; further = leaves.further; failed = leaves.failed };
       settled = settled;
       files = λ files keeps timely opened.
-          files_after stops longer L moment old files stream.messages stream.replies served device core boot keeps
+          files_after stops longer L moment old files stream.messages stream.replies served device
+          core boot keeps
           timely opened (longer_answers K L so moment old stream.messages stream.replies served stream.answered)
           (blocks keeps) same leaves.further.settled
           (λ later is. subst (λ (b : ℕ). IsOpenFor (store_of device core b) later) (sym same) (opens later is))

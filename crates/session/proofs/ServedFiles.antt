@@ -1,5 +1,6 @@
 -- What a stream made of the files is what the served stream admits, message by message.
-use Rattle.std.proofs.Common.{arith, ◌≡◌, ◌∙◌, refl, sym, ap, subst, ℕ, zero, suc, ◌+◌, ◌-◌, ◌^◌, ◌<◌, ◌≤◌, inl, inr}
+use Rattle.std.proofs.Common.{arith, ◌≡◌, ◌∙◌, refl, sym, ap, subst, ℕ, zero, suc, ◌+◌, ◌-◌, ◌^◌, ◌<◌, ◌≤◌}
+use Rattle.std.proofs.Common.{inl, inr}
 use Rattle.std.proofs.Common.{Bool, true, false, if◌then◌else◌, List, [], ◌∷◌, length, Option, Some, None}
 use Rattle.std.proofs.lemmas.Bool.{cases_Bool, cases_lt, true≢false}
 use Rattle.std.proofs.lemmas.List.{length-append}
@@ -51,7 +52,8 @@ some_failed failed first zero some = absurd (omega (arith, some))
 some_failed failed first (suc count) some = elim (cases_Bool (failed (first + count))) [
   | inl t ↦ (first + count, omega arith, omega arith, t)
   | inr f ↦ (
-      let last : ◌≡◌ {A = ℕ} (if failed (first + count) then 1 else 0) 0 = ap {B = ℕ} (λ b. if b then 1 else 0) f in
+      let last : ◌≡◌ {A = ℕ} (if failed (first + count) then 1 else 0) 0 =
+      ap {B = ℕ} (λ b. if b then 1 else 0) f in
       let found = some_failed failed first count (omega (arith, some, last)) in
       (found.0, found.1, omega (arith, found.2), found.3))
 ]
@@ -94,14 +96,18 @@ nothing_left old files is_open new later same as_files =
     (subst (λ (fs : Files). Leaves old old fs) (sym as_files)
     (record { is_open = is_open; boot = refl; past = past_none old.device }))
 
-leaves : (settled : ℕ) (moment : Moment) (old : Opened) (files : Files) (j : Judged) (bytes : List ℕ) (new : Opened)
-    (later : Files) → IsOpenFor old files → IsFiled settled moment old files j bytes new later → Leaves old new later
+leaves : (settled : ℕ) (moment : Moment) (old : Opened) (files : Files) (j : Judged) (bytes : List ℕ)
+    (new : Opened)
+    (later : Files) → IsOpenFor old files → IsFiled settled moment old files j bytes new later
+    → Leaves old new later
 leaves settled moment old files Closed bytes new later is_open filed = absurd filed
 leaves settled moment old files (Refused xid refused) bytes new later is_open (same, as_files) =
     nothing_left old files is_open new later same as_files
-leaves settled moment old files (Call xid credential (calls.Mount asked)) bytes new later is_open (same, as_files) =
+leaves settled moment old files (Call xid credential (calls.Mount asked)) bytes new later is_open
+    (same, as_files) =
     nothing_left old files is_open new later same as_files
-leaves settled moment old files (Call xid credential (calls.Nfs asked)) bytes new later is_open (inr (error, same, as_files)) =
+leaves settled moment old files (Call xid credential (calls.Nfs asked)) bytes new later is_open
+    (inr (error, same, as_files)) =
     nothing_left old files is_open new later same as_files
 leaves settled moment old files (Call xid credential (calls.Nfs asked)) bytes new later is_open
     (inl (verdict, has, is, spelled, by)) = subst (λ (fs : Files). Leaves old new fs) (sym is)
@@ -109,7 +115,8 @@ leaves settled moment old files (Call xid credential (calls.Nfs asked)) bytes ne
 
 -- so do all of them
 past_all : (settled : ℕ) (moment : Moment) (old : Opened) (files : Files) (messages replies : List (List ℕ))
-    (new : Opened) (later : Files) → IsOpenFor old files → AreFiled settled moment old files messages replies new later
+    (new : Opened) (later : Files) → IsOpenFor old files
+    → AreFiled settled moment old files messages replies new later
     → IsLater old.device new.device
 past_all settled moment old files [] [] new later is_open (same, as_files) =
     subst (λ (at : Opened). IsLater old.device at.device) (sym same) (past_none old.device)
@@ -133,7 +140,8 @@ module _ (boot : ℕ) (moment : Moment) (failed : ℕ → Bool) where
       → HasFailed old.core.log old.device new.device
       → wire.HasFailed s (standing_of old files.last) (standing_of new later.last)
   has_failed old new files later past same (inl broken) = inr broken
-  has_failed old new files later past same (inr more) = inl (failed_within s old.device new.device past same more)
+  has_failed old new files later past same (inr more) =
+      inl (failed_within s old.device new.device past same more)
 
   goes_on : (old new : Opened) (files later : Files) → store.GoesTo old new → IsLater old.device new.device
       → AgreesWith new → wire.IsLater s (standing_of old files.last) (standing_of new later.last)
@@ -200,7 +208,8 @@ module _ (boot : ℕ) (moment : Moment) (failed : ℕ → Bool) where
           place = omega (arith, before, now, long);
           step = subst (λ (ctx : Ctx). procedures.step files.last ctx asked entry.reply last)
               (made.ctx ∙ ap (λ (b : ℕ). ctx_of b o.asked made.begun) boot_is)
-              (subst (λ (c : types.Call). procedures.step files.last entry.ctx c entry.reply last) made.call made.step);
+              (subst (λ (c : types.Call). procedures.step files.last entry.ctx c entry.reply last)
+              made.call made.step);
         }
 
     stays : (last : Tree) → last ≡ files.last → IsOpenFor new (left None last)
@@ -228,7 +237,8 @@ module _ (boot : ℕ) (moment : Moment) (failed : ℕ → Bool) where
     refused_so : (why : Cause) (later : Files) → IsLater old.device new.device → AgreesWith new
         → verdict ≡ refusal asked why → store.HasCause o new why
         → wire.Stays s (standing_of old files.last) (standing_of new later.last)
-        → wire.IsReplyWithRules s (standing_of old files.last) xid credential asked bytes (standing_of new later.last)
+        → wire.IsReplyWithRules s (standing_of old files.last) xid credential asked bytes
+        (standing_of new later.last)
     refused_so cause.Io later past same is because at =
         wire.Failed at (has_failed old new files later past same because) (told_as (refusal asked cause.Io) is)
     refused_so cause.Spent later past same is because at =
@@ -237,14 +247,16 @@ module _ (boot : ℕ) (moment : Moment) (failed : ℕ → Bool) where
         wire.NoMemory at (told_as (refusal asked cause.NoMemory) is)
 
     by_rules : (rules : Bool) (later : Files) → has_rules asked ≡ rules
-        → wire.IsNfsReply s (standing_of old files.last) rules xid credential asked bytes (standing_of new later.last)
+        → wire.IsNfsReply s (standing_of old files.last) rules xid credential asked bytes
+        (standing_of new later.last)
         → wire.IsNfsReply s (standing_of old files.last) (has_rules asked) xid credential asked bytes
         (standing_of new later.last)
-    by_rules rules later is reply = subst (λ (b : Bool). wire.IsNfsReply s (standing_of old files.last) b xid credential
-        asked bytes (standing_of new later.last)) (sym is) reply
+    by_rules rules later is reply = subst (λ (b : Bool). wire.IsNfsReply s (standing_of old files.last) b
+        xid credential asked bytes (standing_of new later.last)) (sym is) reply
 
     by_entry : (entry : Option Entry) (last : Tree) → store.ComesTo o new entry last
-        → IsOpenFor new (left entry last) → store.GoesTo old new → IsLater old.device new.device → AgreesWith new
+        → IsOpenFor new (left entry last) → store.GoesTo old new → IsLater old.device new.device
+        → AgreesWith new
         → store.Tells o entry verdict new
         → wire.IsNfsReply s (standing_of old files.last) (has_rules asked) xid credential asked bytes
         (standing_of new last)
@@ -273,9 +285,10 @@ module _ (boot : ℕ) (moment : Moment) (failed : ℕ → Bool) where
         (stays last comes after (goes_on old new files (left None last) goes past same)))
 
   -- a call for which memory was refused leaves all as it was
-  no_memory : (rules : Bool) (at : Opened) (files : Files) (xid : ℕ) (credential : Credential) (asked : types.Call)
-      (bytes : List ℕ) → IsSystemError xid bytes
-      → wire.IsNfsReply s (standing_of at files.last) rules xid credential asked bytes (standing_of at files.last)
+  no_memory : (rules : Bool) (at : Opened) (files : Files) (xid : ℕ) (credential : Credential)
+      (asked : types.Call) (bytes : List ℕ) → IsSystemError xid bytes
+      → wire.IsNfsReply s (standing_of at files.last) rules xid credential asked bytes
+      (standing_of at files.last)
   no_memory true at files xid credential asked bytes is = wire.NoMemory (rests at files).stays is
   no_memory false at files xid credential asked bytes is = (rests at files, inr is)
 
@@ -287,25 +300,37 @@ module _ (boot : ℕ) (moment : Moment) (failed : ℕ → Bool) where
 
   -- ---- one message
 
-  one_message : (keeps_model : Type 0) (settled : ℕ) (old : Opened) (files : Files) (j : Judged) (bytes : List ℕ)
-      (new : Opened) (later : Files) (one other : Opened) → old.boot ≡ boot → IsOpenFor old files → AgreesWith new
+  one_message : (keeps_model : Type 0) (settled : ℕ) (old : Opened) (files : Files) (j : Judged)
+      (bytes : List ℕ)
+      (new : Opened) (later : Files) (one other : Opened) → old.boot ≡ boot → IsOpenFor old files
+      → AgreesWith new
       → IsAnswered keeps_model moment one j bytes other → IsFiled settled moment old files j bytes new later
       → wire.IsReplyTo s (standing_of old files.last) j bytes (standing_of new later.last)
-  one_message K settled old files Closed bytes new later one other is is_open same answered filed = absurd answered
-  one_message K settled old files (Refused xid refusal) bytes new later one other is is_open same answered (at, fs) =
+  one_message K settled old files Closed bytes new later one other is is_open same answered filed =
+      absurd answered
+  one_message K settled old files (Refused xid refusal) bytes new later one other is is_open same
+      answered (at, fs) =
       (answered.0, same_standing old new files later at fs)
-  one_message K settled old files (Call xid credential (calls.Mount asked)) bytes new later one other is is_open same
-      (inl answered) (at, fs) = (same_standing old new files later at fs, plain_mount xid asked bytes answered.1)
-  one_message K settled old files (Call xid credential (calls.Mount asked)) bytes new later one other is is_open same
-      (inr error) (at, fs) = (same_standing old new files later at fs, inr error.0)
-  one_message K settled old files (Call xid credential (calls.Nfs asked)) bytes new later one other is is_open same
+  one_message K settled old files (Call xid credential (calls.Mount asked)) bytes new later one other
+      is is_open same
+      (inl answered) (at, fs) = (
+        same_standing old new files later at fs,
+        plain_mount xid asked bytes answered.1,
+      )
+  one_message K settled old files (Call xid credential (calls.Mount asked)) bytes new later one other
+      is is_open same (inr error) (at, fs) = (same_standing old new files later at fs, inr error.0)
+  one_message K settled old files (Call xid credential (calls.Nfs asked)) bytes new later one other
+      is is_open same
       answered (inr (error, at, fs)) =
-      subst (λ (to : wire.Standing). wire.IsNfsReply s (standing_of old files.last) (has_rules asked) xid credential asked
+      subst (λ (to : wire.Standing). wire.IsNfsReply s (standing_of old files.last) (has_rules asked) xid
+      credential asked
       bytes to) (sym (same_standing old new files later at fs))
       (no_memory (has_rules asked) old files xid credential asked bytes error)
-  one_message K settled old files (Call xid credential (calls.Nfs asked)) bytes new later one other is is_open same
+  one_message K settled old files (Call xid credential (calls.Nfs asked)) bytes new later one other
+      is is_open same
       answered (inl (verdict, has, fs, spelled, by)) =
-      subst (λ (f : Files). wire.IsNfsReply s (standing_of old files.last) (has_rules asked) xid credential asked bytes
+      subst (λ (f : Files). wire.IsNfsReply s (standing_of old files.last) (has_rules asked) xid
+      credential asked bytes
       (standing_of new f.last)) (sym fs)
       (by_entry old new files credential asked xid bytes verdict is is_open spelled has.entry has.last has.comes
       has.opened has.goes has.files.past same has.tells)
@@ -319,25 +344,29 @@ module _ (boot : ℕ) (moment : Moment) (failed : ℕ → Bool) where
       → (are : AreFiled settled moment old files messages replies new later)
       → AreAnswered s settled moment old files messages replies new later are
   each_message K settled old files [] [] new later one other is is_open same answered are = tt
-  each_message K settled old files [] (reply ∷ replies) new later one other is is_open same answered are = absurd are
-  each_message K settled old files (message ∷ messages) [] new later one other is is_open same answered are = absurd are
+  each_message K settled old files [] (reply ∷ replies) new later one other is is_open same answered
+      are = absurd are
+  each_message K settled old files (message ∷ messages) [] new later one other is is_open same answered
+      are = absurd are
   each_message K settled old files (message ∷ messages) (reply ∷ replies) new later one other is is_open same
       (mid, answered, more) (middle, between, filed, all) =
       let left = leaves settled moment old files (judged message) reply middle between is_open filed in
       let past = past_all settled moment middle between messages replies new later left.is_open all in
       let at_middle : AgreesWith middle = λ number below.
       same number (let clock = past.clock in omega (arith, below, clock)) ∙ past.failed number below in (
-        one_message K settled old files (judged message) reply middle between one mid is is_open at_middle answered filed,
+        one_message K settled old files (judged message) reply middle between one mid is is_open at_middle
+            answered filed,
         each_message K settled middle between messages replies new later mid other (left.boot ∙ is) left.is_open
             same more all,
       )
 
   -- what is answered along the stores is what the served stream admits
-  pub served_along : (settled : ℕ) (old : Opened) (files : Files) (messages replies : List (List ℕ)) (new : Opened)
-      (later : Files) (are : AreFiled settled moment old files messages replies new later)
+  pub served_along : (settled : ℕ) (old : Opened) (files : Files) (messages replies : List (List ℕ))
+      (new : Opened) (later : Files) (are : AreFiled settled moment old files messages replies new later)
       → AreAnswered s settled moment old files messages replies new later are
       → wire.served s (standing_of old files.last) messages replies (standing_of new later.last)
-  served_along settled old files [] [] new later (at, fs) answered = (tt, same_standing old new files later at fs)
+  served_along settled old files [] [] new later (at, fs) answered =
+      (tt, same_standing old new files later at fs)
   served_along settled old files [] (reply ∷ replies) new later are answered = absurd are
   served_along settled old files (message ∷ messages) [] new later are answered = absurd are
   served_along settled old files (message ∷ messages) (reply ∷ replies) new later (middle, between, is, rest)

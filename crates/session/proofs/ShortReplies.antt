@@ -1,5 +1,6 @@
 -- What a procedure may tell today is short: the results of GETATTR and SETATTR, and each refusal.
-use Rattle.std.proofs.Common.{◌≡◌, inl, inr, ℕ, ◌+◌, ◌≤◌, Bool, true, false, List, ◌++◌, length, Option, Some, None}
+use Rattle.std.proofs.Common.{◌≡◌, inl, inr, ℕ, ◌+◌, ◌≤◌, Bool, true, false, List, ◌++◌, length, Option, Some}
+use Rattle.std.proofs.Common.{None}
 use Rattle.std.proofs.Common.{Result, Ok, Err, ◌∙◌, arith, length-append, refl, subst, sym, true≢false}
 use Rattle.std.specs.Prelude.{◌||◌}
 use Rattle.model.specs.Attributes.{untold}
@@ -21,9 +22,12 @@ use Rattle.xdr.specs.Codes.{Code, word, nothing, ◌then◌, optional, in_some}
 use Rattle.xdr.specs.Items as items
 use Rattle.nfs_codec.specs.Items.{moment, device, kind, attributes, optional_attributes, weak_cache_attributes}
 use Rattle.nfs_codec.specs.Items.{before_attributes, text, verifier, weak_cache}
-use Rattle.nfs_results.specs.Results.{status_number, alone, behind, before, nfs_result_bytes, nfs_too_long, get_attr}
-use Rattle.nfs_results.specs.Results.{set_attr, lookup, access, read_link, read, write, create, remove, rename, link}
-use Rattle.nfs_results.specs.Results.{created, info, limits, listed, listed_plus, looked, read_bytes, space, written}
+use Rattle.nfs_results.specs.Results.{status_number, alone, behind, before, nfs_result_bytes, nfs_too_long}
+use Rattle.nfs_results.specs.Results.{get_attr}
+use Rattle.nfs_results.specs.Results.{set_attr, lookup, access, read_link, read, write, create, remove}
+use Rattle.nfs_results.specs.Results.{rename, link}
+use Rattle.nfs_results.specs.Results.{created, info, limits, listed, listed_plus, looked, read_bytes, space}
+use Rattle.nfs_results.specs.Results.{written}
 use Rattle.nfs_results.specs.Results.{read_dir, read_dir_plus, fs_stat, fs_info, path_conf, commit}
 use Rattle.rpc.proofs.Lengths.{word-length, accepted-length, refused-length}
 use Rattle.rpc.specs.Refused.{accepted, refused}
@@ -59,7 +63,8 @@ or_false : (a b : Bool) → a ≡ false → b ≡ false → (a || b) ≡ false
 or_false true b e f = e
 or_false false b e f = f
 
-thens : {A B : Type 0} (n m : ℕ) (F : Code A) (G : Code B) → IsShort n F → IsShort m G → IsShort (n + m) (F then G)
+thens : {A B : Type 0} (n m : ℕ) (F : Code A) (G : Code B) → IsShort n F → IsShort m G
+    → IsShort (n + m) (F then G)
 thens n m F G f g = record {
   short = λ x.
       let a = f.short x.0 in
@@ -75,7 +80,8 @@ optional_short n F f (Some x) =
     let a = f.short x in
     omega (arith, a, flag-length true, length-append (items.flag true) (F.spell x))
 
-optional_counts : {A : Type 0} (n : ℕ) (F : Code A) → IsShort n F → (o : Option A) → in_some F.too_long o ≡ false
+optional_counts : {A : Type 0} (n : ℕ) (F : Code A) → IsShort n F → (o : Option A)
+    → in_some F.too_long o ≡ false
 optional_counts n F f None = refl
 optional_counts n F f (Some x) = f.counts x
 
@@ -126,19 +132,33 @@ alone_refused F s = (
 )
 
 -- a status and what comes either way
-behind_refused : {A B : Type 0} (n : ℕ) (F : Code B) (G : Code A) → IsShort n F → n ≤ 300 → (s : Status) (both : B)
+behind_refused : {A B : Type 0} (n : ℕ) (F : Code B) (G : Code A) → IsShort n F → n ≤ 300
+    → (s : Status) (both : B)
     → (length ((behind F G).spell (Err s, both)) ≤ 400) × ((behind F G).too_long (Err s, both) ≡ false)
 behind_refused n F G f few s both =
     let a = f.short both in (
-      omega (arith, a, few, word-length (status_number s), length-append (items.word (status_number s)) (F.spell both)),
+      omega (
+        arith,
+        a,
+        few,
+        word-length (status_number s),
+        length-append (items.word (status_number s)) (F.spell both),
+      ),
       f.counts both,
     )
 
-before_refused : {A B : Type 0} (n : ℕ) (F : Code A) (G : Code B) → IsShort n G → n ≤ 300 → (s : Status) (both : B)
+before_refused : {A B : Type 0} (n : ℕ) (F : Code A) (G : Code B) → IsShort n G → n ≤ 300
+    → (s : Status) (both : B)
     → (length ((before F G).spell (Err s, both)) ≤ 400) × ((before F G).too_long (Err s, both) ≡ false)
 before_refused n F G g few s both =
     let a = g.short both in (
-      omega (arith, a, few, word-length (status_number s), length-append (items.word (status_number s)) (G.spell both)),
+      omega (
+        arith,
+        a,
+        few,
+        word-length (status_number s),
+        length-append (items.word (status_number s)) (G.spell both),
+      ),
       g.counts both,
     )
 
@@ -148,7 +168,8 @@ reply_of reply is = record { short = is.0; counts = is.1 }
 
 -- a reply that tells only a status is short
 pub refused_is_short : (s : Status) (c : types.Call) → IsShortReply (refused_reply s c)
-unfolding get_attr set_attr lookup access read_link read write create remove rename link read_dir read_dir_plus fs_stat fs_info path_conf commit
+unfolding get_attr set_attr lookup access read_link read write create remove rename link read_dir
+    read_dir_plus fs_stat fs_info path_conf commit
 refused_is_short s call.Null = record { short = omega arith; counts = refl }
 refused_is_short s (call.GetAttr _) = reply_of (replies.GetAttr (Err s)) (alone_refused attributes s)
 refused_is_short s (call.SetAttr _ _ _) =
@@ -176,9 +197,12 @@ refused_is_short s (call.Remove _) =
 refused_is_short s (call.RmDir _) =
     reply_of _ (behind_refused 116 weak_cache nothing weak_caches (omega arith) s untold)
 refused_is_short s (call.Rename _ _) =
-    reply_of _ (behind_refused 232 (weak_cache then weak_cache) nothing (thens 116 116 weak_cache weak_cache weak_caches weak_caches) (omega arith) s (untold, untold))
+    reply_of _ (behind_refused 232 (weak_cache then weak_cache) nothing
+    (thens 116 116 weak_cache weak_cache weak_caches weak_caches) (omega arith) s (untold, untold))
 refused_is_short s (call.Link _ _) =
-    reply_of _ (behind_refused 204 (optional_attributes then weak_cache) nothing (thens 88 116 optional_attributes weak_cache optional_attributes_are weak_caches) (omega arith) s (None, untold))
+    reply_of _ (behind_refused 204 (optional_attributes then weak_cache) nothing
+    (thens 88 116 optional_attributes weak_cache optional_attributes_are weak_caches) (omega arith) s
+    (None, untold))
 refused_is_short s (call.ReadDir _ _ _ _) =
     reply_of _ (behind_refused 88 optional_attributes listed optional_attributes_are (omega arith) s None)
 refused_is_short s (call.ReadDirPlus _ _ _ _ _) =
@@ -223,7 +247,8 @@ set_attr_is_short (Err s) object =
 
 numbered_is_short : (tree : Tree) (ctx : Ctx) (new : Option ℕ) (c : types.Call) (reply : Reply) (next : Tree)
     → has_rules c ≡ true → numbered_step tree ctx new c reply next → IsShortReply reply
-numbered_is_short tree ctx new (call.GetAttr object) (replies.GetAttr outcome) next rules is = get_attr_is_short outcome
+numbered_is_short tree ctx new (call.GetAttr object) (replies.GetAttr outcome) next rules is =
+    get_attr_is_short outcome
 numbered_is_short tree ctx new (call.GetAttr object) _ next rules is = absurd is
 numbered_is_short tree ctx new (call.SetAttr object wanted guard) (replies.SetAttr outcome told) next rules is =
     set_attr_is_short outcome told
@@ -243,7 +268,8 @@ numbered_is_short tree ctx new (call.RmDir _) reply next rules is = absurd (true
 numbered_is_short tree ctx new (call.Rename _ _) reply next rules is = absurd (true≢false (sym rules))
 numbered_is_short tree ctx new (call.Link _ _) reply next rules is = absurd (true≢false (sym rules))
 numbered_is_short tree ctx new (call.ReadDir _ _ _ _) reply next rules is = absurd (true≢false (sym rules))
-numbered_is_short tree ctx new (call.ReadDirPlus _ _ _ _ _) reply next rules is = absurd (true≢false (sym rules))
+numbered_is_short tree ctx new (call.ReadDirPlus _ _ _ _ _) reply next rules is =
+    absurd (true≢false (sym rules))
 numbered_is_short tree ctx new (call.FsStat _) reply next rules is = absurd (true≢false (sym rules))
 numbered_is_short tree ctx new (call.FsInfo _) reply next rules is = absurd (true≢false (sym rules))
 numbered_is_short tree ctx new (call.PathConf _) reply next rules is = absurd (true≢false (sym rules))
@@ -272,7 +298,8 @@ IsFine xid told = IsTooLong xid (reply_for told) → ⊥
 
 fine_refusal : (xid : ℕ) (c : types.Call) (why : Cause) → IsFine xid (refusal c why)
 fine_refusal xid c cause.Io = not_long xid (refused_reply status.Io c) (refused_is_short status.Io c)
-fine_refusal xid c cause.Spent = not_long xid (refused_reply status.ServerFault c) (refused_is_short status.ServerFault c)
+fine_refusal xid c cause.Spent = not_long xid (refused_reply status.ServerFault c)
+    (refused_is_short status.ServerFault c)
 fine_refusal xid c cause.NoMemory = not_long_refused xid
 
 pub never_too_long : (xid : ℕ) (o : Outset) (entry : Option Entry) (last : Tree) (told : Verdict) (now : Opened)

@@ -1,5 +1,6 @@
 -- What a stream makes of the files of an open store.
-use Rattle.std.specs.Prelude.{◌≡◌, ℕ, ◌+◌, ◌<◌, ◌≤◌, ◌⊎◌, true, Option, Some, List, [], ◌∷◌, ◌++◌, length, option_to_list}
+use Rattle.std.specs.Prelude.{◌≡◌, ℕ, ◌+◌, ◌<◌, ◌≤◌, ◌⊎◌, true, Option, Some, List, [], ◌∷◌, ◌++◌, length}
+use Rattle.std.specs.Prelude.{option_to_list}
 use Rattle.std.specs.Prelude.{Result, Ok, Err}
 use Rattle.disk.specs.Crash.{Image, IsCrashImage}
 use Rattle.model.specs.Entry.{Entry}
@@ -54,17 +55,18 @@ outset_of moment store files credential call = record {
   asked = asked_of credential moment call;
 }
 
--- where a call that waits for its place was answered its reply, the place is among those that are settled by this one
+-- where a call that waits for its place was answered its reply, the place is among those that are settled by
+-- this one
 abbrev pub IsSettledBy : ℕ → (o : Outset) (told : Verdict) (now : Opened) → HasAnswered o told now → Type 0
 IsSettledBy settled o told now has = (entry : Entry) → has.entry ≡ Some entry → IsReplyOf o entry told now
     → is_answered_stable o.asked.call ≡ true → length o.entries + 1 ≤ settled
 
--- What a message makes of the files, by what it is taken for. The procedure of a call of NFS was committed as a step
--- of the sequential server from the files as they were, and its reply is what is answered, once its place is settled
--- where the call waits for that; or the answer says why there is none, or why it isn't that reply. The answer is spelled
--- whole, as none is too long for a record. Each stop on the way
--- leaves the files after a beginning of the entries, in which is each place that was settled before the message. A
--- call for which memory was refused before, and each other message, leaves the store and its files.
+-- What a message makes of the files, by what it is taken for. The procedure of a call of NFS was committed as
+-- a step of the sequential server from the files as they were, and its reply is what is answered, once its
+-- place is settled where the call waits for that; or the answer says why there is none, or why it isn't that
+-- reply. The answer is spelled whole, as none is too long for a record. Each stop on the way leaves the files
+-- after a beginning of the entries, in which is each place that was settled before the message. A call for
+-- which memory was refused before, and each other message, leaves the store and its files.
 abbrev pub IsFiled : ℕ → Moment → Opened → Files → Judged → List ℕ → Opened → Files → Type 0
 IsFiled settled moment old files (Call xid credential (calls.Nfs call)) bytes new later = ((verdict : Verdict)
     × (has : HasAnswered (outset_of moment old files credential call) verdict new)
@@ -85,16 +87,17 @@ AreFiled settled moment old files (message ∷ messages) (reply ∷ replies) new
     × (between : Files) × IsFiled settled moment old files (judged message) reply middle between
     × AreFiled settled moment middle between messages replies new later
 
--- Along the same stores and files each message was answered what the served stream admits, from how the store stood
--- before it to how it stands behind it. So the device calls that a cause speaks of are those between the two stores
--- that the message led from and to.
+-- Along the same stores and files each message was answered what the served stream admits, from how the store
+-- stood before it to how it stands behind it. So the device calls that a cause speaks of are those between
+-- the two stores that the message led from and to.
 abbrev pub AreAnswered : (s : stream.Serving) (settled : ℕ) (moment : Moment) (old : Opened) (files : Files)
     (messages replies : List (List ℕ)) (new : Opened) (later : Files)
     → AreFiled settled moment old files messages replies new later → Type 0
 AreAnswered s settled moment old files [] [] new later are = Unit {0}
 AreAnswered s settled moment old files [] (reply ∷ replies) new later are = ⊥
 AreAnswered s settled moment old files (message ∷ messages) [] new later are = ⊥
-AreAnswered s settled moment old files (message ∷ messages) (reply ∷ replies) new later (middle, between, is, rest) =
+AreAnswered s settled moment old files (message ∷ messages) (reply ∷ replies) new later
+    (middle, between, is, rest) =
     stream.IsReplyTo s (standing_of old files.last) (judged message) reply (standing_of middle between.last)
     × AreAnswered s settled moment middle between messages replies new later rest
 
@@ -104,23 +107,23 @@ NumbersRise least [] most = least ≤ most
 NumbersRise least (entry ∷ entries) most =
     (least < entry.ctx.transaction) × NumbersRise entry.ctx.transaction entries most
 
--- What a stream has made of the files: each message did what is said above, from the store at the call to the one
--- behind the last message, and none took back a failure, a number or a settled place. What they were answered, each along
--- the way that its procedure went and so all of them, is what the served stream admits: so each cause lies in the
--- device calls of its own message, in a store that was broken before it, or in what the core had left then. The numbers
--- of the transactions of its procedures rise, from above those that there were. The store that is left is open for the
--- files that there are then: those entries, and behind them the stream's. Whatever a stop leaves, from the call on, is
--- good, and has the tree after a beginning of them, in which is each place that was settled at the call. Once the call
--- has returned each place is in it that is settled then, and so the place of each procedure that waits for its place and
--- was answered its reply.
+-- What a stream has made of the files: each message did what is said above, from the store at the call to the
+-- one behind the last message, and none took back a failure, a number or a settled place. What they were
+-- answered, each along the way that its procedure went and so all of them, is what the served stream admits:
+-- so each cause lies in the device calls of its own message, in a store that was broken before it, or in what
+-- the core had left then. The numbers of the transactions of its procedures rise, from above those that there
+-- were. The store that is left is open for the files that there are then: those entries, and behind them the
+-- stream's. Whatever a stop leaves, from the call on, is good, and has the tree after a beginning of them, in
+-- which is each place that was settled at the call. Once the call has returned each place is in it that is
+-- settled then, and so the place of each procedure that waits for its place and was answered its reply.
 pub record HasFiled (moment : Moment) (old : Opened) (files : Files) (messages replies : List (List ℕ))
     (served new : Opened) : Type 0 where
   pub later : Files
   pub each : AreFiled (settled_place new.core.log) moment old files messages replies served later
-  pub along : AreAnswered (serving_of old.boot moment served.device.failed) (settled_place new.core.log) moment old files
-      messages replies served later each
-  pub answers : stream.served (serving_of old.boot moment served.device.failed) (standing_of old files.last) messages
-      replies (standing_of served later.last)
+  pub along : AreAnswered (serving_of old.boot moment served.device.failed) (settled_place new.core.log)
+      moment old files messages replies served later each
+  pub answers : stream.served (serving_of old.boot moment served.device.failed)
+      (standing_of old files.last) messages replies (standing_of served later.last)
   pub goes : GoesTo old served
   pub first : later.first ≡ files.first
   pub made : List Entry
@@ -133,7 +136,8 @@ pub record HasFiled (moment : Moment) (old : Opened) (files : Files) (messages r
   pub stops : (image : Image) → IsCrashImage new.device new.device.clock image
       → LeavesBeginning new.device.size new.boot later.first later.entries (settled_place new.core.log) image
 
--- everything is settled, or the store has broken; where the output failed nothing was settled behind the last message
+-- everything is settled, or the store has broken; where the output failed nothing was settled behind the last
+-- message
 abbrev pub IsSettledBehind : Result ℕ SessionFault → CoreState → Type 0
 IsSettledBehind (Ok count) core = IsSettled core
 IsSettledBehind (Err Device) core = core.log.broken ≡ true
@@ -143,9 +147,9 @@ IsSettledBehind (Err Input) core = IsSettled core ⊎ (core.log.broken ≡ true)
 IsSettledBehind (Err NoMemory) core = IsSettled core ⊎ (core.log.broken ≡ true)
 IsSettledBehind (Err Truncated) core = IsSettled core ⊎ (core.log.broken ≡ true)
 
--- What came of serving a stream of messages at a moment, from a store and a client to what they became: what was
--- answered and written, how it ended, and what the settling behind the last message led to. And where the device keeps its model, the moment is sound and the store was
--- open for some files, what it made of them.
+-- What came of serving a stream of messages at a moment, from a store and a client to what they became: what
+-- was answered and written, how it ended, and what the settling behind the last message led to. And where the
+-- device keeps its model, the moment is sound and the store was open for some files, what it made of them.
 pub record IsServed (keeps_model : Type 0) (moment : Moment) (old : Opened) (unread first : Option (List ℕ))
     (result : Result ℕ SessionFault) (rest written : Option (List ℕ)) (new : Opened) : Type 0 where
   pub served : Opened

@@ -26,8 +26,8 @@ abbrev pub IsSpelled : ℕ → ReplyBody → List ℕ → Type 0
 IsSpelled xid body bytes = ((bytes ≡ reply_bytes xid body) × (IsTooLong xid body → ⊥))
     ⊎ (IsTooLong xid body × (bytes ≡ refused xid SystemError))
 
--- What the procedure of a call comes to, and what it makes of the store: nothing is left out, the boot number stays,
--- and where the device keeps its model an open store stays open, with the call's entry more or none.
+-- What the procedure of a call comes to, and what it makes of the store: nothing is left out, the boot number
+-- stays, and where the device keeps its model an open store stays open, with the call's entry more or none.
 pub record IsProcedure (keeps_model : Type 0) (old : Opened) (asked : Job) (verdict : Verdict) (new : Opened)
     : Type 0 where
   pub idle : IsIdle new.core
@@ -50,10 +50,11 @@ IsCallAnswered keeps_model moment old xid credential (calls.Nfs call) bytes new 
 IsCallAnswered keeps_model moment old xid credential (calls.Mount call) bytes new = (new ≡ old)
     × IsMountReply xid call bytes
 
--- What a message is answered, by what it is taken for. One on which the connection closes gets no reply. A call for
--- which memory was refused before it came to its procedure has a system error, and leaves the store.
+-- What a message is answered, by what it is taken for. One on which the connection closes gets no reply. A
+-- call for which memory was refused before it came to its procedure has a system error, and leaves the store.
 abbrev pub IsAnswered : Type 0 → Moment → Opened → Judged → List ℕ → Opened → Type 0
 IsAnswered keeps_model moment old Closed bytes new = ⊥
 IsAnswered keeps_model moment old (Refused xid refusal) bytes new = (bytes ≡ refused xid refusal) × (new ≡ old)
 IsAnswered keeps_model moment old (Call xid credential call) bytes new =
-    IsCallAnswered keeps_model moment old xid credential call bytes new ⊎ (IsSystemError xid bytes × (new ≡ old))
+    IsCallAnswered keeps_model moment old xid credential call bytes new
+    ⊎ (IsSystemError xid bytes × (new ≡ old))

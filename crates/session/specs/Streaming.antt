@@ -59,9 +59,10 @@ IsUntouched old first new written = (new ≡ old) × Appends first written []
 
 -- ---- one record
 
--- One of these replies was written, as one last fragment, or a beginning of it; or memory was refused for its bytes,
--- and nothing was written.
-abbrev pub Delivers : (List ℕ → Type 0) → Option (List ℕ) → Result (Unit {0}) SessionFault → Option (List ℕ) → Type 0
+-- One of these replies was written, as one last fragment, or a beginning of it; or memory was refused for its
+-- bytes, and nothing was written.
+abbrev pub Delivers : (List ℕ → Type 0) → Option (List ℕ) → Result (Unit {0}) SessionFault
+    → Option (List ℕ) → Type 0
 Delivers IsReply first (Ok _) written = (reply : List ℕ) × IsReply reply
     × Appends first written (fragment true reply)
 Delivers IsReply first (Err NoMemory) written = (reply : List ℕ) × IsReply reply × Appends first written []
@@ -73,10 +74,12 @@ Delivers IsReply first (Err Truncated) written = ⊥
 Delivers IsReply first (Err Device) written = ⊥
 
 -- what comes of one record: it is answered, or the connection closes on it
-abbrev pub Serves : Type 0 → Moment → Opened → Option (List ℕ) → List ℕ → Result (Unit {0}) SessionFault → Opened
+abbrev pub Serves : Type 0 → Moment → Opened → Option (List ℕ) → List ℕ
+    → Result (Unit {0}) SessionFault → Opened
     → Option (List ℕ) → Type 0
 Serves keeps_model moment old first message result new written =
-    Delivers (λ (reply : List ℕ). IsAnswered keeps_model moment old (judged message) reply new) first result written
+    Delivers (λ (reply : List ℕ). IsAnswered keeps_model moment old (judged message) reply new) first
+    result written
     ⊎ ((result ≡ Err Record) × (judged message ≡ Closed) × IsUntouched old first new written)
 
 -- bytes were written whole, or a beginning of them
@@ -108,7 +111,8 @@ pub record IsCutShort (keeps_model : Type 0) (moment : Moment) (left : List ℕ)
   pub told : Appends first written part
 
 -- a stream that comes to a fault while its records are answered
-abbrev pub StopsAt : Type 0 → Moment → SessionFault → List ℕ → Opened → Option (List ℕ) → Opened → Option (List ℕ)
+abbrev pub StopsAt : Type 0 → Moment → SessionFault → List ℕ → Opened → Option (List ℕ) → Opened
+    → Option (List ℕ)
     → Type 0
 StopsAt keeps_model moment Record left old first new written = IsUntouched old first new written
     × (IsTooLong left ⊎ BeginsClosed left)
@@ -142,16 +146,17 @@ pub record IsCutOff (first written : Option (List ℕ)) (replies : List (List �
   pub parts : fragment true last ≡ part ++ lost
   pub told : Appends first written (text_of whole ++ part)
 
--- Where a stream ends, by what is left of the bytes that were read, and what is written of the replies. With a count
--- none is left, and it is theirs. NoMemory may come where a record is cut out, or behind a message whose reply finds
--- no memory.
+-- Where a stream ends, by what is left of the bytes that were read, and what is written of the replies. With
+-- a count none is left, and it is theirs. NoMemory may come where a record is cut out, or behind a message
+-- whose reply finds no memory.
 abbrev pub EndsAt : Result ℕ SessionFault → List ℕ → Option (List ℕ) → Option (List ℕ) → Option (List ℕ)
     → List (List ℕ) → Type 0
 EndsAt (Ok count) left unread first written replies = (left ≡ []) × IsAtEnd unread
     × (count ≡ count_of replies) × Appends first written (text_of replies)
 EndsAt (Err Record) left unread first written replies = (IsTooLong left ⊎ BeginsClosed left)
     × Appends first written (text_of replies)
-EndsAt (Err Input) left unread first written replies = IsUnfinished left × Appends first written (text_of replies)
+EndsAt (Err Input) left unread first written replies = IsUnfinished left
+    × Appends first written (text_of replies)
 EndsAt (Err Truncated) left unread first written replies = HasBegun left × IsAtEnd unread
     × Appends first written (text_of replies)
 EndsAt (Err Device) left unread first written replies = (left ≡ []) × IsAtEnd unread
@@ -160,8 +165,8 @@ EndsAt (Err Output) left unread first written replies = IsCutOff first written r
 EndsAt (Err NoMemory) left unread first written replies = Appends first written (text_of replies)
     ⊎ ((short : IsCutOff first written replies) × (short.part ≡ []))
 
--- What comes of a stream, of the bytes that the reader gave: they are whole messages and what is left; each message
--- was answered, one after another, which left this store; and so it ended.
+-- What comes of a stream, of the bytes that the reader gave: they are whole messages and what is left; each
+-- message was answered, one after another, which left this store; and so it ended.
 pub record IsStream (keeps_model : Type 0) (moment : Moment) (old : Opened) (unread first : Option (List ℕ))
     (result : Result ℕ SessionFault) (rest written : Option (List ℕ)) (new : Opened) : Type 0 where
   pub read : List ℕ

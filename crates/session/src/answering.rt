@@ -31,7 +31,8 @@ pub fn serve_record<D: CrashDisk, W: Write>(
     ensures boot { store.new.boot ≡ store.old.boot }
     ensures model { D.keeps_model store.new.disk → D.keeps_model store.old.disk }
     ensures serves { Serves (D.keeps_model store.new.disk) moment
-        (store_of (D.device store.old.disk) store.old.core store.old.boot) (W.contents writer.old) message.now result
+        (store_of (D.device store.old.disk) store.old.core store.old.boot) (W.contents writer.old)
+        message.now result
         (store_of (D.device store.new.disk) store.new.core store.new.boot) (W.contents writer.new) }
 {
     match judge(alloc, message) {
@@ -82,7 +83,8 @@ fn serve_mount<W: Write>(
     call: &MountCall,
     writer: &mut W,
 ) -> Result<(), SessionFault>
-    ensures { Delivers (λ reply. IsMountReply xid call.now reply) (W.contents writer.old) result (W.contents writer.new) }
+    ensures { Delivers (λ reply. IsMountReply xid call.now reply) (W.contents writer.old) result
+        (W.contents writer.new) }
 {
     match mount_reply(alloc, call) {
         Ok(reply) => {
@@ -94,8 +96,8 @@ fn serve_mount<W: Write>(
     }
 }
 
-/// What a call is answered by what came of its procedure: its reply, or a system error where an allocation failed in
-/// the procedure.
+/// What a call is answered by what came of its procedure: its reply, or a system error where an allocation
+/// failed in the procedure.
 pub fn reply_to(verdict: &Verdict) -> RpcReply<'_>
     ensures { body_of result ≡ reply_for verdict.now }
 {

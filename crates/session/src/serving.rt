@@ -170,7 +170,8 @@ fn read_piece<R: Read>(reader: &mut R, piece: &mut [u8]) -> Result<Option<usize>
     requires { 0 < length piece.old }
     ensures count { IfOk result (λ o. IfSome o (λ count. count ≤ length piece.new)) }
     ensures end { IfOk result (λ o. IfSome o (λ count. count ≡ 0 → IsAtEnd (R.remaining reader.new))) }
-    ensures some { IfOk result (λ o. IfSome o (λ count. Consumes (R.remaining reader.old) (R.remaining reader.new)
+    ensures some { IfOk result (λ o. IfSome o
+        (λ count. Consumes (R.remaining reader.old) (R.remaining reader.new)
         (take count piece.new))) }
     ensures none { IfOk result (λ o. IfNone o (Keeps (R.remaining reader.old) (R.remaining reader.new))) }
     ensures failed { IfErr result (λ e. (e ≡ SessionFault.Input)

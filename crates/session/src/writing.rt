@@ -29,7 +29,8 @@ pub fn put<W: Write>(
 
 // Writes a system error.
 fn put_system_error<W: Write>(alloc: Global, writer: &mut W, xid: u32) -> Result<(), SessionFault>
-    ensures { Delivers (λ bytes. IsSystemError xid bytes) (W.contents writer.old) result (W.contents writer.new) }
+    ensures { Delivers (λ bytes. IsSystemError xid bytes) (W.contents writer.old) result
+        (W.contents writer.new) }
 {
     match reply_bytes(alloc, xid, RpcReply::Refused(Refusal::SystemError)) {
         Ok(bytes) => write_whole(writer, &bytes),
@@ -37,8 +38,8 @@ fn put_system_error<W: Write>(alloc: Global, writer: &mut W, xid: u32) -> Result
     }
 }
 
-// Writes all the bytes and flushes. A write that is interrupted or short goes on. Where a write fails, a beginning of
-// the bytes is written.
+// Writes all the bytes and flushes. A write that is interrupted or short goes on. Where a write fails, a
+// beginning of the bytes is written.
 fn write_whole<W: Write>(writer: &mut W, bytes: &[u8]) -> Result<(), SessionFault>
     ensures { Writes (W.contents writer.old) bytes.now result (W.contents writer.new) }
 {

@@ -257,7 +257,8 @@ judged_takes bytes xid c call fits e =
     same_opening o.0.0 CALL RPC_VERSION o.2 o.3 in
     let heading_same : heading_bytes h.0.0 ≡ heading_bytes (heading_of m) =
     same_heading h.0.0 (program_number (program_with (called call))) NFS_VERSION
-    (procedure_number (called call)) (flavor_of w.0) (body_of w.0) program q.version number w.1.flavor_is w.1.body_is in
+    (procedure_number (called call)) (flavor_of w.0) (body_of w.0) program q.version number w.1.flavor_is
+    w.1.body_is in
     let spelled : bytes ≡ call_bytes m = t.0.parts
     ∙ ap (λ (x : List ℕ). opening_bytes o.0.0 ++ x) (u.0.parts
     ∙ ap (λ (x : List ℕ). heading_bytes h.0.0 ++ x) v.2)

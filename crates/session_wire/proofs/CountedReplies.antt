@@ -1,5 +1,7 @@
--- A reply that fits has no length that four bytes can't tell: a law for each way to make a code, and one for each result.
-use Rattle.std.proofs.Common.{◌≡◌, ◌⊎◌, inl, inr, ℕ, ◌^◌, ◌<◌, ◌≤◌, Bool, true, false, List, [], ◌∷◌, length, Option, Some, None, refl, arith}
+-- A reply that fits has no length that four bytes can't tell: a law for each way to make a code, and one for
+-- each result.
+use Rattle.std.proofs.Common.{◌≡◌, ◌⊎◌, inl, inr, ℕ, ◌^◌, ◌<◌, ◌≤◌, Bool, true, false, List, [], ◌∷◌, length}
+use Rattle.std.proofs.Common.{Option, Some, None, refl, arith}
 use Rattle.std.specs.Prelude.{◌||◌, ◌↔◌}
 use Rattle.std.proofs.lemmas.Bool.{le-ltb}
 use Rattle.limits.specs.declared.TheConstants.{MOST_HANDLE_BYTES, RECORD_BYTES}
@@ -9,16 +11,22 @@ use Rattle.nfs_types.specs.declared.program.ProgramReply.TheVariants as program_
 use Rattle.nfs_types.specs.declared.reply.Reply.TheVariants as replies
 use Rattle.nfs_types.specs.declared.status.Status.{Status}
 use Rattle.xdr.specs.Items.{is_uncounted}
-use Rattle.xdr.specs.Codes.{Code, word, double, flag, opaque, nothing, ◌then◌, viewed, fitting, optional, in_some}
+use Rattle.xdr.specs.Codes.{Code, word, double, flag, opaque, nothing, ◌then◌, viewed, fitting, optional}
+use Rattle.xdr.specs.Codes.{in_some}
 use Rattle.xdr.specs.Codes.{some_too_long, chain, counted}
 use Rattle.nfs_codec.specs.Items.{handle, text, moment, verifier, device, kind, stability, attributes}
 use Rattle.nfs_codec.specs.Items.{optional_attributes, weak_cache_attributes, before_attributes, weak_cache}
 use Rattle.nfs_codec.specs.Items.{optional_handle}
-use Rattle.nfs_results.specs.Results.{by_status, alone_parts, alone_made, alone, behind_made, behind_parts, behind}
-use Rattle.nfs_results.specs.Results.{before_made, before_parts, before, looked, read_bytes, written, created, entry}
-use Rattle.nfs_results.specs.Results.{entries, listed, entry_plus, entries_plus, listed_plus, space, info, limits}
-use Rattle.nfs_results.specs.Results.{flavors, mounted, get_attr, set_attr, lookup, access, read_link, read, write}
-use Rattle.nfs_results.specs.Results.{create, remove, rename, link, read_dir, read_dir_plus, fs_stat, fs_info, path_conf}
+use Rattle.nfs_results.specs.Results.{by_status, alone_parts, alone_made, alone, behind_made, behind_parts}
+use Rattle.nfs_results.specs.Results.{behind}
+use Rattle.nfs_results.specs.Results.{before_made, before_parts, before, looked, read_bytes, written, created}
+use Rattle.nfs_results.specs.Results.{entry}
+use Rattle.nfs_results.specs.Results.{entries, listed, entry_plus, entries_plus, listed_plus, space, info}
+use Rattle.nfs_results.specs.Results.{limits}
+use Rattle.nfs_results.specs.Results.{flavors, mounted, get_attr, set_attr, lookup, access, read_link, read}
+use Rattle.nfs_results.specs.Results.{write}
+use Rattle.nfs_results.specs.Results.{create, remove, rename, link, read_dir, read_dir_plus, fs_stat, fs_info}
+use Rattle.nfs_results.specs.Results.{path_conf}
 use Rattle.nfs_results.specs.Results.{commit, mount_root, too_long, ReplyFits}
 use Rattle.session_wire.specs.declared.message.ReplyBody.{ReplyBody}
 use Rattle.session_wire.specs.declared.message.ReplyBody.TheVariants as bodies
@@ -33,7 +41,8 @@ or_false : (a b : Bool) → a ≡ false → b ≡ false → (a || b) ≡ false
 or_false true b e f = e
 or_false false b e f = f
 
-counts_so : {A : Type 0} (xs : List A) (bound : ℕ) → bound < 2 ^ 32 → length xs ≤ bound → is_uncounted xs ≡ false
+counts_so : {A : Type 0} (xs : List A) (bound : ℕ) → bound < 2 ^ 32 → length xs ≤ bound
+    → is_uncounted xs ≡ false
 counts_so xs bound small le = le-ltb 4294967295 (length xs) (omega (arith, small, le))
 
 opaques : (bound : ℕ) → bound < 2 ^ 32 → IsCounted (opaque bound)
@@ -44,21 +53,24 @@ thens F G f g = record {
   counts = λ x fits. or_false (F.too_long x.0) (G.too_long x.1) (f.counts x.0 fits.0) (g.counts x.1 fits.1);
 }
 
-vieweds : {A B : Type 0} (make : B → A) (parts : A → B) (F : Code B) → IsCounted F → IsCounted (viewed make parts F)
+vieweds : {A B : Type 0} (make : B → A) (parts : A → B) (F : Code B) → IsCounted F
+    → IsCounted (viewed make parts F)
 vieweds make parts F f = record { counts = λ a fits. f.counts (parts a) fits }
 
 fittings : {A : Type 0} (Fits : A → Type 0) (F : Code A) → ((x : A) → Fits x → F.Fits x) → IsCounted F
     → IsCounted (fitting Fits F)
 fittings Fits F to f = record { counts = λ x fits. f.counts x (to x fits) }
 
-some_counts : {A : Type 0} (F : Code A) → IsCounted F → (o : Option A) → (optional F).Fits o → in_some F.too_long o ≡ false
+some_counts : {A : Type 0} (F : Code A) → IsCounted F → (o : Option A) → (optional F).Fits o
+    → in_some F.too_long o ≡ false
 some_counts F f None fits = refl
 some_counts F f (Some x) fits = f.counts x fits
 
 optionals : {A : Type 0} (F : Code A) → IsCounted F → IsCounted (optional F)
 optionals F f = record { counts = some_counts F f }
 
-each_counts : {A : Type 0} (F : Code A) → IsCounted F → (xs : List A) → (chain F).Fits xs → some_too_long F xs ≡ false
+each_counts : {A : Type 0} (F : Code A) → IsCounted F → (xs : List A) → (chain F).Fits xs
+    → some_too_long F xs ≡ false
 each_counts F f [] fits = refl
 each_counts F f (x ∷ xs) fits =
     or_false (F.too_long x) (some_too_long F xs) (f.counts x fits.0) (each_counts F f xs fits.1)
@@ -69,7 +81,8 @@ chains F f = record { counts = each_counts F f }
 counteds : {A : Type 0} (bound : ℕ) (F : Code A) → bound < 2 ^ 32 → IsCounted F → IsCounted (counted bound F)
 counteds bound F small f = record {
   counts = λ xs fits.
-      or_false (is_uncounted xs) (some_too_long F xs) (counts_so xs bound small fits.0) (each_counts F f xs fits.1);
+      or_false (is_uncounted xs) (some_too_long F xs) (counts_so xs bound small fits.0)
+      (each_counts F f xs fits.1);
 }
 
 -- ---- items
@@ -141,11 +154,13 @@ alones F f = vieweds alone_made alone_parts (by_status F nothing) (statuses_are 
 
 behinds : {A B : Type 0} (F : Code B) (G : Code A) → IsCounted F → IsCounted G → IsCounted (behind F G)
 behinds F G f g =
-    vieweds behind_made (λ r. behind_parts r.0 r.1) (by_status (F then G) F) (statuses_are (F then G) F (thens F G f g) f)
+    vieweds behind_made (λ r. behind_parts r.0 r.1) (by_status (F then G) F)
+    (statuses_are (F then G) F (thens F G f g) f)
 
 befores : {A B : Type 0} (F : Code A) (G : Code B) → IsCounted F → IsCounted G → IsCounted (before F G)
 befores F G f g =
-    vieweds before_made (λ r. before_parts r.0 r.1) (by_status (F then G) G) (statuses_are (F then G) G (thens F G f g) g)
+    vieweds before_made (λ r. before_parts r.0 r.1) (by_status (F then G) G)
+    (statuses_are (F then G) G (thens F G f g) g)
 
 -- ---- what comes after OK
 
@@ -159,7 +174,8 @@ read_bytes_are = vieweds _ _ _ (thens word (flag then text) words (thens flag te
 
 written_is : IsCounted written
 unfolding written
-written_is = vieweds _ _ _ (thens word (stability then verifier) words (thens stability verifier stabilities verifiers))
+written_is = vieweds _ _ _ (thens word (stability then verifier) words
+    (thens stability verifier stabilities verifiers))
 
 created_is : IsCounted created
 unfolding created
@@ -251,7 +267,8 @@ removes = behinds weak_cache nothing weak_caches nothings
 
 renames : IsCounted rename
 unfolding rename
-renames = behinds (weak_cache then weak_cache) nothing (thens weak_cache weak_cache weak_caches weak_caches) nothings
+renames = behinds (weak_cache then weak_cache) nothing
+    (thens weak_cache weak_cache weak_caches weak_caches) nothings
 
 links : IsCounted link
 unfolding link
@@ -292,26 +309,37 @@ counted_so : (reply : ProgramReply) → ReplyFits reply → too_long reply ≡ f
 counted_so (program_replies.Nfs replies.Null) fits = refl
 counted_so (program_replies.Nfs (replies.GetAttr outcome)) fits = get_attrs.counts outcome fits
 counted_so (program_replies.Nfs (replies.SetAttr outcome object)) fits = set_attrs.counts (outcome, object) fits
-counted_so (program_replies.Nfs (replies.Lookup outcome directory)) fits = lookups.counts (outcome, directory) fits
+counted_so (program_replies.Nfs (replies.Lookup outcome directory)) fits =
+    lookups.counts (outcome, directory) fits
 counted_so (program_replies.Nfs (replies.Access outcome object)) fits = accesses.counts (outcome, object) fits
-counted_so (program_replies.Nfs (replies.ReadLink outcome object)) fits = read_links.counts (outcome, object) fits
+counted_so (program_replies.Nfs (replies.ReadLink outcome object)) fits =
+    read_links.counts (outcome, object) fits
 counted_so (program_replies.Nfs (replies.Read outcome file)) fits = reads.counts (outcome, file) fits
 counted_so (program_replies.Nfs (replies.Write outcome file)) fits = writes.counts (outcome, file) fits
-counted_so (program_replies.Nfs (replies.Create outcome directory)) fits = creates.counts (outcome, directory) fits
-counted_so (program_replies.Nfs (replies.MkDir outcome directory)) fits = creates.counts (outcome, directory) fits
-counted_so (program_replies.Nfs (replies.SymLink outcome directory)) fits = creates.counts (outcome, directory) fits
-counted_so (program_replies.Nfs (replies.MkNod outcome directory)) fits = creates.counts (outcome, directory) fits
-counted_so (program_replies.Nfs (replies.Remove outcome directory)) fits = removes.counts (outcome, directory) fits
-counted_so (program_replies.Nfs (replies.RmDir outcome directory)) fits = removes.counts (outcome, directory) fits
+counted_so (program_replies.Nfs (replies.Create outcome directory)) fits =
+    creates.counts (outcome, directory) fits
+counted_so (program_replies.Nfs (replies.MkDir outcome directory)) fits =
+    creates.counts (outcome, directory) fits
+counted_so (program_replies.Nfs (replies.SymLink outcome directory)) fits =
+    creates.counts (outcome, directory) fits
+counted_so (program_replies.Nfs (replies.MkNod outcome directory)) fits =
+    creates.counts (outcome, directory) fits
+counted_so (program_replies.Nfs (replies.Remove outcome directory)) fits =
+    removes.counts (outcome, directory) fits
+counted_so (program_replies.Nfs (replies.RmDir outcome directory)) fits =
+    removes.counts (outcome, directory) fits
 counted_so (program_replies.Nfs (replies.Rename outcome source target)) fits =
     renames.counts (outcome, (source, target)) fits
-counted_so (program_replies.Nfs (replies.Link outcome file directory)) fits = links.counts (outcome, (file, directory)) fits
-counted_so (program_replies.Nfs (replies.ReadDir outcome directory)) fits = read_dirs.counts (outcome, directory) fits
+counted_so (program_replies.Nfs (replies.Link outcome file directory)) fits =
+    links.counts (outcome, (file, directory)) fits
+counted_so (program_replies.Nfs (replies.ReadDir outcome directory)) fits =
+    read_dirs.counts (outcome, directory) fits
 counted_so (program_replies.Nfs (replies.ReadDirPlus outcome directory)) fits =
     read_dirs_plus.counts (outcome, directory) fits
 counted_so (program_replies.Nfs (replies.FsStat outcome object)) fits = fs_stats.counts (outcome, object) fits
 counted_so (program_replies.Nfs (replies.FsInfo outcome object)) fits = fs_infos.counts (outcome, object) fits
-counted_so (program_replies.Nfs (replies.PathConf outcome object)) fits = path_confs.counts (outcome, object) fits
+counted_so (program_replies.Nfs (replies.PathConf outcome object)) fits =
+    path_confs.counts (outcome, object) fits
 counted_so (program_replies.Nfs (replies.Commit outcome file)) fits = commits.counts (outcome, file) fits
 counted_so (program_replies.Mount mount_replies.Null) fits = refl
 counted_so (program_replies.Mount (mount_replies.Mount outcome)) fits = mount_roots.counts outcome fits

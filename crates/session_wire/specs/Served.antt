@@ -33,9 +33,9 @@ pub record Serving : Type 0 where
   pub failed : ℕ → Bool
 
 -- How a stream stands between two messages: the tree so far, the least number that the next transaction may
--- have, how many places and log positions were given out, the device's clock, which is the count of its calls so
--- far, and whether a write or a barrier has failed since the opening. What is between two messages is free: the
--- contract of a server ties the last one to its device and its core.
+-- have, how many places and log positions were given out, the device's clock, which is the count of its calls
+-- so far, and whether a write or a barrier has failed since the opening. What is between two messages is
+-- free: the contract of a server ties the last one to its device and its core.
 pub record Standing : Type 0 where
   pub tree : Tree
   pub number : ℕ
@@ -119,7 +119,8 @@ pub data IsReplyWithRules (s : Serving) (old : Standing) (xid : ℕ) (credential
       → IsReplyWithRules s old xid credential call bytes new
   Unsettled : (reply : Reply) → Steps s old credential call reply new → HasFailed s old new
       → is_answered_stable call ≡ true
-      → bytes ≡ nfs_done xid (model.refused status.Io call) → IsReplyWithRules s old xid credential call bytes new
+      → bytes ≡ nfs_done xid (model.refused status.Io call)
+      → IsReplyWithRules s old xid credential call bytes new
 
 -- what a call without rules is answered: a function of the message alone, or that memory was refused
 abbrev pub IsPlain : ℕ → ProgramCall → List ℕ → Type 0
@@ -165,8 +166,8 @@ served s old [] (reply ∷ replies) new = ⊥
 served s old (message ∷ messages) (reply ∷ replies) new =
     (middle : Standing) × IsReplyTo s old (judged message) reply middle × served s middle messages replies new
 
--- A message is answered and nothing fails: a call with rules makes its step and gets the reply of it, any other call
--- gets its plain reply, and what is refused its refusal.
+-- A message is answered and nothing fails: a call with rules makes its step and gets the reply of it, any
+-- other call gets its plain reply, and what is refused its refusal.
 abbrev pub IsNfsDone : Serving → Standing → Bool → ℕ → Credential → types.Call → List ℕ → Standing → Type 0
 IsNfsDone s old true xid credential call bytes new =
     (reply : Reply) × Steps s old credential call reply new × (bytes ≡ nfs_done xid reply)

@@ -58,8 +58,8 @@ pub fn spelled_replies_are_read()
         → (SpellsReply p bytes m ↔ (reply_of p bytes ≡ Ok m)) }
 {}
 
-/// A reply that fits is too long for a record exactly where it has 2^31 bytes or more: it has no length that four bytes
-/// can't tell.
+/// A reply that fits is too long for a record exactly where it has 2^31 bytes or more: it has no length that
+/// four bytes can't tell.
 #[tactic(auto, using(crate::proofs::CountedReplies::long_by_bytes))]
 pub fn what_fits_is_too_long_by_its_bytes_alone()
     ensures { (xid : ℕ) (body : ReplyBody) → BodyFits body

@@ -1,5 +1,5 @@
-//! The messages of RPC (RFC 5531) that call and answer NFS version 3 and MOUNT (RFC 1813), and what a stream of them
-//! is answered.
+//! The messages of RPC (RFC 5531) that call and answer NFS version 3 and MOUNT (RFC 1813), and what a stream
+//! of them is answered.
 #![tactic(auto)]
 
 mod judging;

@@ -12,8 +12,8 @@ use rpc::{LAST_FRAGMENT, put_accepted, put_refusal};
 use std::alloc::Global;
 use xdr::{Writer, XdrFault};
 
-/// The bytes of a reply, as a record of one fragment. One that has a length of 2^32 or more in it, or 2^31 bytes in all,
-/// is `Length`; where memory is refused it is `NoMemory`.
+/// The bytes of a reply, as a record of one fragment. One that has a length of 2^32 or more in it, or 2^31
+/// bytes in all, is `Length`; where memory is refused it is `NoMemory`.
 #[tactic(auto, unfolding(xdr::specs::Items::word))]
 pub fn reply_bytes(alloc: Global, xid: u32, reply: RpcReply) -> Result<Vec<u8>, XdrFault>
     ensures ok { IfOk result (λ bytes. bytes.items ≡ fragment true (bytes_of xid (body_of reply.entry))) }
@@ -31,7 +31,8 @@ pub fn reply_bytes(alloc: Global, xid: u32, reply: RpcReply) -> Result<Vec<u8>, 
 
 // The reply behind room for its mark.
 fn message(alloc: Global, xid: u32, reply: RpcReply) -> Result<Writer, XdrFault>
-    ensures { Encodes result (word 0) (bytes_of xid (body_of reply.entry)) (body_too_long (body_of reply.entry)) }
+    ensures { Encodes result (word 0) (bytes_of xid (body_of reply.entry))
+        (body_too_long (body_of reply.entry)) }
 {
     let mut out = Writer::new(alloc);
     out.unsigned(0)?;

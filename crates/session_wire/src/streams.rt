@@ -37,8 +37,8 @@ pub fn streams_join()
         → served s old (first ++ second) (replies ++ others) new }
 {}
 
-/// Whatever a stream is answered, nothing is taken back: no number, no place, no log position and no device call;
-/// and the store breaks only with a device call that failed in the time of the stream.
+/// Whatever a stream is answered, nothing is taken back: no number, no place, no log position and no device
+/// call; and the store breaks only with a device call that failed in the time of the stream.
 pub fn a_stream_goes_on()
     ensures { (s : Serving) (old new : Standing) (messages replies : List (List ℕ))
         → served s old messages replies new → IsLater s old new }
@@ -59,8 +59,9 @@ pub fn without_a_cause_nothing_fails()
         → done_but_for_memory s old messages replies new }
 {}
 
-/// Each stream of bytes can be served that comes to a sound tree, while numbers of transactions are left; and that so
-/// that nothing fails: each call with rules gets the reply of its step, and each other its plain reply.
+/// Each stream of bytes can be served that comes to a sound tree, while numbers of transactions are left; and
+/// that so that nothing fails: each call with rules gets the reply of its step, and each other its plain
+/// reply.
 pub fn each_stream_can_be_served()
     ensures { (s : Serving) (old : Standing) (messages : List (List ℕ)) → IsServable s old messages
         → (replies : List (List ℕ)) × (new : Standing) × served s old messages replies new

@@ -113,24 +113,32 @@ taken_at (x ∷ holds) block taken = by (nat_eq x.addr.block.0 block.0) refl tak
     }
     by false at some rest =
         let there = rest some in
-        record { tx = there.tx; addr = there.addr; held = later x holds there.tx there.addr there.held; at = there.at }
+        record {
+          tx = there.tx;
+          addr = there.addr;
+          held = later x holds there.tx there.addr there.held;
+          at = there.at;
+        }
 
 -- ---- a fetch, given back
 
 module _ (old mid new : CoreState) (tx : ℕ) (addr : Addr) (asked io : Fetch)
     (fetched : IsFetched old tx addr modes.Exclusive asked mid) (same : io.block ≡ asked.block)
-    (leaves : Leaves new (taken_by mid) (without_fetch io.block (is_fetching mid)) (there_given true io mid)) where
+    (leaves : Leaves new (taken_by mid) (without_fetch io.block (is_fetching mid))
+    (there_given true io mid)) where
   abbrev hold : Hold
   hold = for_fetching tx addr modes.Exclusive
 
   taken_now : (t : ℕ) (a : Addr)
-      → taken_by new t a ≡ (if is_hold_of t a hold then Some (joined (taken_by old t a) hold) else taken_by old t a)
+      → taken_by new t a ≡ (if is_hold_of t a hold then Some (joined (taken_by old t a) hold)
+      else taken_by old t a)
   taken_now t a = leaves.holds t a ∙ fetched.leaves.holds t a
 
   stays_taken : (t : ℕ) (a : Addr) → is_some (taken_by old t a) ≡ true → is_some (taken_by new t a) ≡ true
   stays_taken t a some = ap (λ (o : Option Hold). is_some o) (taken_now t a) ∙ by (is_hold_of t a hold)
     where
-      by : (mine : Bool) → is_some (if mine then Some (joined (taken_by old t a) hold) else taken_by old t a) ≡ true
+      by : (mine : Bool) → is_some (if mine then Some (joined (taken_by old t a) hold) else taken_by
+          old t a) ≡ true
       by true = refl
       by false = some
 
@@ -142,7 +150,8 @@ module _ (old mid new : CoreState) (tx : ℕ) (addr : Addr) (asked io : Fetch)
   here_taken : is_taken new.holds addr.block ≡ true
   here_taken = held_taken new.holds tx addr addr.block refl
       (ap (λ (o : Option Hold). is_some o) (taken_now tx addr)
-      ∙ ap (λ (b : Bool). is_some (if b then Some (joined (taken_by old tx addr) hold) else taken_by old tx addr))
+      ∙ ap (λ (b : Bool). is_some (if b then Some (joined (taken_by old tx addr) hold)
+      else taken_by old tx addr))
       (is_hold_by tx addr hold refl refl refl refl))
 
   needed : (block : BlockNo) → is_taken new.holds block ≡ true
@@ -159,8 +168,8 @@ module _ (old mid new : CoreState) (tx : ℕ) (addr : Addr) (asked io : Fetch)
 
   there_now : (block : BlockNo) → there_given true io mid block
       ≡ (if nat_eq block.0 io.block.0 then Some io.content else in_memory mid block)
-  there_now block = ap (λ b. (if b then with_content io.block io.content (in_memory mid) else in_memory mid) block)
-      pending
+  there_now block = ap (λ b. (if b then with_content io.block io.content (in_memory mid)
+      else in_memory mid) block) pending
 
   was_there : (block : BlockNo) (content : Content) → in_memory old block ≡ Some content
       → is_taken old.holds block ≡ true → is_some (in_memory new block) ≡ true
@@ -192,10 +201,12 @@ module _ (old mid new : CoreState) (tx : ℕ) (addr : Addr) (asked io : Fetch)
   stays_at_hand : (block : BlockNo) → is_at_hand old block ≡ true → is_at_hand new block ≡ true
   stays_at_hand block here = by (is_taken old.holds block) refl (in_memory old block) refl here
     where
-      by : (taken : Bool) → is_taken old.holds block ≡ taken → (there : Option Content) → in_memory old block ≡ there
+      by : (taken : Bool) → is_taken old.holds block ≡ taken → (there : Option Content)
+          → in_memory old block ≡ there
           → (taken && is_some there) ≡ true → is_at_hand new block ≡ true
       by true is (Some content) there both =
-          ap (λ b. b && is_some (in_memory new block)) (is_taken_now block is) ∙ was_there block content there is
+          ap (λ b. b && is_some (in_memory new block)) (is_taken_now block is)
+          ∙ was_there block content there is
       by true is None there both = absurd (true≢false (sym both))
       by false is o there both = absurd (true≢false (sym both))
 

@@ -1,6 +1,8 @@
 -- A call begins, its read keeps it under way, and so does the settling that it waits for.
-use Rattle.std.proofs.Common.{arith, ◌≡◌, ◌∙◌, refl, sym, ap, subst, true≢false, ℕ, ◌<◌, ◌≤◌, inl, inr, Bool, true, false}
-use Rattle.std.proofs.Common.{IfSome, Option, Some, None, Result, Ok, Err, is_ok, is_some, length, List, [], ◌++◌, option_to_list}
+use Rattle.std.proofs.Common.{arith, ◌≡◌, ◌∙◌, refl, sym, ap, subst, true≢false, ℕ, ◌<◌, ◌≤◌, inl, inr, Bool}
+use Rattle.std.proofs.Common.{true, false}
+use Rattle.std.proofs.Common.{IfSome, Option, Some, None, Result, Ok, Err, is_ok, is_some, length, List, []}
+use Rattle.std.proofs.Common.{◌++◌, option_to_list}
 use Rattle.std.specs.Prelude.{IsSomeAnd}
 use Rattle.std.proofs.lemmas.List.{append-nil}
 use Rattle.std.proofs.lemmas.List.Elements.{All-nil}
@@ -19,7 +21,8 @@ use Rattle.txn_law.specs.Fetch.{Fetch}
 use Rattle.wal_law.specs.Calls.{Pending, idle as nothing_out}
 use Rattle.wal_law.specs.Log.{settled_place}
 use Rattle.store_promise.specs.OpenSince.{HasKeptFiles, IsOpenSince, KeepsFiles, LeavesBeginning}
-use Rattle.store_promise.specs.Progress.{Begun, Progress, Stage, At, Idle, Called, Planning, Reading, Read, Refused, Again}
+use Rattle.store_promise.specs.Progress.{Begun, Progress, Stage, At, Idle, Called, Planning, Reading, Read}
+use Rattle.store_promise.specs.Progress.{Refused, Again}
 use Rattle.store_promise.specs.Progress.{Waiting, is_idle, progressed}
 use Rattle.store_promise.specs.Running.{IsFetchOver, IsRunningOver, at_rest as quiet}
 use Rattle.store_promise.specs.Schedule.{IsStepOfRead}
@@ -28,7 +31,8 @@ use Rattle.store_promise.specs.declared.answers.Verdict.{Verdict}
 use Rattle.store_promise.specs.declared.events.Step.{Step}
 use Rattle.store_promise.specs.declared.events.Step.TheVariants as step
 use Rattle.store_runs.specs.AtWork.{IsCoreAtWork, fetches_in, fetches_of}
-use Rattle.store.specs.Calling.{GoesTo, HasAnswered, HasStepped, HasWaited, IsCalling, IsOpenAt, IsOpenWith, IsSoFar}
+use Rattle.store.specs.Calling.{GoesTo, HasAnswered, HasStepped, HasWaited, IsCalling, IsOpenAt, IsOpenWith}
+use Rattle.store.specs.Calling.{IsSoFar}
 use Rattle.store.specs.Calling.{LeavesFiles, Outset, StandsWith, Tells}
 use Rattle.store_images.specs.Further.{LeavesOpen, RunsOn}
 use Rattle.store_images.specs.Opening.{Opened, store_of}
@@ -61,9 +65,11 @@ use Rattle.store_images.proofs.StillOpen.{further_then, same_further}
 -- ---- a call begins
 
 abbrev handed_to : Outset → State
-handed_to o = with_call (ctx_of o.asked.credential o.asked.moment o.store.boot) o.asked.call (at_rest o.store.boot)
+handed_to o = with_call (ctx_of o.asked.credential o.asked.moment o.store.boot) o.asked.call
+    (at_rest o.store.boot)
 
-pub begins : (o : Outset) (worker : State) → SoundTime o.asked.moment → IsIdle o.store.core → worker ≡ handed_to o
+pub begins : (o : Outset) (worker : State) → SoundTime o.asked.moment → IsIdle o.store.core
+    → worker ≡ handed_to o
     → GoesWith worker o.store.core → IsOpenWith o.store o.first o.entries o.last → IsCalling o o.store worker
 begins o worker timely idle is with opened = record {
   entry = None;
@@ -73,8 +79,10 @@ begins o worker timely idle is with opened = record {
   comes = refl;
   past = past_none o.store.device;
   kept = none_left o.store.device o.store.boot o.first (o.entries ++ []) (settled_place o.store.core.log);
-  opened = subst (λ (w : State). IsOpenAt opened.base o.store (fetches_of w) o.first (o.entries ++ []) o.last) (sym is)
-      (subst (λ (es : List Entry). IsOpenAt opened.base o.store [] o.first es o.last) (sym (append-nil o.entries))
+  opened = subst (λ (w : State). IsOpenAt opened.base o.store (fetches_of w) o.first (o.entries ++ [])
+      o.last) (sym is)
+      (subst (λ (es : List Entry). IsOpenAt opened.base o.store [] o.first es o.last)
+      (sym (append-nil o.entries))
       opened.opened);
   stands = subst (λ (w : State). IsWorkerAt o.store.boot (o.entries ++ []) w) (sym is) (record {
     boot_is = refl;
@@ -113,12 +121,14 @@ none_made made same = cc
 -- a call of the device leaves what each stop before it left
 abbrev pub KeepsByCall : Type 0
 KeepsByCall = (before old new : Device) (base : Image) (core : CoreState) (logging installing : Pending)
-    (boot settled : ℕ) (first last : Tree) (entries : List Entry) → HasKeptFiles before old boot first entries settled
+    (boot settled : ℕ) (first last : Tree) (entries : List Entry)
+    → HasKeptFiles before old boot first entries settled
     → IsOpenSince base old core logging installing boot first entries last → settled ≤ settled_place core.log
     → OneLater old new → HasKeptFiles before new boot first entries settled
 
-module _ (o : Outset) (now : Opened) (device : Device) (worker : State) (calling : IsCalling o now worker) (io : Fetch)
-    (content : Content) (answer : Result Unit Failed) (failure : CountsFailure now.device device answer) where
+module _ (o : Outset) (now : Opened) (device : Device) (worker : State)
+    (calling : IsCalling o now worker) (io : Fetch) (content : Content) (answer : Result Unit Failed)
+    (failure : CountsFailure now.device device answer) where
   abbrev later : Opened
   later = record now { device = device }
 
@@ -154,16 +164,20 @@ module _ (o : Outset) (now : Opened) (device : Device) (worker : State) (calling
 
   kept_then : KeepsByCall → OneLater now.device device → HasKeptFiles o.store.device device o.store.boot o.first
       (o.entries ++ option_to_list calling.entry) (settled_place o.store.core.log)
-  kept_then keeps one = keeps o.store.device now.device device calling.base now.core nothing_out nothing_out o.store.boot
-      (settled_place o.store.core.log) o.first calling.last (o.entries ++ option_to_list calling.entry) calling.kept
+  kept_then keeps one = keeps o.store.device now.device device calling.base now.core nothing_out
+      nothing_out o.store.boot
+      (settled_place o.store.core.log) o.first calling.last
+      (o.entries ++ option_to_list calling.entry) calling.kept
       (subst (λ (boot : ℕ). IsOpenSince calling.base now.device now.core nothing_out nothing_out boot o.first
       (o.entries ++ option_to_list calling.entry) calling.last) calling.boot calling.opened.since)
       calling.further.settled one
 
-  pub was_read : KeepsByCall → OneLater now.device device → TellsRead o.store.boot (o.entries ++ option_to_list calling.entry) worker (Some made) read
+  pub was_read : KeepsByCall → OneLater now.device device
+      → TellsRead o.store.boot (o.entries ++ option_to_list calling.entry) worker (Some made) read
       → IsCoreAtWork read now.core
       → IsRunningOver (setting_of calling.base now (fetches_of worker) o.first
-      (o.entries ++ option_to_list calling.entry) calling.last calling.opened) calling.base (quiet device now.core)
+      (o.entries ++ option_to_list calling.entry) calling.last calling.opened) calling.base
+      (quiet device now.core)
       (fetches_of read) now.boot o.first (o.entries ++ option_to_list calling.entry) calling.last
       → IsCalling o later read
   was_read keeps one tells at_work run = record {
@@ -188,7 +202,8 @@ module _ (o : Outset) (now : Opened) (device : Device) (worker : State) (calling
 -- ---- a settling
 
 module _ (o : Outset) (now : Opened) (device : Device) (core : CoreState) (worker : State) (waits : Bool)
-    (served : waits ≡ true → has_rules o.asked.call ≡ true) (waited : HasWaited waits now.device now.core device core)
+    (served : waits ≡ true → has_rules o.asked.call ≡ true)
+    (waited : HasWaited waits now.device now.core device core)
   where
     abbrev opens : LeavesOpen now.device now.core device core
     opens = waited.opens
@@ -215,12 +230,13 @@ module _ (o : Outset) (now : Opened) (device : Device) (core : CoreState) (worke
       from (inl broken) = failed_then o now settled still_after (calling.broken broken)
       from (inr more) = inr (let was = calling.counted in omega (arith, was, more))
 
-      run : IsRunningOver (setting_of calling.base now (fetches_of worker) o.first entries calling.last calling.opened)
-          calling.base (quiet now.device now.core) (fetches_of worker) now.boot o.first entries calling.last
+      run : IsRunningOver (setting_of calling.base now (fetches_of worker) o.first entries calling.last
+          calling.opened) calling.base (quiet now.device now.core) (fetches_of worker) now.boot o.first
+          entries calling.last
       run = runs_of calling.base now (fetches_of worker) o.first entries calling.last calling.opened
 
-      next : RunsOn (setting_of calling.base now (fetches_of worker) o.first entries calling.last calling.opened) device
-          core (fetches_of worker) now.boot o.first entries calling.last
+      next : RunsOn (setting_of calling.base now (fetches_of worker) o.first entries calling.last
+          calling.opened) device core (fetches_of worker) now.boot o.first entries calling.last
       next = opens.runs _ calling.base (fetches_of worker) now.boot o.first calling.last entries run
 
       stays : StaysOpen now.device now.core device core now.boot o.first entries calling.last
@@ -228,8 +244,10 @@ module _ (o : Outset) (now : Opened) (device : Device) (core : CoreState) (worke
 
       kept_on : HasKeptFiles o.store.device device o.store.boot o.first entries (settled_place o.store.core.log)
       kept_on = kept_along o.store.device now.device device o.store.boot (settled_place o.store.core.log)
-          (settled_place now.core.log) o.first entries calling.past stays.past calling.further.settled calling.kept
-          (subst (λ (boot : ℕ). HasKeptFiles now.device device boot o.first entries (settled_place now.core.log))
+          (settled_place now.core.log) o.first entries calling.past stays.past
+          calling.further.settled calling.kept
+          (subst (λ (boot : ℕ). HasKeptFiles now.device device boot o.first entries
+          (settled_place now.core.log))
           calling.boot stays.left)
 
       abbrev settles_on : IsCalling o settled worker
@@ -245,28 +263,34 @@ module _ (o : Outset) (now : Opened) (device : Device) (core : CoreState) (worke
         stands = calling.stands;
         at_work = still_at_work now.core core opens.core (sym next.running.blocks ∙ run.blocks) worker with
             calling.at_work;
-        so_far = so_far_still o now settled still_after same_unserved calling.entry (progress_of worker) calling.so_far;
+        so_far = so_far_still o now settled still_after same_unserved calling.entry (progress_of worker)
+            calling.so_far;
         counted = let was = calling.counted in let more = opens.failures in omega (arith, was, more);
         further = further_then o.store.core now.core core calling.further opens.further;
         broken = λ is. from (opens.failed is);
       }
 
 answer_still : (o : Outset) (now new : Opened) (is_after : IsAfter now new) → new.core.begun ≡ now.core.begun
-    → (has_rules o.asked.call ≡ false → new ≡ now) → (entry : Option Entry) (found : Option CallAnswer) → IfSome found (λ ready. Tells o entry ready.verdict now)
+    → (has_rules o.asked.call ≡ false → new ≡ now) → (entry : Option Entry) (found : Option CallAnswer)
+    → IfSome found (λ ready. Tells o entry ready.verdict now)
     → IfSome found (λ ready. Tells o entry ready.verdict new)
 answer_still o now new is_after begun same entry None is = tt
 answer_still o now new is_after begun same entry (Some ready) is =
     tells_still o now new is_after begun (λ unserved few. same unserved) entry ready.verdict is
 
-pub settled_step : (o : Outset) (now : Opened) (device : Device) (core : CoreState) (worker : State) (waits : Bool)
-    (served : waits ≡ true → has_rules o.asked.call ≡ true) (waited : HasWaited waits now.device now.core device core)
-    → HasStepped o now worker → GoesWith (told worker) core → HasStepped o (store_of device core now.boot) worker
+pub settled_step : (o : Outset) (now : Opened) (device : Device) (core : CoreState) (worker : State)
+    (waits : Bool)
+    (served : waits ≡ true → has_rules o.asked.call ≡ true)
+    (waited : HasWaited waits now.device now.core device core)
+    → HasStepped o now worker → GoesWith (told worker) core
+    → HasStepped o (store_of device core now.boot) worker
 settled_step o now device core worker waits served waited stepped with = record {
   calling = settles_on o now device core (told worker) waits served waited stepped.calling with;
   ends = stepped.ends;
   answer = answer_still o now (store_of device core now.boot)
       (still_after o now device core (told worker) waits served waited) waited.opens.core.begun
-      (same_unserved o now device core (told worker) waits served waited) stepped.calling.entry worker.work.answer
+      (same_unserved o now device core (told worker) waits served waited) stepped.calling.entry
+      worker.work.answer
       stepped.answer;
 }
 
@@ -293,7 +317,8 @@ pub settled_open : (now : Opened) (device : Device) (core : CoreState) (first : 
 settled_open now device core first entries last opens opened =
     let at = opened.opened in
     let s = setting_of opened.base now [] first entries last at in
-    let next = opens.runs s opened.base [] now.boot first last entries (runs_of opened.base now [] first entries last at)
+    let next = opens.runs s opened.base [] now.boot first last entries
+    (runs_of opened.base now [] first entries last at)
     in
     record {
       base = next.home;
@@ -301,9 +326,11 @@ settled_open now device core first entries last opens opened =
     }
 
 -- what each stop leaves then
-files_then : (o : Outset) (entries : List Entry) (last : Tree) (now : Opened) (device : Device) (core : CoreState)
+files_then : (o : Outset) (entries : List Entry) (last : Tree) (now : Opened) (device : Device)
+    (core : CoreState)
     → AreBlocks device → now.boot ≡ o.store.boot → settled_place o.store.core.log ≤ settled_place now.core.log
-    → KeepsPrefixes now.device now.core device core → IsOpenWith now o.first entries last → LeavesFiles o entries now
+    → KeepsPrefixes now.device now.core device core → IsOpenWith now o.first entries last
+    → LeavesFiles o entries now
     → LeavesFiles o entries (store_of device core now.boot)
 files_then o entries last now device core blocks boot further keeps opened files =
     let kept = keeps opened.base now.boot o.first last entries opened.opened.since in
@@ -334,7 +361,8 @@ settled_answer o verdict now device core opens keeps blocks many has = record {
       (record { failures = opens.failures; further = opens.further }) has.entry has.last has.comes;
   files = files_then o (o.entries ++ option_to_list has.entry) has.last now device core blocks has.boot
       has.goes.further.settled keeps has.opened has.files;
-  opened = settled_open now device core o.first (o.entries ++ option_to_list has.entry) has.last opens has.opened;
+  opened = settled_open now device core o.first (o.entries ++ option_to_list has.entry) has.last
+      opens has.opened;
   goes = gone_on o.store now (store_of device core now.boot) has.goes
       (record { failures = opens.failures; further = opens.further; failed = opens.failed });
   tells = tells_still o now (store_of device core now.boot)
@@ -398,7 +426,8 @@ again_goes o now worker stepped planning with =
       ends = λ some. ends_again worker.work.job
           (begun_of worker.begun.tx (seen_in worker.work.snap) worker.asked.fetched)
           (subst (λ (p : phases.Phase). is_idle (progress_in p worker.work.job
-          (begun_of worker.begun.tx (seen_in worker.work.snap) worker.asked.fetched) worker.asked) ≡ true) planning
+          (begun_of worker.begun.tx (seen_in worker.work.snap) worker.asked.fetched) worker.asked)
+          ≡ true) planning
           (stepped.ends some));
       answer = stepped.answer;
     }
@@ -427,7 +456,8 @@ goes_told worker core fits = record {
 }
 
 -- a worker of which nothing lies ready has nothing to tell
-pub none_to_tell : (worker : State) → worker.work.entry ≡ None → worker.work.answer ≡ None → told worker ≡ worker
+pub none_to_tell : (worker : State) → worker.work.entry ≡ None → worker.work.answer ≡ None
+    → told worker ≡ worker
 none_to_tell worker entry answer = λ i.
     record worker { work = record worker.work { entry = sym entry i; answer = sym answer i } }
 
@@ -474,8 +504,9 @@ idle_by boot done state (Phase.Waiting place) stands idle =
 
 -- each stop leaves a beginning, by the laws on a store that is open
 abbrev pub KeepsNow : Type 0
-KeepsNow = (before d : Device) (base : Image) (core : CoreState) (logging installing : Pending) (boot settled : ℕ)
-    (first last : Tree) (entries : List Entry) → HasKeptFiles before d boot first entries settled
+KeepsNow = (before d : Device) (base : Image) (core : CoreState) (logging installing : Pending)
+    (boot settled : ℕ) (first last : Tree) (entries : List Entry)
+    → HasKeptFiles before d boot first entries settled
     → IsOpenSince base d core logging installing boot first entries last → settled ≤ settled_place core.log
     → KeepsFiles before d boot first entries settled
 
@@ -489,15 +520,17 @@ files_now : KeepsNow → StopsNow → (o : Outset) (now : Opened) (worker : Stat
     → (was : IsCalling o now worker) → LeavesFiles o (o.entries ++ option_to_list was.entry) now
 files_now keeps stops o now worker blocks was =
     let entries = o.entries ++ option_to_list was.entry in
-    let since = subst (λ (boot : ℕ). IsOpenSince was.base now.device now.core nothing_out nothing_out boot o.first entries was.last)
+    let since = subst (λ (boot : ℕ). IsOpenSince was.base now.device now.core nothing_out nothing_out boot
+    o.first entries was.last)
     was.boot was.opened.since in
     record {
       past = was.past;
       left = some_image o.store.device now.device blocks;
-      stops = keeps o.store.device now.device was.base now.core nothing_out nothing_out o.store.boot (settled_place o.store.core.log)
-          o.first was.last entries was.kept since was.further.settled;
+      stops = keeps o.store.device now.device was.base now.core nothing_out nothing_out o.store.boot
+          (settled_place o.store.core.log) o.first was.last entries was.kept since was.further.settled;
       ended = λ image crash.
-          stops was.base now.device now.core nothing_out nothing_out o.store.boot o.first was.last entries image since crash;
+          stops was.base now.device now.core nothing_out nothing_out o.store.boot o.first was.last entries
+          image since crash;
     }
 
 -- the store is open with what the call came to, and its worker is idle
@@ -522,8 +555,8 @@ answered keeps stops o now worker ready blocks stepped is =
           };
         };
         goes = record { failures = was.counted; further = was.further; failed = was.broken };
-        tells = subst (λ (o2 : Option CallAnswer). IfSome o2 (λ ready. Tells o was.entry ready.verdict now)) (sym is)
-            stepped.answer;
+        tells = subst (λ (o2 : Option CallAnswer). IfSome o2
+            (λ ready. Tells o was.entry ready.verdict now)) (sym is) stepped.answer;
       },
       idle_by o.store.boot (o.entries ++ option_to_list was.entry) (told worker) worker.phase was.stands.stands
           (stepped.ends some),

@@ -1,6 +1,8 @@
 -- How far a call is after a step of its worker, and what the step answers, by the stage that it was at.
-use Rattle.std.proofs.Common.{arith, ◌≡◌, ◌∙◌, refl, sym, ap, subst, true≢false, ℕ, ◌+◌, ◌^◌, ◌≤◌, ◌⊎◌, inl, inr}
-use Rattle.std.proofs.Common.{Bool, true, false, ◌||◌, if◌then◌else◌, nat_le, is_some, Option, Some, None, Result, Ok, Err}
+use Rattle.std.proofs.Common.{arith, ◌≡◌, ◌∙◌, refl, sym, ap, subst, true≢false, ℕ, ◌+◌, ◌^◌, ◌≤◌, ◌⊎◌, inl}
+use Rattle.std.proofs.Common.{inr}
+use Rattle.std.proofs.Common.{Bool, true, false, ◌||◌, if◌then◌else◌, nat_le, is_some, Option, Some, None}
+use Rattle.std.proofs.Common.{Result, Ok, Err}
 use Rattle.std.proofs.Common.{List, [], ◌∷◌, ◌++◌, length, map, option_to_list, zero, suc, slice_get}
 use Rattle.std.proofs.lemmas.Bool.Decides.{nat_tests}
 use Rattle.limits.specs.declared.TheConstants.{MOST_KEPT_COMMITS}
@@ -16,9 +18,11 @@ use Rattle.wal_law.specs.declared.outcomes.Seq.{Seq}
 use Rattle.store_promise.specs.LogTold.{settled_told}
 use Rattle.store_promise.specs.Progress.{Begun, Job, Progress, Stage, At, Idle, Called, Planning, Reading, Read}
 use Rattle.store_promise.specs.Progress.{Refused, Again, Waiting, Taken, Wished, after_called, after_claimed}
-use Rattle.store_promise.specs.Progress.{after_commit, after_planning, after_waiting, after_wanted, going_on, is_idle}
+use Rattle.store_promise.specs.Progress.{after_commit, after_planning, after_waiting, after_wanted, going_on}
+use Rattle.store_promise.specs.Progress.{is_idle}
 use Rattle.store_promise.specs.Progress.{stage_after}
-use Rattle.store_promise.specs.Schedule.{begun_after, HasNumbers, IsClaimWish, IsCommitting, IsStepByPlan, IsStepOfCalled}
+use Rattle.store_promise.specs.Schedule.{begun_after, HasNumbers, IsClaimWish, IsCommitting, IsStepByPlan}
+use Rattle.store_promise.specs.Schedule.{IsStepOfCalled}
 use Rattle.store_promise.specs.Schedule.{IsStepOfWork, IsWish, Setting, Told, wish_of}
 use Rattle.store_promise.specs.Transcript.{Transcript, committed_at, entry_of}
 use Rattle.store_promise.specs.Verdicts.{HasVerdict, IsReplyAt, cause_of}
@@ -36,7 +40,8 @@ use Rattle.store_promise.specs.declared.events.Wish.TheVariants as wish
 use Rattle.store_promise.specs.declared.transcript.Answer.{Answer}
 use Rattle.store_promise.specs.declared.transcript.Committed.{Committed}
 use Rattle.store_runs.specs.AtWork.{has_committed}
-use Rattle.store.specs.Calling.{ComesTo, HasCause, IsBegunFor, IsMadeFor, IsRefusal, IsSoFar, IsSpent, IsUnserved}
+use Rattle.store.specs.Calling.{ComesTo, HasCause, IsBegunFor, IsMadeFor, IsRefusal, IsSoFar, IsSpent}
+use Rattle.store.specs.Calling.{IsUnserved}
 use Rattle.store.specs.Calling.{Outset, StandsWith, Tells}
 use Rattle.store.specs.Driving.{waits_for_log}
 use Rattle.store_images.specs.Further.{IsFurther}
@@ -134,8 +139,12 @@ module _ (o : Outset) (now new : Opened) (after : IsAfter now new) where
   stands_then same entry (Planning begun) has = (has.0, begun_then begun.number has.1)
   stands_then same entry (Reading begun taken) has = (has.0, begun_then begun.number has.1)
   stands_then same entry (Read begun taken true) has = (has.0, begun_then begun.number has.1)
-  stands_then same entry (Read begun taken false) has =
-      (has.0, begun_then begun.number has.1, let failed = has.2 in let more = after.failures in omega (arith, failed, more))
+  stands_then same entry (Read begun taken false) has = (
+    has.0,
+    begun_then begun.number has.1,
+    let failed = has.2 in let more = after.failures in
+        omega (arith, failed, more),
+  )
   stands_then same entry (Refused begun why) has = (has.0, begun_then begun.number has.1, cause_then why has.2)
   stands_then same entry (Again begun) has = (has.0, begun_then begun.number has.1)
   stands_then same entry (Waiting place) has = has
@@ -153,7 +162,8 @@ module _ (o : Outset) (now new : Opened) (after : IsAfter now new) where
     begun = none_begun ∙ unserved.begun;
     left = λ few.
         let was = unserved.left few in
-        same unserved.rules (subst (λ (x : Opened). length x.core.records ≤ MOST_KEPT_COMMITS) (sym was) few) ∙ was;
+        same unserved.rules (subst (λ (x : Opened). length x.core.records ≤ MOST_KEPT_COMMITS)
+        (sym was) few) ∙ was;
     told_is = unserved.told_is;
   })
   tells_still none_begun same None told (inr refused) = inr (record {
@@ -228,7 +238,8 @@ module _ (o : Outset) (now new : Opened) (s : Setting) (t : Told) (from : IsStep
       none same = cc
 
   -- its transaction takes the next number
-  next_number : (served : Bool) (number : ℕ) → IsStepOfCalled t served (step.Begun (Ok number)) → number ≡ t.begun + 1
+  next_number : (served : Bool) (number : ℕ) → IsStepOfCalled t served (step.Begun (Ok number))
+      → number ≡ t.begun + 1
   next_number true number may = may.1
   next_number false number may = absurd (none may)
     where
@@ -285,7 +296,8 @@ module _ (o : Outset) (now new : Opened) (s : Setting) (t : Told) (from : IsStep
         → answer ≡ wish.Outside → ⊥
     never_outside begun wished answer is same = subst (IsWish t 0 begun wished) same is
 
-    never_claimed_outside : (begun : Begun) (block : BlockNo) (answer : Wish) → IsClaimWish t 0 begun block answer
+    never_claimed_outside : (begun : Begun) (block : BlockNo) (answer : Wish)
+        → IsClaimWish t 0 begun block answer
         → answer ≡ wish.Outside → ⊥
     never_claimed_outside begun block answer is same = subst (IsClaimWish t 0 begun block) same is
 
@@ -319,7 +331,8 @@ module _ (o : Outset) (now new : Opened) (s : Setting) (t : Told) (from : IsStep
         (never_outside begun (wish_of addr mode) answer may.1)
     planning_ok begun (step.Claimed block answer) not none may =
         claimed_ok begun block answer none (never_claimed_outside begun block answer may.1)
-    planning_ok begun (step.Commit blocks answer) not none may = commit_ok begun blocks answer none not may.0 may.1
+    planning_ok begun (step.Commit blocks answer) not none may =
+        commit_ok begun blocks answer none not may.0 may.1
     planning_ok begun (step.Ended why) not none may = tt
     planning_ok begun _ not none may = none
 
@@ -328,7 +341,8 @@ module _ (o : Outset) (now new : Opened) (s : Setting) (t : Told) (from : IsStep
     waiting_ok place (step.Stable seq settled) stands = waits_ok (settled || broken) place stands
     waiting_ok place _ stands = stands
 
-    pub next_ok : (stage : Stage) (made : Step) → has_committed (Some made) ≡ false → StandsWith o entry now stage
+    pub next_ok : (stage : Stage) (made : Step) → has_committed (Some made) ≡ false
+        → StandsWith o entry now stage
         → IsStepOfWork s t 0 (At o.asked stage) (Some made) → new.core.begun ≡ begun_after now.core.begun made
         → StageOk (stage_after broken stable made stage)
     next_ok Called made not stands may then_ = called_ok made stands.0 may then_
@@ -340,8 +354,11 @@ module _ (o : Outset) (now new : Opened) (s : Setting) (t : Told) (from : IsStep
         some_none made same = cc
     next_ok (Read begun taken true) made not stands may then_ =
         (stands.0, begun_then o now new after begun.number stands.1)
-    next_ok (Read begun taken false) made not stands may then_ =
-        (stands.0, begun_then o now new after begun.number stands.1, cause_then o now new after cause.Io (inr stands.2))
+    next_ok (Read begun taken false) made not stands may then_ = (
+      stands.0,
+      begun_then o now new after begun.number stands.1,
+      cause_then o now new after cause.Io (inr stands.2),
+    )
     next_ok (Refused begun why) made not stands may then_ = tt
     next_ok (Again begun) made not stands may then_ =
         (stands.0, λ unserved. absurd (true≢false (sym stands.1.rules ∙ unserved)))
@@ -380,7 +397,8 @@ module _ (o : Outset) (now new : Opened) (s : Setting) (t : Told) (from : IsStep
     called_tells _ t2 a stands same may then_ told = absurd told
 
     planning_tells : (begun : Begun) (made : Step) (t2 : Transcript) (a : Answer)
-        → has_committed (Some made) ≡ false → StandsWith o entry now (Planning begun) → HasVerdict t2 o.asked.call (Planning begun) made a
+        → has_committed (Some made) ≡ false → StandsWith o entry now (Planning begun)
+        → HasVerdict t2 o.asked.call (Planning begun) made a
         → Tells o entry a.verdict new
     planning_tells begun (step.Commit blocks (committing.Committed place)) t2 a not stands told =
         absurd (true≢false not)
@@ -434,7 +452,8 @@ module _ (o : Outset) (now new : Opened) (s : Setting) (t : Told) (from : IsStep
         failed = broke is_broken;
       })
     where
-      broken_by : (b : Bool) → is_idle (going_on o.asked (if false || b then None else Some (Waiting place))) ≡ true
+      broken_by : (b : Bool) → is_idle (going_on o.asked
+          (if false || b then None else Some (Waiting place))) ≡ true
           → b ≡ true
       broken_by true is = refl
       broken_by false is = absurd (true≢false (sym is))
@@ -452,14 +471,17 @@ module _ (o : Outset) (now new : Opened) (s : Setting) (t : Told) (from : IsStep
       called_tells entry made (told_by (o.entries ++ option_to_list entry)) a stands (same refl) may then_ told
   tells_of entry (Planning begun) made a not stands may then_ same ends told =
       planning_tells entry begun made (told_by (o.entries ++ option_to_list entry)) a not stands told
-  tells_of entry (Reading begun taken) made a not stands may then_ same ends told = absurd (true≢false (sym (still made ends)))
-    where
-      still : (made : Step)
-          → is_idle (going_on o.asked (stage_after broken stable made (Reading begun taken))) ≡ true → false ≡ true
-      still (step.Read block ok) is = is
-      still _ is = is
-  tells_of entry (Read begun taken true) made a not stands may then_ same ends told = absurd (true≢false (sym ends))
-  tells_of entry (Read begun taken false) made a not stands may then_ same ends told = absurd (true≢false (sym ends))
+  tells_of entry (Reading begun taken) made a not stands may then_ same ends told =
+      absurd (true≢false (sym (still made ends))) where
+        still : (made : Step)
+            → is_idle (going_on o.asked (stage_after broken stable made (Reading begun taken))) ≡ true
+            → false ≡ true
+        still (step.Read block ok) is = is
+        still _ is = is
+  tells_of entry (Read begun taken true) made a not stands may then_ same ends told =
+      absurd (true≢false (sym ends))
+  tells_of entry (Read begun taken false) made a not stands may then_ same ends told =
+      absurd (true≢false (sym ends))
   tells_of entry (Refused begun why) made a not stands may then_ same ends told =
       refused_tells entry begun why made (told_by (o.entries ++ option_to_list entry)) a stands told
   tells_of entry (Again begun) made a not stands may then_ same ends told = absurd (true≢false (sym ends))
@@ -524,7 +546,8 @@ module _ (o : Outset) (new : Opened) (e : Entry) (begun : Begun) (place : Seq)
     settled = λ waits. absurd (true≢false (sym (by (is_answered_stable o.asked.call) waits ends)));
   })
     where
-      by : (b : Bool) → b ≡ true → is_idle (going_on o.asked (if b then Some (Waiting place.0) else None)) ≡ true
+      by : (b : Bool) → b ≡ true → is_idle (going_on o.asked
+          (if b then Some (Waiting place.0) else None)) ≡ true
           → false ≡ true
       by true is ends = ends
       by false is ends = is

@@ -21,7 +21,8 @@ use Rattle.wal_law.specs.declared.change.LogChange.{LogChange}
 use Rattle.wal_law.specs.declared.outcomes.Seq.{Seq}
 use Rattle.store_promise.specs.History.{ctx_of}
 use Rattle.store_promise.specs.OpenSince.{HasKeptFiles, StandsBeside, blocks_after, file_blocks}
-use Rattle.store_promise.specs.Progress.{Begun, Job, Progress, Stage, Taken, At, Called, Planning, going_on, is_idle, progressed}
+use Rattle.store_promise.specs.Progress.{Begun, Job, Progress, Stage, Taken, At, Called, Planning, going_on}
+use Rattle.store_promise.specs.Progress.{is_idle, progressed}
 use Rattle.store_promise.specs.Progress as how
 use Rattle.store_promise.specs.Running.{IsRunningOver, IsTold, StoreSide, at_rest, told_of, with_blocks}
 use Rattle.store_promise.specs.Schedule.{IsStepOfWork, Setting, Told, begun_after, told_after}
@@ -54,7 +55,8 @@ use Rattle.store_workers.specs.declared.workers.parts.Phase as phases
 use Rattle.store_workers.specs.declared.workers.parts.Phase.TheVariants as Phase
 use Rattle.store_workers.specs.declared.workers.parts.State.{State}
 use Rattle.store_runs.proofs.AtWorkStays.{some_of}
-use Rattle.store.proofs.CallStages.{IsAfter, IsStepFrom, begun_then as number_then, comes_then, made_so_far, made_tells}
+use Rattle.store.proofs.CallStages.{IsAfter, IsStepFrom, begun_then as number_then, comes_then, made_so_far}
+use Rattle.store.proofs.CallStages.{made_tells}
 use Rattle.store.proofs.CallStages.{next_ok, noted, same_entries, stands_then}
 use Rattle.store.proofs.CallStages.{so_far_still, so_far_then, tells_of, told_by}
 use Rattle.store_runs.proofs.GoingWork.{has_replies}
@@ -63,8 +65,8 @@ use Rattle.store_images.proofs.StillOpen.{further_then}
 -- ---- an open store as a run that goes on
 
 -- a setting in which it does
-abbrev pub setting_of : (base : Image) (now : Opened) (fetches : List Fetch) (first : Tree) (entries : List Entry)
-    (last : Tree) → IsOpenAt base now fetches first entries last → Setting
+abbrev pub setting_of : (base : Image) (now : Opened) (fetches : List Fetch) (first : Tree)
+    (entries : List Entry) (last : Tree) → IsOpenAt base now fetches first entries last → Setting
 setting_of base now fetches first entries last opened = record {
   geometry = opened.since.over.files.super.geometry;
   position = 0;
@@ -74,9 +76,10 @@ setting_of base now fetches first entries last opened = record {
 past_count : (n count : ℕ) → n + count - n ≡ count
 past_count n count = omega arith
 
-pub runs_of : (base : Image) (now : Opened) (fetches : List Fetch) (first : Tree) (entries : List Entry) (last : Tree)
-    (opened : IsOpenAt base now fetches first entries last)
-    → IsRunningOver (setting_of base now fetches first entries last opened) base (at_rest now.device now.core) fetches
+pub runs_of : (base : Image) (now : Opened) (fetches : List Fetch) (first : Tree)
+    (entries : List Entry) (last : Tree) (opened : IsOpenAt base now fetches first entries last)
+    → IsRunningOver (setting_of base now fetches first entries last opened) base
+    (at_rest now.device now.core) fetches
     now.boot first entries last
 runs_of base now fetches first entries last opened = record {
   since = opened.since;
@@ -88,8 +91,8 @@ runs_of base now fetches first entries last opened = record {
   placed = λ count. ap (blocks_after base now.core) (past_count (installed_place now.core.log) count);
 }
 
-pub open_of : (o : Setting) (base : Image) (now : Opened) (fetches : List Fetch) (first : Tree) (entries : List Entry)
-    (last : Tree)
+pub open_of : (o : Setting) (base : Image) (now : Opened) (fetches : List Fetch) (first : Tree)
+    (entries : List Entry) (last : Tree)
     → IsRunningOver o base (at_rest now.device now.core) fetches now.boot first entries last
     → IsOpenAt base now fetches first entries last
 open_of o base now fetches first entries last run = record {
@@ -106,7 +109,8 @@ told_at now = record {
   log = told_of 0 (at_rest now.device now.core);
 }
 
-pub is_told : (o : Setting) (now : Opened) → o.position ≡ 0 → IsTold o (told_at now) (at_rest now.device now.core)
+pub is_told : (o : Setting) (now : Opened) → o.position ≡ 0
+    → IsTold o (told_at now) (at_rest now.device now.core)
 is_told o now none = record {
   log = ap (λ (n : ℕ). log_told n now.core.log idle idle) (sym none);
   begun = refl;
@@ -214,7 +218,8 @@ read_stage : (found : Option WorkJob) (stage : Taken → Stage) (begun : Begun) 
     → ((taken : Taken) → stage taken ≡ Called → ⊥) → (Planning begun ≡ Called → ⊥)
     → at_stage found (at_fetch stage begun wish) ≡ At j Called → ⊥
 read_stage found stage begun None j none other is = other (called_stage found (Planning begun) j is)
-read_stage found stage begun (Some addr) j none other is = none (alone addr) (called_stage found (stage (alone addr)) j is)
+read_stage found stage begun (Some addr) j none other is =
+    none (alone addr) (called_stage found (stage (alone addr)) j is)
 
 planning_not : (begun : Begun) → Planning begun ≡ Called → ⊥
 planning_not begun is = cc
@@ -237,10 +242,10 @@ phase_called (Phase.Read ok) found begun asked j is =
   where
     none : (taken : Taken) → how.Read begun taken ok ≡ Called → ⊥
     none taken is = cc
-phase_called (Phase.Refused why) found begun asked j is = absurd (none (called_stage found (how.Refused begun why) j is))
-  where
-    none : how.Refused begun why ≡ Called → ⊥
-    none is = cc
+phase_called (Phase.Refused why) found begun asked j is =
+    absurd (none (called_stage found (how.Refused begun why) j is)) where
+      none : how.Refused begun why ≡ Called → ⊥
+      none is = cc
 phase_called Phase.Again found begun asked j is = absurd (none (called_stage found (how.Again begun) j is))
   where
     none : how.Again begun ≡ Called → ⊥
@@ -310,7 +315,8 @@ module _ (o : Outset) (now : Opened) (worker : State) (new : Side) (made : Optio
 
     -- ---- nothing was committed
     module _ (uncommitted : has_committed made ≡ false)
-        (run_then : IsRunningOver s calling.base (with_core store new.core) (fetches_of new.worker) now.boot o.first
+        (run_then : IsRunningOver s calling.base (with_core store new.core) (fetches_of new.worker)
+        now.boot o.first
         entries calling.last) (beside : StandsBeside now.core new.core) where
       log_is : new.core.log ≡ now.core.log
       log_is = beside.log
@@ -322,21 +328,23 @@ module _ (o : Outset) (now : Opened) (worker : State) (new : Side) (made : Optio
           begun = let more = begun_then t made in let is = told_then.begun in omega (arith, more, is);
           places = subst (λ (l : Log). now.core.log.places ≤ l.places) (sym log_is) (omega arith);
           positions = subst (λ (l : Log). end_of now.core.log ≤ end_of l) (sym log_is) (omega arith);
-          settled = subst (λ (l : Log). settled_place now.core.log ≤ settled_place l) (sym log_is) (omega arith);
+          settled = subst (λ (l : Log). settled_place now.core.log ≤ settled_place l) (sym log_is)
+              (omega arith);
           broken = λ is. ap (λ (l : Log). l.broken) log_is ∙ is;
         };
       }
 
       none_ready : new.worker.work.entry ≡ None
-      none_ready = no_entry now.boot (length entries) (progress_of worker) made new.worker.work.entry uncommitted
-          tells.entry
+      none_ready = no_entry now.boot (length entries) (progress_of worker) made
+          new.worker.work.entry uncommitted tells.entry
 
       same_ready : with_ready 0 entries new.worker ≡ entries
       same_ready = ap (λ (e : Option ready.Entry). entries ++ entries_ready 0 e) none_ready ∙ append-nil entries
 
       -- the count of transactions then
       counted_by : (one : Step) → made ≡ Some one → new.core.begun ≡ begun_after now.core.begun one
-      counted_by one is = sym told_then.begun ∙ ap (λ (m : Option Step). (told_after t (event.Work 0) m).begun) is
+      counted_by one is = sym told_then.begun
+          ∙ ap (λ (m : Option Step). (told_after t (event.Work 0) m).begun) is
 
       -- how far it is where no step was made
       so_far_none : (p : Progress) → IsSoFar o calling.entry now p → IsStepOfWork s t 0 p None
@@ -361,7 +369,8 @@ module _ (o : Outset) (now : Opened) (worker : State) (new : Side) (made : Optio
       so_far_by None is p not has may = so_far_none p has may
       so_far_by (Some one) is how.Idle not has may = tt
       so_far_by (Some one) is (At job stage) not has may =
-          subst (λ (j : Job). IsSoFar o calling.entry later (progressed now.core.log.broken one (At j stage))) (sym has.0)
+          subst (λ (j : Job). IsSoFar o calling.entry later
+          (progressed now.core.log.broken one (At j stage))) (sym has.0)
           (so_far_then o now later s t from after calling.entry
           (how.stage_after now.core.log.broken (is_answered_stable o.asked.call) one stage)
           (next_ok o now later s t from after calling.entry stage one not has.1
@@ -388,7 +397,8 @@ module _ (o : Outset) (now : Opened) (worker : State) (new : Side) (made : Optio
       }
 
       -- a call that isn't served leaves the store
-      same_store : (job : Job) (stage : Stage) (one : Step) → progress_of worker ≡ At job stage → made ≡ Some one
+      same_store : (job : Job) (stage : Stage) (one : Step) → progress_of worker ≡ At job stage
+          → made ≡ Some one
           → stage ≡ Called → one ≡ step.Replied → later ≡ now
       same_store job stage one so_far is stage_is one_is = λ i. record now { core = core_is i }
         where
@@ -421,8 +431,10 @@ module _ (o : Outset) (now : Opened) (worker : State) (new : Side) (made : Optio
           (subst (λ (j : Job). IsStepOfWork s t 0 (At j is.stage) (Some is.step)) has.0 may_so)
           (counted_by is.step is.made_is)
           (λ stage_is step_is. same_store is.job is.stage is.step (is.so_far) is.made_is stage_is step_is)
-          (subst (λ (j : Job). is_idle (progressed now.core.log.broken is.step (At j is.stage)) ≡ true) has.0 ended)
-          (subst (λ (es : List Entry). HasVerdict (told_by es) o.asked.call is.stage is.step (answer_of ready)) same_ready
+          (subst (λ (j : Job). is_idle (progressed now.core.log.broken is.step (At j is.stage))
+          ≡ true) has.0 ended)
+          (subst (λ (es : List Entry). HasVerdict (told_by es) o.asked.call is.stage is.step
+          (answer_of ready)) same_ready
           (subst (λ (j : Job). HasVerdict (told_by (with_ready 0 entries new.worker)) j.call is.stage is.step
           (answer_of ready)) has.0 verdict_is))
 
@@ -432,7 +444,8 @@ module _ (o : Outset) (now : Opened) (worker : State) (new : Side) (made : Optio
           → IfSome found (λ ready. Tells o calling.entry ready.verdict later)
       answer_by None ends is = tt
       answer_by (Some ready) ends is =
-          answered_by ready (both_true (not (is_idle (progress_of worker))) (is_idle (progress_of new.worker)) (sym ends))
+          answered_by ready (both_true (not (is_idle (progress_of worker)))
+          (is_idle (progress_of new.worker)) (sym ends))
           is
 
       pub stepped_on : HasStepped o later new.worker
@@ -446,7 +459,8 @@ module _ (o : Outset) (now : Opened) (worker : State) (new : Side) (made : Optio
 
     -- ---- its procedure was committed
     module _ (has : has_committed made ≡ true)
-        (goes_with : GoesOnWith s calling.base store new now.boot 0 o.first entries calling.last (side worker now.core))
+        (goes_with : GoesOnWith s calling.base store new now.boot 0 o.first entries calling.last
+        (side worker now.core))
         (longer_kept : (before d : Device) (boot settled fewer : ℕ) (first : Tree) (entries more : List Entry)
         → HasKeptFiles before d boot first entries settled → fewer ≤ settled
         → HasKeptFiles before d boot first (entries ++ more) fewer)
@@ -466,8 +480,8 @@ module _ (o : Outset) (now : Opened) (worker : State) (new : Side) (made : Optio
             new.worker.work.entry) commit.made_is tells.entry
 
         is_of : IsEntryOf now.boot (progress_of worker) goes_with.taken.entry
-        is_of = some_of (IsEntryOf now.boot (progress_of worker)) new.worker.work.entry goes_with.taken.entry ready_is
-            told_entry.1
+        is_of = some_of (IsEntryOf now.boot (progress_of worker)) new.worker.work.entry
+            goes_with.taken.entry ready_is told_entry.1
 
         was_so_far : (is_of.job ≡ o.asked) × StandsWith o calling.entry now (Planning is_of.begun)
         was_so_far = subst (IsSoFar o calling.entry now) is_of.planned calling.so_far
@@ -526,8 +540,8 @@ module _ (o : Outset) (now : Opened) (worker : State) (new : Side) (made : Optio
           ctx = is_of.ctx ∙ ap (λ (b : ℕ). ctx_of b is_of.job is_of.begun) calling.boot
               ∙ ap (λ (j : Job). ctx_of o.store.boot j is_of.begun) was_so_far.0;
           call = is_of.call ∙ ap (λ (j : Job). j.call) was_so_far.0;
-          step = subst (λ (tree : Tree). procedures.step tree goes_with.taken.entry.ctx goes_with.taken.entry.call
-              goes_with.taken.entry.reply goes_with.left) last_is goes_with.goes;
+          step = subst (λ (tree : Tree). procedures.step tree goes_with.taken.entry.ctx
+              goes_with.taken.entry.call goes_with.taken.entry.reply goes_with.left) last_is goes_with.goes;
         }
 
         calling_made : IsCalling o later (told new.worker)
@@ -542,9 +556,10 @@ module _ (o : Outset) (now : Opened) (worker : State) (new : Side) (made : Optio
               (settled_place o.store.core.log) o.first o.entries (e ∷ [])
               (subst (λ (es : List Entry). HasKeptFiles o.store.device now.device o.store.boot o.first es
               (settled_place o.store.core.log)) none_before calling.kept) (omega arith);
-          opened = open_of (with_blocks s (length entries) (file_blocks calling.base new.core)) calling.base later (fetches_of new.worker) o.first
-              (o.entries ++ e ∷ []) goes_with.left
-              (subst (λ (es : List Entry). IsRunningOver (with_blocks s (length entries) (file_blocks calling.base new.core)) calling.base
+          opened = open_of (with_blocks s (length entries) (file_blocks calling.base new.core)) calling.base
+              later (fetches_of new.worker) o.first (o.entries ++ e ∷ []) goes_with.left
+              (subst (λ (es : List Entry). IsRunningOver
+              (with_blocks s (length entries) (file_blocks calling.base new.core)) calling.base
               (with_core store new.core) (fetches_of new.worker) now.boot o.first (es ++ e ∷ []) goes_with.left)
               none_before goes_with.runs);
           stands = subst (λ (b : ℕ). IsWorkerAt b (o.entries ++ e ∷ []) (told new.worker)) calling.boot
@@ -561,18 +576,21 @@ module _ (o : Outset) (now : Opened) (worker : State) (new : Side) (made : Optio
             → IsAnswerOf (with_ready 0 entries new.worker) (progress_of worker) made ready
             → Tells o (Some e) ready.verdict later
         made_answer ready ends is =
-            let same = same_at is.job is_of.job is.stage (Planning is_of.begun) (sym is.so_far ∙ is_of.planned) in
+            let same = same_at is.job is_of.job is.stage (Planning is_of.begun)
+            (sym is.so_far ∙ is_of.planned) in
             let step_is = one_step is.step (step.Commit commit.added (committing.Committed commit.place))
             (sym is.made_is ∙ commit.made_is) in
             let told_so : IsReplyAt (told_by (with_ready 0 entries new.worker)) commit.place (answer_of ready) =
             subst (λ (st : Step). HasVerdict (told_by (with_ready 0 entries new.worker)) is.job.call
             (Planning is_of.begun) st (answer_of ready)) step_is
-            (subst (λ (stage : Stage). HasVerdict (told_by (with_ready 0 entries new.worker)) is.job.call stage is.step
+            (subst (λ (stage : Stage). HasVerdict (told_by (with_ready 0 entries new.worker))
+            is.job.call stage is.step
             (answer_of ready)) same.1
             (verdict_of (with_ready 0 entries new.worker) (progress_of worker) made ready is)) in
             made_tells o later e is_of.begun commit.place place_is (answer_of ready)
             (sym (ap is_idle progress_then) ∙ ends)
-            (subst (λ (es : List Entry). IsReplyAt (told_by es) commit.place (answer_of ready)) entries_then told_so)
+            (subst (λ (es : List Entry). IsReplyAt (told_by es) commit.place (answer_of ready))
+            entries_then told_so)
 
         answer_made : (found : Option CallAnswer)
             → is_some found ≡ (not (is_idle (progress_of worker)) && is_idle (progress_of new.worker))
@@ -580,7 +598,8 @@ module _ (o : Outset) (now : Opened) (worker : State) (new : Side) (made : Optio
             → IfSome found (λ ready. Tells o (Some e) ready.verdict later)
         answer_made None ends is = tt
         answer_made (Some ready) ends is =
-            made_answer ready (both_true (not (is_idle (progress_of worker))) (is_idle (progress_of new.worker)) (sym ends))
+            made_answer ready (both_true (not (is_idle (progress_of worker)))
+            (is_idle (progress_of new.worker)) (sym ends))
             is
 
         pub stepped_with : HasStepped o later new.worker
@@ -595,7 +614,8 @@ module _ (o : Outset) (now : Opened) (worker : State) (new : Side) (made : Optio
     -- by whether it took a place
     pub stepped : (has_committed made ≡ false → IsRunningOver s calling.base (with_core store new.core)
         (fetches_of new.worker) now.boot o.first entries calling.last × StandsBeside now.core new.core)
-        → (has_committed made ≡ true → GoesOnWith s calling.base store new now.boot 0 o.first entries calling.last
+        → (has_committed made ≡ true → GoesOnWith s calling.base store new now.boot 0 o.first
+        entries calling.last
         (side worker now.core))
         → ((before d : Device) (boot settled fewer : ℕ) (first : Tree) (entries more : List Entry)
         → HasKeptFiles before d boot first entries settled → fewer ≤ settled

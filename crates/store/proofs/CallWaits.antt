@@ -9,7 +9,8 @@ use Rattle.store_images.proofs.Staying.{stays_of, still_open}
 use Rattle.store_images.proofs.StillOpen.{same_open}
 
 pub has_settled : (waits : Bool) (before later : Device) (old new : CoreState) → waits ≡ true
-    → LeavesOpen before old later new → KeepsPrefixes before old later new → HasWaited waits before old later new
+    → LeavesOpen before old later new → KeepsPrefixes before old later new
+    → HasWaited waits before old later new
 has_settled waits before later old new is opens keeps = record {
   opens = opens;
   stays = stays_of before later old new keeps;

@@ -95,13 +95,16 @@ round_less rounds most blocks unread away asked there =
 
 -- an object that was read leaves fewer
 read_less : (most count blocks away was rounds : ℕ) → count + 1 ≤ most → away ≤ blocks
-    → rounds + (3 + ((most - (count + 1)) * (blocks + 1) + away)) < rounds + (3 + ((most - count) * (blocks + 1) + was))
+    → rounds + (3 + ((most - (count + 1)) * (blocks + 1) + away)) < rounds +
+    (3 + ((most - count) * (blocks + 1) + was))
 read_less most count blocks away was rounds few within =
     let one : most - count ≡ suc (most - (count + 1)) = grind (arith) in
-    subst (λ n. rounds + (3 + ((most - (count + 1)) * (blocks + 1) + away)) < rounds + (3 + (n * (blocks + 1) + was)))
+    subst (λ n. rounds + (3 + ((most - (count + 1)) * (blocks + 1) + away)) < rounds +
+    (3 + (n * (blocks + 1) + was)))
     (sym one) (more (most - (count + 1)) blocks within)
   where
-    more : (left all : ℕ) → away ≤ all → rounds + (3 + (left * (all + 1) + away)) < rounds + (3 + (suc left * (all + 1) + was))
+    more : (left all : ℕ) → away ≤ all → rounds + (3 + (left * (all + 1) + away)) < rounds +
+        (3 + (suc left * (all + 1) + was))
     more left all there =
         let product : suc left * (all + 1) ≡ all + 1 + left * (all + 1) = grind (arith) in grind (arith)
 
@@ -190,7 +193,8 @@ same_rounds old new most log =
 
 -- ---- a transaction is begun
 
-begun_so : (old new : Side) (job : Job) (number : ℕ) → old.worker.work.job ≡ Some job → HasBegun job old number new
+begun_so : (old new : Side) (job : Job) (number : ℕ) → old.worker.work.job ≡ Some job
+    → HasBegun job old number new
     → HasGoneOn (left_in Called old.worker.work old.core) new.worker new.core
 begun_so old new job number job_is has =
     nearer (left_in Called old.worker.work old.core) new.worker new.core Planning
@@ -215,13 +219,15 @@ begun_so old new job number job_is has =
         (subst (λ n. away new.core ≤ n) (ap (λ (l : Log). l.blocks) log)
         (at_most_all (is_at_hand new.core) new.core.log.blocks))
 
-told_so : (old new : Side) → IsTold old new → HasGoneOn (left_in Called old.worker.work old.core) new.worker new.core
+told_so : (old new : Side) → IsTold old new
+    → HasGoneOn (left_in Called old.worker.work old.core) new.worker new.core
 told_so old new is =
     answered (left_in Called old.worker.work old.core) new.worker old.worker new.core is.heard None is.worker
 
 called : (old new : Side) (made : Step) → Beginning old made new → Came Called old (Some made) new
 called old new made (begun job number job_is made_is has) =
-    goes_by Called old made (step.Begun (Ok number)) new (begun_so old new job number job_is has) made_is refl refl
+    goes_by Called old made (step.Begun (Ok number)) new (begun_so old new job number job_is has)
+    made_is refl refl
 called old new made (refused why made_is is) =
     goes_by Called old made (step.Begun (Err why)) new (told_so old new is) made_is refl refl
 called old new made (replied made_is is) =
@@ -229,9 +235,12 @@ called old new made (replied made_is is) =
 
 -- ---- a wish
 
-module _ (old new : Side) (addr : Addr) (job : Job) (tx : ℕ) (snap : Snap) (job_is : old.worker.work.job ≡ Some job)
-    (snap_is : seen_in old.worker.work.snap ≡ seen_in (Some snap)) (has : HasOfCall job tx old.core (seen_of snap))
-    (is_plan : IsPlanFor job.call snap (plan.Need addr)) (same_job : new.worker.work.job ≡ old.worker.work.job) where
+module _ (old new : Side) (addr : Addr) (job : Job) (tx : ℕ) (snap : Snap)
+    (job_is : old.worker.work.job ≡ Some job)
+    (snap_is : seen_in old.worker.work.snap ≡ seen_in (Some snap))
+    (has : HasOfCall job tx old.core (seen_of snap))
+    (is_plan : IsPlanFor job.call snap (plan.Need addr))
+    (same_job : new.worker.work.job ≡ old.worker.work.job) where
   abbrev left : ℕ
   left = left_in Planning old.worker.work old.core
 
@@ -257,20 +266,26 @@ module _ (old new : Side) (addr : Addr) (job : Job) (tx : ℕ) (snap : Snap) (jo
           let now = unread_is new.worker.work job now_seen (same_job ∙ job_is)
           (seen ∙ ap (with_object addr bytes) snap_is) in
           let was = unread_is old.worker.work job (seen_of snap) job_is snap_is in
-          let fewer = read_less (most_asked job.call) (length snap.objects.items) old.core.log.blocks (away new.core)
+          let fewer = read_less (most_asked job.call) (length snap.objects.items) old.core.log.blocks
+          (away new.core)
           (away old.core) (rounds_left old.worker.work old.core) (grind (arith))
           (subst (λ n. away new.core ≤ n) blocks (at_most_all (is_at_hand new.core) new.core.log.blocks)) in
           let rounds = same_rounds old new (ap most_of same_job) log in
           let counted : unread new.worker.work ≡ most_asked job.call - (length snap.objects.items + 1) =
           now ∙ ap (λ n. most_asked job.call - n) count in
-          subst (λ r. r + (3 + (unread new.worker.work * (new.core.log.blocks + 1) + away new.core)) < left) (sym rounds)
-          (subst (λ u. rounds_left old.worker.work old.core + (3 + (u * (new.core.log.blocks + 1) + away new.core)) < left)
+          subst (λ r. r + (3 + (unread new.worker.work * (new.core.log.blocks + 1) + away new.core)) <
+          left) (sym rounds)
+          (subst (λ u. rounds_left old.worker.work old.core +
+          (3 + (u * (new.core.log.blocks + 1) + away new.core)) < left)
           (sym counted)
           (subst (λ b. rounds_left old.worker.work old.core
-          + (3 + ((most_asked job.call - (length snap.objects.items + 1)) * (b + 1) + away new.core)) < left) (sym blocks)
-          (subst (λ u. rounds_left old.worker.work old.core + (3 + ((most_asked job.call - (length snap.objects.items + 1))
+          + (3 + ((most_asked job.call - (length snap.objects.items + 1)) * (b + 1) + away new.core)) <
+          left) (sym blocks)
+          (subst (λ u. rounds_left old.worker.work old.core +
+          (3 + ((most_asked job.call - (length snap.objects.items + 1))
           * (old.core.log.blocks + 1) + away new.core))
-          < rounds_left old.worker.work old.core + (3 + (u * (old.core.log.blocks + 1) + away old.core))) (sym was) fewer)))
+          < rounds_left old.worker.work old.core + (3 + (u * (old.core.log.blocks + 1) + away old.core)))
+          (sym was) fewer)))
 
   wanted : (made : Step) → is_kept_off (Some made) ≡ false → (answer : Want)
       → made ≡ step.Wanted addr modes.Exclusive (wish_of answer)
@@ -301,9 +316,11 @@ module _ (old new : Side) (addr : Addr) (job : Job) (tx : ℕ) (snap : Snap) (jo
   wanted made free (want.Loading back) made_is core phase got seen entry answer =
       absurd (true≢false (sym (ap (λ m. is_kept_off (Some m)) made_is) ∙ free))
   wanted made free (want.Outside back) made_is core phase got seen entry answer =
-      goes_by Planning old made _ new (nearer left new.worker new.core _ phase tt (grind (arith))) made_is refl refl
+      goes_by Planning old made _ new (nearer left new.worker new.core _ phase tt (grind (arith)))
+      made_is refl refl
   wanted made free (want.NoMemory back) made_is core phase got seen entry answer =
-      goes_by Planning old made _ new (nearer left new.worker new.core _ phase tt (grind (arith))) made_is refl refl
+      goes_by Planning old made _ new (nearer left new.worker new.core _ phase tt (grind (arith)))
+      made_is refl refl
 
 -- ---- a commit
 
@@ -336,11 +353,13 @@ module _ (old new : Side) (tx : ℕ) (job : Job) (done : Outcome) (job_is : old.
         ∙ ap (λ (c : CoreState). whole_round old.worker.work.job c.log.blocks) core))
         (subst (λ r. whole_round old.worker.work.job old.core.log.blocks + 1
         < r + (3 + (unread old.worker.work * (old.core.log.blocks + 1) + away old.core)))
-        (sym (ap (λ b. if b then 0 else whole_round old.worker.work.job old.core.log.blocks) none)) (grind (arith)));
+        (sym (ap (λ b. if b then 0 else whole_round old.worker.work.job old.core.log.blocks) none))
+        (grind (arith)));
   }
 
   refused_so : (made : Step) (why : Cause) (added : ℕ) (answer : Commit Outcome)
-      → made ≡ step.Commit added (committing_of answer) → is_full (Some (step.Commit added (committing_of answer))) ≡ false
+      → made ≡ step.Commit added (committing_of answer)
+      → is_full (Some (step.Commit added (committing_of answer))) ≡ false
       → waits_for_log (Some (step.Commit added (committing_of answer))) ≡ false
       → new.worker.phase ≡ Refused why → Came Planning old (Some made) new
   refused_so made why added answer made_is unkept none phase =
@@ -354,27 +373,32 @@ module _ (old new : Side) (tx : ℕ) (job : Job) (done : Outcome) (job_is : old.
       → new.worker ≡ after_commit job done.reply answer base → Came Planning old (Some made) new
   committed_so made base (commit.Committed place) added same free made_is core worker =
       goes_by Planning old made _ new
-      (placed base place (is_answered_stable job.call) (grind (arith, core.next, core.places)) worker) made_is refl refl
+      (placed base place (is_answered_stable job.call) (grind (arith, core.next, core.places)) worker)
+      made_is refl refl
   committed_so made base (commit.Full back change) added same free made_is core worker =
-      full (full_so (ap (λ (s : State). s.phase) worker) (ap (λ (s : State). s.work.job) worker ∙ same) core.0.core
+      full (full_so (ap (λ (s : State). s.phase) worker)
+      (ap (λ (s : State). s.work.job) worker ∙ same) core.0.core
       (no_room old.core tx (planned_of done) core.1 little)) (ap (λ m. is_full (Some m)) made_is)
       (ap (λ m. waits_for_log (Some m)) made_is)
   committed_so made base (commit.Foreign back change) added same free made_is core worker =
       absurd (true≢false (sym (ap (λ m. is_kept_off (Some m)) made_is) ∙ free))
   committed_so made base (commit.NoMemory back change) added same free made_is core worker =
-      refused_so made _ added (commit.NoMemory back change) made_is refl refl (ap (λ (s : State). s.phase) worker)
+      refused_so made _ added (commit.NoMemory back change) made_is refl refl
+      (ap (λ (s : State). s.phase) worker)
   committed_so made base (commit.Broken back change) added same free made_is core worker =
       refused_so made _ added (commit.Broken back change) made_is refl refl (ap (λ (s : State). s.phase) worker)
   committed_so made base (commit.Spent back change) added same free made_is core worker =
       refused_so made _ added (commit.Spent back change) made_is refl refl (ap (λ (s : State). s.phase) worker)
 
-lacked_so : (old new : Side) (tx : ℕ) (made : Step) → HasLacked tx old made new → Came Planning old (Some made) new
+lacked_so : (old new : Side) (tx : ℕ) (made : Step) → HasLacked tx old made new
+    → Came Planning old (Some made) new
 lacked_so old new tx made has =
     goes_by Planning old made _ new (answered (left_in Planning old.worker.work old.core) new.worker
     (record (with_snap new.worker old.worker) { begun = none_begun }) new.core verdict.NoMemory None has.worker)
     has.made_is refl refl
 
-goes : (old new : Side) (tx : ℕ) (made : Step) (next : Plan) → old.worker.begun.tx ≡ Some tx → IsNext old.worker next
+goes : (old new : Side) (tx : ℕ) (made : Step) (next : Plan) → old.worker.begun.tx ≡ Some tx
+    → IsNext old.worker next
     → HasTaken old.worker old.core → is_kept_off (Some made) ≡ false → GoesByNext next tx old made new
     → Came Planning old (Some made) new
 goes old new tx made next tx_is is taken free goes_so = of_next next is.plan goes_so
@@ -391,8 +415,10 @@ goes old new tx made next tx_is is taken free goes_so = of_next next is.plan goe
     of_next (plan.Done done) planned end = elim (ending old new tx done made end) [
       | lacked has ↦ lacked_so old new tx made has
       | committed job job_is has ↦
-          committed_so old new tx job done job_is (few_of (most_changed is.job.call) planned.1 (few_changed is.job.call))
-          made (record (with_snap new.worker old.worker) { begun = none_begun }) has.answer _ refl free has.made_is
+          committed_so old new tx job done job_is
+          (few_of (most_changed is.job.call) planned.1 (few_changed is.job.call))
+          made (record (with_snap new.worker old.worker) { begun = none_begun }) has.answer _ refl
+          free has.made_is
           has.core has.worker
     ]
       where
@@ -411,24 +437,28 @@ waited old new place made within has =
     room_is : (settled : Bool) → made ≡ step.Stable place settled → is_full (Some made) ≡ false
     room_is settled is = ap (λ m. is_full (Some m)) is
 
-    told_so : (heard : Verdict) (base : State) → new.worker ≡ with_answer heard (Some place) base → IsAnswered new.worker
+    told_so : (heard : Verdict) (base : State) → new.worker ≡ with_answer heard (Some place) base
+        → IsAnswered new.worker
     told_so heard base is = record {
       idle = ap (λ (s : State). s.phase) is;
       there = ap (λ (s : State). is_some s.work.answer) is;
     }
 
     reply : (o : Option Reply) (base : State)
-        → IsSomeAnd o (λ reply. new.worker ≡ with_answer (verdict.Reply reply) (Some place) base) → IsAnswered new.worker
+        → IsSomeAnd o (λ reply. new.worker ≡ with_answer (verdict.Reply reply) (Some place) base)
+        → IsAnswered new.worker
     reply None base has = absurd has
     reply (Some r) base has = told_so (verdict.Reply r) base has
 
-    by : (settled : Bool) → (IsTrue settled ↔ (place.0 ≤ settled_place old.core.log)) → made ≡ step.Stable place settled
+    by : (settled : Bool) → (IsTrue settled ↔ (place.0 ≤ settled_place old.core.log))
+        → made ≡ step.Stable place settled
         → (broken : Bool) → old.core.log.broken ≡ broken → IsHeard settled broken place old.worker new.worker
         → Came (Waiting place) old (Some made) new
     by true is made_is broken at has = told (reply old.worker.work.reply
         (record old.worker { work = record old.worker.work { reply = None } }) has) (room_is true made_is)
     by false is made_is true at has = told (reply old.worker.work.broken_reply
-        (record old.worker { work = record old.worker.work { broken_reply = None } }) has) (room_is false made_is)
+        (record old.worker { work = record old.worker.work { broken_reply = None } }) has)
+        (room_is false made_is)
     by false is made_is false at same =
         waits place refl (record {
           same = same;
@@ -443,7 +473,8 @@ waited old new place made within has =
             let here : place.0 ≤ settled_place old.core.log = grind (arith, nat_tests) in
             absurd (true≢false (sym (is.1 here)))
 
-refuses : (old new : Side) (why : Cause) (made : Step) → Refuses why old made new → Came (Refused why) old (Some made) new
+refuses : (old new : Side) (why : Cause) (made : Step) → Refuses why old made new
+    → Came (Refused why) old (Some made) new
 refuses old new why made has = by_job old.worker.work.job old.worker.begun.tx has
   where
     by_job : (found : Option Job) (tx : Option ℕ)
@@ -452,8 +483,10 @@ refuses old new why made has = by_job old.worker.work.job old.worker.begun.tx ha
     by_job None tx has = absurd has
     by_job (Some job) None has = absurd has
     by_job (Some job) (Some tx) has =
-        goes_by (Refused why) old made _ new (answered (left_in (Refused why) old.worker.work old.core) new.worker
-        (record old.worker { begun = none_begun }) new.core (refusal job.call why) None has.worker) has.made_is refl refl
+        goes_by (Refused why) old made _ new
+        (answered (left_in (Refused why) old.worker.work old.core) new.worker
+        (record old.worker { begun = none_begun }) new.core (refusal job.call why) None has.worker)
+        has.made_is refl refl
 
 again : (old new : Side) (made : Step) → BeginsAgain old made new → Came Again old (Some made) new
 again old new made has = by old.worker.begun.tx has
@@ -478,7 +511,8 @@ again old new made has = by old.worker.begun.tx has
         less : left_in Called new.worker.work new.core < left_in Again old.worker.work old.core
         less = subst (λ r. r + whole_round new.worker.work.job new.core.log.blocks
             < left_in Again old.worker.work old.core) (sym (same_rounds old new (ap most_of job) log))
-            (subst (λ w. rounds_left old.worker.work old.core + w < left_in Again old.worker.work old.core) (sym whole)
+            (subst (λ w. rounds_left old.worker.work old.core + w < left_in Again old.worker.work
+            old.core) (sym whole)
             (grind (arith)))
 
 pub stepped : (phase : Phase) (old new : Side) (made : Option Step) → IsUnder phase old.core
@@ -506,7 +540,8 @@ given : (old mid new : Side) (is : IsToRead old mid) (read : State) (back : Fetc
     → HasGivenBack ok back (side read mid.core) made new
     → HasGoneOn (left_in Planning old.worker.work old.core) new.worker new.core
 given old mid new is read back made same work false has =
-    nearer (left_in Planning old.worker.work old.core) new.worker new.core _ (ap (λ (s : State). s.phase) has.worker) tt
+    nearer (left_in Planning old.worker.work old.core) new.worker new.core _
+    (ap (λ (s : State). s.phase) has.worker) tt
     (grind (arith))
 given old mid new is read back made same work true has =
     nearer left new.worker new.core Planning (ap (λ (s : State). s.phase) has.worker) tt less
@@ -538,7 +573,8 @@ given old mid new is read back made same work true has =
 
     less : left_in Planning new.worker.work new.core < left
     less =
-        let fewer = fewer_away old.core mid.core new.core is.tx is.addr is.io back is.fetched same has.leaves blocks
+        let fewer = fewer_away old.core mid.core new.core is.tx is.addr is.io back is.fetched same
+        has.leaves blocks
         is.within in
         subst (λ n. n < left) (sym now) (grind (arith))
 
@@ -553,15 +589,18 @@ given_on old mid new is read back ok made same work phase io later =
         → HasGoneOn (left_in Planning old.worker.work old.core) new.worker new.core
     by None has = absurd has
     by (Some made) has = given old mid new is read back made same work ok
-        (subst (λ (o : Option Fetch). IsSomeAnd o (λ io. HasGivenBack ok io (side read mid.core) made new)) io has)
+        (subst (λ (o : Option Fetch). IsSomeAnd o
+        (λ io. HasGivenBack ok io (side read mid.core) made new)) io has)
 
 pub read_on : (old mid : Side) (is : IsToRead old mid) (keeps : Type 0) (before after : Device) (told : Step)
     (read : State) (made : Option Step) (new : Side) → HasReadBlock keeps before mid.worker told after read
     → GoesOn read.phase (side read mid.core) made new
     → HasGoneOn (left_in Planning old.worker.work old.core) new.worker new.core
 read_on old mid is keeps before after heard read made new has later =
-    given_on old mid new is read (record { block = has.io.block; content = has.content }) (is_ok has.answer) made
-    (ap (λ (f : Fetch). f.block) same) (ap (λ (s : State). s.work) has.worker) (ap (λ (s : State). s.phase) has.worker)
+    given_on old mid new is read (record { block = has.io.block; content = has.content })
+    (is_ok has.answer) made
+    (ap (λ (f : Fetch). f.block) same) (ap (λ (s : State). s.work) has.worker)
+    (ap (λ (s : State). s.phase) has.worker)
     (ap (λ (s : State). s.begun.io) has.worker) later
   where
     one : (a b : Fetch) → Some a ≡ Some b → a ≡ b
@@ -585,7 +624,8 @@ not_both b so_it_is unkept = true≢false (sym so_it_is ∙ unkept)
 
 -- the log was settled, or is broken
 pub settled_or : (core : CoreState) (result : Result Unit Failed) → OnOk result (IsSettled core)
-    → OnErr result (core.log.broken ≡ true) → (settled_place core.log ≡ core.log.places) ⊎ (core.log.broken ≡ true)
+    → OnErr result (core.log.broken ≡ true) → (settled_place core.log ≡ core.log.places)
+    ⊎ (core.log.broken ≡ true)
 settled_or core (Ok u) settled broken = inl settled.settled
 settled_or core (Err e) settled broken = inr broken
 
@@ -782,12 +822,14 @@ module _ (phase : Phase) (old : Side) (made : Option Step) (mid : Side) (at : ol
       by false is = subst (λ c. HasGoneOn most mid.worker c) (sym (log.same is)) (rests off is idle)
 
 -- a read was made, or none was due
-pub was_made : (o : Option Step) (none : Type 0) (some : Step → Type 0) → is_some o ≡ true → MatchOption o none some
+pub was_made : (o : Option Step) (none : Type 0) (some : Step → Type 0) → is_some o ≡ true
+    → MatchOption o none some
     → (made : Step) × some made
 was_made None none some is has = absurd (true≢false (sym is))
 was_made (Some made) none some is has = (made, has)
 
-pub none_made : (o : Option Step) (none : Type 0) (some : Step → Type 0) → is_some o ≡ false → MatchOption o none some
+pub none_made : (o : Option Step) (none : Type 0) (some : Step → Type 0) → is_some o ≡ false
+    → MatchOption o none some
     → none
 none_made None none some is has = has
 none_made (Some made) none some is has = absurd (true≢false is)
@@ -809,7 +851,8 @@ pub taken_both : (mid one new : State) → one ≡ record mid { work = record mi
 taken_both mid one new answer entry =
     entry ∙ ap (λ (s : State). record s { work = record s.work { entry = None } }) answer
 
-goes_round : (bound : ℕ) (mid new : State) (core : CoreState) (result : Option CallAnswer) → HasGoneOn bound mid core
+goes_round : (bound : ℕ) (mid new : State) (core : CoreState) (result : Option CallAnswer)
+    → HasGoneOn bound mid core
     → result ≡ mid.work.answer → result ≡ None → new ≡ telling.told mid → IsNearer bound new core
 goes_round bound mid new core result (inl heard) is none same =
     absurd (true≢false (sym heard.there ∙ ap (λ (o : Option CallAnswer). is_some o) (sym is ∙ none)))

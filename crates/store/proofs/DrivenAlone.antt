@@ -1,5 +1,6 @@
 -- A call that one thread drives has its store alone.
-use Rattle.std.proofs.Common.{◌≡◌, ◌∙◌, refl, sym, ap, subst, Bool, true, false, Option, Some, None, is_ok, is_some}
+use Rattle.std.proofs.Common.{◌≡◌, ◌∙◌, refl, sym, ap, subst, Bool, true, false, Option, Some, None, is_ok}
+use Rattle.std.proofs.Common.{is_some}
 use Rattle.std.specs.Prelude.{IsSomeAnd}
 use Rattle.disk.specs.Device.{Device}
 use Rattle.nfs_types.specs.declared.call.Call.{Call}
@@ -86,7 +87,8 @@ pub given_alone : (keeps : Type 0) (before after : Device) (mid read : State) (t
     → KeepsReadsOf (side read core) new → IsAlone new.worker new.core
 given_alone keeps before after mid read told core new last reading has alone tidy fits out fetch goes stays =
     let here = read_alone keeps before after mid read told core reading has alone in
-    let then_ = stays_alone (side read core) new tidy fits here.fetches stays read.phase last refl out fetch here.plans
+    let then_ = stays_alone (side read core) new tidy fits here.fetches stays read.phase last refl out
+    fetch here.plans
     goes in
     let room = given_room (is_ok has.answer) (side read core) new last
     (subst (λ p. GoesOn p (side read core) last new) (ap (λ (s : State). s.phase) has.worker) goes) in
@@ -108,7 +110,8 @@ pub round : (old mid : Side) (made : Option Step) (core : CoreState)
 round old mid made core out fetch tidy fits alone under goes keeps log = record {
   came = stepped old.worker.phase old mid made under alone.plans
       (never_kept_off old mid tidy fits alone.fetches old.worker.phase made fetch alone.plans goes) goes;
-  stays = stays_alone old mid tidy fits alone.fetches keeps old.worker.phase made refl out fetch alone.plans goes;
+  stays = stays_alone old mid tidy fits alone.fetches keeps old.worker.phase made refl out fetch
+      alone.plans goes;
   log = log;
 }
 
@@ -123,5 +126,6 @@ module _ (old : Side) (made : Option Step) (mid : Side) (core : CoreState) (r : 
       (set (full_plans old.worker.phase old made mid refl r.came off))
 
   pub goes_alone : is_full made ≡ false → IsAlone mid.worker core
-  goes_alone off = rest_alone made mid.worker mid.core core r.stays off r.log.fetches (waits_for_log made) r.log.same
-      (λ log. waits_unplanned old.worker.phase old made mid refl r.came off log mid.worker core)
+  goes_alone off = rest_alone made mid.worker mid.core core r.stays off r.log.fetches
+      (waits_for_log made) r.log.same (λ log. waits_unplanned old.worker.phase old made mid refl r.came off
+      log mid.worker core)

@@ -7,7 +7,8 @@ use Rattle.std.proofs.lemmas.List.Elements.{All-head}
 use Rattle.limits.specs.declared.TheConstants.{CHANGED_BLOCKS, LOG_SLOTS}
 use Rattle.nfs_types.specs.declared.call.Call.{Call}
 use Rattle.nfs_types.specs.declared.call.Call.TheVariants as call
-use Rattle.wal_law.specs.Log.{IsCommitted, IsLawful, IsRising, Log, first_place, place_before, settled_place, tail_count}
+use Rattle.wal_law.specs.Log.{IsCommitted, IsLawful, IsRising, Log, first_place, place_before, settled_place}
+use Rattle.wal_law.specs.Log.{tail_count}
 use Rattle.wal_law.specs.declared.change.LogChange.{LogChange}
 use Rattle.wal_law.specs.declared.outcomes.Room.TheVariants as room
 use Rattle.wal_law.proofs.Places.{rising-drop}
@@ -20,7 +21,8 @@ use Rattle.store.specs.Driving.{has_room}
 
 -- ---- a settled log
 
-first_within : (changes : List LogChange) (places : ℕ) → IsRising changes places → first_place changes places ≤ places
+first_within : (changes : List LogChange) (places : ℕ) → IsRising changes places
+    → first_place changes places ≤ places
 first_within [] places rising = omega arith
 first_within (change ∷ later) places rising =
     let next = first_within later places rising.1 in

@@ -42,8 +42,8 @@ use Rattle.store_workers.specs.declared.workers.parts.State.{State}
 
 -- ---- an open store
 
--- A store is open over what is at home: its files lead from the first tree by these entries to the last, and what was
--- read and isn't given back yet is what is at home.
+-- A store is open over what is at home: its files lead from the first tree by these entries to the last, and
+-- what was read and isn't given back yet is what is at home.
 pub record IsOpenAt (base : Image) (store : Opened) (fetches : List Fetch) (first : Tree) (entries : List Entry)
     (last : Tree) : Type 0 where
   pub since : IsOpenSince base store.device store.core idle idle store.boot first entries last
@@ -55,8 +55,8 @@ pub record IsOpenWith (store : Opened) (first : Tree) (entries : List Entry) (la
   pub base : Image
   pub opened : IsOpenAt base store [] first entries last
 
--- One store led to another: no failure is taken back, what is settled stays settled, no number is given back, and it
--- breaks only with a device call that failed.
+-- One store led to another: no failure is taken back, what is settled stays settled, no number is given back,
+-- and it breaks only with a device call that failed.
 pub record GoesTo (old new : Opened) : Type 0 where
   pub failures : old.device.failures ≤ new.device.failures
   pub further : IsFurther old.core new.core
@@ -76,15 +76,15 @@ pub record Outset : Type 0 where
   pub last : Tree
   pub asked : Job
 
--- A transaction was begun for the call, which is one that is served. Its number is above each that was taken before the
--- call, and was taken by now: so no two calls, one after another, have the same.
+-- A transaction was begun for the call, which is one that is served. Its number is above each that was taken
+-- before the call, and was taken by now: so no two calls, one after another, have the same.
 pub record IsBegunFor (o : Outset) (now : Opened) (number : ℕ) : Type 0 where
   pub rules : has_rules o.asked.call ≡ true
   pub fresh : o.store.core.begun < number
   pub taken : number ≤ now.core.begun
 
--- the procedure of the call was committed: in this boot, in a transaction of its own, as a step of the sequential
--- server from the files as they were
+-- the procedure of the call was committed: in this boot, in a transaction of its own, as a step of the
+-- sequential server from the files as they were
 pub record IsMadeFor (o : Outset) (now : Opened) (entry : Entry) (next : Tree) : Type 0 where
   pub begun : Begun
   pub begun_for : IsBegunFor o now begun.number
@@ -125,8 +125,8 @@ pub record IsUnsettled (o : Outset) (told : Verdict) (now : Opened) : Type 0 whe
   pub broken : now.core.log.broken ≡ true
   pub failed : HasFailed o.store.core.log o.store.device now.device
 
--- That it isn't served: no transaction was begun for it, and the store is as it was, but that it is settled where it
--- kept too many commits.
+-- That it isn't served: no transaction was begun for it, and the store is as it was, but that it is settled
+-- where it kept too many commits.
 pub record IsUnserved (o : Outset) (told : Verdict) (now : Opened) : Type 0 where
   pub rules : has_rules o.asked.call ≡ false
   pub begun : now.core.begun ≡ o.store.core.begun
@@ -145,9 +145,9 @@ abbrev pub Tells : Outset → Option Entry → Verdict → Opened → Type 0
 Tells o (Some entry) told now = IsReplyOf o entry told now ⊎ IsUnsettled o told now
 Tells o None told now = IsUnserved o told now ⊎ IsRefusal o told now
 
--- What each stop leaves since the call began, those within a device call included: some image, and each that is left
--- is good, with the boot number and with the files after a beginning of these entries, in which is each place that was
--- settled when the call began. At the end each that is settled then is in it.
+-- What each stop leaves since the call began, those within a device call included: some image, and each that
+-- is left is good, with the boot number and with the files after a beginning of these entries, in which is
+-- each place that was settled when the call began. At the end each that is settled then is in it.
 pub record LeavesFiles (o : Outset) (entries : List Entry) (now : Opened) : Type 0 where
   pub past : IsLater o.store.device now.device
   pub left : LeavesImages o.store.device now.device
@@ -155,9 +155,9 @@ pub record LeavesFiles (o : Outset) (entries : List Entry) (now : Opened) : Type
   pub ended : (image : Image) → IsCrashImage now.device now.device.clock image
       → LeavesBeginning now.device.size o.store.boot o.first entries (settled_place now.core.log) image
 
--- What comes of a call: the store is open with the entries that there were, and with the call's, where its procedure
--- was committed; so each stop on the way leaves its files; it led on from the store that there was; and the answer is
--- that procedure's, or says why there is none.
+-- What comes of a call: the store is open with the entries that there were, and with the call's, where its
+-- procedure was committed; so each stop on the way leaves its files; it led on from the store that there was;
+-- and the answer is that procedure's, or says why there is none.
 pub record HasAnswered (o : Outset) (told : Verdict) (now : Opened) : Type 0 where
   pub entry : Option Entry
   pub last : Tree
@@ -172,12 +172,18 @@ pub record HasAnswered (o : Outset) (told : Verdict) (now : Opened) : Type 0 whe
 abbrev pub Answers : Type 0 → Opened → Job → Verdict → Opened → Type 0
 Answers keeps_model old asked told new = (first last : Tree) (entries : List Entry) → keeps_model
     → SoundTime asked.moment → IsOpenWith old first entries last
-    → HasAnswered (record { store = old; first = first; entries = entries; last = last; asked = asked }) told new
+    → HasAnswered (record {
+      store = old;
+      first = first;
+      entries = entries;
+      last = last;
+      asked = asked;
+    }) told new
 
 -- ---- while it is under way
 
--- what is known at a stage: whether the procedure was committed, in which transaction it may be, and why the call will
--- be refused
+-- what is known at a stage: whether the procedure was committed, in which transaction it may be, and why the
+-- call will be refused
 abbrev pub StandsWith : Outset → Option Entry → Opened → Stage → Type 0
 StandsWith o entry now Called = (entry ≡ None)
     × (has_rules o.asked.call ≡ false → now ≡ o.store)
@@ -196,9 +202,9 @@ abbrev pub IsSoFar : Outset → Option Entry → Opened → Progress → Type 0
 IsSoFar o entry now Idle = Unit {0}
 IsSoFar o entry now (At job stage) = (job ≡ o.asked) × StandsWith o entry now stage
 
--- A call is under way: the store is open with the entries that there were and with the call's, where its procedure was
--- committed; each stop before now left its files; its worker has it alone, and is so far; and whatever broke the store
--- was a counted failure.
+-- A call is under way: the store is open with the entries that there were and with the call's, where its
+-- procedure was committed; each stop before now left its files; its worker has it alone, and is so far; and
+-- whatever broke the store was a counted failure.
 pub record IsCalling (o : Outset) (now : Opened) (worker : State) : Type 0 where
   pub entry : Option Entry
   pub last : Tree
@@ -216,17 +222,17 @@ pub record IsCalling (o : Outset) (now : Opened) (worker : State) : Type 0 where
   pub further : IsFurther o.store.core now.core
   pub broken : now.core.log.broken ≡ true → HasFailed o.store.core.log o.store.device now.device
 
--- So it is after a step of the worker's own, once its entry and its answer are taken; and its answer, if it gave one,
--- is what the call comes to.
+-- So it is after a step of the worker's own, once its entry and its answer are taken; and its answer, if it
+-- gave one, is what the call comes to.
 pub record HasStepped (o : Outset) (now : Opened) (worker : State) : Type 0 where
   pub calling : IsCalling o now (told worker)
   pub ends : is_some worker.work.answer ≡ true → is_idle (progress_of worker) ≡ true
   pub answer : IfSome worker.work.answer (λ ready. Tells o calling.entry ready.verdict now)
 
--- What waiting for the log leaves, or not waiting: an open store stays open, each stop on the way leaves its files, and
--- without it nothing has changed.
-pub record HasWaited (waits : Bool) (before : Device) (old : CoreState) (after : Device) (new : CoreState) : Type 0
-  where
-    pub opens : LeavesOpen before old after new
-    pub stays : StayOpen before old after new
-    pub none : waits ≡ false → (after ≡ before) × (new ≡ old)
+-- What waiting for the log leaves, or not waiting: an open store stays open, each stop on the way leaves its
+-- files, and without it nothing has changed.
+pub record HasWaited (waits : Bool) (before : Device) (old : CoreState) (after : Device)
+    (new : CoreState) : Type 0 where
+  pub opens : LeavesOpen before old after new
+  pub stays : StayOpen before old after new
+  pub none : waits ≡ false → (after ≡ before) × (new ≡ old)

@@ -60,8 +60,8 @@ reads_left work core = unread work * (core.log.blocks + 1) + away core
 abbrev pub whole_round : Option Job → ℕ → ℕ
 whole_round job blocks = most_of job * (blocks + 1) + blocks + 4
 
--- The tail has room for what any call changes, or nothing is committed any more: no commit is refused for want of
--- room then.
+-- The tail has room for what any call changes, or nothing is committed any more: no commit is refused for
+-- want of room then.
 abbrev pub has_room : Log → Bool
 has_room log = log.broken || nat_le (tail_count log + CHANGED_BLOCKS) LOG_SLOTS
 

@@ -1,5 +1,5 @@
-//! Laws on one call of one thread: what it begins with, and that its worker's steps and its reads, and the settling
-//! that it waits for, keep it going.
+//! Laws on one call of one thread: what it begins with, and that its worker's steps and its reads, and the
+//! settling that it waits for, keep it going.
 ghost use Rattle.std.specs.Prelude.{◌≡◌, ℕ, Bool, true, Ok, Option, List, []};
 ghost use Rattle.disk.specs.Device.{Device};
 ghost use Rattle.model.specs.Entry.{Entry};
@@ -23,7 +23,8 @@ ghost use Rattle.store_workers.specs.WorkerSteps.{GoesOn, KeepsHomeOf, KeepsRead
 ghost use Rattle.store_workers.specs.declared.workers.parts.Phase.TheVariants.{Reading};
 ghost use Rattle.store_workers.specs.declared.workers.parts.State.{State};
 
-/// What an opening leaves of a device that held a tree is a store that is open with that tree, and with no entry yet.
+/// What an opening leaves of a device that held a tree is a store that is open with that tree, and with no
+/// entry yet.
 pub fn an_opened_store_is_open()
     ensures { (before : Device) (store : Opened) (tree : Tree) (first : ℕ) → Opens before (Ok store) tree first
         → IsOpenWith store tree [] tree }
@@ -41,11 +42,14 @@ pub fn a_settled_store_stays_open()
 /// A call that was handed to a worker at rest is under way.
 pub(crate) fn a_call_begins()
     ensures { (o : Outset) (worker : State) → SoundTime o.asked.moment → IsIdle o.store.core
-        → worker ≡ with_call (ctx_of o.asked.credential o.asked.moment o.store.boot) o.asked.call (at_rest o.store.boot)
-        → GoesWith worker o.store.core → IsOpenWith o.store o.first o.entries o.last → IsCalling o o.store worker }
+        → worker ≡ with_call (ctx_of o.asked.credential o.asked.moment o.store.boot) o.asked.call
+        (at_rest o.store.boot)
+        → GoesWith worker o.store.core → IsOpenWith o.store o.first o.entries o.last
+        → IsCalling o o.store worker }
 {}
 
-/// Each step of the worker leaves it under way, or answers it. One that waits for the log is of a call that is served.
+/// Each step of the worker leaves it under way, or answers it. One that waits for the log is of a call that
+/// is served.
 pub(crate) fn a_step_keeps_a_call_going()
     ensures goes { (o : Outset) (now : Opened) (worker : State) (new : Side) (made : Option Step)
         → IsCalling o now worker → GoesOn worker.phase (side worker now.core) made new

@@ -24,10 +24,10 @@ use store_workers::Worker;
 
 /// Runs a call to its answer. Where the answer waits for its place everything is settled before; where the
 /// log is full, too, and so it is where more than MOST_KEPT_COMMITS commits are kept then, since that brings
-/// home what is logged. A call that isn't served is NOTSUPP and begins no transaction. A store that is open with
-/// some entries is open with the same then, or with the call's besides, whose reply is answered; else the answer says
-/// why there is none. Each stop on the way leaves the files after a beginning of these entries, in which is each place
-/// that was settled before.
+/// home what is logged. A call that isn't served is NOTSUPP and begins no transaction. A store that is open
+/// with some entries is open with the same then, or with the call's besides, whose reply is answered; else
+/// the answer says why there is none. Each stop on the way leaves the files after a beginning of these
+/// entries, in which is each place that was settled before.
 #[tactic(auto, using(crate::proofs::Driven::starts, crate::proofs::DrivenAlone::starts_alone))]
 pub fn procedure<D: CrashDisk>(
     alloc: Global,
@@ -40,7 +40,8 @@ pub fn procedure<D: CrashDisk>(
     ensures idle { IsIdle store.new.core }
     ensures boot { store.new.boot ≡ store.old.boot }
     ensures answered { Answers (D.keeps_model store.new.disk)
-        (store_of (D.device store.old.disk) store.old.core store.old.boot) (asked_of credential moment call) result
+        (store_of (D.device store.old.disk) store.old.core store.old.boot)
+        (asked_of credential moment call) result
         (store_of (D.device store.new.disk) store.new.core store.new.boot) }
     ensures model { D.keeps_model store.new.disk → D.keeps_model store.old.disk }
 {

@@ -1,6 +1,8 @@
 -- Each device call of the log and of the installer leaves fewer to make.
-use Rattle.std.proofs.Common.{arith, ◌≡◌, ◌∙◌, refl, sym, ap, subst, true≢false, Result, Ok, Err, is_ok, ℕ, ◌+◌, ◌-◌, ◌*◌, ◌<◌, ◌≤◌, Bool, true, false, not}
-use Rattle.std.proofs.Common.{◌&&◌, ◌||◌, nat_eq, nat_lt, nat_le, if◌then◌else◌, length, drop, List, [], ◌∷◌, zero, suc}
+use Rattle.std.proofs.Common.{arith, ◌≡◌, ◌∙◌, refl, sym, ap, subst, true≢false, Result, Ok, Err, is_ok, ℕ}
+use Rattle.std.proofs.Common.{◌+◌, ◌-◌, ◌*◌, ◌<◌, ◌≤◌, Bool, true, false, not}
+use Rattle.std.proofs.Common.{◌&&◌, ◌||◌, nat_eq, nat_lt, nat_le, if◌then◌else◌, length, drop, List, [], ◌∷◌}
+use Rattle.std.proofs.Common.{zero, suc}
 use Rattle.std.proofs.lemmas.Bool.Decides.{nat_tests}
 use Rattle.std.proofs.lemmas.List.{length-drop}
 use Rattle.limits.specs.declared.TheConstants.{LOG_SLOTS}
@@ -72,8 +74,12 @@ pub log_out_left : (log : Log) → IsLawful log → has_group log ≡ true
     → (calls_left (with_log_out log) ≤ calls_left log) × (0 < group_size log)
 log_out_left log lawful has =
     let less = taken_left (length log.changes) log.logged log.taken log.log_step
-    (nat_le (length log.changes) LOG_SLOTS) lawful.taken_within (λ none. (lawful.log_idle none).0) has (group_size log) refl in
-    (grind (arith), size_is_some (length log.changes) log.logged log.taken (nat_le (length log.changes) LOG_SLOTS) has)
+    (nat_le (length log.changes) LOG_SLOTS) lawful.taken_within (λ none. (lawful.log_idle none).0) has
+    (group_size log) refl in (
+      grind (arith),
+      size_is_some (length log.changes) log.logged log.taken
+          (nat_le (length log.changes) LOG_SLOTS) has,
+    )
 
 may_is : (broken some out : Bool) → (not broken && (some && not out)) ≡ true
     → (broken ≡ false) × (some ≡ true)
@@ -162,7 +168,8 @@ inst_made_as out some lawful true is_next next step later =
     let less = made_left out.installing out.inst_step step some later lawful.inst_step in
     (grind (arith), refl)
 inst_made_as out some lawful false true next step later =
-    let less = made_left out.installing out.inst_step (out.inst_step + 1) some (grind (arith)) lawful.inst_step in
+    let less = made_left out.installing out.inst_step (out.inst_step + 1) some (grind (arith))
+    lawful.inst_step in
     (grind (arith), refl)
 inst_made_as out some lawful false false next step later =
     let last : out.inst_step ≡ out.installing + 2 = grind (arith, nat_tests, lawful.inst_step) in
@@ -222,7 +229,8 @@ inst_done_quiet out new io ok is quiet given =
     (inst_back_quiet out ok quiet)
 
 -- so it is once the installer's call was handed out, made and given back
-pub inst_called : (log out new : Log) (before after : Device) (io : Io) (answer : Result Unit Failed) (ok : Bool)
+pub inst_called : (log out new : Log) (before after : Device) (io : Io)
+    (answer : Result Unit Failed) (ok : Bool)
     → IsLawful log → true ≡ may_install log → out ≡ with_inst_out log → IsLawful out → IsNextInstCall out io
     → ok ≡ is_ok answer → new ≡ (if is_inst_out out io then with_inst_back out ok else out)
     → CountsFailure before after answer → HasCalled log before new after

@@ -22,7 +22,8 @@ pub spends_none : (core after : CoreState) (before later : Device) → after ≡
     → SpendsCalls before core.log later after.log
 spends_none core after before later same at =
     subst (λ (d : Device). SpendsCalls before core.log d after.log) (sym at)
-    (subst (λ (c : CoreState). SpendsCalls before core.log before c.log) (sym same) (record { few = omega arith }))
+    (subst (λ (c : CoreState). SpendsCalls before core.log before c.log) (sym same)
+    (record { few = omega arith }))
 
 pub spends_along : (before mid later : Device) (old log new : Log) → SpendsCalls before old mid log
     → SpendsCalls mid log later new → SpendsCalls before old later new

@@ -18,7 +18,8 @@ use Rattle.layout.specs.Homes.{homes_of, is_home}
 use Rattle.layout.specs.Stands.{Stands}
 use Rattle.layout.specs.SuperForm.{IsSuper}
 use Rattle.wal_law.specs.declared.change.LogChange.{LogChange}
-use Rattle.wal_law.specs.Calls.{AgreesBeside, InstCallComesBack, InstCallGoesOut, InstCallIsMade, home_after, idle}
+use Rattle.wal_law.specs.Calls.{AgreesBeside, InstCallComesBack, InstCallGoesOut, InstCallIsMade, home_after}
+use Rattle.wal_law.specs.Calls.{idle}
 use Rattle.wal_law.specs.Grows.{IsWholeChange}
 use Rattle.wal_law.specs.Installer.{next_home, with_installed, with_inst_back, with_inst_out}
 use Rattle.wal_law.specs.Io.{Io}
@@ -128,7 +129,8 @@ overlaid : (base : Image) (changes : List LogChange) (n block : ℕ)
     → with_changes (with_changes base (take n changes)) (drop n changes) block ≡ with_changes base changes block
 overlaid base changes n block =
     joined (newest_of (drop n changes) block) (newest_of (take n changes) block)
-    ∙ ap (λ found. content_or found (base block)) (sym (newest_of-append (take n changes) (drop n changes) block)
+    ∙ ap (λ found. content_or found (base block))
+    (sym (newest_of-append (take n changes) (drop n changes) block)
     ∙ ap (λ cs. newest_of cs block) (take-append-drop n changes))
   where
     joined : (later sooner : Option Content)
@@ -214,8 +216,9 @@ out_same log true some is =
 out_same log false some is =
     (ap (λ (l : Log). l.changes) is, ap (λ (l : Log). l.logged) is, ap (λ (l : Log). l.taken) is)
 
-module _ (first : Image) (now next : Device) (log out new : Log) (io : Io) (answer : Result Unit Failed) (ok : Bool)
-    (out_lawful : IsLawful out) (changes : All IsWholeChange log.changes)
+module _ (first : Image) (now next : Device) (log out new : Log) (io : Io)
+    (answer : Result Unit Failed) (ok : Bool) (out_lawful : IsLawful out)
+    (changes : All IsWholeChange log.changes)
     (goes : out ≡ with_inst_out log) (goes_out : InstCallGoesOut log io out)
     (made : InstCallIsMade now io answer next) (told : ok ≡ is_ok answer)
     (back : new ≡ with_inst_back out ok) (comes_back : InstCallComesBack out io ok new)
@@ -227,7 +230,8 @@ module _ (first : Image) (now next : Device) (log out new : Log) (io : Io) (answ
   stays =
       subst (StaysOver coming.base out (home_after coming.base out ok)) (sym back)
       (back_over coming.base out out_lawful
-      (out_is.1 ∙ coming.logged ∙ ap (λ (cs : List LogChange). length cs) (sym out_is.0)) (out_is.2 ∙ coming.taken)
+      (out_is.1 ∙ coming.logged ∙ ap (λ (cs : List LogChange). length cs) (sym out_is.0))
+      (out_is.2 ∙ coming.taken)
       ok)
 
   pub called_home : IsComingHome first next new
@@ -285,12 +289,14 @@ module _ (before now : Device) (reads : HasOnlyRead before now) (rest : IsAtRest
     base = image_of before;
     agrees = subst (λ size. AgreesBeside now (image_of before)
         (opened size (start_in (image_of before)) (logged_in (image_of before))) idle idle) reads.size
-        (subst (λ (image : Image). AgreesBeside now image (opened now.size (start_in image) (logged_in image)) idle
+        (subst (λ (image : Image). AgreesBeside now image
+        (opened now.size (start_in image) (logged_in image)) idle
         idle) image_is (stands_found now (omega (arith, some, reads.size)) at_rest
         (subst IsInRange (sym image_is) range)));
     whole = λ block within.
         ap (λ (image : Image). length (image block)) (sym image_is)
-        ∙ newest_whole (current now block) (blocks.some now.clock block (omega arith) (omega (arith, within, reads.size)))
+        ∙ newest_whole (current now block) (blocks.some now.clock block (omega arith)
+        (omega (arith, within, reads.size)))
         (blocks.blocks now.clock block (omega arith) (omega (arith, within, reads.size)));
     blocks = λ block outside. refl;
     super_is = refl;

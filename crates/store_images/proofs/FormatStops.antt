@@ -1,5 +1,6 @@
 -- What each stop leaves while an image is made.
-use Rattle.std.proofs.Common.{arith, ◌≡◌, ◌∙◌, refl, sym, ap, subst, ℕ, ◌+◌, ◌<◌, ◌≤◌, ◌⊎◌, inl, inr, List, [], ◌∷◌}
+use Rattle.std.proofs.Common.{arith, ◌≡◌, ◌∙◌, refl, sym, ap, subst, ℕ, ◌+◌, ◌<◌, ◌≤◌, ◌⊎◌, inl, inr, List}
+use Rattle.std.proofs.Common.{[], ◌∷◌}
 use Rattle.std.proofs.Common.{◌++◌, Ok, Err, Result, Bool, true, false, ◌||◌, ◌&&◌, nat_eq, length, replicate}
 use Rattle.std.specs.List.{Contains}
 use Rattle.std.proofs.lemmas.Bool.{cases_lt, cases_order}
@@ -11,7 +12,8 @@ use Rattle.limits.specs.declared.TheConstants.{SUPER_BLOCK}
 use Rattle.nfs_types.specs.declared.ctx.Moment.{Moment}
 use Rattle.disk.specs.Blocks.{AreBlocks, IsBlock}
 use Rattle.disk.specs.Crash.{Image, IsAtRest, IsCrashImage}
-use Rattle.disk.specs.Device.{Appends, Content, Device, HasSettled, HasWritten, OneLater, current, is_on, newest_alone}
+use Rattle.disk.specs.Device.{Appends, Content, Device, HasSettled, HasWritten, OneLater, current, is_on}
+use Rattle.disk.specs.Device.{newest_alone}
 use Rattle.disk.specs.Device.{Settles}
 use Rattle.disk.specs.declared.block.Side.{Side}
 use Rattle.disk.specs.declared.block.Side.TheVariants.{Home, Log}
@@ -57,7 +59,8 @@ pub super_stays_on : (old now next : Device) → LeavesSuper old now → OneLate
 super_stays_on old now next so later same = record {
   past = past_more old now next so.past (past_one now next later);
   super = λ clock above below. elim (cases_order clock (now.clock + 1)) [
-    | inl at ↦ ap (λ n. next.contents n SUPER_BLOCK) (at ∙ sym later.clock) ∙ same ∙ so.super now.clock so.past.clock (omega arith)
+    | inl at ↦ ap (λ n. next.contents n SUPER_BLOCK) (at ∙ sym later.clock) ∙ same
+        ∙ so.super now.clock so.past.clock (omega arith)
     | inr (inl before) ↦ later.past clock SUPER_BLOCK (omega (arith, before))
         ∙ so.super clock above (omega (arith, before))
     | inr (inr after) ↦ absurd (omega (arith, after, below, later.clock))
@@ -66,7 +69,8 @@ super_stays_on old now next so later same = record {
 
 -- so does what another write does,
 super_beside : (old now next : Device) (block : ℕ) (content : Content) (r : Result Unit Failed)
-    → (SUPER_BLOCK ≡ block → ⊥) → LeavesSuper old now → HasWritten now block content r next → LeavesSuper old next
+    → (SUPER_BLOCK ≡ block → ⊥) → LeavesSuper old now → HasWritten now block content r next
+    → LeavesSuper old next
 super_beside old now next block content r other so write =
     super_stays_on old now next so write.later (write.others SUPER_BLOCK other)
 
@@ -214,7 +218,8 @@ module _ (before : Device) (g : Geometry) (moment : Moment) where
 
   -- ---- behind the first block all is made
 
-  module _ (now : Device) (sizes : now.size ≡ g.blocks) (blocks : AreBlocks now) (rest : IsMadeBehind now g moment) where
+  module _ (now : Device) (sizes : now.size ≡ g.blocks) (blocks : AreBlocks now)
+      (rest : IsMadeBehind now g moment) where
     made_at : (image : Image) → IsCrashImage now now.clock image → (number : ℕ) → SUPER_BLOCK < number
         → number < data_at g.blocks g.inodes → is_slot number ≡ false → image number ≡ fresh g moment number
     made_at image is number above below free =
@@ -251,7 +256,8 @@ module _ (before : Device) (g : Geometry) (moment : Moment) where
           homes = record {
             bytes = λ number home less. whole image is number less;
             blocks = λ k less.
-                made_home image is (FIRST_HOME_BLOCK + k) (omega arith) (omega (arith, less)) ∙ model.homes.blocks k less;
+                made_home image is (FIRST_HOME_BLOCK + k) (omega arith) (omega (arith, less))
+                ∙ model.homes.blocks k less;
             inodes = λ k less.
                 made_home image is (inode_bitmap_at g.blocks + k) (omega arith) (omega (arith, less))
                 ∙ model.homes.inodes k less;
@@ -307,7 +313,8 @@ module _ (before : Device) (g : Geometry) (moment : Moment) where
   pub super_settled : (now next : Device) (answer : Result Unit Failed) → Stops before now g moment
       → next.size ≡ g.blocks → AreBlocks next → IsMadeBehind next g moment
       → HasSettled now Home answer next
-      → ((answer ≡ Ok tt) → current next SUPER_BLOCK ≡ fresh g moment SUPER_BLOCK ∷ []) → Stops before next g moment
+      → ((answer ≡ Ok tt) → current next SUPER_BLOCK ≡ fresh g moment SUPER_BLOCK ∷ [])
+      → Stops before next g moment
   super_settled now next (Ok tt) so sizes blocks rest settled made =
       let rules = g.lawful.1 in
       one_more_stop now next so settled.later (λ image is. left_made next sizes blocks rest image is
@@ -352,7 +359,8 @@ one_settled : (old new : Device) (side : Side) (number : ℕ) → HasSettled old
     → IsOne new number
 one_settled old new side number settled one = by_side (is_on side number) (settled.contents number)
   where
-    by_side : (on : Bool) → current new number ≡ (if on then newest_alone (current old number) else current old number)
+    by_side : (on : Bool) → current new number
+        ≡ (if on then newest_alone (current old number) else current old number)
         → IsOne new number
     by_side true now = ap (λ (cs : List Content). length cs) now ∙ one_alone (current old number) one
     by_side false now = ap (λ (cs : List Content). length cs) now ∙ one
@@ -374,7 +382,8 @@ module _ (a b c d e f : Device) (g : Geometry) (moment : Moment) (blank : IsBlan
     (header : HasWritten a LOG_HEADER_BLOCK (fresh g moment LOG_HEADER_BLOCK) done b)
     (start : HasWritten b START_BLOCK (fresh g moment START_BLOCK) done c)
     (parts : HasWrittenUpTo c g moment (data_at g.blocks g.inodes) d) (log : HasSettled d Log done e) where
-  pub filled : (answer : Result Unit Failed) → HasSettled e Home answer f → OnOk answer (IsMadeBehind f g moment)
+  pub filled : (answer : Result Unit Failed) → HasSettled e Home answer f
+      → OnOk answer (IsMadeBehind f g moment)
   filled (Ok u) home = made_behind a b c d e f g moment header start parts log home
   filled (Err failed) home = tt
 
@@ -457,13 +466,15 @@ module _ (before f h : Device) (g : Geometry) (moment : Moment) (sizes : g.block
       super_settled before g moment h i answer
       (named_or_not done write (blocks_before h i (past_one h i settled.later) blocks))
       (settled.later.size ∙ write.later.size ∙ sym sizes) blocks
-      (made_still h i g moment answer (made_on f h g moment (fresh g moment SUPER_BLOCK) done behind write) settled)
+      (made_still h i g moment answer (made_on f h g moment (fresh g moment SUPER_BLOCK) done behind
+      write) settled)
       settled (new_alone answer settled)
     where
       new_alone : (r : Result Unit Failed) → HasSettled h Home r i → r ≡ done
           → current i SUPER_BLOCK ≡ fresh g moment SUPER_BLOCK ∷ []
       new_alone (Ok u) settles_it is =
-          settles h i Home SUPER_BLOCK (fresh g moment SUPER_BLOCK) settles_it refl (current f SUPER_BLOCK, write.written)
+          settles h i Home SUPER_BLOCK (fresh g moment SUPER_BLOCK) settles_it refl
+          (current f SUPER_BLOCK, write.written)
       new_alone (Err failed) settles_it is = cc
 
 -- ---- the whole

@@ -1,5 +1,6 @@
 -- What the device calls of a format leave.
-use Rattle.std.proofs.Common.{◌≡◌, ◌∙◌, ℕ, ◌+◌, ◌-◌, ◌≤◌, ◌<◌, Bool, true, false, List, [], ◌∷◌, ◌++◌, Ok, Err, Result, ◌||◌}
+use Rattle.std.proofs.Common.{◌≡◌, ◌∙◌, ℕ, ◌+◌, ◌-◌, ◌≤◌, ◌<◌, Bool, true, false, List, [], ◌∷◌, ◌++◌, Ok}
+use Rattle.std.proofs.Common.{Err, Result, ◌||◌}
 use Rattle.std.proofs.Common.{ap, sym, subst, arith, length, drop, refl, below_more}
 use Rattle.std.specs.Prelude.{if◌then◌else◌}
 use Rattle.std.proofs.Common.{inl, inr, length-append}
@@ -36,7 +37,8 @@ one_more old mid new g moment end upto home write = record {
   size = write.later.size ∙ upto.size;
   written = λ number above below. all number below above;
   before = λ number low. write.others number (λ (e : number ≡ end). omega arith) ∙ upto.before number low;
-  behind = λ number high. write.others number (λ (e : number ≡ end). omega arith) ∙ upto.behind number (omega arith);
+  behind = λ number high. write.others number (λ (e : number ≡ end). omega arith)
+      ∙ upto.behind number (omega arith);
   spoiled = λ number. write.spoiled number ∙ or_false (mid.spoiled number) ∙ upto.spoiled number;
 }
   where
@@ -45,31 +47,37 @@ one_more old mid new g moment end upto home write = record {
         let earlier = upto.written number above below in
         (earlier.0, write.others number (λ (e : number ≡ end). omega arith) ∙ earlier.1)
 
-    all : (number : ℕ) → number < end + 1 → FIRST_HOME_BLOCK ≤ number → IsNewest new number (fresh g moment number)
-    all = below_more (λ number. FIRST_HOME_BLOCK ≤ number → IsNewest new number (fresh g moment number)) end kept
-        (λ above. (current mid end, write.written))
+    all : (number : ℕ) → number < end + 1 → FIRST_HOME_BLOCK ≤ number
+        → IsNewest new number (fresh g moment number)
+    all = below_more (λ number. FIRST_HOME_BLOCK ≤ number
+        → IsNewest new number (fresh g moment number)) end kept (λ above. (current mid end, write.written))
 
 -- the newest of contents that end in one is that one
-alone_last : (earlier : List Content) (content : Content) → newest_alone (earlier ++ content ∷ []) ≡ content ∷ []
+alone_last : (earlier : List Content) (content : Content)
+    → newest_alone (earlier ++ content ∷ []) ≡ content ∷ []
 alone_last earlier content =
-    let e : length (earlier ++ content ∷ []) - 1 ≡ length earlier = omega (arith, length-append {A = Content}) in
+    let e : length (earlier ++ content ∷ []) - 1 ≡ length earlier =
+    omega (arith, length-append {A = Content}) in
     ap (λ n. drop n (earlier ++ content ∷ [])) e ∙ drop-append_seam earlier (content ∷ [])
 
 -- a barrier of its side leaves of a block what is newest alone
 pub settles : (old new : Device) (side : Side) (number : ℕ) (content : Content) → HasSettled old side done new
     → is_on side number ≡ true → IsNewest old number content → current new number ≡ content ∷ []
 settles old new side number content settled on newest =
-    settled.contents number ∙ ap (λ (t : Bool). if t then newest_alone (current old number) else current old number) on
+    settled.contents number ∙ ap (λ (t : Bool). if t then newest_alone (current old number) else current
+    old number) on
     ∙ ap newest_alone newest.1 ∙ alone_last newest.0 content
 
 -- a barrier of the other side leaves the block
 pub passes : (old new : Device) (side : Side) (number : ℕ) → HasSettled old side done new
     → is_on side number ≡ false → current new number ≡ current old number
 passes old new side number settled off =
-    settled.contents number ∙ ap (λ (t : Bool). if t then newest_alone (current old number) else current old number) off
+    settled.contents number ∙ ap (λ (t : Bool). if t then newest_alone (current old number) else current
+    old number) off
 
 -- one content is the newest
-only : (device : Device) (number : ℕ) (content : Content) → current device number ≡ content ∷ [] → IsNewest device number content
+only : (device : Device) (number : ℕ) (content : Content) → current device number ≡ content ∷ []
+    → IsNewest device number content
 only device number content e = ([], e)
 
 -- a block behind the log is on the home side, and has no slot
@@ -115,7 +123,8 @@ made_behind a b c d e f g moment header start parts log home number above below 
 
     at_header : At LOG_HEADER_BLOCK
     at_header =
-        let written : current d LOG_HEADER_BLOCK ≡ current a LOG_HEADER_BLOCK ++ fresh g moment LOG_HEADER_BLOCK ∷ [] =
+        let written : current d LOG_HEADER_BLOCK ≡ current a LOG_HEADER_BLOCK
+        ++ fresh g moment LOG_HEADER_BLOCK ∷ [] =
         parts.before LOG_HEADER_BLOCK (omega arith)
         ∙ start.others LOG_HEADER_BLOCK (λ (at : LOG_HEADER_BLOCK ≡ START_BLOCK). omega arith)
         ∙ header.written in
@@ -135,7 +144,8 @@ made_still h i g moment (Err e) made settled number above below free =
 made_still h i g moment (Ok u) made settled number above below free =
     by_side (is_on Home number) (settled.contents number) (made number above below free)
   where
-    by_side : (on : Bool) → current i number ≡ (if on then newest_alone (current h number) else current h number)
+    by_side : (on : Bool) → current i number
+        ≡ (if on then newest_alone (current h number) else current h number)
         → current h number ≡ fresh g moment number ∷ [] → current i number ≡ fresh g moment number ∷ []
     by_side true now before = now ∙ ap newest_alone before
     by_side false now before = now ∙ before

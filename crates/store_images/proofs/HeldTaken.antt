@@ -13,7 +13,8 @@ pub held_taken : (holds : List Hold) (tx : ℕ) (addr : Addr) (block : BlockNo) 
     → is_some (hold_of holds tx addr) ≡ true → is_taken holds block ≡ true
 held_taken holds tx addr block at some = by (hold_of holds tx addr) refl some
   where
-    by : (found : Option Hold) → hold_of holds tx addr ≡ found → is_some found ≡ true → is_taken holds block ≡ true
+    by : (found : Option Hold) → hold_of holds tx addr ≡ found → is_some found ≡ true
+        → is_taken holds block ≡ true
     by None is there = absurd (true≢false (sym there))
     by (Some x) is there =
         let (mine, among) = found_by (is_hold_of tx addr) holds x is in

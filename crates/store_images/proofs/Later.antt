@@ -22,12 +22,13 @@ pub one_stop_more : (P : Image → Type 0) (before now next : Device) → OneLat
     → AtEachStop before now (λ at image. P image)
     → ((image : Image) → IsCrashImage next next.clock image → P image)
     → AtEachStop before next (λ at image. P image)
-one_stop_more P before now next later so left clock image above below is = elim (cases_order clock (now.clock + 1)) [
-  | inl at ↦ left image (subst (λ (n : ℕ). IsCrashImage next n image) (at ∙ sym later.clock) is)
-  | inr (inl past) ↦ so clock image above (omega (arith, past))
-      (earlier now next (past_one now next later) clock image (omega (arith, past)) is)
-  | inr (inr after) ↦ absurd (omega (arith, after, below, later.clock))
-]
+one_stop_more P before now next later so left clock image above below is =
+    elim (cases_order clock (now.clock + 1)) [
+      | inl at ↦ left image (subst (λ (n : ℕ). IsCrashImage next n image) (at ∙ sym later.clock) is)
+      | inr (inl past) ↦ so clock image above (omega (arith, past))
+          (earlier now next (past_one now next later) clock image (omega (arith, past)) is)
+      | inr (inr after) ↦ absurd (omega (arith, after, below, later.clock))
+    ]
 
 -- each stop leaves some image
 pub some_image : (before now : Device) → AreBlocks now → LeavesImages before now
@@ -45,6 +46,7 @@ pub blocks_before : (now later : Device) → IsLater now later → AreBlocks lat
 blocks_before now later past blocks = record {
   some = λ clock block below within. subst (λ (cs : List Content). 0 < length cs) (past.past clock block below)
       (blocks.some clock block (omega (arith, below, past.clock)) (omega (arith, within, past.size)));
-  blocks = λ clock block below within. subst (λ (cs : List Content). All IsBlock cs) (past.past clock block below)
-      (blocks.blocks clock block (omega (arith, below, past.clock)) (omega (arith, within, past.size)));
+  blocks = λ clock block below within. subst (λ (cs : List Content). All IsBlock cs)
+      (past.past clock block below) (blocks.blocks clock block (omega (arith, below, past.clock))
+      (omega (arith, within, past.size)));
 }

@@ -21,7 +21,8 @@ use Rattle.store_promise.specs.NextCall.{IsNextOfInstalling, next_log_call}
 use Rattle.store_promise.specs.Running.{home_next, told_next}
 use Rattle.store_promise.specs.Schedule.{IsNextOfInstaller, IsNextOfLog, Setting}
 use Rattle.store_promise.specs.ToldOf.{StandsAtHome, log_told}
-use Rattle.store_promise.proofs.ToldLog.{inst_call_is, log_call_is, may_install_is, may_log_is, stands_given_back}
+use Rattle.store_promise.proofs.ToldLog.{inst_call_is, log_call_is, may_install_is, may_log_is}
+use Rattle.store_promise.proofs.ToldLog.{stands_given_back}
 use Rattle.store_promise.proofs.ToldLog.{stands_logging, stands_taken}
 use Rattle.store_promise.proofs.ToldOf.{inst_given_told, inst_taken_told, log_given_told, log_taken_told}
 use Rattle.store_images.proofs.OutCalls.{its_home_is_out, its_is_out}
@@ -58,7 +59,12 @@ Tells MayMake old made new = (o : Setting) (base : Image) → IsOver o base old
     × IsOver o (home_next base old.log made) new
 
 abbrev pub side : Device → Log → Pending → Pending → LogSide
-side device log logging installing = record { device = device; log = log; logging = logging; installing = installing }
+side device log logging installing = record {
+  device = device;
+  log = log;
+  logging = logging;
+  installing = installing;
+}
 
 -- ---- a call that was made
 
@@ -100,7 +106,8 @@ module _ (d : Device) (old : Log) (installing : Pending) (lawful : IsLawful old)
     log_waits o base over = (refl, refl, over)
 
     pub log_taken : (new : Log) → may_log old ≡ true → new ≡ with_log_out old → LogCallGoesOut old io new
-        → Tells MayLog (side d old idle installing) (Some (step.LogNext io.call)) (side d new (out io) installing)
+        → Tells MayLog (side d old idle installing) (Some (step.LogNext io.call))
+        (side d new (out io) installing)
     log_taken new some is goes o base over =
         let may = may_log_is o.position old installing lawful over.agrees.logger ∙ some in
         let agrees = subst (λ log. AgreesBeside d base log (out io) installing) is
@@ -153,8 +160,9 @@ told_made : (position : ℕ) (log : Log) (io : Io) (installing : Pending) (ok : 
 told_made position log io installing true = refl
 told_made position log io installing false = refl
 
-pub log_made : (before after : Device) (log : Log) (installing : Pending) (io : Io) (result : Result Unit Failed)
-    (ok : Bool) → IsLawful log → LogCallIsMade before io result after → ok ≡ is_ok result
+pub log_made : (before after : Device) (log : Log) (installing : Pending) (io : Io)
+    (result : Result Unit Failed) (ok : Bool) → IsLawful log → LogCallIsMade before io result after
+    → ok ≡ is_ok result
     → Tells MayLogIo (side before log (out io) installing) (Some (step.LogIo ok))
     (side after log (pending_of (Some io) (Some ok)) installing)
 log_made before after log installing io result ok lawful made is o base over =
@@ -248,7 +256,8 @@ module _ (d : Device) (old : Log) (logging : Pending) (lawful : IsLawful old) wh
 
     pub inst_taken : (new : Log) → may_install old ≡ true → new ≡ with_inst_out old
         → InstCallGoesOut old io new
-        → Tells MayInstall (side d old logging idle) (Some (step.InstNext io.call)) (side d new logging (out io))
+        → Tells MayInstall (side d old logging idle) (Some (step.InstNext io.call))
+        (side d new logging (out io))
     inst_taken new some is goes o base over =
         let told = log_told o.position old logging idle in
         let may = may_install_is o.position old logging over.agrees.installer ∙ some in
@@ -274,7 +283,8 @@ module _ (d : Device) (old : Log) (logging : Pending) (lawful : IsLawful old) wh
         (side d new logging idle)
     inst_given new true is back o base over =
         let its = home_out_of d base old io true over.agrees.installer in
-        let same = is ∙ (λ i. if its_home_is_out old io its.0 its.1 i then with_inst_back old true else old) in (
+        let same = is ∙ (λ i. if its_home_is_out old io its.0 its.1 i then with_inst_back old true
+        else old) in (
           refl,
           ap (λ log. log_told o.position log logging idle) same
               ∙ inst_given_told o.position old io (Ok tt) logging lawful over.stands its.0 its.1 true,
@@ -286,10 +296,12 @@ module _ (d : Device) (old : Log) (logging : Pending) (lawful : IsLawful old) wh
         )
     inst_given new false is back o base over =
         let its = home_out_of d base old io false over.agrees.installer in
-        let same = is ∙ (λ i. if its_home_is_out old io its.0 its.1 i then with_inst_back old false else old) in (
+        let same = is ∙ (λ i. if its_home_is_out old io its.0 its.1 i then with_inst_back old false
+        else old) in (
           refl,
           ap (λ log. log_told o.position log logging idle) same
-              ∙ inst_given_told o.position old io (Err (record {})) logging lawful over.stands its.0 its.1 false,
+              ∙ inst_given_told o.position old io (Err (record {})) logging lawful over.stands
+              its.0 its.1 false,
           record {
             agrees = back d base (Err (record {})) logging refl over.agrees;
             stands = subst StandsAtHome (sym same) (stands_given_back old false lawful over.stands);

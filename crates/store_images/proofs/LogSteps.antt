@@ -1,5 +1,6 @@
 -- Each step of the log's side keeps a run going.
-use Rattle.std.proofs.Common.{◌≡◌, ◌∙◌, ap, sym, refl, subst, ℕ, Bool, true, false, not, Option, Some, None, List, All}
+use Rattle.std.proofs.Common.{◌≡◌, ◌∙◌, ap, sym, refl, subst, ℕ, Bool, true, false, not, Option, Some, None}
+use Rattle.std.proofs.Common.{List, All}
 use Rattle.std.proofs.Common.{Result, Ok, Err, is_ok, is_err, is_some, ◌||◌}
 use Rattle.disk.specs.Crash.{Image}
 use Rattle.disk.specs.Device.{Content, Device}
@@ -19,7 +20,8 @@ use Rattle.objects.specs.declared.addr.Addr.{Addr}
 use Rattle.store_promise.specs.declared.events.Step.{Step}
 use Rattle.store_promise.specs.LogTold.{LogTold}
 use Rattle.store_promise.specs.OpenSince.{IsOpenSince}
-use Rattle.store_promise.specs.Running.{IsFetchOver, IsLogStep, IsMovedBy, KeepsPlaces, KeepsTransactions, StoreSide}
+use Rattle.store_promise.specs.Running.{IsFetchOver, IsLogStep, IsMovedBy, KeepsPlaces, KeepsTransactions}
+use Rattle.store_promise.specs.Running.{StoreSide}
 use Rattle.store_promise.specs.Running.{home_next, side}
 use Rattle.store_promise.specs.Schedule.{Setting}
 use Rattle.store_promise.proofs.OpenSteps.{HasSameChanges, same_changes}
@@ -105,7 +107,8 @@ log_alone old new is stays = record {
 }
 
 -- what is taken stays in memory, where only what nobody needs goes
-pub still_loaded : (old new : CoreState) → Leaves new (taken_by old) (is_fetching old) (in_memory old) → (tx : ℕ)
+pub still_loaded : (old new : CoreState)
+    → Leaves new (taken_by old) (is_fetching old) (in_memory old) → (tx : ℕ)
     (addr : Addr) (content : Content) → is_some (taken_by old tx addr) ≡ true
     → in_memory old addr.block ≡ Some content → in_memory new addr.block ≡ Some content
 still_loaded old new leaves tx addr content some there = leaves.stays addr.block content there
@@ -170,7 +173,8 @@ module _ (May : Setting → LogTold → Option Step → Type 0) (made : Option S
 
 -- what the device answered, by whether it was Ok
 pub answered : (io : Io) (ok : Bool)
-    → (answer : Result Unit Failed) × (pending_of (Some io) (Some ok) ≡ was_made io answer) × (is_ok answer ≡ ok)
+    → (answer : Result Unit Failed) × (pending_of (Some io) (Some ok) ≡ was_made io answer)
+    × (is_ok answer ≡ ok)
 answered io true = (Ok tt, refl, refl)
 answered io false = (Err (record {}), refl, refl)
 

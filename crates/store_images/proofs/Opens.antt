@@ -32,7 +32,8 @@ use Rattle.txn_law.proofs.Fresh.{fresh_window}
 use Rattle.store_promise.specs.declared.fault.OpenFault.{OpenFault}
 use Rattle.store_promise.specs.declared.fault.OpenFault.TheVariants as fault
 use Rattle.store_promise.specs.GoodImage.{IsGoodImage}
-use Rattle.store_promise.specs.Openings.{HasTree, IsCauseOf, IsLater, IsOpened, IsRefused, IsRefusedFor, KeepsTree}
+use Rattle.store_promise.specs.Openings.{HasTree, IsCauseOf, IsLater, IsOpened, IsRefused, IsRefusedFor}
+use Rattle.store_promise.specs.Openings.{KeepsTree}
 use Rattle.store_promise.specs.OpenStore.{IsNewOver}
 use Rattle.store_promise.proofs.Later.{past_more, past_one, read_later}
 use Rattle.store_promise.proofs.Shown.{has_blocks, not_magic, not_range, not_version}
@@ -63,7 +64,8 @@ none_home log lawful sound quiet may logged = empty log.changes (omega (arith, n
 
 module _ (before : Device) (tree : Tree) (first : ℕ) (holds : HoldsTree before tree first) where
   pub good : IsGoodImage before.size (image_of before) tree first
-  good = holds.good (image_of before) (λ block within. one_there (current before block) (holds.rest.one block within))
+  good = holds.good (image_of before) (λ block within. one_there (current before block)
+      (holds.rest.one block within))
 
   -- ---- a refusal that has only read
 
@@ -71,8 +73,9 @@ module _ (before : Device) (tree : Tree) (first : ℕ) (holds : HoldsTree before
   only_read_keeps later reads clock image above below is = record {
     boot = first;
     boot_is = inl refl;
-    good = subst (λ (size : ℕ). IsGoodImage size image tree first) (sym reads.size) (holds.good image (λ block within.
-        subst (λ (cs : List Content). Contains cs (image block)) (reads.during clock block above below)
+    good = subst (λ (size : ℕ). IsGoodImage size image tree first) (sym reads.size)
+        (holds.good image (λ block within. subst (λ (cs : List Content). Contains cs (image block))
+        (reads.during clock block above below)
         (is block (omega (arith, within, reads.size)))));
   }
 
@@ -82,7 +85,8 @@ module _ (before : Device) (tree : Tree) (first : ℕ) (holds : HoldsTree before
   cause_is keeps_model fault.Device later kept counts shows = counts
   cause_is keeps_model fault.NoMemory later kept counts shows = counts
   cause_is keeps_model fault.Magic later kept counts shows = elim (shows.1 kept holds.rest.unspoiled) [
-    | inl none ↦ absurd (has_blocks before.size (image_of before SUPER_BLOCK) good.super good.is_super good.size_is none)
+    | inl none ↦ absurd (has_blocks before.size (image_of before SUPER_BLOCK) good.super good.is_super
+        good.size_is none)
     | inr other ↦ not_magic (image_of before SUPER_BLOCK) good.super good.is_super other
   ]
   cause_is keeps_model fault.Version later kept counts shows =
@@ -155,10 +159,12 @@ module _ (before : Device) (tree : Tree) (first : ℕ) (holds : HoldsTree before
     keeps_tree : (later : Device) → KeepsBlocks before later content → KeepsTree before later tree first
     keeps_tree later keeps clock image above below is =
         subst (λ (size : ℕ). HasTree size first tree image) (sym keeps.past.size)
-        (has_tree image (subst (λ (size : ℕ). HasBlocksWith size (image_of before) content image) keeps.past.size
+        (has_tree image (subst (λ (size : ℕ). HasBlocksWith size (image_of before) content image)
+        keeps.past.size
         (keeps.stops clock image above below is)))
 
-    pub later_refused : (later : Device) (cause : OpenFault) → AreBlocks later → KeepsBlocks before later content
+    pub later_refused : (later : Device) (cause : OpenFault) → AreBlocks later
+        → KeepsBlocks before later content
         → IsCauseOf cause before later first → IsRefused before later tree first cause
     later_refused later cause blocks keeps because = record {
       past = keeps.past;
@@ -216,25 +222,29 @@ module _ (before : Device) (tree : Tree) (first : ℕ) (holds : HoldsTree before
               → Contains (current raises.written block) (image block)
           by_block block true at there =
               let here : block ≡ SUPER_BLOCK = grind (arith, nat_tests) in
-              subst (λ (b : ℕ). Contains (current now b) (image b) → Contains (current raises.written b) (image b))
+              subst (λ (b : ℕ). Contains (current now b) (image b)
+              → Contains (current raises.written b) (image b))
               (sym here) (λ is. subst (λ (cs : List Content). Contains cs (image SUPER_BLOCK))
               (sym raises.write.written) (more (current now SUPER_BLOCK) (image SUPER_BLOCK) content is)) there
           by_block block false at there =
               subst (λ (cs : List Content). Contains cs (image block))
-              (sym (raises.write.others block (λ (here : block ≡ SUPER_BLOCK). let eq = at in grind (arith, nat_tests))))
+              (sym (raises.write.others block (λ (here : block ≡ SUPER_BLOCK). let eq = at in
+              grind (arith, nat_tests))))
               there
 
       last_left : (image : Image) × IsCrashImage later (later.clock - 1) image
           × IsGoodImage later.size image tree first
       last_left =
           let went_on : IsLater now later = past_more now raises.written later
-          (past_one now raises.written raises.write.later) (past_one raises.written later raises.settle.later) in
+          (past_one now raises.written raises.write.later)
+          (past_one raises.written later raises.settle.later) in
           let found = some_image before now (blocks_before now later went_on blocks) now.clock
           raises.brings.keeps.past.clock (omega arith) in (
             found.0,
             written_holds found.0 found.1,
             subst (λ (size : ℕ). IsGoodImage size found.0 tree first) (sym size_is)
-                (old_good found.0 (subst (λ (size : ℕ). HasBlocksOf size (image_of before) (image_of before SUPER_BLOCK)
+                (old_good found.0 (subst (λ (size : ℕ). HasBlocksOf size (image_of before)
+                (image_of before SUPER_BLOCK)
                 found.0) raises.brings.keeps.past.size
                 (stop_blocks (image_of before) now log found.0 lawful raises.brings.coming found.1))),
           )
@@ -259,7 +269,12 @@ module _ (before : Device) (tree : Tree) (first : ℕ) (holds : HoldsTree before
       pub is_opened : later.failures ≡ before.failures → IsOpened before later tree first log.start
       is_opened same = record {
         past = keeps.past;
-        begun = omega (arith, raises.settle.later.clock, raises.write.later.clock, raises.brings.keeps.past.clock);
+        begun = omega (
+          arith,
+          raises.settle.later.clock,
+          raises.write.later.clock,
+          raises.brings.keeps.past.clock,
+        );
         failures = same;
         left = some_image before later blocks;
         keeps = keeps_tree later keeps;
@@ -271,13 +286,15 @@ module _ (before : Device) (tree : Tree) (first : ℕ) (holds : HoldsTree before
       whole_home : AreWhole log.blocks home
       whole_home block within = by_test (nat_eq block SUPER_BLOCK)
         where
-          by_test : (same : Bool) → length (if same then content else raises.brings.coming.base block) ≡ BLOCK_BYTES
+          by_test : (same : Bool) → length (if same then content else raises.brings.coming.base
+              block) ≡ BLOCK_BYTES
           by_test true = full
           by_test false = raises.brings.coming.whole block within
 
       clean : IsUnspoiled now → IsUnspoiled later
       clean before_clean block =
-          raises.settle.spoiled block ∙ raises.write.spoiled block ∙ none_more (now.spoiled block) (before_clean block)
+          raises.settle.spoiled block ∙ raises.write.spoiled block
+          ∙ none_more (now.spoiled block) (before_clean block)
         where
           none_more : (old : Bool) → old ≡ false → (old || (false && nat_eq block SUPER_BLOCK)) ≡ false
           none_more true is = cc
@@ -304,10 +321,12 @@ module _ (before : Device) (tree : Tree) (first : ℕ) (holds : HoldsTree before
               agrees = agrees;
               readable = record {
                 logged = λ block within is_spoiled unlogged_is. absurd (
-                    let clean_is = clean spoiled block in let yes : later.spoiled block ≡ true = is_spoiled in cc
+                    let clean_is = clean spoiled block in let yes : later.spoiled block ≡ true =
+                    is_spoiled in cc
                     );
                 stuck = λ block within is_spoiled. absurd (
-                    let clean_is = clean spoiled block in let yes : later.spoiled block ≡ true = is_spoiled in cc
+                    let clean_is = clean spoiled block in let yes : later.spoiled block ≡ true =
+                    is_spoiled in cc
                     );
               };
               tidy = tidy;

@@ -41,7 +41,8 @@ module _ (before now : Device) (log : Log) (raised : Content) (lawful : IsLawful
           → with_changes under log.changes block ≡ with_changes brings.coming.base log.changes block
       by_test true is = let here : block ≡ SUPER_BLOCK = grind (arith, nat_tests) in absurd (other here)
       by_test false is =
-          ap (λ (t : Bool). content_or (newest_of log.changes block) (if t then raised else brings.coming.base block)) is
+          ap (λ (t : Bool). content_or (newest_of log.changes block)
+          (if t then raised else brings.coming.base block)) is
 
   pub under_raised : (image : Image) → IsBoundary under log image
       → HasBlocksOf log.blocks (image_of before) raised image
@@ -58,11 +59,13 @@ module _ (before now : Device) (log : Log) (raised : Content) (lawful : IsLawful
   shows image (inr boundary) = inr (under_raised image boundary)
 
   -- the super block was written, or that failed
-  pub raised_stops : (next : Device) (answer : Result Unit Failed) → HasWritten now SUPER_BLOCK raised answer next
+  pub raised_stops : (next : Device) (answer : Result Unit Failed)
+      → HasWritten now SUPER_BLOCK raised answer next
       → KeepsBlocks before next raised
   raised_stops next answer write = record {
     past = past_more before now next brings.keeps.past (past_one now next write.later);
-    stops = subst (λ size. AtEachStop before next (λ at image. HasBlocksWith size (image_of before) raised image))
+    stops = subst (λ size. AtEachStop before next
+        (λ at image. HasBlocksWith size (image_of before) raised image))
         (sym write.later.size) (one_stop_more (HasBlocksWith now.size (image_of before) raised) before now next
         write.later brings.keeps.stops left);
   }
@@ -70,8 +73,10 @@ module _ (before now : Device) (log : Log) (raised : Content) (lawful : IsLawful
       left : (image : Image) → IsCrashImage next next.clock image
           → HasBlocksWith now.size (image_of before) raised image
       left image is =
-          subst (λ size. HasBlocksWith size (image_of before) raised image) (sym brings.coming.agrees.agrees.size)
-          (shows image (home_written now next brings.coming.base log SUPER_BLOCK raised answer image lawful outside
+          subst (λ size. HasBlocksWith size (image_of before) raised image)
+          (sym brings.coming.agrees.agrees.size)
+          (shows image (home_written now next brings.coming.base log SUPER_BLOCK raised answer image
+          lawful outside
           unlogged write brings.coming.agrees.agrees is))
 
 -- a barrier leaves no more than was there
@@ -84,7 +89,8 @@ settled_stops before now next raised answer settle keeps = record {
       settle.later keeps.stops left);
 }
   where
-    left : (image : Image) → IsCrashImage next next.clock image → HasBlocksWith now.size (image_of before) raised image
+    left : (image : Image) → IsCrashImage next next.clock image
+        → HasBlocksWith now.size (image_of before) raised image
     left image is = keeps.stops now.clock image keeps.past.clock (omega arith) (λ block within.
         (keeps_settled now next Home answer block settle).within (image block)
         (is block (omega (arith, within, settle.later.size))))

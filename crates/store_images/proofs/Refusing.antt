@@ -1,5 +1,6 @@
 -- An opening that has only read, and what it refuses.
-use Rattle.std.proofs.Common.{arith, ◌≡◌, ◌∙◌, refl, sym, ap, subst, ℕ, ◌+◌, ◌<◌, ◌^◌, inl, inr, Ok, Err, Result, List}
+use Rattle.std.proofs.Common.{arith, ◌≡◌, ◌∙◌, refl, sym, ap, subst, ℕ, ◌+◌, ◌<◌, ◌^◌, inl, inr, Ok, Err}
+use Rattle.std.proofs.Common.{Result, List}
 use Rattle.std.specs.Prelude.{IfErr}
 use Rattle.limits.specs.declared.TheConstants.{SUPER_BLOCK}
 use Rattle.disk.specs.Device.{Content, Device}
@@ -40,8 +41,9 @@ no_super keeps_model fault.Device before later size content none reads same size
 no_super keeps_model fault.NoMemory before later size content none reads same sizes read = absurd none
 
 -- so it is whatever was found in it
-pub refused_by : {A : Type 0} (keeps_model : Type 0) (result : Result A OpenFault) (before later : Device) (size : ℕ)
-    (content : Content) → IfErr result (λ cause. HasNoSuper cause size content) → HasOnlyRead before later
+pub refused_by : {A : Type 0} (keeps_model : Type 0) (result : Result A OpenFault)
+    (before later : Device) (size : ℕ) (content : Content)
+    → IfErr result (λ cause. HasNoSuper cause size content) → HasOnlyRead before later
     → later.failures ≡ before.failures → size ≡ before.size
     → (keeps_model → IsUnspoiled before → content ≡ image_of before SUPER_BLOCK)
     → IfErr result (λ cause. IsRefusedFor keeps_model cause before later)
@@ -51,8 +53,9 @@ refused_by keeps_model (Err cause) before later size content none reads same siz
 
 -- ---- the log
 
-module _ (keeps_model : Type 0) (before middle later : Device) (found : Super) (first : HasOnlyRead before middle)
-    (second : HasOnlyRead middle later) (blocks : found.geometry.blocks ≡ before.size)
+module _ (keeps_model : Type 0) (before middle later : Device) (found : Super)
+    (first : HasOnlyRead before middle) (second : HasOnlyRead middle later)
+    (blocks : found.geometry.blocks ≡ before.size)
     (left : found.boot + 1 < 2 ^ 64)
     (is_super : keeps_model → IsUnspoiled before → IsSuper (image_of before SUPER_BLOCK) found) where
   image_is : image_of middle ≡ image_of before

@@ -53,14 +53,15 @@ fewer_last size boot settled more first entries image few left = record {
 
 -- a later part of the past behind an earlier one
 pub kept_along : (before mid later : Device) (boot settled more : ℕ) (first : Tree) (entries : List Entry)
-    → IsLater before mid → IsLater mid later → settled ≤ more → HasKeptFiles before mid boot first entries settled
+    → IsLater before mid → IsLater mid later → settled ≤ more
+    → HasKeptFiles before mid boot first entries settled
     → HasKeptFiles mid later boot first entries more → HasKeptFiles before later boot first entries settled
 kept_along before mid later boot settled more first entries one two few was then_ =
     λ clock image above below is. elim (cases_order clock mid.clock) [
       | inl at ↦ fewer_last later.size boot settled more first entries image few
           (then_ clock image (omega (arith, at)) below is)
-      | inr (inl past) ↦ subst (λ (size : ℕ). LeavesBeginning size boot first entries settled image) (sym two.size)
-          (was clock image above (omega (arith, past))
+      | inr (inl past) ↦ subst (λ (size : ℕ). LeavesBeginning size boot first entries settled image)
+          (sym two.size) (was clock image above (omega (arith, past))
           (earlier mid later two clock image (omega (arith, past)) is))
       | inr (inr after) ↦ fewer_last later.size boot settled more first entries image few
           (then_ clock image (omega (arith, after)) below is)
@@ -103,7 +104,8 @@ pub prefixes_kept : (before later : Device) (old new : CoreState) → AreBlocks 
     (first last : Tree) (entries : List Entry) → HasKeptFiles before d boot first entries settled
     → IsOpenSince base d core logging installing boot first entries last → settled ≤ settled_place core.log
     → KeepsFiles before d boot first entries settled)
-    → ((base : Image) (d : Device) (core : CoreState) (logging installing : Pending) (boot : ℕ) (first last : Tree)
+    → ((base : Image) (d : Device) (core : CoreState) (logging installing : Pending) (boot : ℕ)
+    (first last : Tree)
     (entries : List Entry) (image : Image) → IsOpenSince base d core logging installing boot first entries last
     → IsCrashImage d d.clock image → LeavesBeginning d.size boot first entries (settled_place core.log) image)
     → StayOpen before old later new → KeepsPrefixes before old later new
@@ -112,8 +114,8 @@ prefixes_kept before later old new blocks now stop stays = λ base boot first la
     record {
       past = is.past;
       left = some_image before later blocks;
-      stops = now before later is.base new idle idle boot (settled_place old.log) first last entries is.left is.since
-          is.further;
+      stops = now before later is.base new idle idle boot (settled_place old.log) first last entries
+          is.left is.since is.further;
       ended = λ image crash. stop is.base later new idle idle boot first last entries image is.since crash;
       further = is.further;
       calls = is.calls;
@@ -145,8 +147,8 @@ stops_along before mid later boot settled more first entries two few was then_ =
     λ clock image above below is. elim (cases_order clock mid.clock) [
       | inl at ↦ fewer_last later.size boot settled more first entries image few
           (then_ clock image (omega (arith, at)) below is)
-      | inr (inl past) ↦ subst (λ (size : ℕ). LeavesBeginning size boot first entries settled image) (sym two.size)
-          (was clock image above (omega (arith, past))
+      | inr (inl past) ↦ subst (λ (size : ℕ). LeavesBeginning size boot first entries settled image)
+          (sym two.size) (was clock image above (omega (arith, past))
           (earlier mid later two clock image (omega (arith, past)) is))
       | inr (inr after) ↦ fewer_last later.size boot settled more first entries image few
           (then_ clock image (omega (arith, after)) below is)

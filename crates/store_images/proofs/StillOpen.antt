@@ -1,5 +1,6 @@
 -- An open store stays open with each device call of the log and of the installer, and with more of them.
-use Rattle.std.proofs.Common.{arith, ◌≡◌, ◌∙◌, refl, sym, ap, true≢false, ℕ, ◌+◌, ◌≤◌, inl, inr, Bool, true, false}
+use Rattle.std.proofs.Common.{arith, ◌≡◌, ◌∙◌, refl, sym, ap, true≢false, ℕ, ◌+◌, ◌≤◌, inl, inr, Bool, true}
+use Rattle.std.proofs.Common.{false}
 use Rattle.std.proofs.Common.{if◌then◌else◌, nat_eq, nat_lt, Option, is_some}
 use Rattle.std.proofs.lemmas.List.{length-drop}
 use Rattle.disk.specs.Device.{Device}
@@ -115,7 +116,8 @@ kept_then a b c one two = record {
   fetches = λ block. two.fetches block ∙ one.fetches block;
   reads = λ tx object is. two.reads tx object (one.reads tx object is);
   loaded = λ tx addr content some there.
-      two.loaded tx addr content (ap is_some (one.taken tx addr) ∙ some) (one.loaded tx addr content some there);
+      two.loaded tx addr content (ap is_some (one.taken tx addr) ∙ some)
+      (one.loaded tx addr content some there);
 }
 
 -- ---- an open store
@@ -129,7 +131,8 @@ same_open d core = record {
   runs = λ o base fetches boot first last entries run. record { home = base; running = run };
 }
 
-pub open_then : (d e f : Device) (a b c : CoreState) → LeavesOpen d a e b → LeavesOpen e b f c → LeavesOpen d a f c
+pub open_then : (d e f : Device) (a b c : CoreState) → LeavesOpen d a e b → LeavesOpen e b f c
+    → LeavesOpen d a f c
 open_then d e f a b c one two = record {
   core = kept_then a b c one.core two.core;
   further = further_then a b c one.further two.further;
@@ -161,7 +164,8 @@ open_by May Make Give d e old new out back one two three taken made given furthe
   runs = λ o base fetches boot first last entries run.
       let a = taken.runs o base fetches boot first last entries run in
       let b = made.runs o (home_next base old.log one) fetches boot first last entries a.running in
-      let c = given.runs o (home_next (home_next base old.log one) out.core.log two) fetches boot first last entries
+      let c = given.runs o (home_next (home_next base old.log one) out.core.log two) fetches boot
+      first last entries
       b.running in
       record {
         home = home_next (home_next (home_next base old.log one) out.core.log two) back.core.log three;

@@ -41,13 +41,14 @@ abbrev pub HasBlocksWith : ℕ → Image → Content → Image → Type 0
 HasBlocksWith size first raised image =
     HasBlocksOf size first (first SUPER_BLOCK) image ⊎ HasBlocksOf size first raised image
 
--- Whatever a stop has left since has the blocks of the image before, with its super block or with the raised one.
+-- Whatever a stop has left since has the blocks of the image before, with its super block or with the raised
+-- one.
 pub record KeepsBlocks (before now : Device) (raised : Content) : Type 0 where
   pub past : IsLater before now
   pub stops : AtEachStop before now (λ at image. HasBlocksWith now.size (image_of before) raised image)
 
--- What an opening found by reading alone: the super block, of a device of its size and with a boot number left, and
--- the log that lies on the image.
+-- What an opening found by reading alone: the super block, of a device of its size and with a boot number
+-- left, and the log that lies on the image.
 pub record IsFound (before : Device) (found : Super) (log : Log) : Type 0 where
   pub is_super : IsSuper (image_of before SUPER_BLOCK) found
   pub range : IsInRange (image_of before)
@@ -75,7 +76,8 @@ CountsCause fault.Range before later = later.failures ≡ before.failures
 CountsCause fault.Log before later = later.failures ≡ before.failures
 CountsCause fault.NoMemory before later = later.failures ≡ before.failures
 
--- a block has no super block of an image of so many blocks that may be opened, and this is what is wrong with it
+-- a block has no super block of an image of so many blocks that may be opened, and this is what is wrong with
+-- it
 abbrev pub HasNoSuper : OpenFault → ℕ → Content → Type 0
 HasNoSuper fault.Magic size content = IsNoSuper content layout_fault.Magic
 HasNoSuper fault.Version size content = IsNoSuper content layout_fault.Version

@@ -32,7 +32,8 @@ abbrev pub IsNewest : Device → ℕ → Content → Type 0
 IsNewest device number content = (earlier : List Content) × (current device number ≡ earlier ++ content ∷ [])
 
 -- the image's blocks from the first behind the log up to one were written, and no other block was
-pub record HasWrittenUpTo (old : Device) (g : Geometry) (moment : Moment) (end : ℕ) (new : Device) : Type 0 where
+pub record HasWrittenUpTo (old : Device) (g : Geometry) (moment : Moment) (end : ℕ)
+    (new : Device) : Type 0 where
   pub size : new.size ≡ old.size
   pub written : (number : ℕ) → FIRST_HOME_BLOCK ≤ number → number < end
       → IsNewest new number (fresh g moment number)

@@ -29,8 +29,8 @@ pub record RunsOn (o : Setting) (after : Device) (new : CoreState)
   pub home : Image
   pub running : IsRunningOver o home (at_rest after new) fetches boot first entries last
 
--- An open store stays open, whatever is at home, and what transactions have stays. It breaks only with a device call
--- that failed.
+-- An open store stays open, whatever is at home, and what transactions have stays. It breaks only with a
+-- device call that failed.
 pub record LeavesOpen (before : Device) (old : CoreState) (after : Device) (new : CoreState) : Type 0 where
   pub core : KeepsTransactions old new
   pub further : IsFurther old new

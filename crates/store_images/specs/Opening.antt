@@ -43,8 +43,9 @@ IsOpening (Ok store) = IsIdle store.core × (store.device.size ≡ store.core.lo
     × IsLawful store.core.log.blocks store.core.inodes
 IsOpening (Err refused) = Unit {0}
 
--- What comes of opening a device that holds this tree: the tree stays at each stop, and the store that is answered is
--- a new one over it, with the next boot number; or it was refused for a cause that a good image may have.
+-- What comes of opening a device that holds this tree: the tree stays at each stop, and the store that is
+-- answered is a new one over it, with the next boot number; or it was refused for a cause that a good image
+-- may have.
 abbrev pub Opens : Device → Opening → Tree → ℕ → Type 0
 Opens before (Ok store) tree first = (store.boot ≡ first + 1) × (position : ℕ)
     × IsOpened before store.device tree first position

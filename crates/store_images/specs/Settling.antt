@@ -1,5 +1,6 @@
 -- What settling a store does, and how many device calls it makes at most.
-use Rattle.std.specs.Prelude.{◌≡◌, ℕ, ◌+◌, ◌-◌, ◌*◌, ◌<◌, ◌≤◌, ◌⊎◌, true, false, if◌then◌else◌, nat_eq, None, [], length}
+use Rattle.std.specs.Prelude.{◌≡◌, ℕ, ◌+◌, ◌-◌, ◌*◌, ◌<◌, ◌≤◌, ◌⊎◌, true, false, if◌then◌else◌, nat_eq, None}
+use Rattle.std.specs.Prelude.{[], length}
 use Rattle.disk.specs.Device.{Device}
 use Rattle.wal.specs.Log.{Log}
 use Rattle.txn.specs.Core.{CoreState}
@@ -33,7 +34,8 @@ abbrev pub calls_left : Log → ℕ
 calls_left log = group_left log.taken log.log_step + 4 * (length log.changes - (log.logged + log.taken))
     + (group_left log.installing log.inst_step + 4 * (length log.changes - log.installing))
 
--- how many calls a settling makes at most: none once the log is broken, and else those that are left, and one that fails
+-- how many calls a settling makes at most: none once the log is broken, and else those that are left, and one
+-- that fails
 abbrev pub most_calls : Log → ℕ
 most_calls log = if log.broken then 0 else calls_left log + 1
 

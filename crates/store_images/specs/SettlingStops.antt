@@ -12,10 +12,10 @@ use Rattle.store_promise.specs.OpenSince.{HasKeptFiles, IsOpenSince, KeepsFiles,
 
 -- ---- call by call
 
--- A store is open for these entries, none of whose device calls is out, and each stop now leaves the files after a
--- beginning of them, in which is each place that is settled now.
-pub record IsSettledSo (boot : ℕ) (first : Tree) (entries : List Entry) (last : Tree) (now : Device) (core : CoreState)
-    : Type 0 where
+-- A store is open for these entries, none of whose device calls is out, and each stop now leaves the files
+-- after a beginning of them, in which is each place that is settled now.
+pub record IsSettledSo (boot : ℕ) (first : Tree) (entries : List Entry) (last : Tree) (now : Device)
+    (core : CoreState) : Type 0 where
   pub base : Image
   pub since : IsOpenSince base now core idle idle boot first entries last
   pub stops : (image : Image) → IsCrashImage now now.clock image
@@ -43,13 +43,14 @@ GoesByCalls boot first entries last before old (after ∷ rest) later new =
 
 -- ---- what a settling keeps
 
--- What holds from one moment to a later one of a store that is open for these entries, none of whose device calls is
--- out at either moment. The store stays open for them. Each stop on the way leaves some image, and each that is left
--- is good, with the boot number and the files after a beginning of the entries, in which is each place that was
--- settled at first; and each stop at the end has in it each place that is settled then. So it is behind each device
--- call on the way: each stop there has in it each place that is settled by then, of which none is taken back.
-pub record KeepsPrefix (before : Device) (old : CoreState) (later : Device) (new : CoreState) (boot : ℕ) (first : Tree)
-    (entries : List Entry) (last : Tree) : Type 0 where
+-- What holds from one moment to a later one of a store that is open for these entries, none of whose device
+-- calls is out at either moment. The store stays open for them. Each stop on the way leaves some image, and
+-- each that is left is good, with the boot number and the files after a beginning of the entries, in which is
+-- each place that was settled at first; and each stop at the end has in it each place that is settled then.
+-- So it is behind each device call on the way: each stop there has in it each place that is settled by then,
+-- of which none is taken back.
+pub record KeepsPrefix (before : Device) (old : CoreState) (later : Device) (new : CoreState) (boot : ℕ)
+    (first : Tree) (entries : List Entry) (last : Tree) : Type 0 where
   pub past : IsLater before later
   pub left : LeavesImages before later
   pub stops : KeepsFiles before later boot first entries (settled_place old.log)
@@ -69,9 +70,10 @@ KeepsPrefixes before old later new = (base : Image) (boot : ℕ) (first last : T
 
 -- ---- between its device calls
 
--- The store has stayed open, each stop before now left the same, and no settled place was taken back, call by call.
-pub record StaysOpen (before : Device) (old : CoreState) (later : Device) (new : CoreState) (boot : ℕ) (first : Tree)
-    (entries : List Entry) (last : Tree) : Type 0 where
+-- The store has stayed open, each stop before now left the same, and no settled place was taken back, call by
+-- call.
+pub record StaysOpen (before : Device) (old : CoreState) (later : Device) (new : CoreState) (boot : ℕ)
+    (first : Tree) (entries : List Entry) (last : Tree) : Type 0 where
   pub past : IsLater before later
   pub left : HasKeptFiles before later boot first entries (settled_place old.log)
   pub further : settled_place old.log ≤ settled_place new.log

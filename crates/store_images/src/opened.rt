@@ -65,21 +65,25 @@ pub fn close<D: CrashDisk>(store: Store<D>) -> D
 /// Makes every change settled in the log. What is logged is brought home only where the log has no room
 /// behind its settled start for the changes that wait, or where more than MOST_KEPT_COMMITS commits are kept;
 /// what is left, the next opening brings home. It fails only where a device call fails in it, or where a
-/// write or a barrier failed since the opening. It makes at most `most_calls` device calls. Whatever comes of it, a store that is open for some entries stays
-/// open for them, and each stop leaves the files after a beginning of them, in which is what was settled before,
-/// and behind each device call what is settled by then.
+/// write or a barrier failed since the opening. It makes at most `most_calls` device calls. Whatever comes of
+/// it, a store that is open for some entries stays open for them, and each stop leaves the files after a
+/// beginning of them, in which is what was settled before, and behind each device call what is settled by
+/// then.
 pub fn settle<D: CrashDisk>(store: &mut Store<D>) -> Result<(), Failed>
     requires { IsQuiet store.old.core.log }
     ensures out { store.new.core.out ≡ store.old.core.out }
     ensures boot { store.new.boot ≡ store.old.boot }
-    ensures open { LeavesOpen (D.device store.old.disk) store.old.core (D.device store.new.disk) store.new.core }
+    ensures open { LeavesOpen (D.device store.old.disk) store.old.core (D.device store.new.disk)
+        store.new.core }
     ensures counts { SameFrame store.old.core store.new.core }
     ensures numbers { SameNumbers store.old.core store.new.core }
     ensures fetches { KeepsFetches store.old.core store.new.core }
     ensures settled { OnOk result (IsSettled store.new.core) }
-    ensures failed { OnErr result (HasFailed store.old.core.log (D.device store.old.disk) (D.device store.new.disk)) }
+    ensures failed { OnErr result (HasFailed store.old.core.log (D.device store.old.disk)
+        (D.device store.new.disk)) }
     ensures broken { OnErr result (store.new.core.log.broken ≡ true) }
-    ensures few { (D.device store.new.disk).clock ≤ (D.device store.old.disk).clock + most_calls store.old.core.log }
+    ensures few { (D.device store.new.disk).clock ≤ (D.device store.old.disk).clock + most_calls
+        store.old.core.log }
     ensures keeps { D.keeps_model store.new.disk → KeepsPrefixes (D.device store.old.disk) store.old.core
         (D.device store.new.disk) store.new.core }
     ensures model { D.keeps_model store.new.disk → D.keeps_model store.old.disk }
@@ -113,7 +117,8 @@ fn log_one<D: CrashDisk>(store: &mut Store<D>) -> bool
     requires { IsQuiet store.old.core.log }
     ensures out { store.new.core.out ≡ store.old.core.out }
     ensures boot { store.new.boot ≡ store.old.boot }
-    ensures open { LeavesOpen (D.device store.old.disk) store.old.core (D.device store.new.disk) store.new.core }
+    ensures open { LeavesOpen (D.device store.old.disk) store.old.core (D.device store.new.disk)
+        store.new.core }
     ensures counts { SameFrame store.old.core store.new.core }
     ensures numbers { SameNumbers store.old.core store.new.core }
     ensures fetches { KeepsFetches store.old.core store.new.core }
@@ -122,7 +127,8 @@ fn log_one<D: CrashDisk>(store: &mut Store<D>) -> bool
         → HasCalled store.old.core.log (D.device store.old.disk) store.new.core.log (D.device store.new.disk) }
     ensures none { IsFalse result
         → (store.new.core ≡ store.old.core) × (D.device store.new.disk ≡ D.device store.old.disk) }
-    ensures few { SpendsCalls (D.device store.old.disk) store.old.core.log (D.device store.new.disk) store.new.core.log }
+    ensures few { SpendsCalls (D.device store.old.disk) store.old.core.log (D.device store.new.disk)
+        store.new.core.log }
     ensures stays { StayOpen (D.device store.old.disk) store.old.core (D.device store.new.disk) store.new.core }
     ensures model { D.keeps_model store.new.disk → D.keeps_model store.old.disk }
 {
@@ -149,7 +155,8 @@ fn install_one<D: CrashDisk>(store: &mut Store<D>) -> bool
     requires { IsQuiet store.old.core.log }
     ensures out { store.new.core.out ≡ store.old.core.out }
     ensures boot { store.new.boot ≡ store.old.boot }
-    ensures open { LeavesOpen (D.device store.old.disk) store.old.core (D.device store.new.disk) store.new.core }
+    ensures open { LeavesOpen (D.device store.old.disk) store.old.core (D.device store.new.disk)
+        store.new.core }
     ensures counts { SameFrame store.old.core store.new.core }
     ensures numbers { SameNumbers store.old.core store.new.core }
     ensures fetches { KeepsFetches store.old.core store.new.core }
@@ -158,7 +165,8 @@ fn install_one<D: CrashDisk>(store: &mut Store<D>) -> bool
         → HasCalled store.old.core.log (D.device store.old.disk) store.new.core.log (D.device store.new.disk) }
     ensures none { IsFalse result
         → (store.new.core ≡ store.old.core) × (D.device store.new.disk ≡ D.device store.old.disk) }
-    ensures few { SpendsCalls (D.device store.old.disk) store.old.core.log (D.device store.new.disk) store.new.core.log }
+    ensures few { SpendsCalls (D.device store.old.disk) store.old.core.log (D.device store.new.disk)
+        store.new.core.log }
     ensures stays { StayOpen (D.device store.old.disk) store.old.core (D.device store.new.disk) store.new.core }
     ensures model { D.keeps_model store.new.disk → D.keeps_model store.old.disk }
 {

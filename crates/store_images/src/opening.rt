@@ -1,5 +1,6 @@
 //! Opening a store: what a crash left in the log is brought home, and the boot number rises.
-ghost use Rattle.std.specs.Prelude.{◌≡◌, ◌+◌, ◌^◌, ◌<◌, IfErr, IfOk, IsFalse, IsTrue, MatchResult, OnOk, [], ℕ, length};
+ghost use Rattle.std.specs.Prelude.{◌≡◌, ◌+◌, ◌^◌, ◌<◌, IfErr, IfOk, IsFalse, IsTrue, MatchResult, OnOk, []};
+ghost use Rattle.std.specs.Prelude.{ℕ, length};
 ghost use Rattle.std.specs.Prelude.{◌⊎◌, Ok, Err, Some, None, true, false};
 ghost use Rattle.limits.specs.declared.TheConstants.{BLOCK_BYTES, SUPER_BLOCK};
 ghost use Rattle.disk.specs.Device.{Content, Device};
@@ -29,10 +30,10 @@ use wal::circ::{self, LogFault};
 
 /// Opens a store: brings home what the log holds, and counts the opening. An image is refused by the first of
 /// these that holds: an allocation failed (NoMemory), its device has no blocks (Magic), the super block can't
-/// be read (Device) or is refused as `Super::read` says, its sizes aren't the device's or no boot number is left
-/// (Range), the log isn't one (Log). Until then nothing is written. Later only Device and NoMemory come. A refusal
-/// hands the disk back, and is Device just where a call of the device failed and was counted. A device at rest with a good image keeps its tree at each stop, and so it does when it is
-/// opened again.
+/// be read (Device) or is refused as `Super::read` says, its sizes aren't the device's or no boot number is
+/// left (Range), the log isn't one (Log). Until then nothing is written. Later only Device and NoMemory come.
+/// A refusal hands the disk back, and is Device just where a call of the device failed and was counted. A
+/// device at rest with a good image keeps its tree at each stop, and so it does when it is opened again.
 #[tactic(auto, using(crate::specs::Opening::has_opened))]
 pub fn open<D: CrashDisk>(alloc: Global, disk: D) -> Result<Store<D>, (D, OpenFault)>
     ensures idle { IfOk result (λ store. IsIdle store.core) }
@@ -41,7 +42,8 @@ pub fn open<D: CrashDisk>(alloc: Global, disk: D) -> Result<Store<D>, (D, OpenFa
         (λ refused. HasOpened (D.device disk) (Err (D.device refused.0, refused.1))) }
     ensures answered { MatchResult result
         (λ store. IsAnsweredFor (D.keeps_model store.disk) None (D.device disk) (D.device store.disk))
-        (λ refused. IsAnsweredFor (D.keeps_model refused.0) (Some refused.1) (D.device disk) (D.device refused.0)) }
+        (λ refused. IsAnsweredFor (D.keeps_model refused.0) (Some refused.1) (D.device disk)
+        (D.device refused.0)) }
     ensures counted { IfErr result (λ refused. CountsCause refused.1 (D.device disk) (D.device refused.0)) }
     ensures keeps { (tree : Tree) (first : ℕ) → HoldsTree (D.device disk) tree first → MatchResult result
         (λ store. D.keeps_model store.disk → Opens (D.device disk)
@@ -68,7 +70,8 @@ fn recover<D: CrashDisk>(alloc: Global, disk: &mut D) -> Result<(Core<Done>, u64
         (λ _. IsAnsweredFor (D.keeps_model disk.new) None (D.device disk.old) (D.device disk.new))
         (λ cause. IsAnsweredFor (D.keeps_model disk.new) (Some cause) (D.device disk.old) (D.device disk.new)) }
     ensures counted { IfErr result (λ cause. CountsCause cause (D.device disk.old) (D.device disk.new)) }
-    ensures keeps { (tree : Tree) (first : ℕ) → HoldsTree (D.device disk.old) tree first → D.keeps_model disk.new
+    ensures keeps { (tree : Tree) (first : ℕ) → HoldsTree (D.device disk.old) tree first
+        → D.keeps_model disk.new
         → MatchResult result (λ opened. Opens (D.device disk.old)
         (Ok (store_of (D.device disk.new) opened.0 opened.1)) tree first)
         (λ cause. Opens (D.device disk.old) (Err (D.device disk.new, cause)) tree first) }
@@ -254,7 +257,8 @@ fn raise<D: CrashDisk>(
         ⊎ ((cause ≡ OpenFault.NoMemory) × (D.device disk.new ≡ D.device disk.old))) }
     ensures raised { (before : Device) (log : Log) → IsLawfulLog log → log.changes ≡ []
         → BringsHome before (super_bytes raised) (D.device disk.old) log
-        → MatchResult result (λ _. HasRaised before (super_bytes raised) (D.device disk.old) (D.device disk.new) log)
+        → MatchResult result (λ _. HasRaised before (super_bytes raised) (D.device disk.old)
+        (D.device disk.new) log)
         (λ cause. KeepsBlocks before (D.device disk.new) (super_bytes raised)) }
     ensures model { D.keeps_model disk.new → D.keeps_model disk.old }
 {

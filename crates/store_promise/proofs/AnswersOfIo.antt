@@ -31,11 +31,14 @@ use Rattle.store_promise.specs.declared.events.Step.TheVariants as step
 use Rattle.store_promise.specs.declared.transcript.Answer.{Answer}
 use Rattle.store_promise.specs.declared.transcript.Committed.{Committed}
 use Rattle.store_promise.specs.CauseOfIo.{IsOfLog, IsReadFor, is_io, tells_io}
-use Rattle.store_promise.specs.Progress.{At, Begun, Called, Idle, Job, Planning, Progress, Refused, Stage, Waiting, going_on}
+use Rattle.store_promise.specs.Progress.{At, Begun, Called, Idle, Job, Planning, Progress, Refused, Stage}
+use Rattle.store_promise.specs.Progress.{Waiting, going_on}
 use Rattle.store_promise.specs.Progress.{is_idle, progressed}
-use Rattle.store_promise.specs.Schedule.{AreTaken, IsStepOfCalled, IsStepOfWork, Schedule, Setting, Told, progress_before}
+use Rattle.store_promise.specs.Schedule.{AreTaken, IsStepOfCalled, IsStepOfWork, Schedule, Setting, Told}
+use Rattle.store_promise.specs.Schedule.{progress_before}
 use Rattle.store_promise.specs.Schedule.{told_after, told_before}
-use Rattle.store_promise.specs.Transcript.{Transcript, calls_device, committed_at, entry_of, fails, made, step_at}
+use Rattle.store_promise.specs.Transcript.{Transcript, calls_device, committed_at, entry_of, fails, made}
+use Rattle.store_promise.specs.Transcript.{step_at}
 use Rattle.store_promise.specs.Verdicts.{HasVerdict, IsAnswer, cause_of, refusal}
 use Rattle.store_promise.proofs.FailuresTold.{LogShows, inst_failed, is_broken, log_failed}
 use Rattle.store_promise.proofs.StableAnswers.{entry_index, one_more}
@@ -66,7 +69,8 @@ has_call : (so_far : Progress) → shows so_far ≡ true → is_idle so_far ≡ 
 has_call Idle so = cc
 has_call (At job stage) so = refl
 
-of_the_log : (events : Schedule) (t : Transcript) (n worker : ℕ) → LogFailed events t n → Failed events t n worker
+of_the_log : (events : Schedule) (t : Transcript) (n worker : ℕ) → LogFailed events t n
+    → Failed events t n worker
 of_the_log events t n worker failed = record {
   index = failed.index;
   earlier = failed.earlier;
@@ -105,68 +109,69 @@ module _ (events : Schedule) (t : Transcript) (n : ℕ) where
       ];
     }
 
-module _ (o : Setting) (workers : ℕ) (events : Schedule) (t : Transcript) (taken : AreTaken o workers events t.steps)
-  where
-    module _ (n : ℕ) (known : Known events t n) (e : Event) (m : Option Step) (is_event : slice_get events n ≡ Some e)
-        (is_step : slice_get t.steps n ≡ Some m) where
-      abbrev told : Told
-      told = told_before events t.steps n
+module _ (o : Setting) (workers : ℕ) (events : Schedule) (t : Transcript)
+    (taken : AreTaken o workers events t.steps) where
+  module _ (n : ℕ) (known : Known events t n) (e : Event) (m : Option Step)
+      (is_event : slice_get events n ≡ Some e) (is_step : slice_get t.steps n ≡ Some m) where
+    abbrev told : Told
+    told = told_before events t.steps n
 
-      after_it : told_before events t.steps (suc n) ≡ told_after told e m
-      after_it = told_next events t.steps n e m is_event is_step
+    after_it : told_before events t.steps (suc n) ≡ told_after told e m
+    after_it = told_next events t.steps n e m is_event is_step
 
-      fails_now : fails m ≡ true → fails (step_at t n) ≡ true
-      fails_now so = ap (λ (found : Option (Option Step)). fails (made found)) is_step ∙ so
+    fails_now : fails m ≡ true → fails (step_at t n) ≡ true
+    fails_now so = ap (λ (found : Option (Option Step)). fails (made found)) is_step ∙ so
 
-      log_next : LogShows (told_before events t.steps (suc n)).log → LogFailed events t (suc n)
-      log_next so =
-          elim (log_came o workers told e m (taken.each n e m is_event is_step)
-          (subst (λ (x : Told). LogShows x.log) after_it so)) [
-            | inl earlier ↦ log_later events t n (known.log earlier)
-            | inr now ↦ record {
-              index = n;
-              earlier = omega arith;
-              told = fails_now now.0;
-              whose = subst IsOfLog (sym is_event) now.1;
-            }
-          ]
+    log_next : LogShows (told_before events t.steps (suc n)).log → LogFailed events t (suc n)
+    log_next so =
+        elim (log_came o workers told e m (taken.each n e m is_event is_step)
+        (subst (λ (x : Told). LogShows x.log) after_it so)) [
+          | inl earlier ↦ log_later events t n (known.log earlier)
+          | inr now ↦ record {
+            index = n;
+            earlier = omega arith;
+            told = fails_now now.0;
+            whose = subst IsOfLog (sym is_event) now.1;
+          }
+        ]
 
-      by_case : (worker : ℕ) → is_idle (progress_before events t.steps worker (suc n)) ≡ false
-          → Showed told e m worker → Failed events t (suc n) worker
-      by_case worker still (before so) = own_later events t n worker still (known.own worker so)
-      by_case worker still (of_log so) = of_the_log events t (suc n) worker (log_later events t n (known.log so))
-      by_case worker still (reads is so busy) = record {
-        index = n;
-        earlier = omega arith;
-        told = fails_now so;
-        whose = inr (record {
-          reads = is_event ∙ ap (λ (x : Event). Some x) is;
-          going = up_to events t n worker still n (λ at from to.
-              let same : n ≡ at = omega (arith, from, to) in
-              subst (λ (k : ℕ). is_idle (progress_before events t.steps worker k) ≡ false) same busy);
-        });
-      }
+    by_case : (worker : ℕ) → is_idle (progress_before events t.steps worker (suc n)) ≡ false
+        → Showed told e m worker → Failed events t (suc n) worker
+    by_case worker still (before so) = own_later events t n worker still (known.own worker so)
+    by_case worker still (of_log so) = of_the_log events t (suc n) worker
+        (log_later events t n (known.log so))
+    by_case worker still (reads is so busy) = record {
+      index = n;
+      earlier = omega arith;
+      told = fails_now so;
+      whose = inr (record {
+        reads = is_event ∙ ap (λ (x : Event). Some x) is;
+        going = up_to events t n worker still n (λ at from to.
+            let same : n ≡ at = omega (arith, from, to) in
+            subst (λ (k : ℕ). is_idle (progress_before events t.steps worker k) ≡ false) same busy);
+      });
+    }
 
-      known_next : Known events t (suc n)
-      known_next = record {
-        log = log_next;
-        own = λ worker so. by_case worker
-            (has_call (progress_before events t.steps worker (suc n)) so)
-            (worker_came o workers told worker e m (taken.each n e m is_event is_step)
-            (subst (λ (x : Told). shows (x.workers worker) ≡ true) after_it so));
-      }
+    known_next : Known events t (suc n)
+    known_next = record {
+      log = log_next;
+      own = λ worker so. by_case worker
+          (has_call (progress_before events t.steps worker (suc n)) so)
+          (worker_came o workers told worker e m (taken.each n e m is_event is_step)
+          (subst (λ (x : Told). shows (x.workers worker) ≡ true) after_it so));
+    }
 
-    none_yet : LogShows (told_before events t.steps 0).log → LogFailed events t 0
-    none_yet (is_broken so) = cc
-    none_yet (log_failed so) = cc
-    none_yet (inst_failed so) = cc
+  none_yet : LogShows (told_before events t.steps 0).log → LogFailed events t 0
+  none_yet (is_broken so) = cc
+  none_yet (log_failed so) = cc
+  none_yet (inst_failed so) = cc
 
-    known_at : (n : ℕ) → n ≤ length t.steps → Known events t n
-    known_at zero few = record { log = none_yet; own = λ worker so. cc }
-    known_at (suc n) few =
-        let some_step = get_within t.steps n (omega (arith, few)) in
-        let some_event = get_within events n (let fewer = taken.fewer in omega (arith, few, fewer)) in
-        known_next n (known_at n (omega (arith, few))) some_event.0 some_step.0 some_event.1 some_step.1
+  known_at : (n : ℕ) → n ≤ length t.steps → Known events t n
+  known_at zero few = record { log = none_yet; own = λ worker so. cc }
+  known_at (suc n) few =
+      let some_step = get_within t.steps n (omega (arith, few)) in
+      let some_event = get_within events n (let fewer = taken.fewer in omega (arith, few, fewer)) in
+      known_next n (known_at n (omega (arith, few))) some_event.0 some_step.0 some_event.1 some_step.1
 
 -- ---- which replies tell IO
 
@@ -207,10 +212,12 @@ not_io other _ never so = cc
 
 -- no procedure of the history does
 abbrev pub NoStepTellsFailure : Type 0
-NoStepTellsFailure = (tree next : Tree) (ctx : Ctx) (asked : Call) (told : Reply) → steps_by tree ctx asked told next
+NoStepTellsFailure = (tree next : Tree) (ctx : Ctx) (asked : Call) (told : Reply)
+    → steps_by tree ctx asked told next
     → tells_failure told ≡ false
 
-no_entry : NoStepTellsFailure → (tree last : Tree) (history : List Committed) → after tree (map entry_of history) last
+no_entry : NoStepTellsFailure → (tree last : Tree) (history : List Committed)
+    → after tree (map entry_of history) last
     → (index : ℕ) (c : Committed) → slice_get history index ≡ Some c → tells_failure c.reply ≡ false
 no_entry none tree last [] leads index c is = cc
 no_entry none tree last (one ∷ others) leads zero c is =
@@ -220,7 +227,8 @@ no_entry none tree last (one ∷ others) leads zero c is =
 no_entry none tree last (one ∷ others) leads (suc index) c is =
     no_entry none leads.0 last others leads.2 index c is
 
-pub of_history : NoStepTellsFailure → (tree last : Tree) (t : Transcript) → after tree (map entry_of t.history) last
+pub of_history : NoStepTellsFailure → (tree last : Tree) (t : Transcript)
+    → after tree (map entry_of t.history) last
     → (place : ℕ) (c : Committed) → committed_at t place ≡ Some c → tells_io c.reply ≡ true → ⊥
 of_history none tree last t leads place c is so =
     let at = entry_index t place c is in
@@ -230,60 +238,60 @@ of_history none tree last t leads place c is so =
 
 -- ---- the answer
 
-module _ (t : Transcript) (a : Answer) (told : Reply) (is : a.verdict ≡ verdict.Reply told) (io : tells_io told ≡ true)
-  where
-    tells : (other : Reply) → a.verdict ≡ verdict.Reply other → tells_io other ≡ true
-    tells other so =
-        let same : verdict.Reply told ≡ verdict.Reply other = sym is ∙ so in
-        let replies : told ≡ other = cc in
-        subst (λ (r : Reply). tells_io r ≡ true) replies io
+module _ (t : Transcript) (a : Answer) (told : Reply) (is : a.verdict ≡ verdict.Reply told)
+    (io : tells_io told ≡ true) where
+  tells : (other : Reply) → a.verdict ≡ verdict.Reply other → tells_io other ≡ true
+  tells other so =
+      let same : verdict.Reply told ≡ verdict.Reply other = sym is ∙ so in
+      let replies : told ≡ other = cc in
+      subst (λ (r : Reply). tells_io r ≡ true) replies io
 
-    not_refused : (other : Status) (asked : Call) → is_io other ≡ false
-        → a.verdict ≡ verdict.Reply (refused other asked) → ⊥
-    not_refused other asked never so = not_io other asked never (tells (refused other asked) so)
+  not_refused : (other : Status) (asked : Call) → is_io other ≡ false
+      → a.verdict ≡ verdict.Reply (refused other asked) → ⊥
+  not_refused other asked never so = not_io other asked never (tells (refused other asked) so)
 
-    no_memory : a.verdict ≡ verdict.NoMemory → ⊥
-    no_memory so =
-        let same : verdict.Reply told ≡ verdict.NoMemory = sym is ∙ so in cc
+  no_memory : a.verdict ≡ verdict.NoMemory → ⊥
+  no_memory so =
+      let same : verdict.Reply told ≡ verdict.NoMemory = sym is ∙ so in cc
 
-    by_begun : (now : Told) (ruled : Bool) (asked : Call) (why : BeginFault)
-        → IsStepOfCalled now ruled (step.Begun (Err why)) → a.verdict ≡ refusal asked (cause_of why)
-        → now.log.broken ≡ true
-    by_begun now true asked fault.Broken may so = may
-    by_begun now true asked fault.Spent may so = absurd (not_refused status.ServerFault asked refl so)
-    by_begun now true asked fault.NoMemory may so = absurd (no_memory so)
-    by_begun now false asked why may so = cc
+  by_begun : (now : Told) (ruled : Bool) (asked : Call) (why : BeginFault)
+      → IsStepOfCalled now ruled (step.Begun (Err why)) → a.verdict ≡ refusal asked (cause_of why)
+      → now.log.broken ≡ true
+  by_begun now true asked fault.Broken may so = may
+  by_begun now true asked fault.Spent may so = absurd (not_refused status.ServerFault asked refl so)
+  by_begun now true asked fault.NoMemory may so = absurd (no_memory so)
+  by_begun now false asked why may so = cc
 
-    by_refused : (job : Job) (begun : Begun) (why : Cause) → a.verdict ≡ refusal job.call why
-        → shows (At job (Refused begun why)) ≡ true
-    by_refused job begun cause.Io so = refl
-    by_refused job begun cause.Spent so = absurd (not_refused status.ServerFault job.call refl so)
-    by_refused job begun cause.NoMemory so = absurd (no_memory so)
+  by_refused : (job : Job) (begun : Begun) (why : Cause) → a.verdict ≡ refusal job.call why
+      → shows (At job (Refused begun why)) ≡ true
+  by_refused job begun cause.Io so = refl
+  by_refused job begun cause.Spent so = absurd (not_refused status.ServerFault job.call refl so)
+  by_refused job begun cause.NoMemory so = absurd (no_memory so)
 
-    by_waiting : (job : Job) (broken : Bool) (place : ℕ)
-        → is_idle (going_on job (if false || broken then None else Some (Waiting place))) ≡ true → broken ≡ true
-    by_waiting job true place ends = refl
-    by_waiting job false place ends = cc
+  by_waiting : (job : Job) (broken : Bool) (place : ℕ)
+      → is_idle (going_on job (if false || broken then None else Some (Waiting place))) ≡ true → broken ≡ true
+  by_waiting job true place ends = refl
+  by_waiting job false place ends = cc
 
-    module _ (none : (place : ℕ) (c : Committed) → committed_at t place ≡ Some c → tells_io c.reply ≡ true → ⊥)
-        (o : Setting) (now : Told) (worker : ℕ) (job : Job) where
-      by_verdict : (stage : Stage) (one : Step) → HasVerdict t job.call stage one a
-          → IsStepOfWork o now worker (At job stage) (Some one)
-          → is_idle (progressed now.log.broken one (At job stage)) ≡ true
-          → (shows (At job stage) ≡ true) ⊎ (now.log.broken ≡ true)
-      by_verdict Called step.Replied has may ends = absurd (not_refused status.NotSupp job.call refl has.1)
-      by_verdict Called (step.Begun (Err why)) has may ends =
-          inr (by_begun now (has_rules job.call) job.call why may has.1)
-      by_verdict (Planning begun) (step.Commit blocks (committing.Committed place)) has may ends =
-          absurd (none place.0 has.entry has.is_entry (tells has.entry.reply has.told))
-      by_verdict (Planning begun) (step.Ended ending.NoMemory) has may ends = absurd (no_memory has.1)
-      by_verdict (Refused begun why) (step.Ended ending.Refused) has may ends =
-          inl (by_refused job begun why has.1)
-      by_verdict (Waiting place) (step.Stable seq true) has may ends =
-          absurd (none place has.entry has.is_entry (tells has.entry.reply has.told))
-      by_verdict (Waiting place) (step.Stable seq false) has may ends =
-          inr (by_waiting job now.log.broken place ends)
-      by_verdict _ _ has may ends = absurd has
+  module _ (none : (place : ℕ) (c : Committed) → committed_at t place ≡ Some c → tells_io c.reply ≡ true → ⊥)
+      (o : Setting) (now : Told) (worker : ℕ) (job : Job) where
+    by_verdict : (stage : Stage) (one : Step) → HasVerdict t job.call stage one a
+        → IsStepOfWork o now worker (At job stage) (Some one)
+        → is_idle (progressed now.log.broken one (At job stage)) ≡ true
+        → (shows (At job stage) ≡ true) ⊎ (now.log.broken ≡ true)
+    by_verdict Called step.Replied has may ends = absurd (not_refused status.NotSupp job.call refl has.1)
+    by_verdict Called (step.Begun (Err why)) has may ends =
+        inr (by_begun now (has_rules job.call) job.call why may has.1)
+    by_verdict (Planning begun) (step.Commit blocks (committing.Committed place)) has may ends =
+        absurd (none place.0 has.entry has.is_entry (tells has.entry.reply has.told))
+    by_verdict (Planning begun) (step.Ended ending.NoMemory) has may ends = absurd (no_memory has.1)
+    by_verdict (Refused begun why) (step.Ended ending.Refused) has may ends =
+        inl (by_refused job begun why has.1)
+    by_verdict (Waiting place) (step.Stable seq true) has may ends =
+        absurd (none place has.entry has.is_entry (tells has.entry.reply has.told))
+    by_verdict (Waiting place) (step.Stable seq false) has may ends =
+        inr (by_waiting job now.log.broken place ends)
+    by_verdict _ _ has may ends = absurd has
 
 pub failed_before : (o : Setting) (workers : ℕ) (events : Schedule) (t : Transcript) (a : Answer) (told : Reply)
     → AreTaken o workers events t.steps → IsAnswer events t a
@@ -302,7 +310,8 @@ failed_before o workers events t a told taken answer none is io =
     ∙ ap (progressed now.log.broken answer.step) answer.so_far)) ∙ answer.ends in
     let few = slice_get_within t.steps a.event (Some answer.step) is_step in
     let known = known_at o workers events t taken a.event (omega (arith, few)) in
-    elim (by_verdict t a told is io none o now a.worker answer.job answer.stage answer.step answer.verdict may ends) [
+    elim (by_verdict t a told is io none o now a.worker answer.job answer.stage answer.step
+    answer.verdict may ends) [
       | inl shown ↦ known.own a.worker (ap shows answer.so_far ∙ shown)
       | inr broken ↦ of_the_log events t a.event a.worker (known.log (is_broken broken))
     ]

@@ -33,8 +33,8 @@ chain_end g blocks tree (commit ∷ commits) (entry ∷ entries) last chain =
 chain_end g blocks tree [] (entry ∷ entries) last chain = absurd chain
 chain_end g blocks tree (commit ∷ commits) [] last chain = absurd chain
 
-pub chain_leads : (g : Geometry) (blocks : Image) (tree : Tree) (commits : List Footprint) (entries : List Entry)
-    (last : Tree) → IsChain g blocks tree commits entries last → after tree entries last
+pub chain_leads : (g : Geometry) (blocks : Image) (tree : Tree) (commits : List Footprint)
+    (entries : List Entry) (last : Tree) → IsChain g blocks tree commits entries last → after tree entries last
 chain_leads g blocks tree [] [] last chain = chain.1
 chain_leads g blocks tree (commit ∷ commits) (entry ∷ entries) last chain =
     (chain.1, chain.2, chain_leads g (with_objects blocks commit.written) chain.1 commits entries last chain.3)
@@ -75,7 +75,8 @@ chain_past g blocks tree (c ∷ commits) [] last (suc n) chain fits = absurd cha
 
 -- ---- stamps, where no step makes a later one
 
-module _ (boot : ℕ) (makes_none : (tree next : Tree) (ctx : Ctx) (asked : Call) (reply : Reply) → IsMadeBy boot tree
+module _ (boot : ℕ) (makes_none : (tree next : Tree) (ctx : Ctx) (asked : Call) (reply : Reply)
+    → IsMadeBy boot tree
     → ctx.boot ≤ boot → step tree ctx asked reply next → IsMadeBy boot next) where
   -- one more entry
   pub stamps_more : (entries : List Entry) (tree : Tree) (entry : Entry) → entry.ctx.boot ≤ boot
@@ -89,7 +90,8 @@ module _ (boot : ℕ) (makes_none : (tree next : Tree) (ctx : Ctx) (asked : Call
       makes_none tree left entry.ctx entry.call entry.reply (all zero tree refl) early
       (subst (λ t. step tree entry.ctx entry.call entry.reply t) (sym led.2) led.1)
   stamps_more (e ∷ entries) tree entry early all (suc count) left led =
-      stamps_more entries led.0 entry early (λ n last more. all (suc n) last (led.0, led.1, more)) count left led.2
+      stamps_more entries led.0 entry early (λ n last more. all (suc n) last (led.0, led.1, more))
+      count left led.2
 
 -- without the first entries
 pub stamps_past : (boot : ℕ) (entries : List Entry) (tree middle : Tree) (n : ℕ)

@@ -1,5 +1,6 @@
 -- What steps tell of the device calls that failed, step by step.
-use Rattle.std.proofs.Common.{arith, ◌≡◌, ◌∙◌, refl, sym, subst, ap, ℕ, ◌+◌, ◌-◌, ◌<◌, ◌≤◌, Bool, true, false, List, [], ◌∷◌, ◌++◌}
+use Rattle.std.proofs.Common.{arith, ◌≡◌, ◌∙◌, refl, sym, subst, ap, ℕ, ◌+◌, ◌-◌, ◌<◌, ◌≤◌, Bool, true, false}
+use Rattle.std.proofs.Common.{List, [], ◌∷◌, ◌++◌}
 use Rattle.std.proofs.Common.{Option, Some, count_by, Result, Ok, Err, is_err, zero, suc, slice_get, take}
 use Rattle.std.proofs.lemmas.List.Sums.{sum_by-cons}
 use Rattle.disk.specs.Device.{Device, OneLater}
@@ -107,7 +108,8 @@ pub none_is_told : (before later : Device) (steps : List (Option Step)) → IsLa
 none_is_told before later steps past same clock none =
     let counted = past.counted in
     let count : later.clock - before.clock ≡ count_by calls_device steps = omega (arith, clock) in
-    let sum : failures_from later.failed before.clock (later.clock - before.clock) ≡ 0 = omega (arith, counted, same) in
+    let sum : failures_from later.failed before.clock (later.clock - before.clock) ≡ 0 =
+    omega (arith, counted, same) in
     let well : (number : ℕ) → before.clock ≤ number → number < before.clock + (later.clock - before.clock)
     → later.failed number ≡ false =
     none_failed later.failed before.clock (later.clock - before.clock) sum in

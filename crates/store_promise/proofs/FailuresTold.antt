@@ -45,10 +45,12 @@ no_worse old new (inr well) fails = cc
 pub cleared : (log next : LogTold) → Clears log next → LogShows next → LogShows log
 cleared log next clears (is_broken is) = is_broken (sym clears.broken ∙ is)
 cleared log next clears (log_failed is) = log_failed (no_worse log.log_call next.log_call clears.logging is)
-cleared log next clears (inst_failed is) = inst_failed (no_worse log.inst_call next.inst_call clears.installing is)
+cleared log next clears (inst_failed is) =
+    inst_failed (no_worse log.inst_call next.inst_call clears.installing is)
 
 module _ (log : LogTold) where
-  either : (b : Bool) (one other : LogTold) → Clears log one → Clears log other → Clears log (if b then one else other)
+  either : (b : Bool) (one other : LogTold) → Clears log one → Clears log other
+      → Clears log (if b then one else other)
   either true one other is so = is
   either false one other is so = so
 
@@ -56,7 +58,8 @@ module _ (log : LogTold) where
   stays = record { broken = refl; logging = inl refl; installing = inl refl }
 
   log_taken : (call : IoCall) → Clears log (with_log_taken log call)
-  log_taken call = either (nat_lt 0 log.taken) _ _ (record { broken = refl; logging = inr refl; installing = inl refl })
+  log_taken call = either (nat_lt 0 log.taken) _ _
+      (record { broken = refl; logging = inr refl; installing = inl refl })
       (record { broken = refl; logging = inr refl; installing = inl refl })
 
   log_done : Clears log (with_log_done log)
@@ -112,12 +115,14 @@ log_given log call false is shows = log_failed (ap call_failed is)
 
 inst_given : (log : LogTold) (call : IoCall) (ok : Bool) → log.inst_call ≡ was_made call ok
     → LogShows (with_inst_given log ok) → LogShows log
-inst_given log call true is shows = cleared log (with_inst_done log log.inst_call) (inst_done log log.inst_call) shows
+inst_given log call true is shows = cleared log (with_inst_done log log.inst_call)
+    (inst_done log log.inst_call) shows
 inst_given log call false is shows = inst_failed (ap call_failed is)
 
 log_next : (log : LogTold) (may : Bool) (next : IoCall) (one : Step) → IsNextOfLog may next (Some one)
     → LogShows (log_moved log one) → LogShows log
-log_next log true next (step.LogNext call) is shows = cleared log (with_log_taken log call) (log_taken log call) shows
+log_next log true next (step.LogNext call) is shows =
+    cleared log (with_log_taken log call) (log_taken log call) shows
 log_next log true next _ is shows = absurd is
 log_next log false next one is shows = cc
 
@@ -147,7 +152,8 @@ inst_goes o log (out call) one is makes shows = cc
 inst_goes o log (was_made call ok) one is makes shows = inst_given log call ok is
     (subst (λ made. LogShows (log_moved log made)) (the_step one (step.InstDone ok) makes) shows)
 
-pub log_made : (log : LogTold) (call : CallTold) (one : Step) → log.log_call ≡ call → IsStepOfLogIo call (Some one)
+pub log_made : (log : LogTold) (call : CallTold) (one : Step) → log.log_call ≡ call
+    → IsStepOfLogIo call (Some one)
     → LogShows (log_moved log one) → LogShows log ⊎ (fails (Some one) ≡ true)
 log_made log (out call) (step.LogIo ok) is makes (is_broken so) = inl (is_broken so)
 log_made log (out call) (step.LogIo ok) is makes (log_failed so) =
@@ -157,7 +163,8 @@ log_made log (out call) _ is makes shows = absurd makes
 log_made log idle one is makes shows = cc
 log_made log (was_made call ok) one is makes shows = cc
 
-pub inst_made : (log : LogTold) (call : CallTold) (one : Step) → log.inst_call ≡ call → IsStepOfInstIo call (Some one)
+pub inst_made : (log : LogTold) (call : CallTold) (one : Step) → log.inst_call ≡ call
+    → IsStepOfInstIo call (Some one)
     → LogShows (log_moved log one) → LogShows log ⊎ (fails (Some one) ≡ true)
 inst_made log (out call) (step.InstIo ok) is makes (is_broken so) = inl (is_broken so)
 inst_made log (out call) (step.InstIo ok) is makes (log_failed so) = inl (log_failed so)

@@ -1,5 +1,6 @@
 -- The blocks that stand for the files of an open store have what is held for reading.
-use Rattle.std.proofs.Common.{◌≡◌, ℕ, ◌<◌, ap, sym, ◌∙◌, refl, subst, arith, Bool, true, false, cond, ◌&&◌, List}
+use Rattle.std.proofs.Common.{◌≡◌, ℕ, ◌<◌, ap, sym, ◌∙◌, refl, subst, arith, Bool, true, false, cond, ◌&&◌}
+use Rattle.std.proofs.Common.{List}
 use Rattle.std.proofs.Common.{Option, Some, None, replicate, nat_le, nat_lt, All, drop}
 use Rattle.std.proofs.lemmas.Bool.{eqb-true}
 use Rattle.std.proofs.lemmas.Bool.Decides.{nat_tests}
@@ -41,11 +42,13 @@ home_is : (size : ℕ) (block : BlockNo) → IsHomeOn size block → is_home siz
 home_is size block home =
     let from = home.0 in
     let to = home.1 in
-    both (nat_le FIRST_HOME_BLOCK block.0) (nat_lt block.0 size) (grind (arith, nat_tests)) (less block.0 size to)
+    both (nat_le FIRST_HOME_BLOCK block.0) (nat_lt block.0 size) (grind (arith, nat_tests))
+    (less block.0 size to)
 
 -- what is in memory lies at home
 in_memory_home : (blocks : ℕ) (present : List Present) (block : BlockNo) (content : Content)
-    → All (IsPlaced blocks) present → content_in (present_of present block) ≡ Some content → IsHomeOn blocks block
+    → All (IsPlaced blocks) present → content_in (present_of present block) ≡ Some content
+    → IsHomeOn blocks block
 in_memory_home blocks present block content placed is = go (present_of present block) refl is
   where
     go : (found : Option Present) → present_of present block ≡ found → content_in found ≡ Some content
@@ -60,8 +63,9 @@ module _ (base : Image) (d : Device) (core : CoreState) (logging installing : Pe
     (first last : Tree) (entries : List Entry)
     (since : IsOpenSince base d core logging installing boot first entries last) where
   pub stands_now : Stands since.over.files.super.geometry (file_blocks base core) last
-  stands_now = chain_end since.over.files.super.geometry (homes_of core.log.blocks (opening base core.log)) since.home
-      core.records (drop (installed_place core.log) entries) last since.over.files.chain
+  stands_now = chain_end since.over.files.super.geometry
+      (homes_of core.log.blocks (opening base core.log)) since.home core.records
+      (drop (installed_place core.log) entries) last since.over.files.chain
 
   pub has_blocks : HasFileBlocks base core last
   has_blocks = record {
@@ -78,7 +82,8 @@ module _ (base : Image) (d : Device) (core : CoreState) (logging installing : Pe
       (ap (λ b. cond b (opening base core.log block.0) (replicate BLOCK_BYTES 0))
       (home_is core.log.blocks block home))
 
-  pub held_now : (tx : ℕ) (object : ObjectBytes) → IsReadBy core tx object → IsAsRead (file_blocks base core) object
+  pub held_now : (tx : ℕ) (object : ObjectBytes) → IsReadBy core tx object
+      → IsAsRead (file_blocks base core) object
   held_now tx object read =
       let content = read.current.content in
       let home = in_memory_home core.log.blocks core.present object.addr.block content since.over.tidy.placed
@@ -87,4 +92,5 @@ module _ (base : Image) (d : Device) (core : CoreState) (logging installing : Pe
       All-contains (IsCurrent (now_of base core.log core.records)) (held_of core.present)
       (object.addr.block.0, content) since.over.files.home.window.memory
       (found_in core.present object.addr.block content read.current.there) in
-      ap (λ (c : Content). part c object.addr) (at_home object.addr.block home ∙ sym current) ∙ read.current.same
+      ap (λ (c : Content). part c object.addr) (at_home object.addr.block home ∙ sym current)
+      ∙ read.current.same

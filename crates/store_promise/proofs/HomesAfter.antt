@@ -22,7 +22,8 @@ module _ (base : Image) (core : CoreState) (lawful : IsLawful core.log) (home : 
   writes : All (AreInLog core.log.changes) core.records
   writes =
       let none : installed_place core.log - installed_place core.log ≡ 0 = omega arith in
-      subst (λ n. All (AreInLog core.log.changes) (drop n core.records)) none (home.window.written 0 (at_first refl))
+      subst (λ n. All (AreInLog core.log.changes) (drop n core.records)) none
+      (home.window.written 0 (at_first refl))
 
   no_newest : (number : ℕ) → is_home size number ≡ false → newest_of core.log.changes number ≡ None
   no_newest number is =

@@ -36,13 +36,15 @@ read_later before later reads = record {
 }
 
 -- and by some and then some more
-pub past_more : (before middle later : Device) → IsLater before middle → IsLater middle later → IsLater before later
+pub past_more : (before middle later : Device) → IsLater before middle → IsLater middle later
+    → IsLater before later
 past_more before middle later one other =
     let first = one.clock in
     let second = other.clock in record {
       size = other.size ∙ one.size;
       clock = omega (arith, first, second);
-      past = λ clock block within. other.past clock block (omega (arith, within, first)) ∙ one.past clock block within;
+      past = λ clock block within. other.past clock block (omega (arith, within, first))
+          ∙ one.past clock block within;
       failed = λ call within. other.failed call (omega (arith, within, first)) ∙ one.failed call within;
       counted = counts_then before middle later first second other.failed one.counted other.counted;
     }

@@ -82,9 +82,11 @@ module _ (g : Geometry) (blocks changed : Image) (one : OneSetAttr) (room : one.
   }
 
 -- the blocks stand for the tree before its entry, and after it for the next
-pub files_at : (g : Geometry) (blocks changed : Image) (tree next : Tree) (boot : ℕ) (one : OneSetAttr) (reply : Reply)
+pub files_at : (g : Geometry) (blocks changed : Image) (tree next : Tree) (boot : ℕ) (one : OneSetAttr)
+    (reply : Reply)
     → Stands g blocks tree → Stands g changed next → server.step tree (ctx_in boot one) (asked one) reply next
-    → (place : ℕ) → StandsAfter g tree (take place (entries_of (told_of boot one reply))) (blocks_at blocks changed place)
+    → (place : ℕ) → StandsAfter g tree (take place (entries_of (told_of boot one reply)))
+    (blocks_at blocks changed place)
 files_at g blocks changed tree next boot one reply stands after_it stepped zero =
     record { left = tree; leads = refl; stands = stands }
 files_at g blocks changed tree next boot one reply stands after_it stepped (suc zero) =

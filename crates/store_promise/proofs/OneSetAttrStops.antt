@@ -149,7 +149,8 @@ module _ (before opened later : Device) (tree next : Tree) (first position : ℕ
   }
 
   by_header : (image : Image) → IsCrashImage later (opened.clock + 4) image
-      → HasFilesIn later.size (first + 1) tree blocks image ⊎ HasFilesIn later.size (first + 1) next changed image
+      → HasFilesIn later.size (first + 1) tree blocks image
+      ⊎ HasFilesIn later.size (first + 1) next changed image
       → Holds (opened.clock + 4) image
   by_header image crash (inl old) = with_old (opened.clock + 4) image (omega arith) old
   by_header image crash (inr new) = with_new (opened.clock + 4) image (omega arith) new

@@ -160,7 +160,8 @@ module _ (base : Image) (d : Device) (old new : CoreState) (logging installing :
   blocks_now = ap (λ (image : Image). after_commits image new.records) (sym homes_are) ∙ after_it either
 
   -- and those after each earlier commit
-  pub blocks_kept : (count : ℕ) → count ≤ length old.records → blocks_after base new count ≡ blocks_after base old count
+  pub blocks_kept : (count : ℕ) → count ≤ length old.records
+      → blocks_after base new count ≡ blocks_after base old count
   blocks_kept count early =
       ap (λ (image : Image). after_commits image (take count new.records)) (sym homes_are) ∙ by_case either
     where
@@ -174,7 +175,8 @@ module _ (base : Image) (d : Device) (old new : CoreState) (logging installing :
   module _ (entry : Entry) (tells : TellsOf boot plan entry)
       (one_geometry : (g h : Geometry) → g.blocks ≡ h.blocks → g.inodes ≡ h.inodes → g ≡ h) where
     geometry_is : tells.geometry ≡ g
-    geometry_is = one_geometry tells.geometry g (sym tells.blocks ∙ took.tried.own.blocks ∙ sym files.blocks_are)
+    geometry_is = one_geometry tells.geometry g
+        (sym tells.blocks ∙ took.tried.own.blocks ∙ sym files.blocks_are)
         (sym tells.inodes ∙ took.tried.own.inodes ∙ sym files.inodes_are)
 
     as_read : AreAsRead now plan.read
@@ -188,7 +190,8 @@ module _ (base : Image) (d : Device) (old new : CoreState) (logging installing :
         (tells.step now last tells.timely (subst (λ (h : Geometry). Stands h now last) (sym geometry_is)
         (stands_now base d old logging installing boot first last entries since)) as_read)
 
-    module _ (sound : IsSoundCore base new) (makes_none : (tree next : Tree) (ctx : Ctx) (asked : Call) (reply : Reply)
+    module _ (sound : IsSoundCore base new)
+        (makes_none : (tree next : Tree) (ctx : Ctx) (asked : Call) (reply : Reply)
         → IsMadeBy boot tree → ctx.boot ≤ boot → step tree ctx asked reply next → IsMadeBy boot next)
         (readable : IsReadable d new.log installing) where
       abbrev more : List Entry
@@ -210,7 +213,8 @@ module _ (base : Image) (d : Device) (old new : CoreState) (logging installing :
         counted = counted;
         home = home;
         leads = leads;
-        over = subst (λ (es : List Entry). IsOpenOver base d new logging installing boot home es led.0) (sym rest)
+        over = subst (λ (es : List Entry). IsOpenOver base d new logging installing boot home es
+            led.0) (sym rest)
             (record {
               lawful = sound.lawful;
               agrees = took.law d base logging installing since.over.agrees;
@@ -223,7 +227,8 @@ module _ (base : Image) (d : Device) (old new : CoreState) (logging installing :
                 boot_is = files.boot_is;
                 blocks_are = files.blocks_are ∙ sym took.still.blocks;
                 inodes_are = files.inodes_are ∙ sym (ap (λ (core : CoreState). core.inodes) took.only);
-                chain = subst (λ (xs : List Footprint). IsChain g (homes_of new.log.blocks (opening base new.log)) home xs
+                chain = subst (λ (xs : List Footprint). IsChain g
+                    (homes_of new.log.blocks (opening base new.log)) home xs
                     left led.0) (sym records)
                     (subst (λ (image : Image). IsChain g image home rs left led.0) homes_are chain);
                 stamps = stamps;
@@ -237,15 +242,18 @@ module _ (base : Image) (d : Device) (old new : CoreState) (logging installing :
           build since.home (old.records ++ commit ∷ []) (drop n entries ++ entry ∷ []) has.records
           (ap (λ (k : ℕ). drop k more) has.same ∙ drop-append-le n entries (entry ∷ []) within)
           (subst (λ (es : List Entry). after first es since.home)
-          (sym (ap (λ (k : ℕ). take k more) has.same ∙ take-append-le n entries (entry ∷ []) within)) since.leads)
-          (chain_more g homes since.home old.records (drop n entries) last led.0 commit entry files.chain led.1 led.2)
+          (sym (ap (λ (k : ℕ). take k more) has.same
+          ∙ take-append-le n entries (entry ∷ []) within)) since.leads)
+          (chain_more g homes since.home old.records (drop n entries) last led.0 commit entry
+          files.chain led.1 led.2)
           (stamps_more boot makes_none (drop n entries) since.home entry early files.stamps)
 
       without_change : IsHomeAtOnce → IsOpenSince base d new logging installing boot first more led.0
       without_change at_once =
           let all = at_once.all in
           let n = installed_place old.log in
-          let there : n ≡ old.log.places = ap (λ (xs : List LogChange). place_before xs old.log.places) at_once.none in
+          let there : n ≡ old.log.places = ap (λ (xs : List LogChange). place_before xs old.log.places)
+          at_once.none in
           let few = files.home.window.all in
           let kept : old.records ≡ [] = no_entries old.records (omega (arith, there, few)) in
           let through : after first (take (n + length entries) entries) last =

@@ -42,8 +42,8 @@ some_taken : (count step : ℕ) → (count ≡ 0 → step ≡ 0) → count + 2 �
 some_taken zero step rests far = absurd (let none : step ≡ 0 = rests refl in omega (arith, none, far))
 some_taken (suc count) step rests far = omega arith
 
-module _ (base : Image) (log : Log) (commits : List Footprint) (held : List (ℕ × Content)) (lawful : IsLawful log)
-    (window : IsWindowOver base log commits held) (block : ℕ) where
+module _ (base : Image) (log : Log) (commits : List Footprint) (held : List (ℕ × Content))
+    (lawful : IsLawful log) (window : IsWindowOver base log commits held) (block : ℕ) where
   abbrev HasMoved : Image → Log → Type 0
   HasMoved home new = opening home new block
       ≡ after_commits (opening base log) (take (installed_place new - installed_place log) commits) block
@@ -63,7 +63,8 @@ module _ (base : Image) (log : Log) (commits : List Footprint) (held : List (ℕ
       let unchanged : home_after base log true ≡ base =
       ap (λ (t : Bool). if t then with_changes base (take log.installing log.changes) else base)
       (lt-leb (log.installing + 2) log.inst_step early) in
-      subst (λ (home : Image). HasMoved home (record log { inst_step = step; inst_out = false })) (sym unchanged)
+      subst (λ (home : Image). HasMoved home (record log { inst_step = step; inst_out = false }))
+      (sym unchanged)
       (stays (record log { inst_step = step; inst_out = false }) refl refl)
 
   ended : log.installing + 2 ≤ log.inst_step → HasMoved (home_after base log true) (with_installed log)
@@ -75,11 +76,13 @@ module _ (base : Image) (log : Log) (commits : List Footprint) (held : List (ℕ
       let clean : recovered (drop log.installing log.changes) ≡ [] =
       window.opened (some_taken log.installing log.inst_step rests far) in
       subst (λ (home : Image). HasMoved home (with_installed log)) (sym changed)
-      (ap (λ (xs : List LogChange). with_changes (with_changes base (take log.installing log.changes)) xs block) clean
+      (ap (λ (xs : List LogChange). with_changes (with_changes base (take log.installing log.changes))
+      xs block) clean
       ∙ window.group log.installing (at_installed refl) clean block)
 
   later : (t : Bool) → nat_lt log.inst_step (log.installing + 2) ≡ t
-      → HasMoved (home_after base log true) (if t then record log { inst_step = log.inst_step + 1; inst_out = false }
+      → HasMoved (home_after base log true)
+      (if t then record log { inst_step = log.inst_step + 1; inst_out = false }
       else with_installed log)
   later true is = stepped (log.inst_step + 1) (ltb-true log.inst_step (log.installing + 2) is)
   later false is = ended (ltb-false log.inst_step (log.installing + 2) is)
@@ -106,7 +109,8 @@ super_stays base log ok lawful = go (ok && nat_le (log.installing + 2) log.inst_
     go : (t : Bool) → (if t then with_changes base (take log.installing log.changes) else base) SUPER_BLOCK
         ≡ base SUPER_BLOCK
     go true = ap (λ (o : Option Content). content_or o (base SUPER_BLOCK))
-        (no_change log.blocks SUPER_BLOCK (λ from _. omega (arith, from)) log.changes log.installing lawful.homes)
+        (no_change log.blocks SUPER_BLOCK (λ from _. omega (arith, from)) log.changes
+        log.installing lawful.homes)
     go false = refl
 
 -- ---- so the store is open over it
@@ -133,19 +137,22 @@ module _ (base : Image) (d : Device) (old new : CoreState) (logging installing :
   n = installed_place new.log - installed_place old.log
 
   pub gone : HasGoneOn old.log new.log
-  gone = subst (λ (log : Log). HasGoneOn old.log log) (sym back) (seen_inst_done old.log true ok since.over.lawful)
+  gone = subst (λ (log : Log). HasGoneOn old.log log) (sym back)
+      (seen_inst_done old.log true ok since.over.lawful)
 
   records_are : new.records ≡ drop n old.records
   records_are =
       let same : (installed_place new.log + 1) - (installed_place old.log + 1) ≡ n = omega arith in
-      records ∙ past-drop (installed_place old.log + 1) (installed_place new.log) old.records files.home.window.placed
+      records ∙ past-drop (installed_place old.log + 1) (installed_place new.log) old.records
+      files.home.window.placed
       ∙ ap (λ (k : ℕ). drop k old.records) same
 
   there : (block : ℕ) → IsOutside old.log.blocks block
       → opening home new.log block ≡ after_commits (opening base old.log) (take n old.records) block
   there block outside =
       subst (λ (log : Log). opening home log block
-      ≡ after_commits (opening base old.log) (take (installed_place log - installed_place old.log) old.records) block)
+      ≡ after_commits (opening base old.log)
+      (take (installed_place log - installed_place old.log) old.records) block)
       (sym back)
       (home_moves base old.log old.records (held_of old.present) since.over.lawful files.home.window block ok)
 
@@ -197,9 +204,10 @@ module _ (base : Image) (d : Device) (old new : CoreState) (logging installing :
       boot_is = files.boot_is;
       blocks_are = files.blocks_are ∙ sym gone.blocks;
       inodes_are = files.inodes_are ∙ sym inodes;
-      chain = subst (λ (rs : List Footprint). IsChain g (homes_of new.log.blocks (opening home new.log)) rest.0 rs
-          (drop n left) last) (sym records_are)
-          (subst (λ (image : Image). IsChain g image rest.0 (drop n old.records) (drop n left) last) homes_are rest.2);
+      chain = subst (λ (rs : List Footprint). IsChain g
+          (homes_of new.log.blocks (opening home new.log)) rest.0 rs (drop n left) last) (sym records_are)
+          (subst (λ (image : Image). IsChain g image rest.0 (drop n old.records) (drop n left) last)
+          homes_are rest.2);
       stamps = stamps_past boot left since.home rest.0 n files.stamps rest.1;
     }
 

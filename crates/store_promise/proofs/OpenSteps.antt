@@ -73,7 +73,8 @@ pub record HasSame (old new : CoreState) : Type 0 where
   pub records : new.records ≡ old.records
 
 module _ (base : Image) (old new : CoreState) (same : HasSame old new) where
-  pub homes_same : homes_of old.log.blocks (opening base old.log) ≡ homes_of new.log.blocks (opening base new.log)
+  pub homes_same : homes_of old.log.blocks (opening base old.log) ≡ homes_of new.log.blocks
+      (opening base new.log)
   homes_same = sym (ap (λ (n : ℕ). homes_of n (opening base new.log)) same.log.blocks
       ∙ ap (λ (changes : List LogChange). homes_of old.log.blocks (with_changes base (recovered changes)))
       same.log.changes)
@@ -97,7 +98,8 @@ module _ (base : Image) (old new : CoreState) (same : HasSame old new) where
 
   pub blocks_same : file_blocks base new ≡ file_blocks base old
   blocks_same = ap (λ (image : Image). after_commits image new.records) (sym homes_same)
-      ∙ ap (λ (rs : List Footprint). after_commits (homes_of old.log.blocks (opening base old.log)) rs) same.records
+      ∙ ap (λ (rs : List Footprint). after_commits (homes_of old.log.blocks (opening base old.log))
+      rs) same.records
 
   pub installed_same : installed_place new.log ≡ installed_place old.log
   installed_same = ap (λ (changes : List LogChange). place_before changes new.log.places) same.log.changes
@@ -115,7 +117,8 @@ module _ (base : Image) (old new : CoreState) (same : HasSame old new) where
       agrees = agrees;
       readable = readable;
       tidy = sound.tidy;
-      files = files_same boot since.home last (drop (installed_place old.log) entries) since.over.files sound.home;
+      files = files_same boot since.home last (drop (installed_place old.log) entries)
+          since.over.files sound.home;
     }
 
     pub still_open : IsOpenSince base e new logged_next installing_next boot first entries last
@@ -123,6 +126,6 @@ module _ (base : Image) (old new : CoreState) (same : HasSame old new) where
       counted = since.counted ∙ sym same.log.places;
       home = since.home;
       leads = subst (λ (n : ℕ). after first (take n entries) since.home) (sym installed_same) since.leads;
-      over = subst (λ (n : ℕ). IsOpenOver base e new logged_next installing_next boot since.home (drop n entries)
-          last) (sym installed_same) still_over;
+      over = subst (λ (n : ℕ). IsOpenOver base e new logged_next installing_next boot since.home
+          (drop n entries) last) (sym installed_same) still_over;
     }

@@ -41,7 +41,8 @@ take_none (suc n) = refl
 bare : (base : Image) (changes : List LogChange) (count block : ℕ) → changes ≡ []
     → with_changes base (take count changes) block ≡ base block
 bare base changes count block none =
-    ap (λ xs. with_changes base (take count xs) block) none ∙ ap (λ xs. with_changes base xs block) (take_none count)
+    ap (λ xs. with_changes base (take count xs) block) none
+    ∙ ap (λ xs. with_changes base xs block) (take_none count)
 
 bare_opening : (base : Image) (log : Log) (block : ℕ) → log.changes ≡ [] → opening base log block ≡ base block
 bare_opening base log block none = ap (λ xs. with_changes base (recovered xs) block) none
@@ -105,8 +106,9 @@ module _ (before opened : Device) (base : Image) (core : CoreState) (tree : Tree
     boot_is = good.boot_is;
     blocks_are = good.size_is ∙ size_is;
     inodes_are = new.inodes good.super is_super;
-    chain = stands_alone good.super.geometry (homes_of core.log.blocks (opening base core.log)) tree core.records
-        new.records (subst (λ blocks. Stands good.super.geometry blocks tree) homes_are good.stands);
+    chain = stands_alone good.super.geometry (homes_of core.log.blocks (opening base core.log))
+        tree core.records new.records (subst (λ blocks. Stands good.super.geometry blocks tree)
+        homes_are good.stands);
     stamps = of_boot (first + 1) tree good.stamps;
   }
 
@@ -127,8 +129,8 @@ module _ (before opened : Device) (base : Image) (core : CoreState) (tree : Tree
     counted = sym new.places;
     home = tree;
     leads = subst (λ (n : ℕ). after tree (take n []) tree) (sym installed) refl;
-    over = subst (λ (n : ℕ). IsOpenOver base opened core pending.idle pending.idle (first + 1) tree (drop n []) tree)
-        (sym installed) is_over;
+    over = subst (λ (n : ℕ). IsOpenOver base opened core pending.idle pending.idle (first + 1) tree
+        (drop n []) tree) (sym installed) is_over;
   }
 
 -- ---- a new super block

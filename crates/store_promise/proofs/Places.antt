@@ -30,7 +30,8 @@ same_places base old new same = record {
   further = let is = installed_same base old new same in omega (arith, is);
   blocks = λ count.
       ap (λ (image : Image). after_commits image (take count new.records)) (sym (homes_same base old new same))
-      ∙ ap (λ (rs : List Footprint). after_commits (homes_of old.log.blocks (opening base old.log)) (take count rs))
+      ∙ ap (λ (rs : List Footprint). after_commits (homes_of old.log.blocks (opening base old.log))
+      (take count rs))
       same.records
       ∙ ap (λ (n : ℕ). blocks_after base old n)
       (let is = installed_same base old new same in omega (arith, is));
@@ -58,8 +59,9 @@ stay_placed o base home old new kept placed count =
 
 -- ---- a commit
 
-module _ (o : Setting) (base : Image) (d : Device) (old new : CoreState) (logging installing : Pending) (boot : ℕ)
-    (first last : Tree) (entries : List Entry) (tx place : ℕ) (plan : Planned)
+module _ (o : Setting) (base : Image) (d : Device) (old new : CoreState)
+    (logging installing : Pending) (boot : ℕ) (first last : Tree) (entries : List Entry) (tx place : ℕ)
+    (plan : Planned)
     (since : IsOpenSince base d old logging installing boot first entries last)
     (took : TakesPlace old tx plan place new) (placed : ArePlaced o base old) where
   abbrev now : Image
@@ -76,8 +78,8 @@ module _ (o : Setting) (base : Image) (d : Device) (old new : CoreState) (loggin
       let c = place_le old.log.changes old.log.places 0 since.over.lawful.rising in omega (arith, a, b, c)
 
   beyond : (count : ℕ) → length new.records ≤ count → blocks_after base new count ≡ now
-  beyond count many = ap (λ (rs : List Footprint). after_commits (homes_of new.log.blocks (opening base new.log)) rs)
-      (take_all count new.records many)
+  beyond count many = ap (λ (rs : List Footprint). after_commits
+      (homes_of new.log.blocks (opening base new.log)) rs) (take_all count new.records many)
 
   by_case : HasChange base d old new logging installing boot first last entries tx place plan since took
       ⊎ IsHomeAtOnce base d old new logging installing boot first last entries tx place plan since took
@@ -93,14 +95,16 @@ module _ (o : Setting) (base : Image) (d : Device) (old new : CoreState) (loggin
           let whole = all in
           early (installed_place new.log + count) (omega (arith, few, same, whole))
           ∙ ap (λ (n : ℕ). o.blocks (n + count)) same ∙ placed count
-          ∙ sym (blocks_kept base d old new logging installing boot first last entries tx place plan since took count
+          ∙ sym (blocks_kept base d old new logging installing boot first last entries tx place plan
+          since took count
           few)
       by_count false is =
           let many = leb-false count (length old.records) is in
           let same = has.same in
           let whole = all in
           let long = ap (λ (rs : List Footprint). length rs) has.records
-          ∙ length-append old.records (record { place = new.log.places; read = plan.read; written = plan.written } ∷ []) in
+          ∙ length-append old.records (record
+          { place = new.log.places; read = plan.read; written = plan.written } ∷ []) in
           late (installed_place new.log + count) (omega (arith, many, same, whole))
           ∙ sym (beyond count (omega (arith, many, long)))
   by_case (inr at_once) count =
@@ -119,4 +123,5 @@ module _ (o : Setting) (base : Image) (d : Device) (old new : CoreState) (loggin
           omega (arith, there, every, same)
 
   pub placed_on : ArePlaced (with_blocks o (length entries) now) base new
-  placed_on = by_case (either base d old new logging installing boot first last entries tx place plan since took)
+  placed_on = by_case (either base d old new logging installing boot first last entries tx place
+      plan since took)

@@ -13,14 +13,17 @@ pub has_version : (content : Content) (super : Super) → IsSuper content super 
 has_version content super is = subst IsSome (sym is.version) (some_is super.geometry.version)
 
 -- a block of a super block is that of no other, and shows no fault
-pub not_magic : (content : Content) (super : Super) → IsSuper content super → IsNoSuper content layout_fault.Magic → ⊥
+pub not_magic : (content : Content) (super : Super) → IsSuper content super
+    → IsNoSuper content layout_fault.Magic → ⊥
 not_magic content super is none = none is.magic
 
-pub not_version : (content : Content) (super : Super) → IsSuper content super → IsNoSuper content layout_fault.Version
+pub not_version : (content : Content) (super : Super) → IsSuper content super
+    → IsNoSuper content layout_fault.Version
     → ⊥
 not_version content super is none = none.1 (has_version content super is)
 
-pub not_range : (content : Content) (super : Super) → IsSuper content super → IsNoSuper content layout_fault.Range → ⊥
+pub not_range : (content : Content) (super : Super) → IsSuper content super
+    → IsNoSuper content layout_fault.Range → ⊥
 not_range content super is none = none.2 is.sizes
 
 pub not_another : (size : ℕ) (content : Content) (super : Super) → IsSuper content super
@@ -31,7 +34,8 @@ not_another size content super is same left (other, so, inr spent) =
     let boot : other.boot ≡ super.boot = so.boot ∙ sym is.boot in omega (arith, left, spent, boot)
 
 -- it has blocks
-pub has_blocks : (size : ℕ) (content : Content) (super : Super) → IsSuper content super → super.geometry.blocks ≡ size
+pub has_blocks : (size : ℕ) (content : Content) (super : Super) → IsSuper content super
+    → super.geometry.blocks ≡ size
     → size ≡ 0 → ⊥
 has_blocks size content super is same none =
     let least = is.sizes.lawful.0.0 in

@@ -1,5 +1,6 @@
 -- The step that commits a call which is answered once it is stable doesn't end the call.
-use Rattle.std.proofs.Common.{◌≡◌, ℕ, zero, suc, ◌+◌, true, false, Option, Some, None, ap, sym, ◌∙◌, refl, Bool, arith}
+use Rattle.std.proofs.Common.{◌≡◌, ℕ, zero, suc, ◌+◌, true, false, Option, Some, None, ap, sym, ◌∙◌, refl}
+use Rattle.std.proofs.Common.{Bool, arith}
 use Rattle.std.proofs.Common.{subst, slice_get, if◌then◌else◌}
 use Rattle.nfs_types.specs.declared.call.Call.{Call}
 use Rattle.model.specs.Calls.{is_answered_stable}
@@ -11,7 +12,8 @@ use Rattle.store_promise.specs.declared.events.Step.TheVariants as step
 use Rattle.store_promise.specs.declared.transcript.Answer.{Answer}
 use Rattle.store_promise.specs.declared.transcript.Committed.{Committed}
 use Rattle.store_promise.specs.History.{IsHistory, WasCommitted}
-use Rattle.store_promise.specs.Progress.{Begun, Job, Progress, At, Stage, Called, Planning, Reading, Read, Refused}
+use Rattle.store_promise.specs.Progress.{Begun, Job, Progress, At, Stage, Called, Planning, Reading, Read}
+use Rattle.store_promise.specs.Progress.{Refused}
 use Rattle.store_promise.specs.Progress.{Again, Waiting, going_on, is_idle, progressed}
 use Rattle.store_promise.specs.Schedule.{Schedule, progress_before, told_before}
 use Rattle.store_promise.specs.Transcript.{Transcript, step_at, committed_at}

@@ -114,7 +114,8 @@ no_change size block outside [] (suc n) all = refl
 no_change size block outside (change ∷ later) (suc n) all =
     let home = first_of_all (λ (one : LogChange). IsHomeOn size one.block) change later all in
     let other : nat_eq change.block.0 block ≡ false =
-    differs change.block.0 block (λ same. outside (omega (arith, home.0, same)) (omega (arith, home.1, same))) in
+    differs change.block.0 block (λ same. outside (omega (arith, home.0, same))
+    (omega (arith, home.1, same))) in
     let rest = no_change size block outside later n
     (rest_of_all (λ (one : LogChange). IsHomeOn size one.block) change later all) in
     λ i. or_else (rest i) (if other i then Some change.content else None)
@@ -170,7 +171,8 @@ no_pair size block outside (suc n) [] all = refl
 no_pair size block outside (suc n) (change ∷ later) all =
     let home = first_of_all (λ (one : LogChange). IsHomeOn size one.block) change later all in
     let other : nat_eq change.block.0 block ≡ false =
-    differs change.block.0 block (λ same. outside (omega (arith, home.0, same)) (omega (arith, home.1, same))) in
+    differs change.block.0 block (λ same. outside (omega (arith, home.0, same))
+    (omega (arith, home.1, same))) in
     let rest = no_pair size block outside n later
     (rest_of_all (λ (one : LogChange). IsHomeOn size one.block) change later all) in
     λ i. or_else (rest i) (if other i then Some change.content else None)
@@ -183,7 +185,8 @@ shows_nothing log base image block outside lawful boundary =
     let none : newest_in (logged_in image) block ≡ None =
     ap (λ (pairs : List (BlockNo × Content)). newest_in pairs block) shown.changes
     ∙ no_pair log.blocks block outside (shown.end - shown.first) (drop shown.first log.changes)
-    (all_behind (λ (change : LogChange). IsHomeOn log.blocks change.block) shown.first log.changes lawful.homes) in
+    (all_behind (λ (change : LogChange). IsHomeOn log.blocks change.block) shown.first log.changes
+    lawful.homes) in
     ap (λ found. content_or found (image block)) none
 
 pub as_at_home : (log : Log) (base image : Image) (block : ℕ)

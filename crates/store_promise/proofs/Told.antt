@@ -152,7 +152,8 @@ along_comes (first ∷ others) told worker job stage is =
     later (inr found) = inr (suc found.0, found.1, found.2)
 
 first_is : (one other : Event × Option Step) → Some one ≡ Some other → Some one.0 ≡ Some other.0
-first_is one other same = ap (λ (o : Option (Event × Option Step)). option_map (λ (p : Event × Option Step). p.0) o) same
+first_is one other same = ap (λ (o : Option (Event × Option Step)). option_map
+    (λ (p : Event × Option Step). p.0) o) same
 
 event_at : (events : Schedule) (steps : List (Option Step)) (index at : ℕ) (e : Event) (m : Option Step)
     → slice_get (take index (zip events steps)) at ≡ Some (e, m) → slice_get events at ≡ Some e
@@ -301,7 +302,8 @@ module _ (o : Setting) (workers : ℕ) (told : Told) (e : Event) (one : Step)
   may_be = by_number (worker_of e) refl
 
 -- there is one of each index within a list
-pub get_within : {X : Type 0} (xs : List X) (index : ℕ) → index < length xs → (x : X) × (slice_get xs index ≡ Some x)
+pub get_within : {X : Type 0} (xs : List X) (index : ℕ) → index < length xs → (x : X)
+    × (slice_get xs index ≡ Some x)
 get_within [] index less = absurd (omega (arith, less))
 get_within (x ∷ xs) zero less = (x, refl)
 get_within (x ∷ xs) (suc index) less = get_within xs index (omega (arith, less))

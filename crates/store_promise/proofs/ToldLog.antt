@@ -24,7 +24,8 @@ use Rattle.wal_law.specs.Room.{HasPlaces}
 use Rattle.wal_law.specs.Grows.{GrowsBy}
 use Rattle.txn_law.specs.Steps.{StandsStill}
 use Rattle.store_promise.specs.LogTold.{LogTold, may_install_told, may_log_told, settled_told}
-use Rattle.store_promise.specs.NextCall.{IsNextOfInstalling, group_begins, group_told, next_log_call, taken_home}
+use Rattle.store_promise.specs.NextCall.{IsNextOfInstalling, group_begins, group_told, next_log_call}
+use Rattle.store_promise.specs.NextCall.{taken_home}
 use Rattle.store_promise.specs.Schedule.{HasNumbers, Setting}
 use Rattle.store_promise.specs.ToldOf.{StandsAtHome, first_of, log_told, newest_among}
 use Rattle.store_promise.proofs.ToldOf.{all_of, drop_more, home_within, newest_some, newest_within, none_yet}
@@ -120,45 +121,46 @@ module _ (position : ℕ) (log : Log) (installing : Pending) (lawful : IsLawful 
   group_fits : log.logged + group_size log ≤ length log.changes
   group_fits = fits_by (nat_lt 0 log.taken) refl
 
-  module _ (io : Io) (from : position ≤ log.start + length log.changes) (next : IsNextLogCall (with_log_out log) io)
-    where
-      begins : log.start + log.logged ≡ group_begins position told
-      begins = let within = lawful.taken_within in omega (arith, from, within)
+  module _ (io : Io) (from : position ≤ log.start + length log.changes)
+      (next : IsNextLogCall (with_log_out log) io) where
+    begins : log.start + log.logged ≡ group_begins position told
+    begins = let within = lawful.taken_within in omega (arith, from, within)
 
-      -- a block goes to its slot
-      to_slot : log.log_step < group_size log → io.call
-          ≡ Write (record { 0 = slot_block (group_begins position told + log.log_step) })
-      to_slot less =
-          let fits = group_fits in
-          let found = there log.changes (log.logged + log.log_step) (omega (arith, less, fits)) in
-          (next.body less found.0 found.1).0
-          ∙ ap (λ n. Write (record { 0 = slot_block (n + log.log_step) })) begins
+    -- a block goes to its slot
+    to_slot : log.log_step < group_size log → io.call
+        ≡ Write (record { 0 = slot_block (group_begins position told + log.log_step) })
+    to_slot less =
+        let fits = group_fits in
+        let found = there log.changes (log.logged + log.log_step) (omega (arith, less, fits)) in
+        (next.body less found.0 found.1).0
+        ∙ ap (λ n. Write (record { 0 = slot_block (n + log.log_step) })) begins
 
-      by_step : (body : Bool) → nat_lt log.log_step (group_size log) ≡ body
-          → (header : Bool) → nat_eq log.log_step (group_size log + 1) ≡ header
-          → io.call ≡ (if body then Write (record { 0 = slot_block (group_begins position told + log.log_step) })
-          else if header then Write (record { 0 = LOG_HEADER_BLOCK }) else Barrier side.Log)
-      by_step true is header so = to_slot (grind (arith, nat_tests))
-      by_step false is true so = (next.header (grind (arith, nat_tests))).0
-      by_step false is false so = elim (cases_lt (group_size log) log.log_step) [
-        | inl past ↦ next.header_barrier (let last = last_step in behind_last past last)
-        | inr least ↦ next.body_barrier (at_group least)
-      ]
-        where
-          behind_last : group_size log < log.log_step → log.log_step ≤ group_size log + 2
-              → log.log_step ≡ group_size log + 2
-          behind_last past last = grind (arith, nat_tests)
+    by_step : (body : Bool) → nat_lt log.log_step (group_size log) ≡ body
+        → (header : Bool) → nat_eq log.log_step (group_size log + 1) ≡ header
+        → io.call ≡ (if body then Write (record
+        { 0 = slot_block (group_begins position told + log.log_step) })
+        else if header then Write (record { 0 = LOG_HEADER_BLOCK }) else Barrier side.Log)
+    by_step true is header so = to_slot (grind (arith, nat_tests))
+    by_step false is true so = (next.header (grind (arith, nat_tests))).0
+    by_step false is false so = elim (cases_lt (group_size log) log.log_step) [
+      | inl past ↦ next.header_barrier (let last = last_step in behind_last past last)
+      | inr least ↦ next.body_barrier (at_group least)
+    ]
+      where
+        behind_last : group_size log < log.log_step → log.log_step ≤ group_size log + 2
+            → log.log_step ≡ group_size log + 2
+        behind_last past last = grind (arith, nat_tests)
 
-          at_group : log.log_step ≤ group_size log → log.log_step ≡ group_size log
-          at_group least = grind (arith, nat_tests)
+        at_group : log.log_step ≤ group_size log → log.log_step ≡ group_size log
+        at_group least = grind (arith, nat_tests)
 
-      pub log_call_is : io.call ≡ next_log_call position told
-      log_call_is =
-          by_step (nat_lt log.log_step (group_size log)) refl (nat_eq log.log_step (group_size log + 1)) refl
-          ∙ (λ i. if nat_lt log.log_step (sym group_is i)
-          then Write (record { 0 = slot_block (group_begins position told + log.log_step) })
-          else if nat_eq log.log_step (sym group_is i + 1) then Write (record { 0 = LOG_HEADER_BLOCK })
-          else Barrier side.Log)
+    pub log_call_is : io.call ≡ next_log_call position told
+    log_call_is =
+        by_step (nat_lt log.log_step (group_size log)) refl (nat_eq log.log_step (group_size log + 1)) refl
+        ∙ (λ i. if nat_lt log.log_step (sym group_is i)
+        then Write (record { 0 = slot_block (group_begins position told + log.log_step) })
+        else if nat_eq log.log_step (sym group_is i + 1) then Write (record { 0 = LOG_HEADER_BLOCK })
+        else Barrier side.Log)
 
 -- ---- the installer
 
@@ -289,8 +291,10 @@ next_again : (changes : List LogChange) (count index : ℕ)
     → next_home changes count (next_home changes count index) ≡ next_home changes count index
 next_again changes count index =
     let some = take count changes in
-    let none : passed_over (drop (index + passed_over (drop index (take count changes))) (take count changes)) ≡ 0 =
-    ap passed_over (sym (drop_more some index (passed_over (drop index some)))) ∙ passed_again (drop index some) in
+    let none : passed_over (drop (index + passed_over (drop index (take count changes)))
+    (take count changes)) ≡ 0 =
+    ap passed_over (sym (drop_more some index (passed_over (drop index some))))
+    ∙ passed_again (drop index some) in
     omega (arith, none)
 
 past_all : (changes : List LogChange) (count index : ℕ) → count ≤ length changes → count ≤ index
@@ -358,7 +362,8 @@ stands_given_back log true lawful stands =
 
 -- ---- room
 
-pub numbers_are : (o : Setting) (log : Log) (logging installing : Pending) (blocks : List BlockNo) → IsLawful log
+pub numbers_are : (o : Setting) (log : Log) (logging installing : Pending) (blocks : List BlockNo)
+    → IsLawful log
     → o.position ≤ log.start + length log.changes
     → HasNumbers o (log_told o.position log logging installing) (length blocks) ↔ HasPlaces log blocks
 numbers_are o log logging installing blocks lawful from =

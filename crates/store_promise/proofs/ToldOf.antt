@@ -1,5 +1,6 @@
 -- What is told of a log moves as the log does.
-use Rattle.std.proofs.Common.{◌≡◌, ℕ, zero, suc, ◌+◌, ◌-◌, ◌<◌, ◌≤◌, ◌⊎◌, inl, inr, ap, sym, ◌∙◌, refl, subst, arith}
+use Rattle.std.proofs.Common.{◌≡◌, ℕ, zero, suc, ◌+◌, ◌-◌, ◌<◌, ◌≤◌, ◌⊎◌, inl, inr, ap, sym, ◌∙◌, refl, subst}
+use Rattle.std.proofs.Common.{arith}
 use Rattle.std.proofs.Common.{Bool, true, false, if◌then◌else◌, ◌&&◌, List, [], ◌∷◌, Some, length, take, drop}
 use Rattle.std.proofs.Common.{nat_eq, nat_lt, slice_get, Result, is_ok, is_some, All}
 use Rattle.std.proofs.lemmas.List.{length-drop}
@@ -26,7 +27,8 @@ use Rattle.txn_law.specs.Steps.{StandsStill}
 use Rattle.std.proofs.lemmas.List.{drop-drop, drop-take}
 use Rattle.std.proofs.lemmas.List.Elements.{All-drop, All-head}
 use Rattle.store_promise.specs.LogTold.{LogTold, idle, out, was_made, with_commit, with_log_given}
-use Rattle.store_promise.specs.LogTold.{with_inst_behind, with_inst_done, with_inst_given, with_inst_taken, with_log_taken}
+use Rattle.store_promise.specs.LogTold.{with_inst_behind, with_inst_done, with_inst_given, with_inst_taken}
+use Rattle.store_promise.specs.LogTold.{with_log_taken}
 use Rattle.store_promise.specs.ToldOf.{StandsAtHome, call_told, first_of, log_told, newest_among}
 
 -- ---- a commit
@@ -63,7 +65,8 @@ module _ (position : ℕ) (old new : Log) (group : List (BlockNo × Content)) (b
       (subst (All IsCommitted) (drop-drop new.taken new.logged new.changes)
       (All-drop IsCommitted new.taken (drop new.logged new.changes) later.committed))
 
-  sizes : (length (drop ahead old.changes) ≡ tail_count old) × (length (drop ahead new.changes) ≡ tail_count old + blocks)
+  sizes : (length (drop ahead old.changes) ≡ tail_count old)
+      × (length (drop ahead new.changes) ≡ tail_count old + blocks)
   sizes = (
     length-drop ahead old.changes,
     length-drop ahead new.changes ∙ ap (λ n. length new.changes - n) (sym same_ahead) ∙ longer,
@@ -110,7 +113,8 @@ module _ (position : ℕ) (old new : Log) (group : List (BlockNo × Content)) (b
           is ∙ sym (ap (λ (t : Bool). if t then x.place else if nat_lt 0 blocks then old.places + 1 else 0) has)
 
   -- what the logger has taken lies ahead of them
-  taken_is : first_of (take old.taken (drop old.logged new.changes)) ≡ first_of (take old.taken (drop old.logged old.changes))
+  taken_is : first_of (take old.taken (drop old.logged new.changes)) ≡ first_of
+      (take old.taken (drop old.logged old.changes))
   taken_is = ap first_of (sym (drop-take old.logged old.taken new.changes)
       ∙ ap (drop old.logged) (grown.front ahead (omega arith)) ∙ drop-take old.logged old.taken old.changes)
 
@@ -292,7 +296,8 @@ passes (x ∷ xs) = by_test (is_some (newest_of xs x.block.0)) refl (passes xs)
     by_test false is none = refl
 
 -- those that are passed over aren't
-passed_counts : (xs : List LogChange) (k : ℕ) → newest_among xs (k + passed_over (drop k xs)) ≡ newest_among xs k
+passed_counts : (xs : List LogChange) (k : ℕ)
+    → newest_among xs (k + passed_over (drop k xs)) ≡ newest_among xs k
 passed_counts xs zero =
     let same : 0 + passed_over xs ≡ passed_over xs = omega arith in
     ap (newest_among xs) same ∙ passes xs
@@ -350,7 +355,8 @@ newest_some (x ∷ y ∷ xs) some =
     by_test (is_some (newest_of (y ∷ xs) x.block.0)) (newest_some (y ∷ xs) (omega arith))
   where
     by_test : (b : Bool) → 0 < newest_among (y ∷ xs) (length (y ∷ xs))
-        → 0 < (if b then newest_among (y ∷ xs) (length (y ∷ xs)) else 1 + newest_among (y ∷ xs) (length (y ∷ xs)))
+        → 0 < (if b then newest_among (y ∷ xs) (length (y ∷ xs)) else 1 + newest_among (y ∷ xs)
+        (length (y ∷ xs)))
     by_test true more = more
     by_test false more = omega arith
 
@@ -362,7 +368,8 @@ module _ (position : ℕ) (log : Log) (io : Io) (logging : Pending) (lawful : Is
   fits = let within = lawful.taken_within in omega (arith, within)
 
   -- the first that it takes is the first that it brings home
-  pub none_yet : log.installing ≡ 0 → newest_among (take log.logged log.changes) (next_home log.changes log.logged 0)
+  pub none_yet : log.installing ≡ 0 → newest_among (take log.logged log.changes)
+      (next_home log.changes log.logged 0)
       ≡ newest_among (take log.installing log.changes) log.inst_step
   none_yet none =
       let idle = (lawful.inst_idle none).0 in
@@ -431,9 +438,11 @@ module _ (position : ℕ) (log : Log) (io : Io) (answer : Result Unit Failed) (l
       }) logging pending.idle
       ≡ with_inst_done given (was_made io.call (is_ok answer))
   at_home less =
-      let found = there log.changes log.inst_step (let within = within_changes in omega (arith, less, within)) in
+      let found = there log.changes log.inst_step
+      (let within = within_changes in omega (arith, less, within)) in
       let call : io.call ≡ Write found.0.block = (next.home less found.0 found.1).0 in
-      let few = home_within log.changes log.installing (log.inst_step + 1) within_changes (omega (arith, less)) in
+      let few = home_within log.changes log.installing (log.inst_step + 1) within_changes
+      (omega (arith, less)) in
       let none : next_home log.changes log.installing (log.inst_step + 1) - log.installing
       ≡ log.inst_step - log.installing = omega (arith, few, less) in
       let first : nat_eq (log.inst_step - log.installing) 0 ≡ true = not_behind less in
@@ -463,7 +472,8 @@ module _ (position : ℕ) (log : Log) (io : Io) (answer : Result Unit Failed) (l
   one_behind past before_last =
       let long = long_taken in
       let same : log.inst_step + 1 ≡ suc log.inst_step = omega arith in
-      let next : log.inst_step + 1 - log.installing ≡ log.inst_step - log.installing + 1 = omega (arith, past) in
+      let next : log.inst_step + 1 - log.installing ≡ log.inst_step - log.installing + 1 =
+      omega (arith, past) in
       let not_last : nat_eq (log.inst_step - log.installing) 2 ≡ false =
       differs (log.inst_step - log.installing) 2 (inl (omega (arith, past, before_last))) in
       (λ i. record given {
@@ -520,7 +530,8 @@ module _ (position : ℕ) (log : Log) (io : Io) (answer : Result Unit Failed) (l
             (length (drop log.installing log.changes)) long within_changes) i;
         tail = (installed_tail log.installing log.logged log.taken (length log.changes)
             (length (drop log.installing log.changes)) long few within) i;
-        tail_first = (ap first_of (drop_more log.changes log.installing (log.logged - log.installing + log.taken))
+        tail_first = (ap first_of (drop_more log.changes log.installing
+            (log.logged - log.installing + log.taken))
             ∙ ap (λ n. first_of (drop n log.changes)) behind) i;
         taken_first = (ap (λ (xs : List LogChange). first_of (take log.taken xs))
             (drop_more log.changes log.installing (log.logged - log.installing))

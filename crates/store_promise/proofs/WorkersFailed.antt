@@ -18,11 +18,14 @@ use Rattle.store_promise.specs.declared.events.Wish.{Wish}
 use Rattle.store_promise.specs.declared.events.Wish.TheVariants as wish
 use Rattle.store_promise.specs.CauseOfIo.{IsOfLog}
 use Rattle.store_promise.specs.LogTold.{LogTold, log_moved}
-use Rattle.store_promise.specs.Progress.{Again, At, Begun, Called, Idle, Job, Planning, Progress, Read, Reading, Refused}
-use Rattle.store_promise.specs.Progress.{Stage, Waiting, after_called, after_commit, after_planning, after_waiting}
+use Rattle.store_promise.specs.Progress.{Again, At, Begun, Called, Idle, Job, Planning, Progress, Read}
+use Rattle.store_promise.specs.Progress.{Reading, Refused}
+use Rattle.store_promise.specs.Progress.{Stage, Waiting, after_called, after_commit, after_planning}
+use Rattle.store_promise.specs.Progress.{after_waiting}
 use Rattle.store_promise.specs.Progress.{going_on, is_idle, progressed}
 use Rattle.store_promise.specs.Schedule.{IsBeginning, IsCommitting, IsStepByPlan, IsStepOfCall}
-use Rattle.store_promise.specs.Schedule.{IsStepOfCalled, IsStepOfRead, IsStepOfWaiting, IsStepOfWork, IsTaken, Setting}
+use Rattle.store_promise.specs.Schedule.{IsStepOfCalled, IsStepOfRead, IsStepOfWaiting, IsStepOfWork, IsTaken}
+use Rattle.store_promise.specs.Schedule.{Setting}
 use Rattle.store_promise.specs.Schedule.{Told, told_after}
 use Rattle.store_promise.specs.Transcript.{fails}
 use Rattle.store_promise.proofs.FailuresTold.{LogShows, cleared, inst_goes, inst_made, is_broken, is_of_log}
@@ -113,7 +116,8 @@ module _ (o : Setting) (told : Told) (worker : ℕ) (job : Job) where
   module _ (begun : Begun) where
     by_wanted : (addr : Addr) (mode : Mode) (answer : Wish)
         → IsStepByPlan o told worker job.call begun (step.Wanted addr mode answer)
-        → shows (going_on job (after_planning (is_answered_stable job.call) begun (step.Wanted addr mode answer)))
+        → shows (going_on job (after_planning (is_answered_stable job.call) begun
+        (step.Wanted addr mode answer)))
         ≡ true → ⊥
     by_wanted addr mode wish.Held is so = cc
     by_wanted addr mode wish.Fetch is so = cc
@@ -156,11 +160,13 @@ module _ (o : Setting) (told : Told) (worker : ℕ) (job : Job) where
     by_plan (step.Ended why) is so = cc
     by_plan _ is so = absurd is
 
-  waited : (done : Bool) (place : ℕ) → shows (going_on job (if done then None else Some (Waiting place))) ≡ true → ⊥
+  waited : (done : Bool) (place : ℕ) → shows
+      (going_on job (if done then None else Some (Waiting place))) ≡ true → ⊥
   waited true place so = cc
   waited false place so = cc
 
-  by_waiting : (broken : Bool) (place : ℕ) (one : Step) → shows (going_on job (after_waiting broken place one)) ≡ true
+  by_waiting : (broken : Bool) (place : ℕ) (one : Step)
+      → shows (going_on job (after_waiting broken place one)) ≡ true
       → ⊥
   by_waiting broken place (step.Stable seq settled) so = waited (settled || broken) place so
   by_waiting broken place _ so = cc
@@ -184,11 +190,13 @@ work_shows o told worker (At job stage) one is so = by_stage o told worker job s
 
 -- ---- an event
 
--- what comes of an event shows a failure of a worker: so it was, or its read has failed just now, or the log had
+-- what comes of an event shows a failure of a worker: so it was, or its read has failed just now, or the log
+-- had
 pub data Showed (told : Told) (e : Event) (m : Option Step) (worker : ℕ) : Type 0 where
   before : shows (told.workers worker) ≡ true → Showed told e m worker
   of_log : LogShows told.log → Showed told e m worker
-  reads : e ≡ event.Read worker → fails m ≡ true → is_idle (told.workers worker) ≡ false → Showed told e m worker
+  reads : e ≡ event.Read worker → fails m ≡ true → is_idle (told.workers worker) ≡ false
+      → Showed told e m worker
 
 call_is : (so_far : Progress) (one : Step) → IsStepOfCall so_far (Some one) → is_of_log one ≡ false
 call_is Idle one is =
@@ -235,9 +243,11 @@ module _ (o : Setting) (workers : ℕ) (told : Told) where
     by_call job e m true so = cc
     by_call job e m false so = before so
 
-    by_work : (number : ℕ) (one : Step) → IsStepOfWork o told number (told.workers number) (Some one) → (same : Bool)
+    by_work : (number : ℕ) (one : Step) → IsStepOfWork o told number (told.workers number) (Some one)
+        → (same : Bool)
         → nat_eq worker number ≡ same
-        → shows (if same then progressed told.log.broken one (told.workers number) else told.workers worker) ≡ true
+        → shows (if same then progressed told.log.broken one (told.workers number) else told.workers
+        worker) ≡ true
         → Showed told (event.Work number) (Some one) worker
     by_work number one may true same so =
         elim (work_shows o told number (told.workers number) one may so) [
@@ -248,7 +258,8 @@ module _ (o : Setting) (workers : ℕ) (told : Told) where
 
     by_read : (number : ℕ) (one : Step) → IsStepOfRead (told.workers number) (Some one) → (same : Bool)
         → nat_eq worker number ≡ same
-        → shows (if same then progressed told.log.broken one (told.workers number) else told.workers worker) ≡ true
+        → shows (if same then progressed told.log.broken one (told.workers number) else told.workers
+        worker) ≡ true
         → Showed told (event.Read number) (Some one) worker
     by_read number one may true same so =
         let numbers = same_number number same in

@@ -30,10 +30,10 @@ pub record IsReadFor (events : Schedule) (t : Transcript) (worker index until : 
 
 -- Before the event of an answer a step tells that its device call failed, and so did that very call: one of the
 -- log or of the installer, or a read that was made for the call that is answered.
-pub record HasFailedFor (failed : ℕ → Bool) (start : ℕ) (events : Schedule) (t : Transcript) (a : Answer) : Type 0
-  where
-    pub index : ℕ
-    pub earlier : index < a.event
-    pub told : fails (step_at t index) ≡ true
-    pub so : failed (start + device_calls t index) ≡ true
-    pub whose : IsOfLog (slice_get events index) ⊎ IsReadFor events t a.worker index a.event
+pub record HasFailedFor (failed : ℕ → Bool) (start : ℕ) (events : Schedule) (t : Transcript)
+    (a : Answer) : Type 0 where
+  pub index : ℕ
+  pub earlier : index < a.event
+  pub told : fails (step_at t index) ≡ true
+  pub so : failed (start + device_calls t index) ≡ true
+  pub whose : IsOfLog (slice_get events index) ⊎ IsReadFor events t a.worker index a.event

@@ -9,12 +9,15 @@ use Rattle.store_promise.specs.Progress.{At, Begun, Job, Planning, takes}
 use Rattle.store_promise.specs.Schedule.{Schedule, progress_before, wish_of}
 use Rattle.store_promise.specs.Transcript.{Transcript}
 
--- Of an image of so many blocks, what shares no byte with what the transaction has taken has the bytes that it had.
+-- Of an image of so many blocks, what shares no byte with what the transaction has taken has the bytes that
+-- it had.
 abbrev pub KeepsOthers : ℕ → Begun → Image → Image → Type 0
-KeepsOthers size begun old new = (addr : Addr) → addr.block.0 < size → takes (wish_of addr modes.Exclusive) begun ≡ false
+KeepsOthers size begun old new = (addr : Addr) → addr.block.0 < size
+    → takes (wish_of addr modes.Exclusive) begun ≡ false
     → object_at new addr ≡ object_at old addr
 
--- The procedure of a place changed the blocks before it only in what its transaction had taken when it was committed.
+-- The procedure of a place changed the blocks before it only in what its transaction had taken when it was
+-- committed.
 pub record ChangesItsOwn (size : ℕ) (events : Schedule) (t : Transcript) (blocks : ℕ → Image) (index : ℕ)
     (c : Committed) : Type 0 where
   pub job : Job

@@ -110,9 +110,10 @@ abbrev pub IsAnswered : Device → Device → Tree → ℕ → ℕ → Schedule 
 IsAnswered before later tree first workers events (Ok t) = KeepsPromise before later tree first workers events t
 IsAnswered before later tree first workers events (Err cause) = IsRefused before later tree first cause
 
--- What is promised: a run that stands on this keeps its promise, or was refused for a cause that a good image may
--- have.
+-- What is promised: a run that stands on this keeps its promise, or was refused for a cause that a good image
+-- may have.
 abbrev pub IsPromised : Type 0 → Device → Device → Tree → ℕ → ℕ → Schedule → Result Transcript OpenFault
     → Type 0
 IsPromised keeps_model before later tree first workers events answer =
-    MayRun keeps_model before tree first workers events → IsAnswered before later tree first workers events answer
+    MayRun keeps_model before tree first workers events
+    → IsAnswered before later tree first workers events answer

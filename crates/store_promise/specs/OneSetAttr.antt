@@ -1,6 +1,7 @@
 -- A run of one worker and one SETATTR of the mode, taken to its stable answer: what comes, what is told, and
 -- what the device and its images are to be.
-use Rattle.std.specs.Prelude.{◌≡◌, ℕ, zero, suc, ◌+◌, ◌≤◌, ◌⊎◌, true, List, [], ◌∷◌, ◌++◌, map, Option, Some, Ok}
+use Rattle.std.specs.Prelude.{◌≡◌, ℕ, zero, suc, ◌+◌, ◌≤◌, ◌⊎◌, true, List, [], ◌∷◌, ◌++◌, map, Option, Some}
+use Rattle.std.specs.Prelude.{Ok}
 use Rattle.limits.specs.declared.TheConstants.{LOG_HEADER_BLOCK}
 use Rattle.disk.specs.Crash.{Image, IsCrashImage}
 use Rattle.disk.specs.Device.{Device}
@@ -85,7 +86,8 @@ events_to_commit one =
 
 abbrev pub steps_to_commit : OneSetAttr → List Step
 steps_to_commit one =
-    step.Called ∷ step.Begun (Ok 1) ∷ step.Wanted one.addr modes.Exclusive wish.Fetch ∷ step.Read one.addr.block true
+    step.Called ∷ step.Begun (Ok 1) ∷ step.Wanted one.addr modes.Exclusive wish.Fetch
+    ∷ step.Read one.addr.block true
     ∷ step.Fetched one.addr.block ∷ step.Wanted one.addr modes.Exclusive wish.Held
     ∷ step.Commit 1 (committing.Committed (record { 0 = 1 })) ∷ []
 

@@ -1,4 +1,5 @@
--- A store that has been open for some entries, some of which are home by now; and what a step of it may rest on.
+-- A store that has been open for some entries, some of which are home by now; and what a step of it may rest
+-- on.
 use Rattle.std.specs.Prelude.{◌≡◌, ℕ, ◌-◌, ◌<◌, ◌≤◌, List, length, take, drop}
 use Rattle.disk.specs.Crash.{Image, IsCrashImage}
 use Rattle.disk.specs.Device.{Device}
@@ -24,8 +25,8 @@ use Rattle.store_promise.specs.Openings.{AtEachStop}
 use Rattle.store_promise.specs.OpenStore.{IsBoot, IsOpenOver}
 use Rattle.store_promise.specs.Prefix.{HasPrefix}
 
--- The files were a tree when the store was opened, and each commit since has its entry. Those that are home lead
--- to the tree at home, over which the store is open with the others.
+-- The files were a tree when the store was opened, and each commit since has its entry. Those that are home
+-- lead to the tree at home, over which the store is open with the others.
 pub record IsOpenSince (base : Image) (d : Device) (core : CoreState) (logging installing : Pending) (boot : ℕ)
     (first : Tree) (entries : List Entry) (last : Tree) : Type 0 where
   pub counted : length entries ≡ core.log.places
@@ -33,8 +34,8 @@ pub record IsOpenSince (base : Image) (d : Device) (core : CoreState) (logging i
   pub leads : after first (take (installed_place core.log) entries) home
   pub over : IsOpenOver base d core logging installing boot home (drop (installed_place core.log) entries) last
 
--- The blocks that stand for the files: what is at home under the log that the opening found, and after the commits
--- since.
+-- The blocks that stand for the files: what is at home under the log that the opening found, and after the
+-- commits since.
 abbrev pub file_blocks : Image → CoreState → Image
 file_blocks base core = after_commits (homes_of core.log.blocks (opening base core.log)) core.records
 
@@ -72,8 +73,8 @@ outcome_of plan reply = record {
   inodes = plan.inodes;
 }
 
--- An entry tells of this change: its call was made in this boot, at a sound time, and what comes of it is a step
--- of the sequential server, in an image of the change's counts.
+-- An entry tells of this change: its call was made in this boot, at a sound time, and what comes of it is a
+-- step of the sequential server, in an image of the change's counts.
 pub record TellsOf (boot : ℕ) (plan : Planned) (entry : Entry) : Type 0 where
   pub boot_is : entry.ctx.boot ≡ boot
   pub timely : SoundTime entry.ctx.moment
@@ -82,7 +83,8 @@ pub record TellsOf (boot : ℕ) (plan : Planned) (entry : Entry) : Type 0 where
   pub inodes : plan.inodes ≡ geometry.inodes
   pub step : IsStepOf geometry entry.ctx entry.call (outcome_of plan entry.reply)
 
--- What a stop leaves is good, and has the files after a beginning of the entries, in which is each settled place.
+-- What a stop leaves is good, and has the files after a beginning of the entries, in which is each settled
+-- place.
 abbrev pub LeavesBeginning : ℕ → ℕ → Tree → List Entry → ℕ → Image → Type 0
 LeavesBeginning size boot first entries settled image =
     HasPrefix size (IsBoot boot) first entries (length entries) (λ place. place ≤ settled) image
@@ -92,7 +94,8 @@ pub record LeavesBlocks (base : Image) (core : CoreState) (boot : ℕ) (first : 
     (image : Image) : Type 0 where
   pub files : LeavesBeginning core.log.blocks boot first entries (settled_place core.log) image
   pub behind : installed_place core.log ≤ files.count
-  pub homes : homes_of core.log.blocks (over image) ≡ blocks_after base core (files.count - installed_place core.log)
+  pub homes : homes_of core.log.blocks (over image) ≡ blocks_after base core
+      (files.count - installed_place core.log)
 
 -- so it was whenever a call of the device was next, from one device on, but for what is next now
 abbrev pub HasKeptFiles : Device → Device → ℕ → Tree → List Entry → ℕ → Type 0

@@ -21,8 +21,8 @@ use Rattle.txn_law.specs.HomeRead.{IsReadable}
 use Rattle.txn_law.specs.Tidy.{AreTidy}
 use Rattle.txn_law.specs.Window.{Footprint, opening, with_objects}
 
--- From blocks that stand for a tree each commit in turn leads to blocks that stand for the tree after its entry,
--- one step of the sequential server further. The last tree is that after all of them.
+-- From blocks that stand for a tree each commit in turn leads to blocks that stand for the tree after its
+-- entry, one step of the sequential server further. The last tree is that after all of them.
 abbrev pub IsChain : Geometry → Image → Tree → List Footprint → List Entry → Tree → Type 0
 IsChain g blocks tree [] [] last = Stands g blocks tree × (last ≡ tree)
 IsChain g blocks tree (commit ∷ commits) (entry ∷ entries) last =
@@ -31,8 +31,9 @@ IsChain g blocks tree (commit ∷ commits) (entry ∷ entries) last =
 IsChain g blocks tree [] (entry ∷ entries) last = ⊥
 IsChain g blocks tree (commit ∷ commits) [] last = ⊥
 
--- What the files are, over what is at home, which is whole: the commits that aren't installed lead on from there,
--- and each has its entry; and the super block at home is that of this boot. The entries are those since the tree.
+-- What the files are, over what is at home, which is whole: the commits that aren't installed lead on from
+-- there, and each has its entry; and the super block at home is that of this boot. The entries are those
+-- since the tree.
 pub record HasFilesOver (base : Image) (core : CoreState) (boot : ℕ) (tree : Tree) (entries : List Entry)
     (last : Tree) : Type 0 where
   pub home : IsHomeOf base core
@@ -41,12 +42,12 @@ pub record HasFilesOver (base : Image) (core : CoreState) (boot : ℕ) (tree : T
   pub boot_is : super.boot ≡ boot
   pub blocks_are : super.geometry.blocks ≡ core.log.blocks
   pub inodes_are : super.geometry.inodes ≡ core.inodes
-  pub chain : IsChain super.geometry (homes_of core.log.blocks (opening base core.log)) tree core.records entries
-      last
+  pub chain : IsChain super.geometry (homes_of core.log.blocks (opening base core.log)) tree
+      core.records entries last
   pub stamps : (count : ℕ) (left : Tree) → after tree (take count entries) left → IsMadeBy boot left
 
--- A store is open over what is at home: the device agrees with the log beside the calls that are out, and what is
--- held agrees with what is in memory.
+-- A store is open over what is at home: the device agrees with the log beside the calls that are out, and
+-- what is held agrees with what is in memory.
 pub record IsOpenOver (base : Image) (d : Device) (core : CoreState) (logging installing : Pending) (boot : ℕ)
     (tree : Tree) (entries : List Entry) (last : Tree) : Type 0 where
   pub lawful : IsLawful core.log

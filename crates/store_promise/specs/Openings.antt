@@ -68,8 +68,8 @@ pub record IsOpened (before opened : Device) (tree : Tree) (first position : ℕ
   pub empty : (image : Image) → IsCrashImage opened opened.clock image → (start_in image ≡ position)
       × (end_in image ≡ position)
 
--- why a good image may not be opened: a device call failed; or none did, and no boot number is left, or memory was
--- refused
+-- why a good image may not be opened: a device call failed; or none did, and no boot number is left, or
+-- memory was refused
 abbrev pub IsCauseOf : OpenFault → Device → Device → ℕ → Type 0
 IsCauseOf fault.Device before later first = before.failures < later.failures
 IsCauseOf fault.Range before later first = (2 ^ 64 ≤ first + 1) × (later.failures ≡ before.failures)
@@ -113,8 +113,8 @@ pub record WasOnlyRead (before later : Device) : Type 0 where
   pub failures : later.failures ≡ before.failures
 
 -- An opening of any image, good or not, that was refused: for a counted failure or an allocation that failed,
--- or for what the image shows, and then it was only read. What it shows is what the reads bring, where the device
--- keeps its model and no write of it has failed.
+-- or for what the image shows, and then it was only read. What it shows is what the reads bring, where the
+-- device keeps its model and no write of it has failed.
 abbrev pub IsRefusedFor : Type 0 → OpenFault → Device → Device → Type 0
 IsRefusedFor keeps_model fault.Device before later = IsLater before later × (before.failures < later.failures)
 IsRefusedFor keeps_model fault.NoMemory before later = IsLater before later
@@ -125,8 +125,8 @@ IsRefusedFor keeps_model cause before later = WasOnlyRead before later
 abbrev pub ShowsNoCause : ℕ → Image → Type 0
 ShowsNoCause size image = (cause : OpenFault) → IsShownBy cause size image → ⊥
 
--- What comes of an opening of any image, good or not: it is opened only where the image shows no cause and no call
--- failed, and refused as said above.
+-- What comes of an opening of any image, good or not: it is opened only where the image shows no cause and no
+-- call failed, and refused as said above.
 abbrev pub IsAnsweredFor : Type 0 → Option OpenFault → Device → Device → Type 0
 IsAnsweredFor keeps_model None before later = IsLater before later × (later.failures ≡ before.failures)
     × (keeps_model → IsUnspoiled before → ShowsNoCause before.size (image_of before))

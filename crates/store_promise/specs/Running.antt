@@ -41,10 +41,10 @@ at_rest d core = record { device = d; core = core; logging = idle; installing = 
 abbrev pub IsFetchOver : Image → CoreState → Fetch → Type 0
 IsFetchOver base core fetch = IsPending core fetch.block → fetch.content ≡ base fetch.block.0
 
--- A run goes on over what is at home: its store is open since its opening, with these entries; the log has gone on
--- from where the opening left it, and its installer stands at a home; each fetch that was made well, and isn't
--- given back yet, has brought what is at home; and the blocks of each place, from those that are home on, are those
--- after its commit, and beyond the last commit those after it.
+-- A run goes on over what is at home: its store is open since its opening, with these entries; the log has
+-- gone on from where the opening left it, and its installer stands at a home; each fetch that was made well,
+-- and isn't given back yet, has brought what is at home; and the blocks of each place, from those that are
+-- home on, are those after its commit, and beyond the last commit those after it.
 pub record IsRunningOver (o : Setting) (base : Image) (side : StoreSide) (fetches : List Fetch) (boot : ℕ)
     (first : Tree) (entries : List Entry) (last : Tree) : Type 0 where
   pub since : IsOpenSince base side.device side.core side.logging side.installing boot first entries last
@@ -53,7 +53,8 @@ pub record IsRunningOver (o : Setting) (base : Image) (side : StoreSide) (fetche
   pub inodes : o.geometry.inodes ≡ side.core.inodes
   pub stands : StandsAtHome side.core.log
   pub fetched : All (IsFetchOver base side.core) fetches
-  pub placed : (count : ℕ) → o.blocks (installed_place side.core.log + count) ≡ blocks_after base side.core count
+  pub placed : (count : ℕ) → o.blocks (installed_place side.core.log + count) ≡ blocks_after base
+      side.core count
 
 -- the blocks after each commit are what they were, where some more commits may have come home
 pub record KeepsPlaces (base : Image) (old : CoreState) (home : Image) (new : CoreState) : Type 0 where
@@ -68,8 +69,8 @@ with_blocks o places now =
 
 -- ---- a step
 
--- the device after a step: one call later where the step is one, and one failure more where that failed, as the step
--- tells of it
+-- the device after a step: one call later where the step is one, and one failure more where that failed, as
+-- the step tells of it
 pub record IsMovedBy (old : Device) (made : Option Step) (new : Device) : Type 0 where
   pub past : IsLater old new
   pub calls : new.clock ≡ old.clock + one_if (calls_device made)
@@ -113,8 +114,8 @@ abbrev pub home_next : Image → Log → Option Step → Image
 home_next base log (Some (step.InstDone ok)) = home_after base log ok
 home_next base log _ = base
 
--- A step of the log or of the installer is one that may be made, leads from what is told to what is told next, and
--- the run goes on with the entries that there were.
+-- A step of the log or of the installer is one that may be made, leads from what is told to what is told
+-- next, and the run goes on with the entries that there were.
 pub record GoesOnBy (MayMake : Setting → LogTold → Option Step → Type 0) (o : Setting) (base : Image)
     (old : StoreSide) (made : Option Step) (new : StoreSide) (fetches : List Fetch) (boot : ℕ) (first : Tree)
     (entries : List Entry) (last : Tree) : Type 0 where

@@ -137,12 +137,12 @@ abbrev pub read_of : Setting → ℕ → Begun → List ObjectBytes
 read_of o places begun = objects_at (o.blocks places) (addrs_of begun.held)
 
 -- the call asks for the object, by what its transaction read, and hasn't got it
-pub record IsAskedFor (o : Setting) (places : ℕ) (call : Call) (begun : Begun) (addr : Addr) (mode : Mode) : Type 0
-  where
-    pub unheld : is_held addr begun.held ≡ false
-    pub asks : Asks o.geometry call (read_of o places begun) addr
-    -- a plan wants each object for its call alone
-    pub alone : mode ≡ modes.Exclusive
+pub record IsAskedFor (o : Setting) (places : ℕ) (call : Call) (begun : Begun) (addr : Addr)
+    (mode : Mode) : Type 0 where
+  pub unheld : is_held addr begun.held ≡ false
+  pub asks : Asks o.geometry call (read_of o places begun) addr
+  -- a plan wants each object for its call alone
+  pub alone : mode ≡ modes.Exclusive
 
 -- it asks to claim the block
 pub record IsClaimAskedFor (o : Setting) (places : ℕ) (call : Call) (begun : Begun) (block : BlockNo) : Type 0
@@ -156,9 +156,9 @@ pub record IsSoOfAnother (told : Told) (worker : ℕ) (is : Progress → Bool) :
   pub differs : other ≢ worker
   pub so : is (told.workers other) ≡ true
 
--- What a wish to read some bytes of a block may be answered: Busy only where what another worker has taken keeps it
--- off, Loading only where another fetches the block, Fetch only where no object of the block was had, and
--- never Outside, as no call asks for what lies elsewhere.
+-- What a wish to read some bytes of a block may be answered: Busy only where what another worker has taken
+-- keeps it off, Loading only where another fetches the block, Fetch only where no object of the block was
+-- had, and never Outside, as no call asks for what lies elsewhere.
 abbrev pub IsWish : Told → ℕ → Begun → Wished → Wish → Type 0
 IsWish told worker begun wished wish.Held = Unit {0}
 IsWish told worker begun wished wish.Busy = IsSoOfAnother told worker (has_taken wished)
@@ -198,8 +198,8 @@ IsCommitting o log blocks committing.Full =
 IsCommitting o log blocks committing.NoMemory =
     (log.broken ≡ false) × HasNumbers o log blocks × (log.tail + blocks ≤ LOG_SLOTS)
 
--- A worker with a transaction goes by the plan of its call: it asks for what that asks for, or commits a change of
--- no more blocks than the call changes, or finds no memory.
+-- A worker with a transaction goes by the plan of its call: it asks for what that asks for, or commits a
+-- change of no more blocks than the call changes, or finds no memory.
 abbrev pub IsStepByPlan : Setting → Told → ℕ → Call → Begun → Step → Type 0
 IsStepByPlan o told worker call begun (step.Wanted addr mode answer) =
     IsAskedFor o told.log.places call begun addr mode × IsWish told worker begun (wish_of addr mode) answer

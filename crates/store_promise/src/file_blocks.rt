@@ -28,8 +28,8 @@ pub fn what_is_held_is_what_the_files_are()
         → IsAsRead (file_blocks base core) object }
 {}
 
-/// A commit lays over them what it writes, and no other step changes them: neither what transactions take and read,
-/// nor the logger, nor the installer, also where it has brought blocks home.
+/// A commit lays over them what it writes, and no other step changes them: neither what transactions take and
+/// read, nor the logger, nor the installer, also where it has brought blocks home.
 pub fn only_a_commit_changes_the_files()
     ensures commit { (base : Image) (d : Device) (old new : CoreState) (logging installing : Pending) (boot : ℕ)
         (first last : Tree) (entries : List Entry) (tx place : ℕ) (plan : Planned)
@@ -42,8 +42,8 @@ pub fn only_a_commit_changes_the_files()
         × (file_blocks base (record core { log = with_log_back core.log ok }) ≡ file_blocks base core) }
     ensures installer { (base : Image) (core : CoreState)
         → file_blocks base (record core { log = with_inst_out core.log }) ≡ file_blocks base core }
-    ensures installed { (base : Image) (d : Device) (old new : CoreState) (logging installing : Pending) (ok : Bool)
-        (boot : ℕ) (first last : Tree) (entries : List Entry)
+    ensures installed { (base : Image) (d : Device) (old new : CoreState)
+        (logging installing : Pending) (ok : Bool) (boot : ℕ) (first last : Tree) (entries : List Entry)
         → IsOpenSince base d old logging installing boot first entries last
         → new.log ≡ with_inst_back old.log ok → new.records ≡ past (installed_place new.log) old.records
         → file_blocks (home_after base old.log ok) new ≡ file_blocks base old }
@@ -55,8 +55,9 @@ pub fn earlier_files_keep_their_blocks()
         (first last : Tree) (entries : List Entry) (tx place count : ℕ) (plan : Planned)
         → IsOpenSince base d old logging installing boot first entries last → TakesPlace old tx plan place new
         → count ≤ length old.records → blocks_after base new count ≡ blocks_after base old count }
-    ensures installed { (base : Image) (d : Device) (old new : CoreState) (logging installing : Pending) (ok : Bool)
-        (boot : ℕ) (first last : Tree) (entries : List Entry) (count : ℕ)
+    ensures installed { (base : Image) (d : Device) (old new : CoreState)
+        (logging installing : Pending) (ok : Bool) (boot : ℕ) (first last : Tree)
+        (entries : List Entry) (count : ℕ)
         → IsOpenSince base d old logging installing boot first entries last
         → new.log ≡ with_inst_back old.log ok → new.records ≡ past (installed_place new.log) old.records
         → blocks_after (home_after base old.log ok) new count

@@ -24,7 +24,8 @@ pub fn a_fresh_image_is_good()
     layout::a_fresh_image_stands_for_the_format_tree();
 }
 
-/// A run of one worker may stand on an image that was made on a device at rest, as on one that a store has left.
+/// A run of one worker may stand on an image that was made on a device at rest, as on one that a store has
+/// left.
 pub fn a_made_image_may_run()
     ensures { (before later : Device) (g : Geometry) (moment : Moment) (events : Schedule)
         → IsLawful g.blocks g.inodes → SoundTime moment → AreTimely events

@@ -1,4 +1,5 @@
-//! Laws on what is told of a log: each step of the memory log leads from what is told of it to what is told next.
+//! Laws on what is told of a log: each step of the memory log leads from what is told of it to what is told
+//! next.
 ghost use Rattle.std.specs.Prelude.{◌≡◌, ℕ, ◌+◌, ◌≤◌, Bool, List, Result, is_ok, length, true};
 ghost use Rattle.disk.specs.Device.{Content};
 ghost use Rattle.disk.specs.declared.block.BlockNo.{BlockNo};
@@ -14,7 +15,8 @@ ghost use Rattle.store_promise.specs.LogTold.{call_made, with_commit, with_inst_
 ghost use Rattle.store_promise.specs.LogTold.{with_log_given, with_log_taken};
 ghost use Rattle.store_promise.specs.ToldOf.{StandsAtHome, log_told};
 
-/// A commit adds to what is told the blocks by which it makes the tail longer. How the tail has them isn't asked.
+/// A commit adds to what is told the blocks by which it makes the tail longer. How the tail has them isn't
+/// asked.
 pub fn a_commit_is_told()
     ensures { (position : ℕ) (old new : Log) (group : List (BlockNo × Content)) (blocks : ℕ)
         (logging installing : Pending) → IsLawful old → IsLawful new

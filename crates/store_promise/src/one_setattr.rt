@@ -23,8 +23,8 @@ use crate::promises::{no_stable_answer_comes_with_its_commit, what_is_stable_is_
 /// A run of one SETATTR of the mode keeps the promise, where the device calls are made well: what a stop
 /// between the header's write and the barrier behind it leaves may have the old tree or the new one.
 pub fn a_run_of_one_setattr_keeps_the_promise()
-    ensures { (before opened later : Device) (g : Geometry) (blocks changed : Image) (tree next : Tree) (first : ℕ)
-        (one : OneSetAttr) (reply : Reply)
+    ensures { (before opened later : Device) (g : Geometry) (blocks changed : Image)
+        (tree next : Tree) (first : ℕ) (one : OneSetAttr) (reply : Reply)
         → IsOpened before opened tree first one.position → IsGeometryOf opened.size tree g
         → Stands g blocks tree → Stands g changed next
         → one.position + 1 < 2 ^ 64 → WentOnByFive opened later

@@ -1,6 +1,6 @@
-//! Laws on the steps of an open store: each leaves it open, with the entries that there were, and a commit with one
-//! more. So a run's steps keep one invariant, and whatever a stop leaves has the files after a beginning of the
-//! entries.
+//! Laws on the steps of an open store: each leaves it open, with the entries that there were, and a commit
+//! with one more. So a run's steps keep one invariant, and whatever a stop leaves has the files after a
+//! beginning of the entries.
 ghost use Rattle.std.specs.Prelude.{◌≡◌, ℕ, ◌+◌, ◌≤◌, ◌++◌, ◌∷◌, [], Bool, List, Result, if◌then◌else◌};
 ghost use Rattle.std.specs.Prelude.{is_ok, length};
 ghost use Rattle.std.specs.Prelude.{true};
@@ -42,8 +42,8 @@ pub fn a_read_leaves_the_store_open()
     txn_law::steps_keep_what_may_be_read();
 }
 
-/// A commit leaves the store open with its entry, which is a step of the sequential server from the files as they
-/// were.
+/// A commit leaves the store open with its entry, which is a step of the sequential server from the files as
+/// they were.
 pub fn a_commit_leaves_the_store_open()
     ensures { (base : Image) (d : Device) (old new : CoreState) (logging installing : Pending) (boot : ℕ)
         (first last : Tree) (entries : List Entry) (tx place : ℕ) (plan : Planned) (entry : Entry)
@@ -59,17 +59,19 @@ pub fn a_commit_leaves_the_store_open()
 
 /// The logger's calls leave the store open: taken, made on the device with any answer, and given back.
 pub fn the_logger_leaves_the_store_open()
-    ensures taken { (base : Image) (d : Device) (old new : CoreState) (io : Io) (installing : Pending) (boot : ℕ)
-        (first last : Tree) (entries : List Entry)
+    ensures taken { (base : Image) (d : Device) (old new : CoreState) (io : Io)
+        (installing : Pending) (boot : ℕ) (first last : Tree) (entries : List Entry)
         → IsOpenSince base d old idle installing boot first entries last
-        → new ≡ record old { log = with_log_out old.log } → LogCallGoesOut old.log io new.log → IsSoundCore base new
+        → new ≡ record old { log = with_log_out old.log } → LogCallGoesOut old.log io new.log
+        → IsSoundCore base new
         → IsOpenSince base d new (out io) installing boot first entries last }
     ensures made { (base : Image) (d later : Device) (core : CoreState) (io : Io) (answer : Result Unit Failed)
         (installing : Pending) (boot : ℕ) (first last : Tree) (entries : List Entry)
         → IsOpenSince base d core (out io) installing boot first entries last → HasMade d io answer later
         → IsOpenSince base later core (was_made io answer) installing boot first entries last }
-    ensures given_back { (base : Image) (d : Device) (old new : CoreState) (io : Io) (answer : Result Unit Failed)
-        (ok : Bool) (installing : Pending) (boot : ℕ) (first last : Tree) (entries : List Entry)
+    ensures given_back { (base : Image) (d : Device) (old new : CoreState) (io : Io)
+        (answer : Result Unit Failed) (ok : Bool) (installing : Pending) (boot : ℕ) (first last : Tree)
+        (entries : List Entry)
         → IsOpenSince base d old (was_made io answer) installing boot first entries last → is_ok answer ≡ ok
         → new ≡ record old { log = new.log }
         → new.log ≡ (if is_log_out old.log io then with_log_back old.log ok else old.log)
@@ -85,14 +87,16 @@ pub fn the_installer_leaves_the_store_open()
     ensures taken { (base : Image) (d : Device) (old new : CoreState) (io : Io) (logging : Pending) (boot : ℕ)
         (first last : Tree) (entries : List Entry)
         → IsOpenSince base d old logging idle boot first entries last → may_install old.log ≡ true
-        → new ≡ record old { log = with_inst_out old.log } → InstCallGoesOut old.log io new.log → IsSoundCore base new
+        → new ≡ record old { log = with_inst_out old.log } → InstCallGoesOut old.log io new.log
+        → IsSoundCore base new
         → IsOpenSince base d new logging (out io) boot first entries last }
     ensures made { (base : Image) (d later : Device) (core : CoreState) (io : Io) (answer : Result Unit Failed)
         (logging : Pending) (boot : ℕ) (first last : Tree) (entries : List Entry)
         → IsOpenSince base d core logging (out io) boot first entries last → HasMade d io answer later
         → IsOpenSince base later core logging (was_made io answer) boot first entries last }
-    ensures given_back { (base : Image) (d : Device) (old new : CoreState) (io : Io) (answer : Result Unit Failed)
-        (ok : Bool) (logging : Pending) (boot : ℕ) (first last : Tree) (entries : List Entry)
+    ensures given_back { (base : Image) (d : Device) (old new : CoreState) (io : Io)
+        (answer : Result Unit Failed) (ok : Bool) (logging : Pending) (boot : ℕ) (first last : Tree)
+        (entries : List Entry)
         → IsOpenSince base d old logging (was_made io answer) boot first entries last → is_ok answer ≡ ok
         → new ≡ record old {
           log = new.log;
@@ -108,8 +112,8 @@ pub fn the_installer_leaves_the_store_open()
     txn_law::the_installer_keeps_what_may_be_read();
 }
 
-/// Whatever a stop leaves of a store that is open since then is good, and has the files after a beginning of the
-/// entries, in which is each settled place.
+/// Whatever a stop leaves of a store that is open since then is good, and has the files after a beginning of
+/// the entries, in which is each settled place.
 pub fn a_stop_leaves_a_beginning()
     ensures blocks { (base : Image) (d : Device) (core : CoreState) (logging installing : Pending) (boot : ℕ)
         (first last : Tree) (entries : List Entry) (image : Image)
@@ -128,7 +132,8 @@ pub fn an_open_store_keeps_its_files()
     ensures call { (before old new : Device) (base : Image) (core : CoreState) (logging installing : Pending)
         (boot settled : ℕ) (first last : Tree) (entries : List Entry)
         → HasKeptFiles before old boot first entries settled
-        → IsOpenSince base old core logging installing boot first entries last → settled ≤ settled_place core.log
+        → IsOpenSince base old core logging installing boot first entries last
+        → settled ≤ settled_place core.log
         → OneLater old new → HasKeptFiles before new boot first entries settled }
     ensures now { (before d : Device) (base : Image) (core : CoreState) (logging installing : Pending)
         (boot settled : ℕ) (first last : Tree) (entries : List Entry)

@@ -25,7 +25,8 @@ pub fn whole_groups_are_a_good_image()
     ensures { (base : Image) (core : CoreState) (boot : ℕ) (tree last : Tree) (entries : List Entry)
         (image : Image)
         → IsLawful core.log → HasFilesOver base core boot tree entries last → IsBoundary base core.log image
-        → (left : HasPrefix core.log.blocks (IsBoot boot) tree entries (length entries) (IsSettledOf core.log) image)
+        → (left : HasPrefix core.log.blocks (IsBoot boot) tree entries (length entries)
+        (IsSettledOf core.log) image)
         × (homes_of core.log.blocks (over image) ≡ blocks_after base core left.count) }
 {
     txn_law::a_crash_leaves_a_prefix();
@@ -36,7 +37,8 @@ pub fn a_stop_leaves_a_good_image()
     ensures { (d : Device) (base : Image) (core : CoreState) (logging installing : Pending) (boot : ℕ)
         (tree last : Tree) (entries : List Entry) (image : Image)
         → IsOpenOver base d core logging installing boot tree entries last → IsCrashImage d d.clock image
-        → (left : HasPrefix core.log.blocks (IsBoot boot) tree entries (length entries) (IsSettledOf core.log) image)
+        → (left : HasPrefix core.log.blocks (IsBoot boot) tree entries (length entries)
+        (IsSettledOf core.log) image)
         × (homes_of core.log.blocks (over image) ≡ blocks_after base core left.count) }
 {
     wal_law::law::a_crash_leaves_whole_groups();
@@ -52,12 +54,13 @@ pub fn an_opening_leaves_an_open_store()
     wal_law::law::a_crash_leaves_whole_groups();
 }
 
-/// Where no commit is kept, a new super block at home leaves the files as they were, with the boot number that it
-/// tells.
+/// Where no commit is kept, a new super block at home leaves the files as they were, with the boot number
+/// that it tells.
 pub fn the_files_stay_under_a_new_super_block()
     ensures { (base : Image) (core : CoreState) (boot : ℕ) (tree : Tree) (super : Super) (content : Content)
         (files : HasFilesOver base core boot tree [] tree)
         → core.log.changes ≡ [] → core.records ≡ [] → core.present ≡ []
-        → length content ≡ BLOCK_BYTES → IsSuper content super → super.geometry ≡ files.super.geometry → boot ≤ super.boot
+        → length content ≡ BLOCK_BYTES → IsSuper content super → super.geometry ≡ files.super.geometry
+        → boot ≤ super.boot
         → HasFilesOver (with_home base SUPER_BLOCK content) core super.boot tree [] tree }
 {}

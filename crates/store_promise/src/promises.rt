@@ -21,7 +21,8 @@ ghost use Rattle.store_promise.specs.Headline.{KeepsPromise};
 ghost use Rattle.store_promise.specs.Openings.{IsOpened};
 ghost use Rattle.store_promise.specs.LogTold.{settled_told};
 ghost use Rattle.store_promise.specs.Schedule.{Schedule, told_before};
-ghost use Rattle.store_promise.specs.Transcript.{Transcript, calls_device, device_calls, entries_of, fails, step_at};
+ghost use Rattle.store_promise.specs.Transcript.{Transcript, calls_device, device_calls, entries_of, fails};
+ghost use Rattle.store_promise.specs.Transcript.{step_at};
 ghost use Rattle.store_promise.specs.Verdicts.{IsCoveredWrite, IsStableAnswer};
 
 /// A run of no events keeps the promise, where its opening is one that leaves the same homes at each stop.
@@ -102,11 +103,11 @@ pub fn an_answer_of_io_has_its_failed_call()
     procedures::no_step_tells_a_failure();
 }
 
-/// A step that tells that its device call failed where that very call was made, or that it was made where it failed,
-/// breaks the promise.
+/// A step that tells that its device call failed where that very call was made, or that it was made where it
+/// failed, breaks the promise.
 pub fn a_failure_is_told_of_its_own_call()
-    ensures { (before later : Device) (tree : Tree) (first workers start : ℕ) (events : Schedule) (t : Transcript)
-        (earlier rest : List (Option Step)) (made : Option Step)
+    ensures { (before later : Device) (tree : Tree) (first workers start : ℕ) (events : Schedule)
+        (t : Transcript) (earlier rest : List (Option Step)) (made : Option Step)
         → t.steps ≡ earlier ++ made ∷ rest → calls_device made ≡ true
         → later.clock ≡ start + device_calls t (length t.steps)
         → later.failed (start + count_by calls_device earlier) ≢ fails made

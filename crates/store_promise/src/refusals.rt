@@ -11,7 +11,8 @@ ghost use Rattle.store_promise.specs.Openings.{IsAnsweredFor, IsRefused, IsShown
 
 /// A good image shows no cause to refuse it, while a boot number is left.
 pub fn a_good_image_shows_no_cause()
-    ensures { (size boot : ℕ) (image : Image) (tree : Tree) → IsGoodImage size image tree boot → boot + 1 < 2 ^ 64
+    ensures { (size boot : ℕ) (image : Image) (tree : Tree) → IsGoodImage size image tree boot
+        → boot + 1 < 2 ^ 64
         → ShowsNoCause size image }
 {}
 
@@ -21,18 +22,19 @@ pub fn an_image_shows_one_cause()
         → IsShownBy other size image → one ≡ other }
 {}
 
-/// An image that shows a cause, and is opened though its device keeps the model and is unspoiled, breaks what is
-/// promised of openings of any image.
+/// An image that shows a cause, and is opened though its device keeps the model and is unspoiled, breaks what
+/// is promised of openings of any image.
 pub fn what_shows_a_cause_is_not_opened()
     ensures { (before later : Device) (cause : OpenFault) → IsUnspoiled before
         → IsShownBy cause before.size (image_of before) → IsAnsweredFor (Unit {0}) None before later → ⊥ }
 {}
 
-/// A refusal of a good image breaks the promise where it names what the image can't show, a failure that the device
-/// hasn't counted, want of memory where it has counted one, or a boot number that is left.
+/// A refusal of a good image breaks the promise where it names what the image can't show, a failure that the
+/// device hasn't counted, want of memory where it has counted one, or a boot number that is left.
 pub fn a_good_image_is_refused_for_a_cause()
     ensures shown { (before later : Device) (tree : Tree) (first : ℕ)
-        → (IsRefused before later tree first fault.Magic → ⊥) × (IsRefused before later tree first fault.Version → ⊥)
+        → (IsRefused before later tree first fault.Magic → ⊥)
+        × (IsRefused before later tree first fault.Version → ⊥)
         × (IsRefused before later tree first fault.Log → ⊥) }
     ensures device { (before later : Device) (tree : Tree) (first : ℕ) → later.failures ≡ before.failures
         → IsRefused before later tree first fault.Device → ⊥ }

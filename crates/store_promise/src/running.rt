@@ -22,26 +22,30 @@ ghost use Rattle.store_promise.specs.OpenSince.{IsOpenSince, IsSoundCore, Stands
 ghost use Rattle.store_promise.specs.OpenStore.{IsNewOver};
 ghost use Rattle.store_promise.specs.Openings.{IsOpened};
 ghost use Rattle.store_promise.specs.Schedule.{Setting, at_first};
-ghost use Rattle.store_promise.specs.Running.{IsFetchOver, IsMovedAlong, IsMovedBy, IsRunningOver, IsTold, at_rest};
+ghost use Rattle.store_promise.specs.Running.{IsFetchOver, IsMovedAlong, IsMovedBy, IsRunningOver, IsTold};
+ghost use Rattle.store_promise.specs.Running.{at_rest};
 ghost use Rattle.store_promise.specs.Running.{side, with_blocks};
 ghost use Rattle.store_promise.specs.Transcript.{calls_device, fails};
 
 /// What an opening leaves begins a run, over what is at home: with the files that were found, no entry, no read
 /// that is out, and a log of which nothing is told yet.
 pub fn an_opening_begins_a_run()
-    ensures runs { (before opened : Device) (base : Image) (core : CoreState) (tree : Tree) (first : ℕ) (o : Setting)
+    ensures runs { (before opened : Device) (base : Image) (core : CoreState) (tree : Tree)
+        (first : ℕ) (o : Setting)
         → IsOpened before opened tree first o.position → IsNewOver base opened core
         → o.geometry.blocks ≡ opened.size → o.geometry.inodes ≡ core.inodes
         → ((place : ℕ) → o.blocks place ≡ file_blocks base core)
         → IsRunningOver o base (at_rest opened core) [] (first + 1) tree [] tree }
-    ensures told { (before opened : Device) (base : Image) (core : CoreState) (tree : Tree) (first : ℕ) (o : Setting)
+    ensures told { (before opened : Device) (base : Image) (core : CoreState) (tree : Tree)
+        (first : ℕ) (o : Setting)
         → IsOpened before opened tree first o.position → IsNewOver base opened core
         → IsTold o at_first (at_rest opened core) }
 {
     crate::an_opening_leaves_an_open_store();
 }
 
-/// The device of a run has counted its steps' calls and their failures: at first none, and with each step its own.
+/// The device of a run has counted its steps' calls and their failures: at first none, and with each step its
+/// own.
 pub fn a_device_counts_the_calls_of_its_steps()
     ensures first { (d : Device) → IsMovedAlong d [] d }
     ensures none { (d : Device) (made : Option Step) → calls_device made ≡ false → IsMovedBy d made d }
@@ -53,8 +57,9 @@ pub fn a_device_counts_the_calls_of_its_steps()
         → IsMovedAlong opened (steps ++ made ∷ []) new }
 {}
 
-/// What was read of a block whose fetch is pending is what is at home, until it is given back: a read brings it, a
-/// step that makes no more fetches pending keeps it, so does a fetch of another block, and so does an installation.
+/// What was read of a block whose fetch is pending is what is at home, until it is given back: a read brings
+/// it, a step that makes no more fetches pending keeps it, so does a fetch of another block, and so does an
+/// installation.
 pub fn what_was_read_is_at_home()
     ensures read { (base : Image) (d : Device) (core : CoreState) (logging installing : Pending) (boot : ℕ)
         (first last : Tree) (entries : List Entry) (fetch : Fetch)
@@ -67,8 +72,9 @@ pub fn what_was_read_is_at_home()
         → ((other : BlockNo) → is_fetching new other ≡ with_fetch block (is_fetching old) other)
         → ((fetch : Fetch) → Contains fetches fetch → fetch.block.0 ≡ block.0 → ⊥)
         → All (IsFetchOver base old) fetches → All (IsFetchOver base new) fetches }
-    ensures installed { (base : Image) (d : Device) (old new : CoreState) (logging installing : Pending) (ok : Bool)
-        (boot : ℕ) (first last : Tree) (entries : List Entry) (fetches : List Fetch)
+    ensures installed { (base : Image) (d : Device) (old new : CoreState)
+        (logging installing : Pending) (ok : Bool) (boot : ℕ) (first last : Tree) (entries : List Entry)
+        (fetches : List Fetch)
         → IsOpenSince base d old logging installing boot first entries last
         → ((block : BlockNo) → IsPending new block → IsPending old block)
         → All (IsFetchOver base old) fetches → All (IsFetchOver (home_after base old.log ok) new) fetches }
@@ -76,31 +82,37 @@ pub fn what_was_read_is_at_home()
     txn_law::a_fetch_keeps_the_window_of_the_core();
 }
 
-/// What a worker does leaves a run going: what its transaction takes, reads and lets go of; a read that is made; and
-/// a commit, with one entry more, which is a step of the sequential server, in the setting that has the blocks after
-/// it.
+/// What a worker does leaves a run going: what its transaction takes, reads and lets go of; a read that is
+/// made; and a commit, with one entry more, which is a step of the sequential server, in the setting that has
+/// the blocks after it.
 pub fn a_worker_keeps_the_run_going()
-    ensures beside { (o : Setting) (base : Image) (d : Device) (old new : CoreState) (logging installing : Pending)
-        (fetches left : List Fetch) (boot : ℕ) (first last : Tree) (entries : List Entry)
+    ensures beside { (o : Setting) (base : Image) (d : Device) (old new : CoreState)
+        (logging installing : Pending) (fetches left : List Fetch) (boot : ℕ) (first last : Tree)
+        (entries : List Entry)
         → IsRunningOver o base (side d old logging installing) fetches boot first entries last
         → StandsBeside old new → IsSoundCore base new → All (IsFetchOver base new) left
         → IsRunningOver o base (side d new logging installing) left boot first entries last }
-    ensures read { (o : Setting) (base : Image) (d later : Device) (core : CoreState) (logging installing : Pending)
-        (fetches read : List Fetch) (boot : ℕ) (first last : Tree) (entries : List Entry)
+    ensures read { (o : Setting) (base : Image) (d later : Device) (core : CoreState)
+        (logging installing : Pending) (fetches read : List Fetch) (boot : ℕ) (first last : Tree)
+        (entries : List Entry)
         → IsRunningOver o base (side d core logging installing) fetches boot first entries last
         → HasRead d later → All (IsFetchOver base core) read
         → IsRunningOver o base (side later core logging installing) read boot first entries last }
-    ensures commit { (o : Setting) (base : Image) (d : Device) (old new : CoreState) (logging installing : Pending)
-        (fetches left : List Fetch) (boot : ℕ) (first last : Tree) (entries : List Entry) (tx place : ℕ)
+    ensures commit { (o : Setting) (base : Image) (d : Device) (old new : CoreState)
+        (logging installing : Pending) (fetches left : List Fetch) (boot : ℕ) (first last : Tree)
+        (entries : List Entry) (tx place : ℕ)
         (plan : Planned) (entry : Entry)
         → IsRunningOver o base (side d old logging installing) fetches boot first entries last
         → TakesPlace old tx plan place new → IsSoundCore base new → TellsOf boot plan entry
         → All (IsFetchOver base new) left
         → (next : Tree) × step last entry.ctx entry.call entry.reply next
-        × IsRunningOver (with_blocks o (length entries) (file_blocks base new)) base (side d new logging installing)
+        × IsRunningOver (with_blocks o (length entries) (file_blocks base new)) base
+        (side d new logging installing)
         left boot first (entries ++ entry ∷ []) next }
-    ensures writes { (o : Setting) (base : Image) (d : Device) (old new : CoreState) (logging installing : Pending)
-        (fetches : List Fetch) (boot : ℕ) (first last : Tree) (entries : List Entry) (tx place : ℕ) (plan : Planned)
+    ensures writes { (o : Setting) (base : Image) (d : Device) (old new : CoreState)
+        (logging installing : Pending)
+        (fetches : List Fetch) (boot : ℕ) (first last : Tree) (entries : List Entry) (tx place : ℕ)
+        (plan : Planned)
         → IsRunningOver o base (side d old logging installing) fetches boot first entries last
         → TakesPlace old tx plan place new
         → file_blocks base new ≡ with_objects (file_blocks base old) plan.written }

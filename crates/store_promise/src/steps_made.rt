@@ -1,5 +1,6 @@
 //! Laws on the steps that events make, which the promise of a run pins.
-ghost use Rattle.std.specs.Prelude.{◌≡◌, ◌≢◌, ◌+◌, ◌<◌, ◌≤◌, ℕ, Bool, List, Option, slice_get, Some, None, true};
+ghost use Rattle.std.specs.Prelude.{◌≡◌, ◌≢◌, ◌+◌, ◌<◌, ◌≤◌, ℕ, Bool, List, Option, slice_get, Some, None};
+ghost use Rattle.std.specs.Prelude.{true};
 ghost use Rattle.std.specs.Prelude.{[], false, take};
 ghost use Rattle.limits.specs.declared.TheConstants.{LOG_SLOTS, START_BLOCK};
 ghost use Rattle.disk.specs.Crash.{Image, IsCrashImage};
@@ -119,8 +120,8 @@ pub fn a_worker_goes_by_its_plan()
         → KeepsPromise before later tree first workers events t → ⊥ }
 {}
 
-/// A transaction for which something is asked that its files don't lead to, as they are then, breaks the promise,
-/// whether or not it is committed later.
+/// A transaction for which something is asked that its files don't lead to, as they are then, breaks the
+/// promise, whether or not it is committed later.
 pub fn what_is_asked_for_goes_by_the_files()
     ensures { (before later : Device) (tree : Tree) (first workers index worker : ℕ) (events : Schedule)
         (t : Transcript) (job : Job) (begun : Begun) (addr : Addr) (mode : Mode) (answer : Wish)
@@ -128,13 +129,14 @@ pub fn what_is_asked_for_goes_by_the_files()
         → slice_get t.steps index ≡ Some (Some (step.Wanted addr mode answer))
         → progress_before events t.steps worker index ≡ At job (Planning begun)
         → ((g : Geometry) (blocks : Image) (left : Tree)
-        → after tree (take (told_before events t.steps index).log.places (entries_of t)) left → Stands g blocks left
+        → after tree (take (told_before events t.steps index).log.places (entries_of t)) left
+        → Stands g blocks left
         → Asks g job.call (objects_at blocks (addrs_of begun.held)) addr → ⊥)
         → KeepsPromise before later tree first workers events t → ⊥ }
 {}
 
-/// Before any commit the files are what a stop leaves: a transaction for which something is asked that these homes
-/// don't lead to breaks the promise.
+/// Before any commit the files are what a stop leaves: a transaction for which something is asked that these
+/// homes don't lead to breaks the promise.
 pub fn what_is_asked_for_goes_by_the_disk()
     ensures { (before later : Device) (tree : Tree) (first workers index worker : ℕ) (events : Schedule)
         (t : Transcript) (job : Job) (begun : Begun) (addr : Addr) (mode : Mode) (answer : Wish) (image : Image)
@@ -205,10 +207,12 @@ pub fn a_call_changes_no_more_than_it_may()
         → KeepsPromise before later tree first workers events t → ⊥ }
 {}
 
-/// What shares no byte with what the transaction of a procedure had taken has the bytes after it that it had before it.
+/// What shares no byte with what the transaction of a procedure had taken has the bytes after it that it had
+/// before it.
 pub fn a_procedure_changes_only_what_it_took()
-    ensures { (before later : Device) (tree : Tree) (first workers index : ℕ) (events : Schedule) (t : Transcript)
-        (c : Committed) (job : Job) (begun : Begun) (addr : Addr) → slice_get t.history index ≡ Some c
+    ensures { (before later : Device) (tree : Tree) (first workers index : ℕ) (events : Schedule)
+        (t : Transcript) (c : Committed) (job : Job) (begun : Begun) (addr : Addr)
+        → slice_get t.history index ≡ Some c
         → progress_before events t.steps c.worker c.event ≡ At job (Planning begun)
         → addr.block.0 < later.size → takes (wish_of addr modes.Exclusive) begun ≡ false
         → (kept : KeepsPromise before later tree first workers events t)

@@ -1,5 +1,6 @@
 -- A call that is handed over, and a read that is made, leave a run going.
-use Rattle.std.proofs.Common.{◌≡◌, ◌∙◌, refl, sym, ap, subst, true≢false, ℕ, inr, arith, Bool, true, false, Option}
+use Rattle.std.proofs.Common.{◌≡◌, ◌∙◌, refl, sym, ap, subst, true≢false, ℕ, inr, arith, Bool, true, false}
+use Rattle.std.proofs.Common.{Option}
 use Rattle.std.proofs.Common.{Some, None, List, [], All}
 use Rattle.std.proofs.lemmas.Bool.{eqb-true}
 use Rattle.std.proofs.lemmas.List.Elements.{All-cons, All-contains, All-nil}
@@ -53,8 +54,9 @@ call_core ctx call old new (Some made) core takes at with = record {
   loads = subst (λ (s : State). Loads s core) (sym takes.3) tt;
 }
 
-pub call_told : (o : Setting) (told : Told) (credential : Credential) (moment : Moment) (call : Call) (ctx : Ctx)
-    (store : StoreSide) (old new : State) (made : Option Step) → TakesCall 0 ctx call old made new
+pub call_told : (o : Setting) (told : Told) (credential : Credential) (moment : Moment)
+    (call : Call) (ctx : Ctx) (store : StoreSide) (old new : State) (made : Option Step)
+    → TakesCall 0 ctx call old made new
     → IsTold o told store → IsTold o (told_after told (event.Call 0 credential moment call) made) store
 call_told o told credential moment call ctx store old new None takes is = is
 call_told o told credential moment call ctx store old new (Some made) takes is =
@@ -69,7 +71,8 @@ call_fetches ctx call old new (Some made) takes =
 
 -- ---- a read
 
-pub read_core : (ok : Bool) (io : Fetch) (content : Content) (old : State) (core : CoreState) → old.phase ≡ Reading
+pub read_core : (ok : Bool) (io : Fetch) (content : Content) (old : State) (core : CoreState)
+    → old.phase ≡ Reading
     → old.begun.io ≡ Some io → IsCoreAtWork old core → GoesWith (with_read ok io content old) core
     → IsCoreAtWork (with_read ok io content old) core
 read_core ok io content old core phase_is io_is at with = record {
@@ -94,8 +97,8 @@ pending_home core block tidy pending = by (present_of core.present block) refl p
         subst (IsHomeOn core.log.blocks) (same_block entry.block block (eqb-true entry.block.0 block.0 same))
         (All-contains (IsPlaced core.log.blocks) core.present entry tidy.placed there)
 
-module _ (o : Setting) (base : Image) (store : StoreSide) (after : Device) (ok : Bool) (io : Fetch) (content : Content)
-    (old : State) (boot : ℕ) (first last : Tree) (entries : List Entry)
+module _ (o : Setting) (base : Image) (store : StoreSide) (after : Device) (ok : Bool) (io : Fetch)
+    (content : Content) (old : State) (boot : ℕ) (first last : Tree) (entries : List Entry)
     (brings : store.device.spoiled io.block.0 ≡ false → ok ≡ true
     → content ≡ newest (current store.device io.block.0)) (contents : HasContents store.device)
     (run : IsRunningOver o base store (fetches_of old) boot first entries last) where
@@ -107,18 +110,21 @@ module _ (o : Setting) (base : Image) (store : StoreSide) (after : Device) (ok :
       let over = run.since.over in
       let home = pending_home store.core io.block over.tidy pending in
       let low = home.0 in
-      let there = read_home store.device base store.core.log store.logging store.installing io.block.0 over.agrees
+      let there = read_home store.device base store.core.log store.logging store.installing
+      io.block.0 over.agrees
       over.readable contents (home.1, inr (omega (arith, low)))
       (unlogged_block store.core io.block over.tidy pending) in
       brings there.0 well ∙ there.1
 
-  fetched : (well : Bool) → ok ≡ well → All (IsFetchOver base store.core) (fetches_in (Read well) (Some brought))
+  fetched : (well : Bool) → ok ≡ well → All (IsFetchOver base store.core)
+      (fetches_in (Read well) (Some brought))
   fetched true is = All-cons (IsFetchOver base store.core) brought [] (is_at_home is)
       (All-nil (IsFetchOver base store.core))
   fetched false is = All-nil (IsFetchOver base store.core)
 
   pub read_runs : IsOpenSince base after store.core store.logging store.installing boot first entries last
-      → IsRunningOver o base (record store { device = after }) (fetches_of (with_read ok io content old)) boot first
+      → IsRunningOver o base (record store { device = after })
+      (fetches_of (with_read ok io content old)) boot first
       entries last
   read_runs since = record {
     since = since;

@@ -103,13 +103,15 @@ module _ (old new : CoreState) (tx : ℕ) (fetched : List Addr) (addr : Addr) wh
 
   module _ (io : Fetch) (taken : has_taken old tx addr ≡ true) (block : io.block ≡ addr.block)
       (pending : is_fetching old io.block ≡ true)
-      (leaves : Leaves new (taken_by old) (without_fetch io.block (is_fetching old)) (there_given true io old)) where
+      (leaves : Leaves new (taken_by old) (without_fetch io.block (is_fetching old))
+      (there_given true io old)) where
     still_taken : (a : Addr) → has_taken old tx a ≡ true → has_taken new tx a ≡ true
     still_taken a some = ap (λ (o : Option Hold). is_some o) (leaves.holds tx a) ∙ some
 
     there_is : (at : BlockNo) → there_given true io old at ≡ with_content io.block io.content (in_memory old) at
     there_is at =
-        ap (λ (b : Bool). (if b then with_content io.block io.content (in_memory old) else in_memory old) at) pending
+        ap (λ (b : Bool). (if b then with_content io.block io.content (in_memory old) else in_memory
+        old) at) pending
 
     one_given : (a : Addr) → IsLoadedFor old tx a → IsLoadedFor new tx a
     one_given a loaded =

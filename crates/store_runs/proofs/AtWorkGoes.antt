@@ -1,5 +1,7 @@
--- A worker's step leaves the run going: with the entries that there were, or, where it took a place, with its own.
-use Rattle.std.proofs.Common.{◌≡◌, ◌∙◌, ◌⊎◌, inl, inr, refl, sym, ap, subst, true≢false, ℕ, Bool, true, false, Option, Some}
+-- A worker's step leaves the run going: with the entries that there were, or, where it took a place, with its
+-- own.
+use Rattle.std.proofs.Common.{◌≡◌, ◌∙◌, ◌⊎◌, inl, inr, refl, sym, ap, subst, true≢false, ℕ, Bool, true, false}
+use Rattle.std.proofs.Common.{Option, Some}
 use Rattle.std.proofs.Common.{None, List, [], All}
 use Rattle.std.specs.Prelude.{IsSomeAnd}
 use Rattle.std.proofs.lemmas.List.Elements.{All-head, All-weaker}
@@ -175,8 +177,9 @@ module _ (old new : Side) (boot number : ℕ) (entries : List Committed) where
     ready = ap (λ (w : State). w.work.entry) is;
     tells = tells job done next (some_same next.job job (sym next.job_is ∙ job_is))
         (some_of (λ (j : Job). IsJobIn boot old.worker.begun.tx j) old.worker.work.job job job_is stands);
-    own = subst (λ (seen : Option Seen). IsSomeAnd seen (λ seen. All (IsSeenIn seen) done.written)) (sym next.snap_is)
-        (All-weaker (IsWritable next.snap) (IsSeenIn (seen_of next.snap)) (was_seen next.snap) done.written
+    own = subst (λ (seen : Option Seen). IsSomeAnd seen (λ seen. All (IsSeenIn seen) done.written))
+        (sym next.snap_is) (All-weaker (IsWritable next.snap) (IsSeenIn (seen_of next.snap))
+        (was_seen next.snap) done.written
         next.plan.0.writable);
   }
   place_taken job tx done base (commit.Full back change) added next job_is took is stands has =
@@ -205,7 +208,8 @@ module _ (old new : Side) (boot number : ℕ) (entries : List Committed) where
     wanted = λ tx addr made tx_is next was stands has. absurd (true≢false (sym has));
     claimed = λ tx block made tx_is next was stands has. absurd (true≢false (sym has));
     committed = λ job tx done made tx_is next job_is was.
-        place_taken job tx done _ was.answer (added_blocks old.core.log (blocks_of done.written)) next job_is was.core
+        place_taken job tx done _ was.answer (added_blocks old.core.log (blocks_of done.written)) next
+        job_is was.core
         was.worker;
     lacked = λ tx made tx_is was stands has. absurd (true≢false (sym has));
     given = given_not;
@@ -214,7 +218,8 @@ module _ (old new : Side) (boot number : ℕ) (entries : List Committed) where
     waited = λ place made was stands has. absurd (true≢false (sym has));
   }
 
-  pub takes_place : (made : Option Step) → GoesOn old.worker.phase old made new → IsWorkerAt boot entries old.worker
+  pub takes_place : (made : Option Step) → GoesOn old.worker.phase old made new
+      → IsWorkerAt boot entries old.worker
       → has_committed made ≡ true → HasTakenPlace boot number old new
   takes_place made goes worker_at has =
       by_cases old new Takes takes_cases old.worker.phase made goes worker_at.stands has

@@ -1,6 +1,7 @@
 -- Each step of a worker that is alone is one that may be made.
 use Rattle.std.proofs.Common.{◌≡◌, ◌∙◌, ◌↔◌, refl, sym, ap, subst, true≢false, ℕ, ◌+◌, ◌^◌, ◌≤◌, arith, Bool}
-use Rattle.std.proofs.Common.{true, false, ◌||◌, nat_eq, nat_le, IsTrue, Option, Some, None, List, [], ◌∷◌, length, map, All}
+use Rattle.std.proofs.Common.{true, false, ◌||◌, nat_eq, nat_le, IsTrue, Option, Some, None, List, [], ◌∷◌}
+use Rattle.std.proofs.Common.{length, map, All}
 use Rattle.std.proofs.Common.{Ok, Err}
 use Rattle.std.specs.Prelude.{IsSomeAnd}
 use Rattle.std.specs.List.{list_any}
@@ -125,8 +126,10 @@ differs core one other content there absent = by (nat_eq one.0 other.0) refl
 
 -- ---- a step by a plan
 
-module _ (o : Setting) (told : Told) (worker : ℕ) (base : Image) (store : StoreSide) (fetches : List Fetch) (boot : ℕ)
-    (first last : Tree) (entries : List Entry) (run : IsRunningOver o base store fetches boot first entries last)
+module _ (o : Setting) (told : Told) (worker : ℕ) (base : Image) (store : StoreSide)
+    (fetches : List Fetch) (boot : ℕ)
+    (first last : Tree) (entries : List Entry)
+    (run : IsRunningOver o base store fetches boot first entries last)
     (is_told : IsTold o told store) (inodes : o.geometry.inodes ≡ store.core.inodes)
     (files : o.blocks told.log.places ≡ file_blocks base store.core) (job : Job) (tx : ℕ) (seen : Seen)
     (fetched : List Addr) (has : HasOfCall job tx store.core seen) (loaded : AreLoadedFor store.core tx fetched)
@@ -140,7 +143,8 @@ module _ (o : Setting) (told : Told) (worker : ℕ) (base : Image) (store : Stor
   as_read : All (IsAsRead (o.blocks told.log.places)) seen.objects
   as_read = All-weaker (IsReadBy store.core tx) (IsAsRead (o.blocks told.log.places))
       (λ object read. ap (λ (blocks : Image). object_at blocks object.addr) files
-      ∙ held_now base store.device store.core store.logging store.installing boot first last entries run.since tx object
+      ∙ held_now base store.device store.core store.logging store.installing boot first last entries
+      run.since tx object
       read) seen.objects has.read
 
   read_is : read_of o told.log.places begun ≡ seen.objects
@@ -161,7 +165,8 @@ module _ (o : Setting) (told : Told) (worker : ℕ) (base : Image) (store : Stor
     not_loaded absent =
         λ i. none_read addr.block seen.objects (All-weaker (IsReadBy store.core tx)
         (λ (object : ObjectBytes). nat_eq object.addr.block.0 addr.block.0 ≡ false)
-        (λ object read. differs store.core object.addr.block addr.block read.current.content read.current.there absent)
+        (λ object read. differs store.core object.addr.block addr.block read.current.content
+        read.current.there absent)
         seen.objects has.read) i
         || none_in addr.block fetched (All-weaker (IsLoadedFor store.core tx)
         (λ (a : Addr). nat_eq a.block.0 addr.block.0 ≡ false)
@@ -213,7 +218,8 @@ module _ (o : Setting) (base : Image) (store : StoreSide) (fetches : List Fetch)
   by_answer change (commit.Spent back same) new is off = (is.1.sound, λ has. is.1.room (numbers.0 has))
 
   pub commit_may : {C : Type 0} (told : Told) (worker : ℕ) (call : Call) (far : Begun) (change : C)
-      (answer : Commit C) (new : CoreState) → IsTold o told store → length (blocks_of plan.written) ≤ most_changed call
+      (answer : Commit C) (new : CoreState) → IsTold o told store
+      → length (blocks_of plan.written) ≤ most_changed call
       → IsCommit store.core tx plan change answer new
       → is_kept_off (Some (step.Commit added (committing_of answer))) ≡ false
       → IsStepByPlan o told worker call far (step.Commit added (committing_of answer))
@@ -249,8 +255,10 @@ waits_may o told base store fetches boot first last entries run is_told place se
 
 -- ---- any step
 
-module _ (o : Setting) (told : Told) (number : ℕ) (base : Image) (store : StoreSide) (fetches : List Fetch) (boot : ℕ)
-    (first last : Tree) (entries : List Entry) (run : IsRunningOver o base store fetches boot first entries last)
+module _ (o : Setting) (told : Told) (number : ℕ) (base : Image) (store : StoreSide)
+    (fetches : List Fetch) (boot : ℕ)
+    (first last : Tree) (entries : List Entry)
+    (run : IsRunningOver o base store fetches boot first entries last)
     (is_told : IsTold o told store) (inodes : o.geometry.inodes ≡ store.core.inodes)
     (files : o.blocks told.log.places ≡ file_blocks base store.core) (worker : State) (new : Side)
     (one_geometry : (g h : Geometry) → g.blocks ≡ h.blocks → g.inodes ≡ h.inodes → g ≡ h) where
@@ -273,7 +281,8 @@ module _ (o : Setting) (told : Told) (number : ℕ) (base : Image) (store : Stor
   broken_is = ap (λ (log : LogTold). log.broken) is_told.log
 
   -- a call begins
-  from_called : (job : Job) (served : Bool) (made : Step) → worker.work.job ≡ Some job → has_rules job.call ≡ served
+  from_called : (job : Job) (served : Bool) (made : Step) → worker.work.job ≡ Some job
+      → has_rules job.call ≡ served
       → IsStepOfCalled told served made → MayFrom (at_stage worker.work.job how.Called) (Some made)
   from_called job served made job_is is may =
       subst (λ (found : Option Job). MayFrom (at_stage found how.Called) (Some made)) (sym job_is)
@@ -313,13 +322,15 @@ module _ (o : Setting) (told : Told) (number : ℕ) (base : Image) (store : Stor
       one_geometry addr is.plan.1 is.plan.0 new.core has.answer has.core off)
 
   committed_so : (job : Job) (tx : ℕ) (done : Outcome) (made : Step) → worker.begun.tx ≡ Some tx
-      → IsNext worker (plan.Done done) → worker.work.job ≡ Some job → (has : HasCommitted job tx done old made new)
+      → IsNext worker (plan.Done done) → worker.work.job ≡ Some job
+      → (has : HasCommitted job tx done old made new)
       → May Planning (Some (step.Commit (added_blocks store.core.log (blocks_of done.written))
       (committing_of has.answer)))
   committed_so job tx done made tx_is is job_is has plans loads stands off =
       from_plan is.job tx is.snap _ is.job_is tx_is is.snap_is
       (commit_may o base store fetches boot first last entries run tx (planned_of done) told number is.job.call
-      (begun_of (Some tx) (Some (seen_of is.snap)) worker.asked.fetched) done has.answer new.core is_told is.plan.1
+      (begun_of (Some tx) (Some (seen_of is.snap)) worker.asked.fetched) done has.answer new.core
+      is_told is.plan.1
       has.core off)
 
   lacked_so : (tx : ℕ) (made : Step) → worker.begun.tx ≡ Some tx → HasLacked tx old made new
@@ -350,7 +361,8 @@ module _ (o : Setting) (told : Told) (number : ℕ) (base : Image) (store : Stor
       (subst (λ (found : Option Fetch). IsSomeAnd worker.asked.wish (λ addr.
       IsSomeAnd found (λ (one : Fetch). one.block ≡ addr.block))) io_is stands.1)
     where
-      by : (job : Option Job) (wish : Option Addr) (ok : Bool) → IsSomeAnd job (λ j. IsJobIn boot worker.begun.tx j)
+      by : (job : Option Job) (wish : Option Addr) (ok : Bool)
+          → IsSomeAnd job (λ j. IsJobIn boot worker.begun.tx j)
           → IsSomeAnd wish (λ addr. io.block ≡ addr.block)
           → MayFrom (at_stage job (at_fetch (λ taken. how.Read all_begun taken ok) all_begun wish))
           (Some (given_step ok io))
@@ -359,7 +371,8 @@ module _ (o : Setting) (told : Told) (number : ℕ) (base : Image) (store : Stor
       by (Some job) (Some addr) true job_in at = ap (λ (block : BlockNo). step.Fetched block) at
       by (Some job) (Some addr) false job_in at = ap (λ (block : BlockNo). step.FetchFailed block) at
 
-  left_so : RunsIn boot worker → MayFrom (at_stage worker.work.job (how.Again all_begun)) (Some (step.Ended ending.Again))
+  left_so : RunsIn boot worker → MayFrom (at_stage worker.work.job (how.Again all_begun))
+      (Some (step.Ended ending.Again))
   left_so stands = by worker.work.job stands
     where
       by : (job : Option Job) → IsSomeAnd job (λ j. IsJobIn boot worker.begun.tx j)
@@ -389,12 +402,13 @@ module _ (o : Setting) (told : Told) (number : ℕ) (base : Image) (store : Stor
     waited = λ place made has plans loads stands off.
         subst (λ (found : Option Job). MayFrom (at_stage found (how.Waiting place.0))
         (Some (step.Stable place has.settled))) (sym stands.job_is)
-        (waits_may o told base store fetches boot first last entries run is_told place has.settled has.settled_is);
+        (waits_may o told base store fetches boot first last entries run is_told place has.settled
+        has.settled_is);
   }
 
   pub step_may : (made : Option Step) → GoesOn worker.phase old made new → IsCoreAtWork worker store.core
       → IsWorkerAt boot entries worker → MayFrom (progress_of worker) made
-  step_may made goes at worker_at = by_cases old new May may_cases worker.phase made goes at.alone.plans at.loads
-      worker_at.stands
+  step_may made goes at worker_at = by_cases old new May may_cases worker.phase made goes
+      at.alone.plans at.loads worker_at.stands
       (never_kept_off old new run.since.over.tidy at.with.core_of at.alone.fetches worker.phase made
       at.with.sound.fetch at.alone.plans goes)

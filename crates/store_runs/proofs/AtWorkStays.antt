@@ -1,5 +1,7 @@
--- A core stays at work for its worker by each step: what was fetched is in memory while the worker goes by its plans.
-use Rattle.std.proofs.Common.{◌≡◌, ◌∙◌, refl, sym, ap, subst, true≢false, ℕ, Bool, true, false, Option, Some, None}
+-- A core stays at work for its worker by each step: what was fetched is in memory while the worker goes by
+-- its plans.
+use Rattle.std.proofs.Common.{◌≡◌, ◌∙◌, refl, sym, ap, subst, true≢false, ℕ, Bool, true, false, Option, Some}
+use Rattle.std.proofs.Common.{None}
 use Rattle.std.proofs.Common.{List, ◌++◌}
 use Rattle.std.specs.Prelude.{IsSomeAnd, option_to_list}
 use Rattle.std.proofs.lemmas.Bool.{eq-eqb}
@@ -50,7 +52,8 @@ use Rattle.store_workers.specs.declared.workers.parts.Phase.TheVariants.{Refused
 use Rattle.store_workers.specs.declared.workers.parts.State.{State}
 
 -- what holds of what is there, holds of this
-pub some_of : {X : Type 0} (P : X → Type 0) (found : Option X) (one : X) → found ≡ Some one → IsSomeAnd found P → P one
+pub some_of : {X : Type 0} (P : X → Type 0) (found : Option X) (one : X) → found ≡ Some one
+    → IsSomeAnd found P → P one
 some_of P found one is has = subst (λ o. IsSomeAnd o P) is has
 
 module _ (old new : Side) where
@@ -64,18 +67,22 @@ module _ (old new : Side) where
 
   same_loads : (back tx : ℕ) → back ≡ tx → new.core ≡ old.core
       → AreLoadedFor old.core tx old.worker.asked.fetched → AreLoadedFor new.core back old.worker.asked.fetched
-  same_loads back tx is same loaded = subst (λ (n : ℕ). AreLoadedFor new.core n old.worker.asked.fetched) (sym is)
-      (subst (λ (c : CoreState). AreLoadedFor c tx old.worker.asked.fetched) (sym same) loaded)
+  same_loads back tx is same loaded = subst (λ (n : ℕ). AreLoadedFor new.core n
+      old.worker.asked.fetched) (sym is) (subst
+      (λ (c : CoreState). AreLoadedFor c tx old.worker.asked.fetched) (sym same) loaded)
 
   -- a wish
-  wanted_loads : (tx : ℕ) (addr : Addr) (answer : Want) → IsWanted old.core tx addr modes.Exclusive answer new.core
+  wanted_loads : (tx : ℕ) (addr : Addr) (answer : Want)
+      → IsWanted old.core tx addr modes.Exclusive answer new.core
       → AreLoadedFor old.core tx old.worker.asked.fetched
-      → LoadsFor (phase_wanted answer) (begun_wanted answer).tx (asked_wanted addr answer old.worker.asked) new.core
+      → LoadsFor (phase_wanted answer) (begun_wanted answer).tx
+      (asked_wanted addr answer old.worker.asked) new.core
   wanted_loads tx addr (want.Held back bytes) is loaded =
       subst (λ (n : ℕ). AreLoadedFor new.core n old.worker.asked.fetched) (sym is.0)
       (after_held old.core new.core tx old.worker.asked.fetched addr bytes.items is.2 loaded)
   wanted_loads tx addr (want.Fetch back io) is loaded =
-      subst (λ (n : ℕ). AreLoadedFor new.core n old.worker.asked.fetched × (has_taken new.core n addr ≡ true)) (sym is.0) (
+      subst (λ (n : ℕ). AreLoadedFor new.core n old.worker.asked.fetched
+      × (has_taken new.core n addr ≡ true)) (sym is.0) (
         after_wanted old.core new.core tx old.worker.asked.fetched addr io is.2 loaded,
         wanted_taken old.core new.core tx old.worker.asked.fetched addr io is.2,
       )
@@ -92,7 +99,8 @@ module _ (old new : Side) where
 
   committed_loads : (tx : ℕ) (job : Job) (done : Outcome) (base : State) (answer : Commit Outcome)
       → base.asked ≡ old.worker.asked → IsCommit old.core tx (planned_of done) done answer new.core
-      → AreLoadedFor old.core tx old.worker.asked.fetched → Loads (after_commit job done.reply answer base) new.core
+      → AreLoadedFor old.core tx old.worker.asked.fetched
+      → Loads (after_commit job done.reply answer base) new.core
   committed_loads tx job done base (commit.Committed place) same is loaded =
       placed_loads job done.reply place base (is_answered_stable job.call)
   committed_loads tx job done base (commit.Full back change) same is loaded =
@@ -135,7 +143,8 @@ module _ (old new : Side) where
     where
       by : (reply : Option Reply) → IsSomeAnd reply (λ one. new.worker
           ≡ with_answer (verdict.Reply one) (Some place)
-          (record old.worker { work = record old.worker.work { broken_reply = None } })) → Loads new.worker new.core
+          (record old.worker { work = record old.worker.work { broken_reply = None } }))
+          → Loads new.worker new.core
       by None told = absurd told
       by (Some reply) told = loads_by _ told tt
   waited_loads place false false phase_is told =
@@ -155,8 +164,10 @@ module _ (old new : Side) where
     given_so : (ok : Bool) (io : Fetch) (made : Step) → old.worker.begun.io ≡ Some io
         → HasGivenBack ok io old made new → Stays (Read ok) (Some (given_step ok io))
     given_so true io made io_is has phase_is loads at =
-        loads_by _ has.worker (given_loads old.worker.begun.tx old.worker.asked io loads (fetch_of io io_is at.1)
-        (pending io.block ∙ ap (λ (o : Option Fetch). is_fetch_of o io.block) io_is ∙ eq-eqb io.block.0 io.block.0 refl)
+        loads_by _ has.worker (given_loads old.worker.begun.tx old.worker.asked io loads
+        (fetch_of io io_is at.1)
+        (pending io.block ∙ ap (λ (o : Option Fetch). is_fetch_of o io.block) io_is
+        ∙ eq-eqb io.block.0 io.block.0 refl)
         has.leaves)
     given_so false io made io_is has phase_is loads at = loads_by _ has.worker tt
 
@@ -185,7 +196,8 @@ module _ (old new : Side) where
 
     pub loads_still : (made : Option Step) → GoesOn old.worker.phase old made new → Loads old.worker old.core
         → IsWorkerAt boot entries old.worker → Loads new.worker new.core
-    loads_still made goes loads at = by_cases old new Stays loads_cases old.worker.phase made goes refl loads at.stands
+    loads_still made goes loads at = by_cases old new Stays loads_cases old.worker.phase made goes refl
+        loads at.stands
 
   -- ---- a commit that found no room
 
@@ -198,7 +210,8 @@ module _ (old new : Side) where
   no_room one is room = true≢false (sym room ∙ is)
 
   full_so : (tx : ℕ) (job : Job) (done : Outcome) (base : State) (answer : Commit Outcome) (added : ℕ)
-      → old.worker.begun.tx ≡ Some tx → base.work.job ≡ old.worker.work.job → base.work.snap ≡ new.worker.work.snap
+      → old.worker.begun.tx ≡ Some tx → base.work.job ≡ old.worker.work.job
+      → base.work.snap ≡ new.worker.work.snap
       → IsCommit old.core tx (planned_of done) done answer new.core
       → new.worker ≡ after_commit job done.reply answer base
       → seen_in new.worker.work.snap ≡ seen_in old.worker.work.snap
@@ -235,7 +248,8 @@ module _ (old new : Side) where
     wanted = λ tx addr made tx_is next has room plans. absurd (true≢false (sym room));
     claimed = λ tx block made tx_is next has room plans. absurd (true≢false (sym room));
     committed = λ job tx done made tx_is next job_is has.
-        full_so tx job done _ has.answer (added_blocks old.core.log (blocks_of done.written)) tx_is refl refl has.core
+        full_so tx job done _ has.answer (added_blocks old.core.log (blocks_of done.written)) tx_is
+        refl refl has.core
         has.worker has.seen;
     lacked = λ tx made tx_is has room plans. absurd (true≢false (sym room));
     given = given_not_full;
@@ -270,7 +284,8 @@ plans_told (Refused why) worker core plans = tt
 plans_told (Waiting place) worker core plans = tt
 
 pub at_work_still : (old new : Side) (made : Option Step) (boot : ℕ) (entries : List Entry)
-    → IsCoreAtWork old.worker old.core → IsWorkerAt boot entries old.worker → AreTidy old.core → KeepsReadsOf old new
+    → IsCoreAtWork old.worker old.core → IsWorkerAt boot entries old.worker → AreTidy old.core
+    → KeepsReadsOf old new
     → GoesOn old.worker.phase old made new → GoesWith (told new.worker) new.core
     → IsCoreAtWork (told new.worker) new.core
 at_work_still old new made boot entries at worker_at tidy reads goes with =
@@ -281,7 +296,8 @@ at_work_still old new made boot entries at worker_at tidy reads goes with =
         fetches = stays.fetches;
         plans = plans_told new.worker.phase new.worker new.core
             (plans_by old new made (is_full made) refl stays (λ room.
-            by_cases old new (Full old new) (full_cases old new) old.worker.phase made goes room at.alone.plans));
+            by_cases old new (Full old new) (full_cases old new) old.worker.phase made goes room
+            at.alone.plans));
       };
       loads = loads_still old new at.alone.fetches boot entries made goes at.loads worker_at;
     }

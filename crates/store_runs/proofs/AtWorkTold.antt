@@ -1,5 +1,6 @@
 -- What is told after a worker's step is what the store then has, and only a commit moves the log.
-use Rattle.std.proofs.Common.{◌≡◌, ◌∙◌, refl, sym, ap, true≢false, ℕ, ◌+◌, ◌≤◌, Bool, true, false, Option, Some, None}
+use Rattle.std.proofs.Common.{◌≡◌, ◌∙◌, refl, sym, ap, true≢false, ℕ, ◌+◌, ◌≤◌, Bool, true, false, Option}
+use Rattle.std.proofs.Common.{Some, None}
 use Rattle.std.proofs.Common.{Ok, Err, length}
 use Rattle.objects.specs.declared.addr.Addr.{Addr}
 use Rattle.objects.specs.declared.mode.Mode.TheVariants as modes
@@ -50,12 +51,14 @@ beside_of old new log inodes records begun =
     record { beside = record { log = log; inodes = inodes; records = records }; begun = begun }
 
 same_core : (old new : CoreState) → new ≡ old → IsBeside old new
-same_core old new is = beside_of old new (ap (λ (c : CoreState). c.log) is) (ap (λ (c : CoreState). c.inodes) is)
-    (ap (λ (c : CoreState). c.records) is) (ap (λ (c : CoreState). c.begun) is)
+same_core old new is = beside_of old new (ap (λ (c : CoreState). c.log) is)
+    (ap (λ (c : CoreState). c.inodes) is) (ap (λ (c : CoreState). c.records) is)
+    (ap (λ (c : CoreState). c.begun) is)
 
 taken_only : (old new : CoreState) → TakesOnly old new → IsBeside old new
-taken_only old new is = beside_of old new (ap (λ (c : CoreState). c.log) is) (ap (λ (c : CoreState). c.inodes) is)
-    (ap (λ (c : CoreState). c.records) is) (ap (λ (c : CoreState). c.begun) is)
+taken_only old new is = beside_of old new (ap (λ (c : CoreState). c.log) is)
+    (ap (λ (c : CoreState). c.inodes) is) (ap (λ (c : CoreState). c.records) is)
+    (ap (λ (c : CoreState). c.begun) is)
 
 aborted : (tx : ℕ) (old new : CoreState) → HasAborted tx old new → IsBeside old new
 aborted tx old new has = beside_of old new (ap (λ (c : CoreState). c.log) has.only)
@@ -79,8 +82,8 @@ wanted old new tx addr (want.NoMemory back) is = same_core old new is.2
 
 -- ---- what is told
 
-module _ (o : Setting) (told : Told) (number : ℕ) (store : StoreSide) (is_told : IsTold o told store) (worker : State)
-    (new : Side) where
+module _ (o : Setting) (told : Told) (number : ℕ) (store : StoreSide) (is_told : IsTold o told store)
+    (worker : State) (new : Side) where
   abbrev old : Side
   old = side worker store.core
 
@@ -100,7 +103,8 @@ module _ (o : Setting) (told : Told) (number : ℕ) (store : StoreSide) (is_told
 
   begun_told : (job : Job) (one : ℕ) → HasBegun job old one new → Tells Planning (Some (step.Begun (Ok one)))
   begun_told job one has = record {
-    log = is_told.log ∙ ap (λ (c : CoreState). log_told o.position c.log store.logging store.installing) (sym has.core);
+    log = is_told.log ∙ ap (λ (c : CoreState). log_told o.position c.log store.logging store.installing)
+        (sym has.core);
     begun = ap (λ (n : ℕ). n + 1) is_told.begun ∙ sym (ap (λ (c : CoreState). c.begun) has.core ∙ has.next);
   }
 
@@ -125,37 +129,51 @@ module _ (o : Setting) (told : Told) (number : ℕ) (store : StoreSide) (is_told
       begun = is_told.begun ∙ sym (ap (λ (c : CoreState). c.begun) took.only);
     }
     committed_told tx done (commit.Full back change) is =
-        kept (Some (step.Commit (added_blocks store.core.log (blocks_of done.written)) committing.Full)) refl refl (same_core store.core new.core is.0.core)
+        kept (Some (step.Commit (added_blocks store.core.log (blocks_of done.written)) committing.Full)) refl
+        refl (same_core store.core new.core is.0.core)
     committed_told tx done (commit.Foreign back change) is =
-        kept (Some (step.Commit (added_blocks store.core.log (blocks_of done.written)) committing.Foreign)) refl refl (same_core store.core new.core is.0.core)
+        kept (Some (step.Commit (added_blocks store.core.log (blocks_of done.written)) committing.Foreign))
+        refl refl (same_core store.core new.core is.0.core)
     committed_told tx done (commit.NoMemory back change) is =
-        kept (Some (step.Commit (added_blocks store.core.log (blocks_of done.written)) committing.NoMemory)) refl refl (same_core store.core new.core is.0.core)
+        kept (Some (step.Commit (added_blocks store.core.log (blocks_of done.written)) committing.NoMemory))
+        refl refl (same_core store.core new.core is.0.core)
     committed_told tx done (commit.Broken back change) is =
-        kept (Some (step.Commit (added_blocks store.core.log (blocks_of done.written)) committing.Broken)) refl refl (same_core store.core new.core is.0.core)
+        kept (Some (step.Commit (added_blocks store.core.log (blocks_of done.written)) committing.Broken))
+        refl refl (same_core store.core new.core is.0.core)
     committed_told tx done (commit.Spent back change) is =
-        kept (Some (step.Commit (added_blocks store.core.log (blocks_of done.written)) committing.Spent)) refl refl (same_core store.core new.core is.0.core)
+        kept (Some (step.Commit (added_blocks store.core.log (blocks_of done.written)) committing.Spent)) refl
+        refl (same_core store.core new.core is.0.core)
 
     given_told : (ok : Bool) (io : Fetch) (made : Step) → worker.begun.io ≡ Some io
         → HasGivenBack ok io old made new → Tells (Read ok) (Some (given_step ok io))
-    given_told true io made io_is has = kept (Some (step.Fetched io.block)) refl refl (given_back true io old made new has)
-    given_told false io made io_is has = kept (Some (step.FetchFailed io.block)) refl refl (given_back false io old made new has)
+    given_told true io made io_is has = kept (Some (step.Fetched io.block)) refl refl
+        (given_back true io old made new has)
+    given_told false io made io_is has = kept (Some (step.FetchFailed io.block)) refl refl
+        (given_back false io old made new has)
 
     told_cases : Cases old new Tells
     told_cases = record {
       idle = λ is. kept None refl refl (same_core store.core new.core (ap (λ (s : Side). s.core) is));
       reading = λ is. kept None refl refl (same_core store.core new.core (ap (λ (s : Side). s.core) is));
       begun = λ job one job_is served has. begun_told job one has;
-      not_begun = λ job why job_is served none core is. kept (Some (step.Begun (Err why))) refl refl (same_core store.core new.core core);
-      replied = λ job job_is served core is. kept (Some step.Replied) refl refl (same_core store.core new.core core);
+      not_begun = λ job why job_is served none core is. kept (Some (step.Begun (Err why))) refl refl
+          (same_core store.core new.core core);
+      replied = λ job job_is served core is. kept (Some step.Replied) refl refl
+          (same_core store.core new.core core);
       wanted = λ tx addr made tx_is next has.
-          kept (Some (step.Wanted addr modes.Exclusive (wish_of has.answer))) refl refl (wanted store.core new.core tx addr has.answer has.core);
+          kept (Some (step.Wanted addr modes.Exclusive (wish_of has.answer))) refl refl
+          (wanted store.core new.core tx addr has.answer has.core);
       claimed = λ tx block made tx_is next has. absurd next.plan.1;
       committed = λ job tx done made tx_is next job_is has. committed_told tx done has.answer has.core;
-      lacked = λ tx made tx_is has. kept (Some (step.Ended ending.NoMemory)) refl refl (aborted tx store.core new.core has.core);
+      lacked = λ tx made tx_is has. kept (Some (step.Ended ending.NoMemory)) refl refl
+          (aborted tx store.core new.core has.core);
       given = given_told;
-      refused = λ why job tx made job_is tx_is has. kept (Some (step.Ended ending.Refused)) refl refl (aborted tx store.core new.core has.core);
-      left = λ tx made tx_is has. kept (Some (step.Ended ending.Again)) refl refl (aborted tx store.core new.core has.core);
-      waited = λ place made has. kept (Some (step.Stable place has.settled)) refl refl (same_core store.core new.core has.core);
+      refused = λ why job tx made job_is tx_is has. kept (Some (step.Ended ending.Refused)) refl refl
+          (aborted tx store.core new.core has.core);
+      left = λ tx made tx_is has. kept (Some (step.Ended ending.Again)) refl refl
+          (aborted tx store.core new.core has.core);
+      waited = λ place made has. kept (Some (step.Stable place has.settled)) refl refl
+          (same_core store.core new.core has.core);
     }
 
     pub step_told : (made : Option Step) → GoesOn worker.phase old made new
@@ -173,8 +191,10 @@ module _ (old new : Side) where
       → Stands Planning (Some (step.Commit added (committing_of answer)))
   uncommitted tx done (commit.Committed place) added is none = absurd (true≢false none)
   uncommitted tx done (commit.Full back change) added is none = (same_core old.core new.core is.0.core).beside
-  uncommitted tx done (commit.Foreign back change) added is none = (same_core old.core new.core is.0.core).beside
-  uncommitted tx done (commit.NoMemory back change) added is none = (same_core old.core new.core is.0.core).beside
+  uncommitted tx done (commit.Foreign back change) added is none =
+      (same_core old.core new.core is.0.core).beside
+  uncommitted tx done (commit.NoMemory back change) added is none =
+      (same_core old.core new.core is.0.core).beside
   uncommitted tx done (commit.Broken back change) added is none = (same_core old.core new.core is.0.core).beside
   uncommitted tx done (commit.Spent back change) added is none = (same_core old.core new.core is.0.core).beside
 
@@ -191,7 +211,8 @@ module _ (old new : Side) where
     replied = λ job job_is served core is none. (same_core old.core new.core core).beside;
     wanted = λ tx addr made tx_is next has none. (wanted old.core new.core tx addr has.answer has.core).beside;
     claimed = λ tx block made tx_is next has none. absurd next.plan.1;
-    committed = λ job tx done made tx_is next job_is has. uncommitted tx done has.answer (added_blocks old.core.log (blocks_of done.written)) has.core;
+    committed = λ job tx done made tx_is next job_is has. uncommitted tx done has.answer
+        (added_blocks old.core.log (blocks_of done.written)) has.core;
     lacked = λ tx made tx_is has none. (aborted tx old.core new.core has.core).beside;
     given = λ ok io made io_is has none. (given_back ok io old made new has).beside;
     refused = λ why job tx made job_is tx_is has none. (aborted tx old.core new.core has.core).beside;

@@ -10,8 +10,8 @@ use Rattle.store_promise.specs.Schedule.{Schedule}
 use Rattle.store_promise.specs.Transcript.{transcript_of}
 use Rattle.store_runs.specs.FormattedRun.{answer_of}
 
-pub is_answered : (keeps_model : Type 0) (before later : Device) (tree : Tree) (first workers : ℕ) (events : Schedule)
-    (answer : Result Run OpenFault)
+pub is_answered : (keeps_model : Type 0) (before later : Device) (tree : Tree) (first workers : ℕ)
+    (events : Schedule) (answer : Result Run OpenFault)
     → MatchResult answer
     (λ told. IsPromised keeps_model before later tree first workers events (Ok (transcript_of told)))
     (λ fault. IsPromised keeps_model before later tree first workers events (Err fault))

@@ -65,10 +65,11 @@ module _ (b : Beginning) (now : Event) (old new : StoreSide) (made : Option Step
     device = left.device;
     same = refl;
     blocks = λ place within. refl;
-    running = subst (λ (es : List Entry). IsRunningOver o going.base new (fetches_of later) (b.first + 1) b.tree es
-        going.last) (sym (same_entries t made)) left.running;
+    running = subst (λ (es : List Entry). IsRunningOver o going.base new (fetches_of later)
+        (b.first + 1) b.tree es going.last) (sym (same_entries t made)) left.running;
     told = left.told;
-    leads = subst (λ (es : List Entry). leads_to b.tree es going.last) (sym (same_entries t made)) going.run.leads;
+    leads = subst (λ (es : List Entry). leads_to b.tree es going.last) (sym (same_entries t made))
+        going.run.leads;
     files = λ place. subst (λ (es : List Entry). StandsAfter o.geometry b.tree (take place es) (o.blocks place))
         (sym (same_entries t made)) (going.run.files place);
     changes = tt;

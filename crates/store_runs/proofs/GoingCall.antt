@@ -48,8 +48,8 @@ takes_none : (other : ℕ) (ctx : Ctx) (call : Call) (old new : State) (made : O
 takes_none other ctx call old new None takes = (refl, takes.0)
 takes_none other ctx call old new (Some made) takes = absurd (not_first other takes.1)
 
-module _ (b : Beginning) (credential : Credential) (moment : Moment) (call : Call) (ctx : Ctx) (store : StoreSide)
-    (worker new : State) (made : Option Step) (before : Run) (alone : b.workers ≡ 1)
+module _ (b : Beginning) (credential : Credential) (moment : Moment) (call : Call) (ctx : Ctx)
+    (store : StoreSide) (worker new : State) (made : Option Step) (before : Run) (alone : b.workers ≡ 1)
     (still : (made : Option Step) → calls_device made ≡ false → IsMovedBy store.device made store.device)
     (going : IsGoing b store worker before) where
   abbrev pub t : Transcript
@@ -66,7 +66,8 @@ module _ (b : Beginning) (credential : Credential) (moment : Moment) (call : Cal
 
   -- what is left with the call, of the worker of this number
   abbrev pub LeftBy : ℕ → Type 0
-  LeftBy number = Leaves b (event.Call number credential moment call) o going.base going.last t store store made new
+  LeftBy number = Leaves b (event.Call number credential moment call) o going.base going.last t store
+      store made new
 
   progress_then : (made : Option Step) → progress_of new ≡ once_handed job made (progress_of worker)
       → (told_after told (event.Call 0 credential moment call) made).workers 0 ≡ progress_of new
@@ -83,8 +84,8 @@ module _ (b : Beginning) (credential : Credential) (moment : Moment) (call : Cal
       others = λ none. absurd (none (is_there b.workers alone));
     };
     device = still made (calls_none 0 ctx call worker new made takes);
-    running = subst (λ fetches. IsRunningOver o going.base store fetches (b.first + 1) b.tree (entries_of t) going.last)
-        (sym fetches) going.run.running;
+    running = subst (λ fetches. IsRunningOver o going.base store fetches (b.first + 1) b.tree
+        (entries_of t) going.last) (sym fetches) going.run.running;
     told = told_then;
     stands = tells.stands;
     at_work = at_work;

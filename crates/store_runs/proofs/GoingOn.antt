@@ -19,9 +19,11 @@ use Rattle.store_promise.specs.declared.transcript.Run.{Run}
 use Rattle.store_promise.specs.Headline.{StandsAfter}
 use Rattle.store_promise.specs.LogTold.{CallTold, LogTold, idle, may_install_told, may_log_told, out, was_made}
 use Rattle.store_promise.specs.NextCall.{IsNextOfInstalling, next_log_call}
-use Rattle.store_promise.specs.Running.{GoesOnBy, IsLogStep, IsRunningOver, KeepsTransactions, StoreSide, home_next, told_next}
+use Rattle.store_promise.specs.Running.{GoesOnBy, IsLogStep, IsRunningOver, KeepsTransactions, StoreSide}
+use Rattle.store_promise.specs.Running.{home_next, told_next}
 use Rattle.store_promise.specs.Schedule.{IsNextOfInstaller, IsNextOfLog, IsStepOfInstIo, IsStepOfInstaller}
-use Rattle.store_promise.specs.Schedule.{IsStepOfLog, IsStepOfLogIo, IsTaken, Setting, Told, told_after, worker_of}
+use Rattle.store_promise.specs.Schedule.{IsStepOfLog, IsStepOfLogIo, IsTaken, Setting, Told, told_after}
+use Rattle.store_promise.specs.Schedule.{worker_of}
 use Rattle.store_promise.specs.Transcript.{Transcript, entries_of, entry_of, transcript_of}
 use Rattle.run_law.specs.Noting.{Noted, commits, ends_of, progress_now, told_now, with_noted}
 use Rattle.run_law.specs.Run.{Beginning, GoesOn, IsRun}
@@ -43,8 +45,8 @@ use Rattle.store_workers.specs.declared.workers.parts.State.{State}
 -- ---- any event
 
 -- with what an event has told the run goes on
-pub goes_on_with : (b : Beginning) (later : Setting) (home : Image) (next : Tree) (new : StoreSide) (worker : State)
-    (before after : Run) (noted : Noted) (now : Event)
+pub goes_on_with : (b : Beginning) (later : Setting) (home : Image) (next : Tree) (new : StoreSide)
+    (worker : State) (before after : Run) (noted : Noted) (now : Event)
     → transcript_of after ≡ with_noted (transcript_of before) noted
     → IsRun b later (with_noted (transcript_of before) noted) home new (fetches_of worker) next
     → told_now b.events (with_noted (transcript_of before) noted)
@@ -53,15 +55,17 @@ pub goes_on_with : (b : Beginning) (later : Setting) (home : Image) (next : Tree
     → IsCoreAtWork worker new.core
     → (told_after (told_now b.events (transcript_of before)) now noted.made).workers 0 ≡ progress_of worker
     → IsGoing b new worker after
-goes_on_with b later home next new worker before after noted now same run told stands at_work progress = record {
-  setting = later;
-  base = home;
-  last = next;
-  run = subst (λ (t : Transcript). IsRun b later t home new (fetches_of worker) next) (sym same) run;
-  stands = subst (λ (t : Transcript). IsWorkerAt (b.first + 1) (entries_of t) worker) (sym same) stands;
-  at_work = at_work;
-  progress = ap (λ (t : Transcript). progress_now b.events t 0) same ∙ ap (λ (t : Told). t.workers 0) told ∙ progress;
-}
+goes_on_with b later home next new worker before after noted now same run told stands at_work
+    progress = record {
+      setting = later;
+      base = home;
+      last = next;
+      run = subst (λ (t : Transcript). IsRun b later t home new (fetches_of worker) next) (sym same) run;
+      stands = subst (λ (t : Transcript). IsWorkerAt (b.first + 1) (entries_of t) worker) (sym same) stands;
+      at_work = at_work;
+      progress = ap (λ (t : Transcript). progress_now b.events t 0) same
+          ∙ ap (λ (t : Told). t.workers 0) told ∙ progress;
+    }
 
 -- an event that tells its step alone
 abbrev pub step_alone : Option Step → Noted
@@ -76,7 +80,8 @@ tells_step made before after notes = λ i. record {
   steps = notes.steps i;
 }
 
-pub same_entries : (t : Transcript) (made : Option Step) → entries_of (with_noted t (step_alone made)) ≡ entries_of t
+pub same_entries : (t : Transcript) (made : Option Step)
+    → entries_of (with_noted t (step_alone made)) ≡ entries_of t
 same_entries t made = ap (map entry_of) (append-nil t.history)
 
 -- ---- the worker while the log's side goes on
@@ -86,7 +91,8 @@ map_some : {X : Type 0} (P Q : X → Type 0) (found : Option X) → ((x : X) →
 map_some P Q None go has = absurd has
 map_some P Q (Some x) go has = go x has
 
-module _ (old new : CoreState) (kept : KeepsTransactions old new) (blocks : new.log.blocks ≡ old.log.blocks) where
+module _ (old new : CoreState) (kept : KeepsTransactions old new)
+    (blocks : new.log.blocks ≡ old.log.blocks) where
   same_call : (job : Job) (tx : ℕ) (seen : Seen) → HasOfCall job tx old seen → HasOfCall job tx new seen
   same_call job tx seen has = record {
     blocks = has.blocks ∙ sym blocks;
@@ -140,8 +146,8 @@ module _ (old new : CoreState) (kept : KeepsTransactions old new) (blocks : new.
       (λ (number : ℕ). AreLoadedFor new number asked.fetched
       × IsSomeAnd asked.wish (λ addr. has_taken new number addr ≡ true)) tx (λ number both. (
         all_loaded number asked.fetched both.0,
-        map_some (λ (addr : Addr). has_taken old number addr ≡ true) (λ (addr : Addr). has_taken new number addr ≡ true)
-            asked.wish (still_taken number) both.1,
+        map_some (λ (addr : Addr). has_taken old number addr ≡ true)
+            (λ (addr : Addr). has_taken new number addr ≡ true) asked.wish (still_taken number) both.1,
       )) has
 
   same_loads : (phase : Phase) (tx : Option ℕ) (asked : Asking) → LoadsFor phase tx asked old
@@ -149,7 +155,8 @@ module _ (old new : CoreState) (kept : KeepsTransactions old new) (blocks : new.
   same_loads Idle tx asked has = tt
   same_loads Called tx asked has = tt
   same_loads Planning tx asked has =
-      map_some (λ (number : ℕ). AreLoadedFor old number asked.fetched) (λ (number : ℕ). AreLoadedFor new number asked.fetched)
+      map_some (λ (number : ℕ). AreLoadedFor old number asked.fetched)
+      (λ (number : ℕ). AreLoadedFor new number asked.fetched)
       tx (λ number. all_loaded number asked.fetched) has
   same_loads Reading tx asked has = same_fetches tx asked has
   same_loads (Read ok) tx asked has = same_fetches tx asked has
@@ -232,12 +239,14 @@ beside_workers (event.Work worker) o log made may = absurd may
 beside_workers (event.Read worker) o log made may = absurd may
 
 -- such an event is of no worker, and its step is one that may be made
-pub record IsOfLogSide (o : Setting) (workers : ℕ) (told : Told) (now : Event) (made : Option Step) : Type 0 where
+pub record IsOfLogSide (o : Setting) (workers : ℕ) (told : Told) (now : Event)
+    (made : Option Step) : Type 0 where
   pub taken : IsTaken o workers told now made
   pub of_none : worker_of now ≡ None
   pub workers_stay : (worker : ℕ) → (told_after told now made).workers worker ≡ told.workers worker
 
-log_workers : (told : Told) (made : Option Step) (worker : ℕ) → (told_after told event.Log made).workers worker ≡ told.workers worker
+log_workers : (told : Told) (made : Option Step) (worker : ℕ)
+    → (told_after told event.Log made).workers worker ≡ told.workers worker
 log_workers told None worker = refl
 log_workers told (Some one) worker = refl
 
@@ -282,14 +291,17 @@ of_log_side o workers told (event.Call worker credential moment call) made may =
 of_log_side o workers told (event.Work worker) made may = absurd may
 of_log_side o workers told (event.Read worker) made may = absurd may
 
-told_log : (told : Told) (now : Event) (made : Option Step) → (told_after told now made).log ≡ told_next told.log made
+told_log : (told : Told) (now : Event) (made : Option Step)
+    → (told_after told now made).log ≡ told_next told.log made
 told_log told now None = refl
 told_log told now (Some one) = refl
 
 -- ---- an event of the log's side
 
-module _ (b : Beginning) (now : Event) (old new : StoreSide) (made : Option Step) (worker : State) (before after : Run)
-    (is_next : IsNextEvent b now before) (is : IsLogStep (may_make now) old made new) (with : GoesWith worker new.core)
+module _ (b : Beginning) (now : Event) (old new : StoreSide) (made : Option Step) (worker : State)
+    (before after : Run)
+    (is_next : IsNextEvent b now before) (is : IsLogStep (may_make now) old made new)
+    (with : GoesWith worker new.core)
     (notes : NotesStep made before after) (going : IsGoing b old worker before) where
   abbrev pub t : Transcript
   t = transcript_of before
@@ -300,9 +312,10 @@ module _ (b : Beginning) (now : Event) (old new : StoreSide) (made : Option Step
   abbrev told : Told
   told = told_now b.events t
 
-  went : GoesOnBy (may_make now) o going.base old made new (fetches_of worker) (b.first + 1) b.tree (entries_of t)
-      going.last
-  went = is.runs o going.base (fetches_of worker) (b.first + 1) b.tree going.last (entries_of t) going.run.running
+  went : GoesOnBy (may_make now) o going.base old made new (fetches_of worker) (b.first + 1) b.tree
+      (entries_of t) going.last
+  went = is.runs o going.base (fetches_of worker) (b.first + 1) b.tree going.last (entries_of t)
+      going.run.running
 
   may : may_make now o told.log made
   may = subst (λ (log : LogTold). may_make now o log made) (sym going.run.told.log) went.may
@@ -329,20 +342,23 @@ module _ (b : Beginning) (now : Event) (old new : StoreSide) (made : Option Step
     device = is.device;
     same = refl;
     blocks = λ place within. refl;
-    running = subst (λ (es : List Entry). IsRunningOver o home new (fetches_of worker) (b.first + 1) b.tree es going.last)
-        (sym (same_entries t made)) went.running;
+    running = subst (λ (es : List Entry). IsRunningOver o home new (fetches_of worker) (b.first + 1) b.tree
+        es going.last) (sym (same_entries t made)) went.running;
     told = record {
-      log = told_log told now made ∙ ap (λ (log : LogTold). told_next log made) going.run.told.log ∙ sym went.told;
+      log = told_log told now made ∙ ap (λ (log : LogTold). told_next log made) going.run.told.log
+          ∙ sym went.told;
       begun = beside.begun told now ∙ going.run.told.begun ∙ sym is.core.begun;
     };
-    leads = subst (λ (es : List Entry). leads_to b.tree es going.last) (sym (same_entries t made)) going.run.leads;
+    leads = subst (λ (es : List Entry). leads_to b.tree es going.last) (sym (same_entries t made))
+        going.run.leads;
     files = λ place. subst (λ (es : List Entry). StandsAfter o.geometry b.tree (take place es) (o.blocks place))
         (sym (same_entries t made)) (going.run.files place);
     changes = tt;
   }
 
   pub goes_on : IsRun b o (with_noted t (step_alone made)) home new (fetches_of worker) going.last
-      → told_now b.events (with_noted t (step_alone made)) ≡ told_after told now made → IsGoing b new worker after
+      → told_now b.events (with_noted t (step_alone made)) ≡ told_after told now made
+      → IsGoing b new worker after
   goes_on run told_then = goes_on_with b o home going.last new worker before after (step_alone made) now
       (tells_step made before after notes) run told_then
       (subst (λ (es : List Entry). IsWorkerAt (b.first + 1) es worker) (sym (same_entries t made)) going.stands)

@@ -25,7 +25,8 @@ pub no_work : (number worker : ℕ) → event.Read number ≡ event.Work worker 
 no_work number worker same = cc
 
 -- what a read brings of a device that keeps its model
-pub with_model : (keeps_model : Type 0) (number : ℕ) (before after : Device) (old new : State) (made : Option Step)
+pub with_model : (keeps_model : Type 0) (number : ℕ) (before after : Device) (old new : State)
+    (made : Option Step)
     → keeps_model → MakesRead number keeps_model before old made after new
     → MakesRead number (Unit {0}) before old made after new
 with_model keeps_model number before after old new None keeps reads = reads
@@ -66,8 +67,8 @@ module _ (b : Beginning) (keeps_model : Type 0) (store : StoreSide) (device : De
 
   -- what is left with the read, of the worker of this number
   abbrev pub LeftBy : Option Step → ℕ → Type 0
-  LeftBy made number = Leaves b (event.Read number) o going.base going.last t store (record store { device = device })
-      made new
+  LeftBy made number = Leaves b (event.Read number) o going.base going.last t store
+      (record store { device = device }) made new
 
   taken : (made : Option Step) → IsStepOfRead (progress_of worker) made
       → IsTaken o b.workers told (event.Read 0) made
@@ -80,9 +81,11 @@ module _ (b : Beginning) (keeps_model : Type 0) (store : StoreSide) (device : De
   unmoved : (number : ℕ) → new ≡ worker → device ≡ store.device
       → Leaves b (event.Read number) o going.base going.last t store store None worker → LeftBy None number
   unmoved number same at left =
-      subst (λ (d : Device). Leaves b (event.Read number) o going.base going.last t store (record store { device = d })
+      subst (λ (d : Device). Leaves b (event.Read number) o going.base going.last t store
+      (record store { device = d })
       None new) (sym at)
-      (subst (λ (s : State). Leaves b (event.Read number) o going.base going.last t store store None s) (sym same) left)
+      (subst (λ (s : State). Leaves b (event.Read number) o going.base going.last t store store None s)
+      (sym same) left)
 
   none_due : new ≡ worker → device ≡ store.device → TellsRead (b.first + 1) (entries_of t) worker None worker
       → LeftBy None 0
@@ -106,13 +109,15 @@ module _ (b : Beginning) (keeps_model : Type 0) (store : StoreSide) (device : De
 
     pub was_read : TellsRead (b.first + 1) (entries_of t) worker (Some one) then_worker
         → IsMovedBy store.device (Some one) device
-        → IsRunningOver o going.base (record store { device = device }) (fetches_of then_worker) (b.first + 1) b.tree
+        → IsRunningOver o going.base (record store { device = device }) (fetches_of then_worker)
+        (b.first + 1) b.tree
         (entries_of t) going.last
         → IsTold o (told_after told (event.Read 0) (Some one)) (record store { device = device })
         → IsCoreAtWork then_worker store.core → LeftBy (Some made) 0
     was_read tells moved running told_then at_work =
         subst (λ (m : Step). LeftBy (Some m) 0) (sym read.made_is)
-        (subst (λ (s : State). Leaves b (event.Read 0) o going.base going.last t store (record store { device = device })
+        (subst (λ (s : State). Leaves b (event.Read 0) o going.base going.last t store
+        (record store { device = device })
         (Some one) s) (sym read.worker) (record {
           taken = taken (Some one) tells.may;
           device = moved;
@@ -124,7 +129,8 @@ module _ (b : Beginning) (keeps_model : Type 0) (store : StoreSide) (device : De
               ∙ sym (tells.progress told.log.broken);
         }))
 
-  pub left_by : (number : ℕ) (made : Option Step) → MakesRead number keeps_model store.device worker made device new
+  pub left_by : (number : ℕ) (made : Option Step)
+      → MakesRead number keeps_model store.device worker made device new
       → ((worker.phase ≡ Reading → ⊥) → TellsRead (b.first + 1) (entries_of t) worker None worker)
       → ((one : Step) → worker.phase ≡ Reading → HasReadBlock keeps_model store.device worker one device new
       → LeftBy (Some one) 0)

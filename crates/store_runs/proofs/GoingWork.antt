@@ -1,6 +1,7 @@
 -- A run goes on with a step of its worker's work.
 use Rattle.std.proofs.Common.{◌≡◌, ◌∙◌, refl, sym, ap, subst, ℕ, zero, suc, ◌+◌, ◌<◌, ◌≤◌, ◌++◌, ◌∷◌, [], arith}
-use Rattle.std.proofs.Common.{Bool, true, false, not, ◌&&◌, if◌then◌else◌, nat_le, List, map, length, take, slice_get}
+use Rattle.std.proofs.Common.{Bool, true, false, not, ◌&&◌, if◌then◌else◌, nat_le, List, map, length, take}
+use Rattle.std.proofs.Common.{slice_get}
 use Rattle.std.proofs.Common.{Option, Some, None, length-append}
 use Rattle.std.proofs.lemmas.Bool.{le-leb, lt-leb, leb-true, leb-false}
 use Rattle.std.proofs.lemmas.List.{append-nil, length-map, map-append, take-append-le, take_all}
@@ -54,7 +55,8 @@ use Rattle.store_runs.proofs.OwnChanges.{keeps_others, planned_has}
 none_calls : (made : Option Step) → made ≡ None → calls_device made ≡ false
 none_calls made none = ap calls_device none
 
-some_calls : (made : Step) (one : Step) → made ≡ one → calls_device (Some one) ≡ false → calls_device (Some made) ≡ false
+some_calls : (made : Step) (one : Step) → made ≡ one → calls_device (Some one) ≡ false
+    → calls_device (Some made) ≡ false
 some_calls made one is none = ap (λ (s : Step). calls_device (Some s)) is ∙ none
 
 module _ (o : Setting) (told : Told) (worker : ℕ) where
@@ -63,17 +65,20 @@ module _ (o : Setting) (told : Told) (worker : ℕ) where
   by_stage job Called None is = refl
   by_stage job Called (Some (step.Read block ok)) is = by_rules (has_rules job.call) is
     where
-      by_rules : (rules : Bool) → IsStepOfCalled told rules (step.Read block ok) → calls_device (Some (step.Read block ok)) ≡ false
+      by_rules : (rules : Bool) → IsStepOfCalled told rules (step.Read block ok)
+          → calls_device (Some (step.Read block ok)) ≡ false
       by_rules true is = absurd is
       by_rules false is = cc
   by_stage job Called (Some (step.LogIo ok)) is = by_rules (has_rules job.call) is
     where
-      by_rules : (rules : Bool) → IsStepOfCalled told rules (step.LogIo ok) → calls_device (Some (step.LogIo ok)) ≡ false
+      by_rules : (rules : Bool) → IsStepOfCalled told rules (step.LogIo ok)
+          → calls_device (Some (step.LogIo ok)) ≡ false
       by_rules true is = absurd is
       by_rules false is = cc
   by_stage job Called (Some (step.InstIo ok)) is = by_rules (has_rules job.call) is
     where
-      by_rules : (rules : Bool) → IsStepOfCalled told rules (step.InstIo ok) → calls_device (Some (step.InstIo ok)) ≡ false
+      by_rules : (rules : Bool) → IsStepOfCalled told rules (step.InstIo ok)
+          → calls_device (Some (step.InstIo ok)) ≡ false
       by_rules true is = absurd is
       by_rules false is = cc
   by_stage job Called (Some _) is = refl
@@ -112,7 +117,8 @@ pub data Noting (boot clock : ℕ) (progress : Progress) (made : Option Step) (b
 
 pub noting : (boot clock : ℕ) (progress : Progress) (made : Option Step) (before mid : Run)
     → NotesHistory boot clock progress made before mid → Noting boot clock progress made before mid
-noting boot clock progress (Some (step.Commit added (committing.Committed place))) before mid is = with_one added place refl is
+noting boot clock progress (Some (step.Commit added (committing.Committed place))) before mid is =
+    with_one added place refl is
 noting boot clock progress (Some (step.Commit added committing.Full)) before mid is = with_none refl refl is
 noting boot clock progress (Some (step.Commit added committing.Foreign)) before mid is = with_none refl refl is
 noting boot clock progress (Some (step.Commit added committing.NoMemory)) before mid is = with_none refl refl is
@@ -141,13 +147,16 @@ both_true false other is = cc
 
 -- ---- the event
 
-module _ (b : Beginning) (clock : ℕ) (store : StoreSide) (worker new : State) (core : CoreState) (made : Option Step)
-    (before mid after : Run) (is_next : IsNextEvent b (event.Work 0) before) (going : IsGoing b store worker before)
+module _ (b : Beginning) (clock : ℕ) (store : StoreSide) (worker new : State) (core : CoreState)
+    (made : Option Step)
+    (before mid after : Run) (is_next : IsNextEvent b (event.Work 0) before)
+    (going : IsGoing b store worker before)
     (clock_is : clock ≡ clock_now (transcript_of before))
     (worked : HasWorked 0 clock (side worker store.core) made (side new core) before mid)
     (kept : KeepsCore (side worker store.core) (side new core)) (last_note : NotesStep made mid after)
     (notes : NotesWork (b.first + 1) clock (side worker store.core) made (side new core) before mid)
-    (may : IsStepOfWork going.setting (told_now b.events (transcript_of before)) 0 (progress_of worker) made) where
+    (may : IsStepOfWork going.setting (told_now b.events (transcript_of before)) 0
+    (progress_of worker) made) where
   abbrev pub t : Transcript
   t = transcript_of before
 
@@ -177,7 +186,8 @@ module _ (b : Beginning) (clock : ℕ) (store : StoreSide) (worker new : State) 
     is_of = record {
       event_is = ap event.Work (sym n.worker);
       blocks = added;
-      made_is = made_is ∙ ap (λ (at : ℕ). Some (step.Commit added (committing.Committed (record { 0 = at })))) n.next;
+      made_is = made_is ∙ ap (λ (at : ℕ). Some
+          (step.Commit added (committing.Committed (record { 0 = at })))) n.next;
       job = n.job;
       begun = n.begun;
       planned = ap (λ (w : ℕ). progress_now b.events t w) n.worker ∙ going.progress ∙ n.planned;
@@ -203,7 +213,8 @@ module _ (b : Beginning) (clock : ℕ) (store : StoreSide) (worker new : State) 
   broken_is : so_far.log.broken ≡ store.core.log.broken
   broken_is = ap (λ log. log.broken) going.run.told.log
 
-  progress_by : (m : Option Step) → progress_of new ≡ progress_after store.core.log.broken m (progress_of worker)
+  progress_by : (m : Option Step) → progress_of new ≡ progress_after store.core.log.broken m
+      (progress_of worker)
       → (told_after so_far (event.Work 0) m).workers 0 ≡ progress_of new
   progress_by None is = going.progress ∙ sym is
   progress_by (Some one) is = ap (λ (p : Progress). progressed so_far.log.broken one p) going.progress
@@ -306,11 +317,12 @@ module _ (b : Beginning) (clock : ℕ) (store : StoreSide) (worker new : State) 
       device = moved (work_calls_nothing o so_far 0 (progress_of worker) made may);
       same = left.setting;
       blocks = left.blocks;
-      running = subst (λ (es : List Entry). IsRunningOver left.later going.base then_store (fetches_of new) boot b.tree es
-          left.next) (sym entries_are) left.running;
+      running = subst (λ (es : List Entry). IsRunningOver left.later going.base then_store (fetches_of new)
+          boot b.tree es left.next) (sym entries_are) left.running;
       told = record {
         log = told_then.log
-            ∙ ap (λ (s : Setting). log_told s.position core.log store.logging store.installing) (sym left.setting);
+            ∙ ap (λ (s : Setting). log_told s.position core.log store.logging store.installing)
+            (sym left.setting);
         begun = told_then.begun;
       };
       leads = subst (λ (es : List Entry). leads_to b.tree es left.next) (sym entries_are) left.leads;
@@ -320,10 +332,12 @@ module _ (b : Beginning) (clock : ℕ) (store : StoreSide) (worker new : State) 
     }
 
     pub goes_on : IsRun b left.later (with_noted t noted) going.base then_store (fetches_of new) left.next
-        → told_now b.events (with_noted t noted) ≡ then_told → IsCoreAtWork new core → IsGoing b then_store new after
-    goes_on run told_is at_work = goes_on_with b left.later going.base left.next then_store new before after noted
-        (event.Work 0) same run told_is
-        (subst (λ (es : List Entry). IsWorkerAt boot es new) (sym entries_are) notes.stands) at_work progress_then
+        → told_now b.events (with_noted t noted) ≡ then_told → IsCoreAtWork new core
+        → IsGoing b then_store new after
+    goes_on run told_is at_work = goes_on_with b left.later going.base left.next then_store new
+        before after noted (event.Work 0) same run told_is
+        (subst (λ (es : List Entry). IsWorkerAt boot es new) (sym entries_are) notes.stands)
+        at_work progress_then
 
   -- ---- what it leaves, with a place and without
   module _ (state_is : new ≡ told worked.state) where
@@ -334,7 +348,8 @@ module _ (b : Beginning) (clock : ℕ) (store : StoreSide) (worker new : State) 
     same_fetches = ap fetches_of state_is
 
     beside : has_committed made ≡ false → mid.history.items ≡ before.history.items
-        → IsRunningOver o going.base then_store (fetches_of worked.state) boot b.tree (entries_of t) going.last → Left None
+        → IsRunningOver o going.base then_store (fetches_of worked.state) boot b.tree (entries_of t)
+        going.last → Left None
     beside uncommitted history running = record {
       later = o;
       next = going.last;
@@ -342,12 +357,13 @@ module _ (b : Beginning) (clock : ℕ) (store : StoreSide) (worker new : State) 
       blocks = λ place within. refl;
       running = subst (λ fetches. IsRunningOver o going.base then_store fetches boot b.tree
           (entries_of (transcript_of mid)) going.last) (sym same_fetches)
-          (subst (λ (cs : List Committed). IsRunningOver o going.base then_store (fetches_of worked.state) boot b.tree
+          (subst (λ (cs : List Committed). IsRunningOver o going.base then_store
+          (fetches_of worked.state) boot b.tree
           (map entry_of cs) going.last) (sym history) running);
       leads = subst (λ (cs : List Committed). leads_to b.tree (map entry_of cs) going.last) (sym history)
           going.run.leads;
-      files = λ place. subst (λ (cs : List Committed). StandsAfter o.geometry b.tree (take place (map entry_of cs))
-          (o.blocks place)) (sym history) (going.run.files place);
+      files = λ place. subst (λ (cs : List Committed). StandsAfter o.geometry b.tree
+          (take place (map entry_of cs)) (o.blocks place)) (sym history) (going.run.files place);
       changes = tt;
     }
 
@@ -376,10 +392,12 @@ module _ (b : Beginning) (clock : ℕ) (store : StoreSide) (worker new : State) 
           (entries_told 0 (length before.steps.items) clock (Some goes_with.taken.entry))
 
       early : (place : ℕ) → place ≤ length (entries_of t) → later.blocks place ≡ o.blocks place
-      early place few = ap (λ (t : Bool). if t then o.blocks place else now) (le-leb place (length (entries_of t)) few)
+      early place few = ap (λ (t : Bool). if t then o.blocks place else now)
+          (le-leb place (length (entries_of t)) few)
 
       late : (place : ℕ) → length (entries_of t) < place → later.blocks place ≡ now
-      late place many = ap (λ (t : Bool). if t then o.blocks place else now) (lt-leb place (length (entries_of t)) many)
+      late place many = ap (λ (t : Bool). if t then o.blocks place else now)
+          (lt-leb place (length (entries_of t)) many)
 
       leads : leads_to b.tree (entries_of t ++ entry ∷ []) goes_with.left
       leads = push b.tree going.last goes_with.left (entries_of t) entry going.run.leads goes_with.goes
@@ -398,7 +416,8 @@ module _ (b : Beginning) (clock : ℕ) (store : StoreSide) (worker new : State) 
             left = had.left;
             leads = subst (λ (es : List Entry). leads_to b.tree es had.left)
                 (sym (take-append-le place (entries_of t) (entry ∷ []) within)) had.leads;
-            stands = subst (λ (image : Image). Stands o.geometry image had.left) (sym (early place within)) had.stands;
+            stands = subst (λ (image : Image). Stands o.geometry image had.left)
+                (sym (early place within)) had.stands;
           }
       files_by place false is =
           let past = leb-false place (length (entries_of t)) is in
@@ -407,7 +426,8 @@ module _ (b : Beginning) (clock : ℕ) (store : StoreSide) (worker new : State) 
             left = goes_with.left;
             leads = subst (λ (es : List Entry). leads_to b.tree es goes_with.left)
                 (sym (take_all place (entries_of t ++ entry ∷ []) (omega (arith, past, long)))) leads;
-            stands = subst (λ (image : Image). Stands o.geometry image goes_with.left) (sym (late place past)) stands_now;
+            stands = subst (λ (image : Image). Stands o.geometry image goes_with.left)
+                (sym (late place past)) stands_now;
           }
 
       -- the blocks that it changed
@@ -415,7 +435,8 @@ module _ (b : Beginning) (clock : ℕ) (store : StoreSide) (worker new : State) 
       counted = length-map before.history.items entry_of
 
       others : (j : Job) (begun : Begun) → progress_of worker ≡ At j (Planning begun) → (seen : Option Seen)
-          → seen_in worker.work.snap ≡ seen → IsSomeAnd seen (λ seen. All (IsSeenIn seen) goes_with.taken.plan.written)
+          → seen_in worker.work.snap ≡ seen → IsSomeAnd seen
+          (λ seen. All (IsSeenIn seen) goes_with.taken.plan.written)
           → KeepsOthers b.opened.size begun (file_blocks going.base store.core) now
       others j begun planned None is own = absurd own
       others j begun planned (Some seen) is own =
@@ -423,7 +444,8 @@ module _ (b : Beginning) (clock : ℕ) (store : StoreSide) (worker new : State) 
           let had = going.run.files (length t.history) in
           subst (λ (image : Image). KeepsOthers b.opened.size begun (file_blocks going.base store.core) image)
           (sym goes_with.writes)
-          (keeps_others b.opened.size begun seen (file_blocks going.base store.core) goes_with.taken.plan.written
+          (keeps_others b.opened.size begun seen (file_blocks going.base store.core)
+          goes_with.taken.plan.written
           (has.0 ∙ ap held_in is) (has.1 ∙ ap claimed_in is) own goes_with.taken.took.group.sizes
           (λ block within. subst (λ (image : Image). length (image block) ≡ BLOCK_BYTES) before_it
           (had.stands.bytes block (let same = going.run.geometry.blocks in omega (arith, within, same))).0))
@@ -435,7 +457,8 @@ module _ (b : Beginning) (clock : ℕ) (store : StoreSide) (worker new : State) 
         job = j;
         begun = begun;
         planned = ap (λ (w : ℕ). progress_now b.events t w) worker_is ∙ going.progress ∙ planned;
-        others = subst (λ (next : Image). KeepsOthers b.opened.size begun (later.blocks (length t.history)) next)
+        others = subst (λ (next : Image). KeepsOthers b.opened.size begun
+            (later.blocks (length t.history)) next)
             (sym (late (length t.history + 1) (let same = counted in omega (arith, same))))
             (subst (λ (here : Image). KeepsOthers b.opened.size begun here now)
             (sym (early (length t.history) (let same = counted in omega (arith, same)) ∙ before_it))
@@ -451,18 +474,22 @@ module _ (b : Beginning) (clock : ℕ) (store : StoreSide) (worker new : State) 
             omega (arith, within, long));
         running = subst (λ fetches. IsRunningOver later going.base then_store fetches boot b.tree
             (entries_of (transcript_of mid)) goes_with.left) (sym same_fetches)
-            (subst (λ (es : List Entry). IsRunningOver later going.base then_store (fetches_of worked.state) boot b.tree es
+            (subst (λ (es : List Entry). IsRunningOver later going.base then_store (fetches_of worked.state)
+            boot b.tree es
             goes_with.left) (sym entries_then) goes_with.runs);
         leads = subst (λ (es : List Entry). leads_to b.tree es goes_with.left) (sym entries_then) leads;
-        files = λ place. subst (λ (es : List Entry). StandsAfter o.geometry b.tree (take place es) (later.blocks place))
-            (sym entries_then) (files_by place (nat_le place (length (entries_of t))) refl);
+        files = λ place. subst (λ (es : List Entry). StandsAfter o.geometry b.tree (take place es)
+            (later.blocks place)) (sym entries_then)
+            (files_by place (nat_le place (length (entries_of t))) refl);
         changes = changed;
       }
 
     -- by whether it took a place
-    pub left_by : (has_committed made ≡ false → IsRunningOver o going.base then_store (fetches_of worked.state) boot b.tree
+    pub left_by : (has_committed made ≡ false
+        → IsRunningOver o going.base then_store (fetches_of worked.state) boot b.tree
         (entries_of t) going.last)
-        → (has_committed made ≡ true → (goes : GoesOnWith o going.base store step_to boot 0 b.tree (entries_of t) going.last
+        → (has_committed made ≡ true → (goes : GoesOnWith o going.base store step_to boot 0 b.tree
+        (entries_of t) going.last
         (side worker store.core)) × HasFileBlocks going.base core goes.left)
         → ((g h : Geometry) → g.blocks ≡ h.blocks → g.inodes ≡ h.inodes → g ≡ h)
         → o.blocks (length t.history) ≡ file_blocks going.base store.core

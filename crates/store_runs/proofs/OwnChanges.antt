@@ -1,6 +1,7 @@
 -- What a worker's commit writes lies in what its transaction has taken, and so all else stays.
 use Rattle.std.proofs.Common.{◌≡◌, ◌∙◌, sym, ap, subst, ◌⊎◌, inl, inr, ℕ, ◌+◌, ◌<◌, arith, refl}
-use Rattle.std.proofs.Common.{Bool, true, false, ◌&&◌, ◌||◌, nat_eq, nat_lt, List, [], ◌∷◌, map, length, Option, Some, None, All}
+use Rattle.std.proofs.Common.{Bool, true, false, ◌&&◌, ◌||◌, nat_eq, nat_lt, List, [], ◌∷◌, map, length}
+use Rattle.std.proofs.Common.{Option, Some, None, All}
 use Rattle.std.specs.List.{list_any}
 use Rattle.std.proofs.lemmas.Bool.{and_from, and_parts, eq-eqb, eqb-true, lt-ltb, or_left, or_right, true≢false}
 use Rattle.std.proofs.lemmas.List.Elements.{All-weaker}
@@ -30,7 +31,8 @@ use Rattle.store_workers.specs.declared.workers.parts.State.{State}
 
 -- ---- what a planning worker is told to have taken
 
-no_fetch : (job : Option Job) (stage : Taken → told.Stage) (mine : Begun) (wish : Option Addr) (j : told.Job) (b : Begun)
+no_fetch : (job : Option Job) (stage : Taken → told.Stage) (mine : Begun) (wish : Option Addr)
+    (j : told.Job) (b : Begun)
     → ((taken : Taken) → stage taken ≡ Planning b → ⊥)
     → at_stage job (at_fetch stage mine wish) ≡ At j (Planning b) → mine ≡ b
 no_fetch None stage mine wish j b never is = cc
@@ -76,11 +78,13 @@ module _ (addr : Addr) where
   abbrev IsAside : ObjectBytes → Type 0
   IsAside object = Overlap object.addr addr → ⊥
 
-  at_same : (object other : Addr) → same_addr object other ≡ true → Overlap object addr → keeps_off wished (alone other) ≡ true
+  at_same : (object other : Addr) → same_addr object other ≡ true → Overlap object addr
+      → keeps_off wished (alone other) ≡ true
   at_same object other same over =
       let (front, lens) = and_parts (nat_eq object.block.0 other.block.0 && nat_eq object.offset other.offset)
       (nat_eq object.len other.len) same in
-      let (blocks, offsets) = and_parts (nat_eq object.block.0 other.block.0) (nat_eq object.offset other.offset) front in
+      let (blocks, offsets) = and_parts (nat_eq object.block.0 other.block.0)
+      (nat_eq object.offset other.offset) front in
       let block_is = eqb-true object.block.0 other.block.0 blocks in
       let offset_is = eqb-true object.offset other.offset offsets in
       let len_is = eqb-true object.len other.len lens in
@@ -95,7 +99,8 @@ module _ (addr : Addr) where
       (lt-ltb other.offset (addr.offset + addr.len) (omega (arith, offset_is, one))))
       (lt-ltb addr.offset (other.offset + other.len) (omega (arith, offset_is, len_is, two)))) refl
 
-  among_read : (object : Addr) (objects : List ObjectBytes) → is_seen object objects ≡ true → Overlap object addr
+  among_read : (object : Addr) (objects : List ObjectBytes) → is_seen object objects ≡ true
+      → Overlap object addr
       → list_any (keeps_off wished) (map (λ (o : ObjectBytes). alone o.addr) objects) ≡ true
   among_read object [] seen over = absurd (true≢false (sym seen))
   among_read object (o ∷ os) seen over =
@@ -108,7 +113,8 @@ module _ (addr : Addr) where
       by false other rest = or_right (keeps_off wished (alone o.addr)) _
           (rest (sym (ap (λ (t : Bool). t || is_seen object os) other) ∙ seen))
 
-  among_claimed : (block : BlockNo) (claims : List BlockNo) → is_claimed block claims ≡ true → block.0 ≡ addr.block.0
+  among_claimed : (block : BlockNo) (claims : List BlockNo) → is_claimed block claims ≡ true
+      → block.0 ≡ addr.block.0
       → list_any (λ (claim : BlockNo). nat_eq claim.0 addr.block.0) claims ≡ true
   among_claimed block [] claimed at = absurd (true≢false (sym claimed))
   among_claimed block (c ∷ cs) claimed at =
@@ -127,7 +133,8 @@ module _ (addr : Addr) where
     apart : (object : ObjectBytes) → IsSeenIn seen object → IsAside object
     apart object (inl read) over =
         let one : list_any (keeps_off wished) b.held ≡ true =
-        ap (λ (ts : List Taken). list_any (keeps_off wished) ts) held ∙ among_read object.addr seen.objects read over in
+        ap (λ (ts : List Taken). list_any (keeps_off wished) ts) held
+        ∙ among_read object.addr seen.objects read over in
         true≢false (sym (or_left _ _ (or_left _ _ one)) ∙ free)
     apart object (inr claimed) over =
         let one : list_any (λ (claim : BlockNo). nat_eq claim.0 addr.block.0) b.claimed ≡ true =
@@ -143,5 +150,6 @@ pub keeps_others : (size : ℕ) (b : Begun) (seen : Seen) (blocks : Image) (writ
     → KeepsOthers size b blocks (with_objects blocks written)
 keeps_others size b seen blocks written held claims own sizes whole addr within free =
     stays_beside addr blocks written
-    (All-weaker (IsSeenIn seen) (IsAside addr) (λ object is. apart addr b seen held claims free object is) written own)
+    (All-weaker (IsSeenIn seen) (IsAside addr)
+    (λ object is. apart addr b seen held claims free object is) written own)
     sizes (whole addr.block.0 within)

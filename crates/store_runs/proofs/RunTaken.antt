@@ -44,7 +44,8 @@ calls_are b store worker clock told at =
 pub clock_told : (b : Beginning) (store : StoreSide) (worker : State) (clock : ℕ) (told : Run)
     → IsRunAt b (record { store = store; worker = worker; clock = clock }) told
     → clock ≡ clock_now (transcript_of told)
-clock_told b store worker clock told at = calls_are b store worker clock told at ∙ sym (clock_is (transcript_of told))
+clock_told b store worker clock told at =
+    calls_are b store worker clock told at ∙ sym (clock_is (transcript_of told))
 
 few_calls : (b : Beginning) (store : StoreSide) (worker : State) (clock : ℕ) (told : Run)
     → IsRunAt b (record { store = store; worker = worker; clock = clock }) told
@@ -66,8 +67,9 @@ counted_is clock made few = by_call (calls_device made)
     by_call false = omega arith
 
 -- with an event that may be a call of the device
-pub taken_on : (b : Beginning) (old new : StoreSide) (worker later : State) (clock next : ℕ) (made : Option Step)
-    (before after : Run) → IsRunAt b (record { store = old; worker = worker; clock = clock }) before
+pub taken_on : (b : Beginning) (old new : StoreSide) (worker later : State) (clock next : ℕ)
+    (made : Option Step) (before after : Run)
+    → IsRunAt b (record { store = old; worker = worker; clock = clock }) before
     → length before.steps.items + 1 < 2 ^ 64 → next ≡ counted clock made → IsMovedBy old.device made new.device
     → IsGoing b new later after → IsRunAt b (record { store = new; worker = later; clock = next }) after
 taken_on b old new worker later clock next made before after at few next_is moved going = record {
@@ -97,7 +99,8 @@ read_on b old new worker later clock next made before after at few next_is steps
 }
 
 -- with one that is none
-pub worked_on : (b : Beginning) (old new : StoreSide) (worker later : State) (clock next : ℕ) (before after : Run)
+pub worked_on : (b : Beginning) (old new : StoreSide) (worker later : State) (clock next : ℕ)
+    (before after : Run)
     → IsRunAt b (record { store = old; worker = worker; clock = clock }) before → next ≡ clock
     → new.device ≡ old.device → IsGoing b new later after
     → IsRunAt b (record { store = new; worker = later; clock = next }) after
@@ -119,7 +122,8 @@ untold b run before after same at = record {
     last = at.going.last;
     run = subst (λ (t : Transcript). IsRun b at.going.setting t at.going.base run.store (fetches_of run.worker)
         at.going.last) (sym same) at.going.run;
-    stands = subst (λ (t : Transcript). IsWorkerAt (b.first + 1) (entries_of t) run.worker) (sym same) at.going.stands;
+    stands = subst (λ (t : Transcript). IsWorkerAt (b.first + 1) (entries_of t) run.worker) (sym same)
+        at.going.stands;
     at_work = at.going.at_work;
     progress = ap (λ (t : Transcript). progress_now b.events t 0) same ∙ at.going.progress;
   };

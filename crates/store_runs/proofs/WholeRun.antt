@@ -49,8 +49,9 @@ new_at_work boot core none with = record {
   loads = tt;
 }
 
-module _ (b : Beginning) (o : Setting) (base : Image) (core : CoreState) (state : State) (boot : ℕ) (calls : Calls)
-    (told : Run) (run : IsRun b o (nothing_told (b.first + 1)) base (at_rest b.opened core) [] b.tree)
+module _ (b : Beginning) (o : Setting) (base : Image) (core : CoreState) (state : State) (boot : ℕ)
+    (calls : Calls) (told : Run) (run : IsRun b o (nothing_told (b.first + 1)) base
+    (at_rest b.opened core) [] b.tree)
     (none : core.present ≡ []) (state_is : state ≡ worker.at_rest boot) (boot_is : boot ≡ b.first + 1)
     (calls_are : calls ≡ none_out) (told_boot : told.boot ≡ boot)
     (empty : (told.history.items ≡ []) × (told.answers.items ≡ []) × (told.steps.items ≡ []))
@@ -68,9 +69,10 @@ module _ (b : Beginning) (o : Setting) (base : Image) (core : CoreState) (state 
     setting = o;
     base = base;
     last = b.tree;
-    run = subst (λ (s : State). IsRun b o (transcript_of told) base (side_of b.opened core calls) (fetches_of s) b.tree)
-        (sym state_is)
-        (subst (λ (out : Calls). IsRun b o (transcript_of told) base (side_of b.opened core out) [] b.tree) (sym calls_are)
+    run = subst (λ (s : State). IsRun b o (transcript_of told) base (side_of b.opened core calls)
+        (fetches_of s) b.tree) (sym state_is)
+        (subst (λ (out : Calls). IsRun b o (transcript_of told) base (side_of b.opened core out) [] b.tree)
+        (sym calls_are)
         (subst (λ (t : Transcript). IsRun b o t base (at_rest b.opened core) [] b.tree) (sym told_is) run));
     stands = subst (λ (cs : List Committed). IsWorkerAt (b.first + 1) (map entry_of cs) state) (sym empty.0)
         (subst (λ (n : ℕ). IsWorkerAt n [] state) boot_is stands);
@@ -81,12 +83,14 @@ module _ (b : Beginning) (o : Setting) (base : Image) (core : CoreState) (state 
 
 -- ---- an event
 
-pub next_is : (yielded rest : List Event) (event : Event) → slice_get (yielded ++ event ∷ rest) (length yielded) ≡ Some event
+pub next_is : (yielded rest : List Event) (event : Event)
+    → slice_get (yielded ++ event ∷ rest) (length yielded) ≡ Some event
 next_is [] rest event = refl
 next_is (first ∷ yielded) rest event = next_is yielded rest event
 
 module _ (before : Device) (tree : Tree) (first : ℕ) (events : Schedule) where
-  pub gone_on : (keeps_model : Type 0) (now : Event) (old new : RunSide) (told later : Run) (yielded rest : List Event)
+  pub gone_on : (keeps_model : Type 0) (now : Event) (old new : RunSide) (told later : Run)
+      (yielded rest : List Event)
       → keeps_model → MayRun keeps_model before tree first 1 events → events ≡ yielded ++ now ∷ rest
       → length told.steps.items ≡ length yielded → HasGone before tree first events old told
       → LeavesGoing keeps_model now old told new later → HasGone before tree first events new later
@@ -103,12 +107,14 @@ module _ (before : Device) (tree : Tree) (first : ℕ) (events : Schedule) where
       }
 
   -- ---- the end
-  pub promise_kept : (run : RunSide) (told : Run) → AreBlocks run.store.device → HasGone before tree first events run told
+  pub promise_kept : (run : RunSide) (told : Run) → AreBlocks run.store.device
+      → HasGone before tree first events run told
       → ((b : Beginning) (o : Setting) (t : Transcript) (base : Image) (side : StoreSide) (fetches : List Fetch)
       (last : Tree) → IsRun b o t base side fetches last → LeavesImages b.before side.device
       → KeepsPromise b.before side.device b.tree b.first b.workers b.events t)
       → KeepsPromise before run.store.device tree first 1 events (transcript_of told)
   promise_kept run told blocks gone law =
       let going = gone.at.going in
-      law (begins before gone.opened tree first events) going.setting (transcript_of told) going.base run.store _ going.last
+      law (begins before gone.opened tree first events) going.setting (transcript_of told) going.base
+      run.store _ going.last
       going.run (some_image before run.store.device blocks)

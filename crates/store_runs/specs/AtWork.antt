@@ -1,5 +1,5 @@
--- What the steps of a worker that is alone rest on: the blocks that were fetched for its transaction, and those that
--- stand for the files after each place.
+-- What the steps of a worker that is alone rest on: the blocks that were fetched for its transaction, and
+-- those that stand for the files after each place.
 use Rattle.std.specs.Prelude.{◌≡◌, ◌⊎◌, ℕ, ◌+◌, ◌++◌, ◌∷◌, Bool, true, false, Option, Some, is_some, IsSomeAnd}
 use Rattle.std.specs.Prelude.{List, [], All, length, option_to_list}
 use Rattle.disk.specs.Crash.{Image}
@@ -58,7 +58,8 @@ with_core side core = record side { core = core }
 
 -- ---- a worker at work
 
--- its transaction has taken the object whose block is fetched, and the blocks that were fetched before are in memory
+-- its transaction has taken the object whose block is fetched, and the blocks that were fetched before are in
+-- memory
 abbrev pub FetchesFor : Option ℕ → Asking → CoreState → Type 0
 FetchesFor tx asked core = IsSomeAnd tx (λ number. AreLoadedFor core number asked.fetched
     × IsSomeAnd asked.wish (λ addr. has_taken core number addr ≡ true))
@@ -77,8 +78,8 @@ LoadsFor (Waiting place) tx asked core = Unit {0}
 abbrev pub Loads : State → CoreState → Type 0
 Loads worker core = LoadsFor worker.phase worker.begun.tx worker.asked core
 
--- A core as its one worker has left it: it fits the worker, nobody else has taken or fetches anything of it, and what
--- was fetched for the worker is in memory.
+-- A core as its one worker has left it: it fits the worker, nobody else has taken or fetches anything of it,
+-- and what was fetched for the worker is in memory.
 pub record IsCoreAtWork (worker : State) (core : CoreState) : Type 0 where
   pub with : GoesWith worker core
   pub alone : IsAlone worker core
@@ -108,8 +109,8 @@ abbrev pub IsSeenIn : Seen → ObjectBytes → Type 0
 IsSeenIn seen object = (is_seen object.addr seen.objects ≡ true)
     ⊎ (is_claimed object.addr.block seen.claims ≡ true)
 
--- What a worker's plan ended in took a place, and lies ready as an entry, which tells of a step of the sequential
--- server. It writes what was read and claimed for it.
+-- What a worker's plan ended in took a place, and lies ready as an entry, which tells of a step of the
+-- sequential server. It writes what was read and claimed for it.
 pub record HasTakenPlace (boot number : ℕ) (old new : Side) : Type 0 where
   pub tx : ℕ
   pub plan : Planned
@@ -120,15 +121,16 @@ pub record HasTakenPlace (boot number : ℕ) (old new : Side) : Type 0 where
   pub tells : TellsOf boot plan (entry_by number entry)
   pub own : IsSomeAnd (seen_in old.worker.work.snap) (λ seen. All (IsSeenIn seen) plan.written)
 
--- A place was taken, the next one. In the setting that has from it on the blocks that stand for the files then, the
--- run goes on with the place's entry, a step of the sequential server from the files as they were; and those blocks are
--- the old ones with what was written.
-pub record GoesOnWith (o : Setting) (base : Image) (store : StoreSide) (new : Side) (boot number : ℕ) (first : Tree)
-    (entries : List Committed) (last : Tree) (old : Side) : Type 0 where
+-- A place was taken, the next one. In the setting that has from it on the blocks that stand for the files
+-- then, the run goes on with the place's entry, a step of the sequential server from the files as they were;
+-- and those blocks are the old ones with what was written.
+pub record GoesOnWith (o : Setting) (base : Image) (store : StoreSide) (new : Side) (boot number : ℕ)
+    (first : Tree) (entries : List Committed) (last : Tree) (old : Side) : Type 0 where
   pub taken : HasTakenPlace boot number old new
   pub next : taken.place ≡ length entries + 1
   pub left : Tree
   pub goes : procedures.step last taken.entry.ctx taken.entry.call taken.entry.reply left
-  pub runs : IsRunningOver (with_blocks o (length entries) (file_blocks base new.core)) base (with_core store new.core)
-      (fetches_of new.worker) boot first (entries ++ entry_by number taken.entry ∷ []) left
+  pub runs : IsRunningOver (with_blocks o (length entries) (file_blocks base new.core)) base
+      (with_core store new.core) (fetches_of new.worker) boot first
+      (entries ++ entry_by number taken.entry ∷ []) left
   pub writes : file_blocks base new.core ≡ with_objects (file_blocks base old.core) taken.plan.written

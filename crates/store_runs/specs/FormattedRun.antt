@@ -21,15 +21,17 @@ abbrev pub answer_of : Result Run OpenFault → Result Transcript OpenFault
 answer_of (Ok told) = Ok (transcript_of told)
 answer_of (Err cause) = Err cause
 
--- a new device of so many blocks: no call of it was made, so that none has failed, and each block has one content
+-- a new device of so many blocks: no call of it was made, so that none has failed, and each block has one
+-- content
 pub record IsNewDevice (blocks : ℕ) (d : Device) : Type 0 where
   pub size : d.size ≡ blocks
   pub clock : d.clock ≡ 0
   pub failures : d.failures ≡ 0
   pub rest : IsAtRest d
 
--- A fresh image with these counts was made on a new device at this moment. So a run of one worker may stand on it, with
--- the root alone as its tree; these events were taken on it, and the run was answered as it promises.
+-- A fresh image with these counts was made on a new device at this moment. So a run of one worker may stand
+-- on it, with the root alone as its tree; these events were taken on it, and the run was answered as it
+-- promises.
 pub record HasRunOnMade (blocks inodes : ℕ) (made : Moment) (events : Schedule) (later : Device)
     (answer : Result Run OpenFault) : Type 0 where
   pub empty : Device

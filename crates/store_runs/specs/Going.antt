@@ -26,8 +26,8 @@ use Rattle.txn_law.specs.Tidy.{AreTidy}
 use Rattle.store_runs.specs.declared.runs.running.Calls.{Calls}
 use Rattle.store_workers.specs.declared.workers.parts.State.{State}
 
--- A run goes on, of one worker: it is one so far, and the worker stands where its steps have told, at work on the
--- core.
+-- A run goes on, of one worker: it is one so far, and the worker stands where its steps have told, at work on
+-- the core.
 pub record IsGoing (b : Beginning) (store : StoreSide) (worker : State) (told : Run) : Type 0 where
   pub setting : Setting
   pub base : Image
@@ -70,14 +70,16 @@ pub record KeepsCore (old new : Side) : Type 0 where
 
 -- ---- with its clock
 
--- the device and the core with the calls that are out, the worker, and how many device calls the events have made
+-- the device and the core with the calls that are out, the worker, and how many device calls the events have
+-- made
 pub record RunSide : Type 0 where
   pub store : StoreSide
   pub worker : State
   pub clock : ℕ
 
 abbrev pub run_side : Device → CoreState → Calls → State → ℕ → RunSide
-run_side device core calls worker clock = record { store = side_of device core calls; worker = worker; clock = clock }
+run_side device core calls worker clock =
+    record { store = side_of device core calls; worker = worker; clock = clock }
 
 -- a run goes on, whose clock has counted the calls since its opening
 pub record IsRunAt (b : Beginning) (run : RunSide) (told : Run) : Type 0 where

@@ -1,6 +1,7 @@
-//! Laws on a worker that is alone in its store: what was fetched for its transaction stays until it ends, and each of
-//! its steps is one that may be made, and leaves the run going.
-ghost use Rattle.std.specs.Prelude.{◌≡◌, ◌≤◌, ◌+◌, ◌++◌, ◌∷◌, ℕ, Bool, [], List, Option, Some, length, false, true};
+//! Laws on a worker that is alone in its store: what was fetched for its transaction stays until it ends, and
+//! each of its steps is one that may be made, and leaves the run going.
+ghost use Rattle.std.specs.Prelude.{◌≡◌, ◌≤◌, ◌+◌, ◌++◌, ◌∷◌, ℕ, Bool, [], List, Option, Some, length, false};
+ghost use Rattle.std.specs.Prelude.{true};
 ghost use Rattle.disk.specs.Crash.{Image};
 ghost use Rattle.disk.specs.Device.{Content, Device, HasRead, current, newest};
 ghost use Rattle.disk.specs.declared.block.BlockNo.{BlockNo};
@@ -46,7 +47,8 @@ ghost use Rattle.store_workers.specs.declared.workers.parts.State.{State};
 /// and so it does once such a block was read, which is there then, too.
 pub fn what_was_fetched_stays()
     ensures held { (old new : CoreState) (tx : ℕ) (fetched : List Addr) (addr : Addr) (bytes : List ℕ)
-        → IsHeld old tx addr modes.Exclusive bytes new → AreLoadedFor old tx fetched → AreLoadedFor new tx fetched }
+        → IsHeld old tx addr modes.Exclusive bytes new → AreLoadedFor old tx fetched
+        → AreLoadedFor new tx fetched }
     ensures wanted { (old new : CoreState) (tx : ℕ) (fetched : List Addr) (addr : Addr) (io : Fetch)
         → IsFetched old tx addr modes.Exclusive io new → AreLoadedFor old tx fetched
         → AreLoadedFor new tx fetched × (has_taken new tx addr ≡ true) }
@@ -58,10 +60,12 @@ pub fn what_was_fetched_stays()
 
 /// A commit is told by the blocks that it adds.
 pub fn a_commit_is_told_by_its_blocks()
-    ensures { (position : ℕ) (old new : CoreState) (logging installing : Pending) (tx place : ℕ) (plan : Planned)
+    ensures { (position : ℕ) (old new : CoreState) (logging installing : Pending) (tx place : ℕ)
+        (plan : Planned)
         → TakesPlace old tx plan place new → IsLawful old.log → IsLawful new.log
         → position ≤ old.log.start + length old.log.changes
-        → log_told position new.log logging installing ≡ with_commit (log_told position old.log logging installing)
+        → log_told position new.log logging installing ≡ with_commit
+        (log_told position old.log logging installing)
         (added_blocks old.log (blocks_of plan.written)) }
 {
     store_promise::a_commit_is_told();
@@ -82,7 +86,8 @@ pub fn a_workers_step_may_be_made()
         (boot : ℕ) (first last : Tree) (entries : List Entry)
         → IsRunningOver o base store fetches boot first entries last → IsTold o told store
         → o.geometry.inodes ≡ store.core.inodes → o.blocks told.log.places ≡ file_blocks base store.core
-        → (worker : State) (new : Side) (made : Option Step) → GoesOn worker.phase (side worker store.core) made new
+        → (worker : State) (new : Side) (made : Option Step)
+        → GoesOn worker.phase (side worker store.core) made new
         → IsCoreAtWork worker store.core → IsWorkerAt boot entries worker
         → IsStepOfWork o told number (progress_of worker) made }
 {
@@ -122,9 +127,11 @@ pub fn a_worker_leaves_the_run_going()
 /// they are.
 pub fn a_call_leaves_the_run_going()
     ensures core { (ctx : Ctx) (call : Call) (old new : State) (made : Option Step) (core : CoreState)
-        → TakesCall 0 ctx call old made new → IsCoreAtWork old core → GoesWith new core → IsCoreAtWork new core }
-    ensures told { (o : Setting) (told : Told) (credential : Credential) (moment : Moment) (call : Call) (ctx : Ctx)
-        (store : StoreSide) (old new : State) (made : Option Step) → TakesCall 0 ctx call old made new
+        → TakesCall 0 ctx call old made new → IsCoreAtWork old core → GoesWith new core
+        → IsCoreAtWork new core }
+    ensures told { (o : Setting) (told : Told) (credential : Credential) (moment : Moment)
+        (call : Call) (ctx : Ctx) (store : StoreSide) (old new : State) (made : Option Step)
+        → TakesCall 0 ctx call old made new
         → IsTold o told store → IsTold o (told_after told (event.Call 0 credential moment call) made) store }
     ensures fetches { (ctx : Ctx) (call : Call) (old new : State) (made : Option Step)
         → TakesCall 0 ctx call old made new → fetches_of new ≡ fetches_of old }
@@ -135,8 +142,8 @@ pub fn a_read_leaves_the_run_going()
     ensures core { (ok : Bool) (io : Fetch) (content : Content) (old : State) (core : CoreState)
         → old.phase ≡ Reading → old.begun.io ≡ Some io → IsCoreAtWork old core
         → GoesWith (with_read ok io content old) core → IsCoreAtWork (with_read ok io content old) core }
-    ensures told { (o : Setting) (told : Told) (number : ℕ) (store : StoreSide) (after : Device) (block : BlockNo)
-        (ok : Bool) → IsTold o told store
+    ensures told { (o : Setting) (told : Told) (number : ℕ) (store : StoreSide) (after : Device)
+        (block : BlockNo) (ok : Bool) → IsTold o told store
         → IsTold o (told_after told (event.Read number) (Some (made.Read block ok)))
         (record store { device = after }) }
     ensures runs { (o : Setting) (base : Image) (store : StoreSide) (after : Device) (ok : Bool) (io : Fetch)
@@ -145,7 +152,8 @@ pub fn a_read_leaves_the_run_going()
         → (store.device.spoiled io.block.0 ≡ false → ok ≡ true
         → content ≡ newest (current store.device io.block.0)) → HasContents store.device
         → IsRunningOver o base store (fetches_of old) boot first entries last
-        → IsRunningOver o base (record store { device = after }) (fetches_of (with_read ok io content old)) boot first
+        → IsRunningOver o base (record store { device = after })
+        (fetches_of (with_read ok io content old)) boot first
         entries last }
 {
     store_promise::a_read_leaves_the_store_open();

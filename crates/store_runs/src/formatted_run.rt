@@ -12,11 +12,11 @@ use std::alloc::Global;
 use store_images::{FormatFault, format};
 use store_promise::{Event, OpenFault, Run};
 
-/// Makes an image of so many blocks and inodes, whose root is made at the moment, on a new device in memory, and takes
-/// these events on it with one worker. The device lets the calls with these numbers fail, counted from 1. The faults
-/// are those of `format`; for want of memory it is refused also where there is none for the device. What a run stands
-/// on can be met so: this one keeps its promise, whatever its events are and whatever fails, where the image is made
-/// and each call is handed over at moments below a second.
+/// Makes an image of so many blocks and inodes, whose root is made at the moment, on a new device in memory,
+/// and takes these events on it with one worker. The device lets the calls with these numbers fail, counted
+/// from 1. The faults are those of `format`; for want of memory it is refused also where there is none for
+/// the device. What a run stands on can be met so: this one keeps its promise, whatever its events are and
+/// whatever fails, where the image is made and each call is handed over at moments below a second.
 pub fn format_and_run(
     alloc: Global,
     blocks: u32,

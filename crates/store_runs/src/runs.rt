@@ -26,9 +26,11 @@ pub fn run<D: CrashDisk>(
 ) -> (D, Result<Run, OpenFault>)
     ensures model { D.keeps_model result.0 → D.keeps_model disk }
     ensures promised { (tree : Tree) (first : ℕ) → MatchResult result.1
-        (λ told. IsPromised (D.keeps_model result.0) (D.device disk) (D.device result.0) tree first workers events.items
+        (λ told. IsPromised (D.keeps_model result.0) (D.device disk) (D.device result.0) tree first
+        workers events.items
         (Ok (transcript_of told)))
-        (λ fault. IsPromised (D.keeps_model result.0) (D.device disk) (D.device result.0) tree first workers events.items
+        (λ fault. IsPromised (D.keeps_model result.0) (D.device disk) (D.device result.0) tree first
+        workers events.items
         (Err fault)) }
 {
     run_law::a_run_begins();

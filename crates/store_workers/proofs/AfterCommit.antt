@@ -1,5 +1,6 @@
 -- A worker fits the core still, once its commit was answered.
-use Rattle.std.proofs.Common.{rules, ◌≡◌, ◌∙◌, ap, sym, refl, subst, ℕ, Bool, true, false, ◌&&◌, Option, Some, None}
+use Rattle.std.proofs.Common.{rules, ◌≡◌, ◌∙◌, ap, sym, refl, subst, ℕ, Bool, true, false, ◌&&◌, Option, Some}
+use Rattle.std.proofs.Common.{None}
 use Rattle.std.proofs.Common.{IfSome, is_some, [], ◌∷◌, true≢false}
 use Rattle.model.specs.Calls.{is_answered_stable}
 use Rattle.nfs_types.specs.declared.reply.Reply.{Reply}
@@ -20,7 +21,8 @@ gone : (tx : ℕ) (out : _) → out ≡ tx ∷ [] → without tx out ≡ []
 gone tx out is = ap (without tx) is ∙ search rules
 
 -- so it goes with the core, answered or waiting
-placed : (worker : State) (old new : CoreState) (tx : ℕ) (job : Job) (reply : Reply) (place : Seq) (stable : Bool)
+placed : (worker : State) (old new : CoreState) (tx : ℕ) (job : Job) (reply : Reply) (place : Seq)
+    (stable : Bool)
     → IsHeld worker tx old → new.out ≡ without tx old.out → new.log.blocks ≡ old.log.blocks
     → new.inodes ≡ old.inodes → GoesWith (with_entry job reply (told_of stable job reply place worker)) new
 placed worker old new tx job reply place true held out blocks inodes =
@@ -56,8 +58,9 @@ by_job worker made old new tx plan change answer reply (Some job) found planned 
     subst (λ state. GoesWith state new) (sym made_is)
     (by_answer worker old new tx plan change answer reply job found held is)
 
-pub committed_with : {C : Type 0} (worker made : State) (old new : CoreState) (tx : ℕ) (plan : Planned) (change : C)
-    (answer : Commit C) (reply : Reply) → IsHeld worker tx old → IsCommit old tx plan change answer new
+pub committed_with : {C : Type 0} (worker made : State) (old new : CoreState) (tx : ℕ)
+    (plan : Planned) (change : C) (answer : Commit C) (reply : Reply) → IsHeld worker tx old
+    → IsCommit old tx plan change answer new
     → IfSome worker.work.job (λ job. made ≡ after_commit job reply answer worker) → GoesWith made new
 committed_with worker made old new tx plan change answer reply held is made_is =
     by_job worker made old new tx plan change answer reply worker.work.job refl held.planned held is made_is

@@ -39,10 +39,12 @@ module _ (g : Geometry) (handle : List ℕ) (objects : List ObjectBytes) (a b : 
       let from = (is_data_block g handle objects a n one block read is some whole).0 in
       let same : a.block.0 ≡ b.block.0 = ap (λ (k : BlockNo). k.0) over.0 in
       absurd (omega (arith, below, from, same))
-  of_file (indirect n one block names read bears is some whole) (indirect m two other others here too also more all) over =
+  of_file (indirect n one block names read bears is some whole)
+      (indirect m two other others here too also more all) over =
       same_addr a b (ap (λ (k : BlockNo). k.0) over.0) (whole.1 ∙ sym all.1) (whole.2 ∙ sym all.2)
 
-pub asked_same : (g : Geometry) (asked : Call) (objects : List ObjectBytes) (a b : Addr) → Asks g asked objects a
+pub asked_same : (g : Geometry) (asked : Call) (objects : List ObjectBytes) (a b : Addr)
+    → Asks g asked objects a
     → Asks g asked objects b → Overlap a b → a ≡ b
 asked_same g (call.GetAttr file) objects a b one other over = of_file g file.bytes objects a b one other over
 asked_same g (call.SetAttr file attributes guard) objects a b one other over =
@@ -62,7 +64,8 @@ asked_same g (call.RmDir name) objects a b one other over = absurd one
 asked_same g (call.Rename source target) objects a b one other over = absurd one
 asked_same g (call.Link file name) objects a b one other over = absurd one
 asked_same g (call.ReadDir directory cookie verifier count) objects a b one other over = absurd one
-asked_same g (call.ReadDirPlus directory cookie verifier directory_count greatest_count) objects a b one other over =
+asked_same g (call.ReadDirPlus directory cookie verifier directory_count greatest_count) objects a b
+    one other over =
     absurd one
 asked_same g (call.FsStat file) objects a b one other over = absurd one
 asked_same g (call.FsInfo file) objects a b one other over = absurd one

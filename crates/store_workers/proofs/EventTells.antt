@@ -35,7 +35,8 @@ use Rattle.store_workers.specs.declared.workers.parts.State.{State}
 -- ---- a call
 
 -- a worker with a call takes none
-takes_none : (boot : ℕ) (entries : List Entry) (state : State) (phase : Phase) → StandsAt boot entries phase state
+takes_none : (boot : ℕ) (entries : List Entry) (state : State) (phase : Phase)
+    → StandsAt boot entries phase state
     → (phase ≡ Idle → ⊥)
     → IsStepOfCall (progress_in phase state.work.job (begun_of state.begun.tx (seen_in state.work.snap)
     state.asked.fetched) state.asked) None
@@ -172,7 +173,8 @@ module _ (boot : ℕ) (entries : List Entry) (old : State) (ok : Bool) (io : Fet
   -- how far the worker was, by parts
   abbrev was : Phase → Option Job → Option Addr → Progress
   was phase job wish =
-      progress_in phase job begun_then (record { wish = wish; fetched = old.asked.fetched; waiting = old.asked.waiting })
+      progress_in phase job begun_then (record
+      { wish = wish; fetched = old.asked.fetched; waiting = old.asked.waiting })
 
   was_reading : progress_of old ≡ was Reading (Some job_is.0) (Some wish_is.0)
   was_reading = ap (λ p. was p old.work.job old.asked.wish) phase_is
@@ -191,6 +193,10 @@ module _ (boot : ℕ) (entries : List Entry) (old : State) (ok : Bool) (io : Fet
       boot_is = at.boot_is;
       entry = at.entry;
       answer = at.answer;
-      stands = (stood.0, subst (λ o. IsSomeAnd o (λ (addr : Addr). io.block ≡ addr.block)) (sym wish_is.1) same_block);
+      stands = (
+        stood.0,
+        subst (λ o. IsSomeAnd o (λ (addr : Addr). io.block ≡ addr.block))
+            (sym wish_is.1) same_block,
+      );
     };
   }

@@ -64,7 +64,12 @@ progress_as phase job tx seen asked = progress_in phase job (begun_of tx seen as
 
 nothing_read : (core : CoreState) (job : told.Job) (number : ℕ) (seen : Option Seen)
     → IsSomeAnd seen (SawNothing core)
-    → told.At job (told.Planning (record { number = number; held = held_in seen; fetched = []; claimed = claimed_in seen }))
+    → told.At job (told.Planning (record {
+      number = number;
+      held = held_in seen;
+      fetched = [];
+      claimed = claimed_in seen;
+    }))
     ≡ told.At job (told.Planning (record { number = number; held = []; fetched = []; claimed = [] }))
 nothing_read core job number None saw = absurd saw
 nothing_read core job number (Some seen) saw =
@@ -81,20 +86,24 @@ nothing_read core job number (Some seen) saw =
     }))) saw.claims
 
 module _ (broken : Bool) (job : Job) (tx : ℕ) (seen : Seen) (asked : Asking) where
-  held_then : (addr : Addr) (bytes : List ℕ) → told.Planning (record (begun_of (Some tx) (Some seen) asked.fetched) {
-    held = map (λ (o : ObjectBytes). alone o.addr) (seen.objects ++ record { addr = addr; bytes = bytes } ∷ []);
-  }) ≡ told.Planning (told.with_held (begun_of (Some tx) (Some seen) asked.fetched) (alone addr))
-  held_then addr bytes = ap (λ (held : List told.Taken). told.Planning (record (begun_of (Some tx) (Some seen) asked.fetched) {
-    held = held;
-  })) (map-append (λ (o : ObjectBytes). alone o.addr) seen.objects (record { addr = addr; bytes = bytes } ∷ []))
+  held_then : (addr : Addr) (bytes : List ℕ)
+      → told.Planning (record (begun_of (Some tx) (Some seen) asked.fetched) {
+        held = map (λ (o : ObjectBytes). alone o.addr) (seen.objects ++ record { addr = addr; bytes = bytes } ∷ []);
+      }) ≡ told.Planning (told.with_held (begun_of (Some tx) (Some seen) asked.fetched) (alone addr))
+  held_then addr bytes = ap (λ (held : List told.Taken). told.Planning
+      (record (begun_of (Some tx) (Some seen) asked.fetched) {
+        held = held;
+      })) (map-append (λ (o : ObjectBytes). alone o.addr) seen.objects (record { addr = addr; bytes = bytes } ∷ []))
 
   back_is : (back : ℕ) → back ≡ tx → (phase : Phase) (read : Option Seen) (wished : Asking)
-      → progress_as phase (Some job) (Some back) read wished ≡ progress_as phase (Some job) (Some tx) read wished
+      → progress_as phase (Some job) (Some back) read wished ≡ progress_as phase (Some job)
+      (Some tx) read wished
   back_is back is phase read wished = ap (λ b. progress_as phase (Some job) (Some b) read wished) is
 
   pub wanted_told : (old new : CoreState) (addr : Addr) (answer : Want)
       → IsWanted old tx addr modes.Exclusive answer new
-      → progress_as (phase_wanted answer) (Some job) (begun_wanted answer).tx (seen_wanted addr answer (Some seen))
+      → progress_as (phase_wanted answer) (Some job) (begun_wanted answer).tx
+      (seen_wanted addr answer (Some seen))
       (asked_wanted addr answer asked)
       ≡ progress_after broken (Some (step.Wanted addr modes.Exclusive (wish_of answer)))
       (progress_as Planning (Some job) (Some tx) (Some seen) asked)
@@ -106,7 +115,8 @@ module _ (broken : Bool) (job : Job) (tx : ℕ) (seen : Seen) (asked : Asking) w
   wanted_told old new addr (want.Busy back) is = back_is back is.0 Planning (Some seen) asked
   wanted_told old new addr (want.Loading back) is = back_is back is.0 Planning (Some seen) asked
   wanted_told old new addr (want.Outside back) is = back_is back is.0 (Refused cause.Io) (Some seen) asked
-  wanted_told old new addr (want.NoMemory back) is = back_is back is.0 (Refused cause.NoMemory) (Some seen) asked
+  wanted_told old new addr (want.NoMemory back) is =
+      back_is back is.0 (Refused cause.NoMemory) (Some seen) asked
 
   pub claimed_told : (old new : CoreState) (block : BlockNo) (addr : Addr) (answer : Claim)
       → IsClaimed old tx addr answer new
@@ -118,8 +128,10 @@ module _ (broken : Bool) (job : Job) (tx : ℕ) (seen : Seen) (asked : Asking) w
       back_is back is.0 Planning (seen_claimed block (claim.Held back) (Some seen)) asked
   claimed_told old new block addr (claim.Busy back) is = back_is back is.0 Planning (Some seen) asked
   claimed_told old new block addr (claim.Loading back) is = back_is back is.0 Planning (Some seen) asked
-  claimed_told old new block addr (claim.Outside back) is = back_is back is.0 (Refused cause.Io) (Some seen) asked
-  claimed_told old new block addr (claim.NoMemory back) is = back_is back is.0 (Refused cause.NoMemory) (Some seen) asked
+  claimed_told old new block addr (claim.Outside back) is =
+      back_is back is.0 (Refused cause.Io) (Some seen) asked
+  claimed_told old new block addr (claim.NoMemory back) is =
+      back_is back is.0 (Refused cause.NoMemory) (Some seen) asked
 
   with_it : (base : State) (phase : Phase) (back : ℕ) → base.work.job ≡ Some job
       → seen_in base.work.snap ≡ Some seen → base.asked ≡ asked → back ≡ tx
@@ -160,7 +172,8 @@ module _ (broken : Bool) (job : Job) (tx : ℕ) (seen : Seen) (asked : Asking) w
 module _ (broken : Bool) (io : Fetch) (job : Job) (tx : Option ℕ) (seen : Option Seen) (asked : Asking) where
   abbrev after_fetch : Bool → Option Addr → Progress
   after_fetch ok wish = progress_after broken (Some (given_step ok io)) (at_stage (Some job)
-      (at_fetch (λ taken. told.Read (begun_of tx seen asked.fetched) taken ok) (begun_of tx seen asked.fetched) wish))
+      (at_fetch (λ taken. told.Read (begun_of tx seen asked.fetched) taken ok)
+      (begun_of tx seen asked.fetched) wish))
 
   fetched_then : (addr : Addr) → begun_of tx seen (asked.fetched ++ addr ∷ [])
       ≡ told.with_fetched (begun_of tx seen asked.fetched) (alone addr)
@@ -195,7 +208,8 @@ without_reply state = record state { work = record state.work { reply = None } }
 abbrev pub without_broken_reply : State → State
 without_broken_reply state = record state { work = record state.work { broken_reply = None } }
 
-pub some_of : {X : Type 0} {P : X → Type 0} (found : Option X) → IsSomeAnd found P → (x : X) × (found ≡ Some x) × P x
+pub some_of : {X : Type 0} {P : X → Type 0} (found : Option X) → IsSomeAnd found P → (x : X)
+    × (found ≡ Some x) × P x
 some_of None is = absurd is
 some_of (Some x) is = (x, refl, is)
 
@@ -255,11 +269,13 @@ module _ (boot : ℕ) (entries : List Entry) (old new : Side) where
   wants tx addr made tx_is next has phase_is stands =
       ap progress_of has.worker
       ∙ ap (λ s. progress_as (phase_wanted has.answer) old.worker.work.job (begun_wanted has.answer).tx s
-      (asked_wanted addr has.answer old.worker.asked)) (has.seen ∙ ap (seen_wanted addr has.answer) next.snap_is)
+      (asked_wanted addr has.answer old.worker.asked))
+      (has.seen ∙ ap (seen_wanted addr has.answer) next.snap_is)
       ∙ ap (λ j. progress_as (phase_wanted has.answer) j (begun_wanted has.answer).tx
       (seen_wanted addr has.answer (seen_in (Some next.snap)))
       (asked_wanted addr has.answer old.worker.asked)) next.job_is
-      ∙ wanted_told old.core.log.broken next.job tx _ old.worker.asked old.core new.core addr has.answer has.core
+      ∙ wanted_told old.core.log.broken next.job tx _ old.worker.asked old.core new.core addr
+      has.answer has.core
       ∙ sym (planned (step.Wanted addr modes.Exclusive (wish_of has.answer)) next.job tx _ next.job_is tx_is
       next.snap_is)
 
@@ -272,7 +288,8 @@ module _ (boot : ℕ) (entries : List Entry) (old new : Side) where
       old.worker.asked) (has.seen ∙ ap (seen_claimed block has.answer) next.snap_is)
       ∙ ap (λ j. progress_as (phase_claimed has.answer) j (begun_claimed has.answer).tx
       (seen_claimed block has.answer (seen_in (Some next.snap))) old.worker.asked) next.job_is
-      ∙ claimed_told old.core.log.broken next.job tx _ old.worker.asked old.core new.core block has.core.0 has.answer
+      ∙ claimed_told old.core.log.broken next.job tx _ old.worker.asked old.core new.core block
+      has.core.0 has.answer
       has.core.2
       ∙ sym (planned (step.Claimed block (claim_wish has.answer)) next.job tx _ next.job_is tx_is next.snap_is)
 
@@ -285,11 +302,14 @@ module _ (boot : ℕ) (entries : List Entry) (old new : Side) where
       ap progress_of has.worker
       ∙ commit_told old.core.log.broken job tx _ old.worker.asked old.core new.core done
       (added_blocks old.core.log (blocks_of done.written)) _ has.answer
-      (record (with_snap new.worker old.worker) { begun = none_begun }) job_is (has.seen ∙ next.snap_is) refl has.core
-      ∙ sym (planned (step.Commit (added_blocks old.core.log (blocks_of done.written)) (committing_of has.answer))
+      (record (with_snap new.worker old.worker) { begun = none_begun }) job_is
+      (has.seen ∙ next.snap_is) refl has.core
+      ∙ sym (planned (step.Commit (added_blocks old.core.log (blocks_of done.written))
+      (committing_of has.answer))
       job tx _ job_is tx_is next.snap_is)
 
-  lacks : (tx : ℕ) (made : Step) → HasLacked tx old made new → IsToldBy Planning (Some (step.Ended ending.NoMemory))
+  lacks : (tx : ℕ) (made : Step) → HasLacked tx old made new
+      → IsToldBy Planning (Some (step.Ended ending.NoMemory))
   lacks tx made has phase_is stands =
       let (job, job_is, rest) = some_of old.worker.work.job stands in
       answers Planning job (step.Ended ending.NoMemory) job_is (ap progress_of has.worker) refl
@@ -302,7 +322,8 @@ module _ (boot : ℕ) (entries : List Entry) (old new : Side) where
       ap progress_of has.worker
       ∙ ap (λ j. progress_as (phase_given ok) j old.worker.begun.tx (seen_in old.worker.work.snap)
       (with_fetched old.worker.asked)) job_is
-      ∙ given_told old.core.log.broken io job old.worker.begun.tx (seen_in old.worker.work.snap) old.worker.asked ok
+      ∙ given_told old.core.log.broken io job old.worker.begun.tx (seen_in old.worker.work.snap)
+      old.worker.asked ok
       addr wish_is
       ∙ sym (with_call (Read ok) job (given_step ok io) job_is)
 
@@ -355,6 +376,7 @@ module _ (boot : ℕ) (entries : List Entry) (old new : Side) where
     waited = waits;
   }
 
-  pub goes_so_far : (made : Option Step) → IsWorkerAt boot entries old.worker → GoesOn old.worker.phase old made new
+  pub goes_so_far : (made : Option Step) → IsWorkerAt boot entries old.worker
+      → GoesOn old.worker.phase old made new
       → progress_of new.worker ≡ progress_after old.core.log.broken made (progress_of old.worker)
   goes_so_far made at goes = by_cases old new IsToldBy cases old.worker.phase made goes refl at.stands

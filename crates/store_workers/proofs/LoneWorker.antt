@@ -63,7 +63,8 @@ seen_there : (addr : Addr) (objects : List ObjectBytes) → is_seen addr objects
 seen_there addr [] none = absurd (true≢false (sym none))
 seen_there addr (x ∷ xs) some = go (seen_there addr xs) (same_addr addr x.addr) refl some
   where
-    go : (is_seen addr xs ≡ true → (before : ObjectBytes) × Contains xs before × (before.addr ≡ addr)) → (t : Bool)
+    go : (is_seen addr xs ≡ true → (before : ObjectBytes) × Contains xs before
+        × (before.addr ≡ addr)) → (t : Bool)
         → same_addr addr x.addr ≡ t → (t || is_seen addr xs) ≡ true
         → (before : ObjectBytes) × Contains (x ∷ xs) before × (before.addr ≡ addr)
     go rest true same some =
@@ -83,7 +84,8 @@ pub has_of : (worker : State) (core : CoreState) (job : Job) (tx : ℕ) (seen : 
     → HasOfCall job tx core seen
 has_of worker core job tx seen job_is tx_is seen_is has =
     subst (λ (o : Option Seen). IsSomeAnd o (λ s. HasOfCall job tx core s)) seen_is
-    (subst (λ (o : Option ℕ). IsSomeAnd o (λ t. IsSomeAnd (seen_in worker.work.snap) (λ s. HasOfCall job t core s)))
+    (subst (λ (o : Option ℕ). IsSomeAnd o (λ t. IsSomeAnd (seen_in worker.work.snap)
+    (λ s. HasOfCall job t core s)))
     tx_is (subst (λ (o : Option Job). IsSomeAnd o (λ j. IsSomeAnd worker.begun.tx (λ t.
     IsSomeAnd (seen_in worker.work.snap) (λ s. HasOfCall j t core s)))) job_is has))
 
@@ -93,14 +95,16 @@ pub has_so : (worker : State) (core : CoreState) (job : Job) (tx : ℕ) (seen : 
 has_so worker core job tx seen job_is tx_is seen_is has =
     subst (λ (o : Option Job). IsSomeAnd o (λ j. IsSomeAnd worker.begun.tx (λ t.
     IsSomeAnd (seen_in worker.work.snap) (λ s. HasOfCall j t core s)))) (sym job_is)
-    (subst (λ (o : Option ℕ). IsSomeAnd o (λ t. IsSomeAnd (seen_in worker.work.snap) (λ s. HasOfCall job t core s)))
+    (subst (λ (o : Option ℕ). IsSomeAnd o (λ t. IsSomeAnd (seen_in worker.work.snap)
+    (λ s. HasOfCall job t core s)))
     (sym tx_is) (subst (λ (o : Option Seen). IsSomeAnd o (λ s. HasOfCall job tx core s)) (sym seen_is) has))
 
 -- ---- a plan
 
 module _ (core : CoreState) (job : Job) (tx : ℕ) (snap : Snap) (tidy : AreTidy core) (out : core.out ≡ tx ∷ [])
     (has : HasOfCall job tx core (seen_of snap)) (none : FetchesOnly None core) where
-  wanted_well : (new : CoreState) (addr : Addr) → Asks snap.geometry job.call snap.objects.items addr → (answer : Want)
+  wanted_well : (new : CoreState) (addr : Addr) → Asks snap.geometry job.call snap.objects.items addr
+      → (answer : Want)
       → IsWanted core tx addr modes.Exclusive answer new
       → is_kept_off (Some (step.Wanted addr modes.Exclusive (wish_of answer))) ≡ false
   wanted_well new addr asks (want.Held back bytes) is = refl
@@ -109,7 +113,8 @@ module _ (core : CoreState) (job : Job) (tx : ℕ) (snap : Snap) (tidy : AreTidy
   wanted_well new addr asks (want.NoMemory back) is = refl
   wanted_well new addr asks (want.Busy back) is =
       absurd (never_busy core tx tidy out addr modes.Exclusive (λ other hold taken over.
-      asked_same snap.geometry job.call snap.objects.items other addr (has.asked other hold taken) asks over) is.1)
+      asked_same snap.geometry job.call snap.objects.items other addr (has.asked other hold taken)
+      asks over) is.1)
   wanted_well new addr asks (want.Loading back) is =
       absurd (never_loading core tx addr modes.Exclusive (none addr.block) is.1)
 
@@ -123,12 +128,15 @@ module _ (core : CoreState) (job : Job) (tx : ℕ) (snap : Snap) (tidy : AreTidy
           found.2,
         )
     was_read object (inr claimed) =
-        absurd (true≢false (sym claimed.0 ∙ ap (λ (bs : List BlockNo). is_claimed object.addr.block bs) has.claims))
+        absurd (true≢false (sym claimed.0 ∙ ap (λ (bs : List BlockNo). is_claimed object.addr.block
+        bs) has.claims))
 
     own : IsOwn core tx (planned_of done)
-    own = is_own core tx tidy out (planned_of done) (ends.named.blocks ∙ has.blocks) (ends.named.inodes ∙ has.inodes)
-        (subst (λ (os : List ObjectBytes). All (IsReadBy core tx) os) (sym ends.named.read) has.read)
-        (λ object there. was_read object (All-contains (IsWritable snap) done.written object ends.writable there))
+    own = is_own core tx tidy out (planned_of done) (ends.named.blocks ∙ has.blocks)
+        (ends.named.inodes ∙ has.inodes) (subst (λ (os : List ObjectBytes). All (IsReadBy core tx) os)
+        (sym ends.named.read) has.read)
+        (λ object there. was_read object (All-contains (IsWritable snap) done.written object
+        ends.writable there))
         has.exclusive (λ object there. none object.addr.block)
 
     committed_well : (new : CoreState) (added : ℕ) (answer : Commit Outcome)
@@ -143,7 +151,8 @@ module _ (core : CoreState) (job : Job) (tx : ℕ) (snap : Snap) (tidy : AreTidy
 
 -- ---- any step
 
-pub no_fetch : (io : Option Fetch) (core : CoreState) → is_some io ≡ false → FetchesOnly io core → FetchesOnly None core
+pub no_fetch : (io : Option Fetch) (core : CoreState) → is_some io ≡ false → FetchesOnly io core
+    → FetchesOnly None core
 no_fetch None core none only = only
 no_fetch (Some io) core some only = absurd (true≢false some)
 
@@ -163,7 +172,8 @@ module _ (old new : Side) (tidy : AreTidy old.core) (fits : IsCoreOf old.worker 
       of_next : (next : Plan) → IsPlanFor is.job.call is.snap next → GoesByNext next tx old made new
           → is_kept_off (Some made) ≡ false
       of_next (plan.Need addr) planned goes = ap (λ m. is_kept_off (Some m)) goes.made_is
-          ∙ wanted_well old.core is.job tx is.snap tidy out has none new.core addr planned.1 goes.answer goes.core
+          ∙ wanted_well old.core is.job tx is.snap tidy out has none new.core addr planned.1
+          goes.answer goes.core
       of_next (plan.Claim block) planned goes = absurd planned.1
       of_next (plan.Done done) planned goes = elim (ending old new tx done made goes) [
         | lacked has_lacked ↦ ap (λ m. is_kept_off (Some m)) has_lacked.made_is
@@ -178,7 +188,8 @@ module _ (old new : Side) (tidy : AreTidy old.core) (fits : IsCoreOf old.worker 
   called_well made (refused why made_is told) = ap (λ m. is_kept_off (Some m)) made_is
   called_well made (replied made_is told) = ap (λ m. is_kept_off (Some m)) made_is
 
-  given_well : (ok : Bool) (made : Step) (io : Option Fetch) → IsSomeAnd io (λ io. HasGivenBack ok io old made new)
+  given_well : (ok : Bool) (made : Step) (io : Option Fetch)
+      → IsSomeAnd io (λ io. HasGivenBack ok io old made new)
       → is_kept_off (Some made) ≡ false
   given_well ok made None has = absurd has
   given_well true made (Some io) has = ap (λ m. is_kept_off (Some m)) has.made_is

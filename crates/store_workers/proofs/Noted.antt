@@ -36,14 +36,16 @@ module _ (boot clock : ℕ) (old : Side) (made : Option Step) (new : Side) (befo
   noted_entries : entries_of (transcript_of after)
       ≡ with_ready 0 (entries_of (transcript_of before)) has.state
   noted_entries = ap (map entry_of) has.tells.history
-      ∙ map-append entry_of before.history.items (entries_told 0 (length before.steps.items) clock has.state.work.entry)
+      ∙ map-append entry_of before.history.items
+      (entries_told 0 (length before.steps.items) clock has.state.work.entry)
       ∙ ap (λ more. map entry_of before.history.items ++ more)
       (as_noted 0 (length before.steps.items) clock has.state.work.entry)
 
   -- the history
   procedure : (place : ℕ) (entry : Option ready.Entry)
       → after.history.items ≡ before.history.items ++ entries_told 0 (length before.steps.items) clock entry
-      → place ≡ length (entries_of (transcript_of before)) + 1 → IsSomeAnd entry (IsEntryOf boot (progress_of old.worker))
+      → place ≡ length (entries_of (transcript_of before)) + 1
+      → IsSomeAnd entry (IsEntryOf boot (progress_of old.worker))
       → NotesProcedure boot clock (progress_of old.worker) place before after
   procedure place None history next of = absurd of
   procedure place (Some entry) history next of = record {
@@ -141,7 +143,8 @@ module _ (boot clock : ℕ) (old : Side) (made : Option Step) (new : Side) (befo
     answers = answered has.state.work.answer _
         (tells.answer.ends ∙ ap (λ p. not (is_idle (progress_of old.worker)) && is_idle p) (sym progress_same))
         has.tells.answers
-        (subst (λ e. IfSome has.state.work.answer (IsAnswerOf e (progress_of old.worker) made)) (sym noted_entries)
+        (subst (λ e. IfSome has.state.work.answer (IsAnswerOf e (progress_of old.worker) made))
+        (sym noted_entries)
         tells.answer.is_of);
     steps = has.tells.steps;
     boot_is = has.tells.boot;

@@ -129,7 +129,8 @@ module _ (core mid : CoreState) (tx : ℕ) (addr : Addr) (taken : Hold) (at : ta
           ap (λ (h : Hold). h.mode) (sym same) ∙ exclusive (taken_by core tx a)
       by false is = were a hold is
 
-  pub all_asked : (P : Addr → Type 0) → ((a : Addr) (hold : Hold) → taken_by core tx a ≡ Some hold → P a) → P addr
+  pub all_asked : (P : Addr → Type 0) → ((a : Addr) (hold : Hold) → taken_by core tx a ≡ Some hold
+      → P a) → P addr
       → (a : Addr) (hold : Hold) → taken_by mid tx a ≡ Some hold → P a
   all_asked P were new a hold is = by (is_hold_of tx a taken) refl (sym (now a) ∙ is)
     where
@@ -168,7 +169,8 @@ module _ (core mid : CoreState) (job : Job) (tx : ℕ) (snap : Snap) (addr : Add
         claims = has.claims;
         were = one_asked_once snap.geometry job.call snap.objects.items object has.were is_plan.1 is_plan.0;
         read = All-push (IsReadBy mid tx) snap.objects.items object
-            (All-weaker (IsReadBy core tx) (IsReadBy mid tx) (λ object is. reads object is) snap.objects.items has.read)
+            (All-weaker (IsReadBy core tx) (IsReadBy mid tx) (λ object is. reads object is)
+            snap.objects.items has.read)
             held.read;
         exclusive = all_exclusive core mid tx addr taken refl (alone_for_reading tx addr)
             (λ a. held.leaves.holds tx a) has.exclusive;
@@ -178,7 +180,8 @@ module _ (core mid : CoreState) (job : Job) (tx : ℕ) (snap : Snap) (addr : Add
             (stays snap.geometry job.call snap.objects.items (object ∷ []) addr is_plan.1);
       }
 
-  pub fetch_one : (io : Fetch) → IsFetched core tx addr modes.Exclusive io mid → HasOfCall job tx mid (seen_of snap)
+  pub fetch_one : (io : Fetch) → IsFetched core tx addr modes.Exclusive io mid
+      → HasOfCall job tx mid (seen_of snap)
   fetch_one io fetched =
       let taken = for_fetching tx addr modes.Exclusive in
       record {
@@ -190,8 +193,9 @@ module _ (core mid : CoreState) (job : Job) (tx : ℕ) (snap : Snap) (addr : Add
             has.read;
         exclusive = all_exclusive core mid tx addr taken refl (alone_for_fetching tx addr)
             (λ a. fetched.leaves.holds tx a) has.exclusive;
-        asked = all_asked core mid tx addr taken refl (alone_for_fetching tx addr) (λ a. fetched.leaves.holds tx a)
-            (λ a. Asks snap.geometry job.call snap.objects.items a) has.asked is_plan.1;
+        asked = all_asked core mid tx addr taken refl (alone_for_fetching tx addr)
+            (λ a. fetched.leaves.holds tx a) (λ a. Asks snap.geometry job.call snap.objects.items a)
+            has.asked is_plan.1;
       }
 
 -- nothing is taken where no transaction is out
@@ -212,7 +216,8 @@ module _ (old new : Side) (tidy : AreTidy old.core) (fits : IsCoreOf old.worker 
       (ap (λ (s : State). s.phase) told.worker) (ap (λ (s : State). s.begun.io) told.worker)
       (subst (λ (c : CoreState). FetchesOnly old.worker.begun.io c) (sym told.core) fetches) (λ room. tt)
 
-  begun_so : (made : Option Step) (job : Job) (number : ℕ) → old.worker.begun.tx ≡ None → FetchesOnly None old.core
+  begun_so : (made : Option Step) (job : Job) (number : ℕ) → old.worker.begun.tx ≡ None
+      → FetchesOnly None old.core
       → HasBegun job old number new → StaysAlone made new.worker new.core
   begun_so made job number idle none has =
       alone_by made new.worker new.core Planning None (ap (λ (s : State). s.phase) has.worker)
@@ -224,15 +229,16 @@ module _ (old new : Side) (tidy : AreTidy old.core) (fits : IsCoreOf old.worker 
           → HasTaken new.worker new.core
       by None at saw = absurd saw
       by (Some seen) at saw =
-          has_so new.worker new.core (numbered number job) number seen (ap (λ (s : State). s.work.job) has.worker)
+          has_so new.worker new.core (numbered number job) number seen
+          (ap (λ (s : State). s.work.job) has.worker)
           (ap (λ (s : State). s.begun.tx) has.worker) at (record {
             blocks = saw.blocks ∙ sym (ap (λ (c : CoreState). c.log.blocks) has.core);
             inodes = saw.inodes ∙ sym (ap (λ (c : CoreState). c.inodes) has.core);
             claims = saw.claims;
             were = subst (λ (objects : List ObjectBytes). WereAskedOnce seen.geometry job.call objects)
                 (sym saw.objects) (none_read seen.geometry job.call);
-            read = subst (λ (objects : List ObjectBytes). All (IsReadBy new.core number) objects) (sym saw.objects)
-                (All-nil (IsReadBy new.core number));
+            read = subst (λ (objects : List ObjectBytes). All (IsReadBy new.core number) objects)
+                (sym saw.objects) (All-nil (IsReadBy new.core number));
             exclusive = λ addr hold is. absurd (nothing addr hold is);
             asked = λ addr hold is. absurd (nothing addr hold is);
           })
@@ -243,7 +249,8 @@ module _ (old new : Side) (tidy : AreTidy old.core) (fits : IsCoreOf old.worker 
 
   module _ (tx : ℕ) (tx_is : old.worker.begun.tx ≡ Some tx) (none : FetchesOnly None old.core) where
     -- what was aborted has no fetch, and nothing is planned
-    aborted_so : (made : Option Step) (phase : Phase) → ((worker : State) (core : CoreState) → PlansAlone phase worker core)
+    aborted_so : (made : Option Step) (phase : Phase)
+        → ((worker : State) (core : CoreState) → PlansAlone phase worker core)
         → new.worker.phase ≡ phase → new.worker.begun.io ≡ None → HasAborted tx old.core new.core
         → StaysAlone made new.worker new.core
     aborted_so made phase plans phase_is io_is has =
@@ -251,9 +258,11 @@ module _ (old new : Side) (tidy : AreTidy old.core) (fits : IsCoreOf old.worker 
         (λ block. has.leaves.fetches block ∙ none block) (λ room. plans new.worker new.core)
 
     module _ (job : Job) (snap : Snap) (job_is : old.worker.work.job ≡ Some job)
-        (snap_is : seen_in old.worker.work.snap ≡ seen_in (Some snap)) (has : HasOfCall job tx old.core (seen_of snap))
+        (snap_is : seen_in old.worker.work.snap ≡ seen_in (Some snap))
+        (has : HasOfCall job tx old.core (seen_of snap))
       where
-        wanted_so : (addr : Addr) (made : Step) → IsPlanFor job.call snap (plan.Need addr) → HasWanted tx addr old made new
+        wanted_so : (addr : Addr) (made : Step) → IsPlanFor job.call snap (plan.Need addr)
+            → HasWanted tx addr old made new
             → StaysAlone (Some made) new.worker new.core
         wanted_so addr made is_plan wanted =
             by wanted.answer wanted.core (ap (λ (s : State). s.phase) wanted.worker)
@@ -283,14 +292,16 @@ module _ (old new : Side) (tidy : AreTidy old.core) (fits : IsCoreOf old.worker 
                 → seen_in new.worker.work.snap ≡ seen_wanted addr answer (seen_in old.worker.work.snap)
                 → StaysAlone (Some made) new.worker new.core
             by (want.Held back bytes) is phase got seen =
-                let new_tx : new.worker.begun.tx ≡ Some tx = ap (λ (b : Begun). b.tx) got ∙ ap (λ t. Some t) is.0 in
+                let new_tx : new.worker.begun.tx ≡ Some tx =
+                ap (λ (b : Begun). b.tx) got ∙ ap (λ t. Some t) is.0 in
                 alone_by (Some made) new.worker new.core Planning None phase (ap (λ (b : Begun). b.io) got)
                 (λ block. is.2.leaves.fetches block ∙ none block)
                 (λ room. has_so new.worker new.core job tx _ new_job new_tx
                 (seen ∙ ap (with_object addr bytes.items) snap_is)
                 (read_one old.core new.core job tx snap addr has is_plan (reads new_tx) bytes.items is.2))
             by (want.Fetch back io) is phase got seen =
-                let new_tx : new.worker.begun.tx ≡ Some tx = ap (λ (b : Begun). b.tx) got ∙ ap (λ t. Some t) is.0 in
+                let new_tx : new.worker.begun.tx ≡ Some tx =
+                ap (λ (b : Begun). b.tx) got ∙ ap (λ t. Some t) is.0 in
                 alone_by (Some made) new.worker new.core Reading (Some io) phase (ap (λ (b : Begun). b.io) got)
                 (λ block. is.2.leaves.fetches block ∙ ap (λ b. nat_eq block.0 addr.block.0 || b) (none block)
                 ∙ or_none (nat_eq block.0 addr.block.0)
@@ -298,10 +309,12 @@ module _ (old new : Side) (tidy : AreTidy old.core) (fits : IsCoreOf old.worker 
                 (λ room. has_so new.worker new.core job tx (seen_of snap) new_job new_tx (seen ∙ snap_is)
                 (fetch_one old.core new.core job tx snap addr has is_plan (reads new_tx) io is.2))
             by (want.Busy back) is phase got seen =
-                alone_by (Some made) new.worker new.core Planning None phase (ap (λ (b : Begun). b.io) got) (still is.2)
+                alone_by (Some made) new.worker new.core Planning None phase
+                (ap (λ (b : Begun). b.io) got) (still is.2)
                 (λ room. same_core is.2 (ap (λ (b : Begun). b.tx) got ∙ ap (λ t. Some t) is.0) seen)
             by (want.Loading back) is phase got seen =
-                alone_by (Some made) new.worker new.core Planning None phase (ap (λ (b : Begun). b.io) got) (still is.2)
+                alone_by (Some made) new.worker new.core Planning None phase
+                (ap (λ (b : Begun). b.io) got) (still is.2)
                 (λ room. same_core is.2 (ap (λ (b : Begun). b.tx) got ∙ ap (λ t. Some t) is.0) seen)
             by (want.Outside back) is phase got seen =
                 alone_by (Some made) new.worker new.core (phase_wanted (want.Outside back)) None phase
@@ -340,7 +353,8 @@ module _ (old new : Side) (tidy : AreTidy old.core) (fits : IsCoreOf old.worker 
           (ap (λ (s : State). s.begun.io) is)
           (subst (λ (c : CoreState). FetchesOnly None c) (sym core.0.core) none) (λ room. tt)
       committed_so made base added (commit.NoMemory back same) io made_is core is =
-          alone_by (Some made) new.worker new.core (Refused cause.NoMemory) None (ap (λ (s : State). s.phase) is)
+          alone_by (Some made) new.worker new.core (Refused cause.NoMemory) None
+          (ap (λ (s : State). s.phase) is)
           (ap (λ (s : State). s.begun.io) is)
           (subst (λ (c : CoreState). FetchesOnly None c) (sym core.0.core) none) (λ room. tt)
       committed_so made base added (commit.Broken back same) io made_is core is =
@@ -353,8 +367,8 @@ module _ (old new : Side) (tidy : AreTidy old.core) (fits : IsCoreOf old.worker 
           (subst (λ (c : CoreState). FetchesOnly None c) (sym core.0.core) none) (λ room. tt)
 
     lacked_so : (made : Step) → HasLacked tx old made new → StaysAlone (Some made) new.worker new.core
-    lacked_so made has = aborted_so (Some made) Idle (λ worker core. tt) (ap (λ (s : State). s.phase) has.worker)
-        (ap (λ (s : State). s.begun.io) has.worker) has.core
+    lacked_so made has = aborted_so (Some made) Idle (λ worker core. tt)
+        (ap (λ (s : State). s.phase) has.worker) (ap (λ (s : State). s.begun.io) has.worker) has.core
 
     planned_so : (made : Step) (next : Plan) → IsNext old.worker next → HasTaken old.worker old.core
         → GoesByNext next tx old made new → StaysAlone (Some made) new.worker new.core
@@ -365,18 +379,21 @@ module _ (old new : Side) (tidy : AreTidy old.core) (fits : IsCoreOf old.worker 
 
         of_next : (next : Plan) → IsPlanFor is.job.call is.snap next → GoesByNext next tx old made new
             → StaysAlone (Some made) new.worker new.core
-        of_next (plan.Need addr) is_plan goes = wanted_so is.job is.snap is.job_is is.snap_is has addr made is_plan goes
+        of_next (plan.Need addr) is_plan goes =
+            wanted_so is.job is.snap is.job_is is.snap_is has addr made is_plan goes
         of_next (plan.Claim block) is_plan goes = absurd is_plan.1
         of_next (plan.Done done) is_plan goes = elim (ending old new tx done made goes) [
           | lacked has_lacked ↦ lacked_so made has_lacked
           | committed job job_is has ↦
               committed_so job done made (record (with_snap new.worker old.worker) { begun = none_begun })
-              (added_blocks old.core.log (blocks_of done.written)) has.answer refl has.made_is has.core has.worker
+              (added_blocks old.core.log (blocks_of done.written)) has.answer refl has.made_is
+              has.core has.worker
         ]
         of_next plan.NoMemory is_plan goes = lacked_so made goes
 
   -- a fetch is given back
-  given_so : (ok : Bool) (made : Step) (io : Fetch) → old.worker.begun.io ≡ Some io → HasTaken old.worker old.core
+  given_so : (ok : Bool) (made : Step) (io : Fetch) → old.worker.begun.io ≡ Some io
+      → HasTaken old.worker old.core
       → HasGivenBack ok io old made new → StaysAlone (Some made) new.worker new.core
   given_so ok made io io_is taken has =
       alone_by (Some made) new.worker new.core (phase_given ok) None (ap (λ (s : State). s.phase) has.worker)
@@ -457,12 +474,14 @@ module _ (old new : Side) (tidy : AreTidy old.core) (fits : IsCoreOf old.worker 
   called_so made idle none (refused why made_is told) = told_so (Some made) told
   called_so made idle none (replied made_is told) = told_so (Some made) told
 
-  read_so : (ok : Bool) (made : Step) (io : Option Fetch) → old.worker.begun.io ≡ io → HasTaken old.worker old.core
+  read_so : (ok : Bool) (made : Step) (io : Option Fetch) → old.worker.begun.io ≡ io
+      → HasTaken old.worker old.core
       → IsSomeAnd io (λ io. HasGivenBack ok io old made new) → StaysAlone (Some made) new.worker new.core
   read_so ok made None io_is taken has = absurd has
   read_so ok made (Some io) io_is taken has = given_so ok made io io_is taken has
 
-  rests_so : (made : Option Step) (phase : Phase) → old.worker.phase ≡ phase → PlansAlone phase old.worker old.core
+  rests_so : (made : Option Step) (phase : Phase) → old.worker.phase ≡ phase
+      → PlansAlone phase old.worker old.core
       → new ≡ old → StaysAlone made new.worker new.core
   rests_so made phase at plans same = subst (λ (s : Side). StaysAlone made s.worker s.core) (sym same)
       (alone_by made old.worker old.core phase old.worker.begun.io at refl fetches (λ room. plans))
@@ -480,11 +499,13 @@ module _ (old new : Side) (tidy : AreTidy old.core) (fits : IsCoreOf old.worker 
       called_so made (no_tx old.worker.begun.tx out) (no_fetch old.worker.begun.io old.core fetch fetches)
       (beginning old new made has)
   stays_alone Planning (Some made) at out fetch plans has =
-      planned_so has.tx has.tx_is (no_fetch old.worker.begun.io old.core fetch fetches) made has.next has.next_is plans
+      planned_so has.tx has.tx_is (no_fetch old.worker.begun.io old.core fetch fetches) made has.next
+      has.next_is plans
       has.goes
   stays_alone (Read ok) (Some made) at out fetch plans has = read_so ok made old.worker.begun.io refl plans has
   stays_alone (Refused why) (Some made) at out fetch plans has =
-      refused_so why made (no_fetch old.worker.begun.io old.core fetch fetches) old.worker.work.job old.worker.begun.tx
+      refused_so why made (no_fetch old.worker.begun.io old.core fetch fetches) old.worker.work.job
+      old.worker.begun.tx
       refl has
   stays_alone Again (Some made) at out fetch plans has =
       left_so made (no_fetch old.worker.begun.io old.core fetch fetches) old.worker.begun.tx refl has

@@ -1,7 +1,9 @@
--- What lies ready after a worker's step is what the promise wants, and once it is told the worker stands between the
--- events again.
-use Rattle.std.proofs.Common.{arith, ◌≡◌, ◌∙◌, refl, sym, ap, ap₂, subst, true≢false, ℕ, ◌+◌, zero, suc, Bool, true, false, not}
-use Rattle.std.proofs.Common.{◌&&◌, Option, Some, None, Ok, Err, IfSome, is_some, List, [], ◌∷◌, ◌++◌, length, slice_get}
+-- What lies ready after a worker's step is what the promise wants, and once it is told the worker stands
+-- between the events again.
+use Rattle.std.proofs.Common.{arith, ◌≡◌, ◌∙◌, refl, sym, ap, ap₂, subst, true≢false, ℕ, ◌+◌, zero, suc, Bool}
+use Rattle.std.proofs.Common.{true, false, not}
+use Rattle.std.proofs.Common.{◌&&◌, Option, Some, None, Ok, Err, IfSome, is_some, List, [], ◌∷◌, ◌++◌, length}
+use Rattle.std.proofs.Common.{slice_get}
 use Rattle.std.specs.Prelude.{IsSomeAnd, unwrap_or}
 use Rattle.std.proofs.lemmas.Option.{none-some}
 use Rattle.disk.specs.declared.block.BlockNo.{BlockNo}
@@ -109,7 +111,8 @@ has_job (Refused why) = true
 has_job Again = true
 has_job (Waiting place) = false
 
-not_idle : (phase : Phase) (job : Job) (found : Option Job) (begun : told.Begun) (asked : Asking) → found ≡ Some job
+not_idle : (phase : Phase) (job : Job) (found : Option Job) (begun : told.Begun) (asked : Asking)
+    → found ≡ Some job
     → has_job phase ≡ true → is_idle (progress_in phase found begun asked) ≡ false
 not_idle Idle job found begun asked is busy = absurd (true≢false (sym busy))
 not_idle (Waiting place) job found begun asked is busy = absurd (true≢false (sym busy))
@@ -117,7 +120,8 @@ not_idle Called job found begun asked is busy = ap (λ j. is_idle (progress_in C
 not_idle Planning job found begun asked is busy = ap (λ j. is_idle (progress_in Planning j begun asked)) is
 not_idle Reading job found begun asked is busy = ap (λ j. is_idle (progress_in Reading j begun asked)) is
 not_idle (Read ok) job found begun asked is busy = ap (λ j. is_idle (progress_in (Read ok) j begun asked)) is
-not_idle (Refused why) job found begun asked is busy = ap (λ j. is_idle (progress_in (Refused why) j begun asked)) is
+not_idle (Refused why) job found begun asked is busy =
+    ap (λ j. is_idle (progress_in (Refused why) j begun asked)) is
 not_idle Again job found begun asked is busy = ap (λ j. is_idle (progress_in Again j begun asked)) is
 
 -- ---- by cases of the step
@@ -213,7 +217,8 @@ module _ (boot number : ℕ) (entries : List Entry) (old new : Side) (at : IsWor
   goes_on phase made state job job_is busy same_boot answer entry stands = record {
     entry = entry;
     answer = none_told phase (Some made) state answer
-        (ap (λ b. not (is_idle (was phase)) && b) (not_idle state.phase job state.work.job _ state.asked job_is busy)
+        (ap (λ b. not (is_idle (was phase)) && b)
+        (not_idle state.phase job state.work.job _ state.asked job_is busy)
         ∙ and_false (not (is_idle (was phase))));
     stands = record { boot_is = same_boot; entry = refl; answer = refl; stands = stands };
   }
@@ -253,7 +258,8 @@ module _ (boot number : ℕ) (entries : List Entry) (old new : Side) (at : IsWor
           (telling.told (once_wanted addr answer))
           → Leaves Planning (Some (step.Wanted addr modes.Exclusive (wish_of answer))) (once_wanted addr answer)
       left answer busy stands_then =
-          goes_on Planning (step.Wanted addr modes.Exclusive (wish_of answer)) (once_wanted addr answer) next.job next.job_is busy
+          goes_on Planning (step.Wanted addr modes.Exclusive (wish_of answer)) (once_wanted addr answer)
+          next.job next.job_is busy
           at.boot_is at.answer at.entry stands_then
 
       by : (answer : Want) → IsWanted old.core tx addr modes.Exclusive answer new.core
@@ -275,7 +281,8 @@ module _ (boot number : ℕ) (entries : List Entry) (old new : Side) (at : IsWor
           (telling.told (once_claimed answer))
           → Leaves Planning (Some (step.Claimed block (claim_wish answer))) (once_claimed answer)
       left answer busy stands_then =
-          goes_on Planning (step.Claimed block (claim_wish answer)) (once_claimed answer) next.job next.job_is busy
+          goes_on Planning (step.Claimed block (claim_wish answer)) (once_claimed answer) next.job
+          next.job_is busy
           at.boot_is at.answer at.entry stands_then
 
       by : (answer : Claim) → IsClaimed old.core tx has.core.0 answer new.core
@@ -286,11 +293,13 @@ module _ (boot number : ℕ) (entries : List Entry) (old new : Side) (at : IsWor
       by (claim.Outside back) is = left (claim.Outside back) refl (runs tx back tx_is is.0 stands)
       by (claim.NoMemory back) is = left (claim.NoMemory back) refl (runs tx back tx_is is.0 stands)
 
-  lacks : (tx : ℕ) (made : Step) → HasLacked tx old made new → LeavesIt Planning (Some (step.Ended ending.NoMemory))
+  lacks : (tx : ℕ) (made : Step) → HasLacked tx old made new
+      → LeavesIt Planning (Some (step.Ended ending.NoMemory))
   lacks tx made has phase_is stands =
       let (job, job_is, rest) = some_of old.worker.work.job stands in
       so Planning _ _ has.worker
-      (answers Planning (step.Ended ending.NoMemory) (record (with_snap new.worker old.worker) { begun = none_begun })
+      (answers Planning (step.Ended ending.NoMemory)
+      (record (with_snap new.worker old.worker) { begun = none_begun })
       verdict.NoMemory None job (told.Planning old_begun) (with_job Planning job job_is) at.boot_is
       (λ t answer has v p. (p, v)) at.entry)
 
@@ -324,7 +333,8 @@ module _ (boot number : ℕ) (entries : List Entry) (old new : Side) (at : IsWor
       there = at_next entries _ place.0 next
 
       placed : (stable : Bool) → is_answered_stable job.call ≡ stable
-          → Leaves Planning (Some made_then) (with_entry job done.reply (told_of stable job done.reply place planned))
+          → Leaves Planning (Some made_then) (with_entry job done.reply
+          (told_of stable job done.reply place planned))
       placed true stable = record {
         entry = (next, is_entry);
         answer = none_told Planning (Some made_then)
@@ -380,7 +390,8 @@ module _ (boot number : ℕ) (entries : List Entry) (old new : Side) (at : IsWor
         (stands_then (runs tx back tx_is back_is stands))
 
     commits_by : (answer : Commit Outcome) → IsCommit old.core tx (planned_of done) done answer new.core
-        → Leaves Planning (Some (step.Commit added (committing_of answer))) (after_commit job done.reply answer planned)
+        → Leaves Planning (Some (step.Commit added (committing_of answer)))
+        (after_commit job done.reply answer planned)
     commits_by (commit.Committed place) is =
         placed place (is.next ∙ ap (λ n. n + 1) places) (is_answered_stable job.call) refl
     commits_by (commit.Full back same) is =
@@ -388,10 +399,12 @@ module _ (boot number : ℕ) (entries : List Entry) (old new : Side) (at : IsWor
     commits_by (commit.Foreign back same) is =
         back_in back (step.Commit added committing.Foreign) Again is.0.transaction refl at.entry (λ r. r)
     commits_by (commit.NoMemory back same) is =
-        back_in back (step.Commit added committing.NoMemory) (Refused cause.NoMemory) is.0.transaction refl at.entry
+        back_in back (step.Commit added committing.NoMemory) (Refused cause.NoMemory)
+        is.0.transaction refl at.entry
         (λ r. r)
     commits_by (commit.Broken back same) is =
-        back_in back (step.Commit added committing.Broken) (Refused cause.Io) is.0.transaction refl at.entry (λ r. r)
+        back_in back (step.Commit added committing.Broken) (Refused cause.Io) is.0.transaction refl
+        at.entry (λ r. r)
     commits_by (commit.Spent back same) is =
         back_in back (step.Commit added committing.Spent) (Refused cause.Spent) is.0.transaction refl at.entry
         (λ r. r)
@@ -402,7 +415,8 @@ module _ (boot number : ℕ) (entries : List Entry) (old new : Side) (at : IsWor
       → LeavesIt Planning (Some (step.Commit (added_blocks old.core.log (blocks_of done.written))
       (committing_of has.answer)))
   commits job tx done made tx_is next job_is has phase_is stands =
-      so Planning _ _ has.worker (commits_by job tx done (added_blocks old.core.log (blocks_of done.written)) tx_is
+      so Planning _ _ has.worker (commits_by job tx done
+      (added_blocks old.core.log (blocks_of done.written)) tx_is
       job_is stands has.answer has.core)
 
   -- ---- besides
@@ -422,17 +436,18 @@ module _ (boot number : ℕ) (entries : List Entry) (old new : Side) (at : IsWor
     where
       by : (well : Bool) (job : Job) → old.worker.work.job ≡ Some job
           → Leaves (Read ok) (Some (given_step well io)) (once_given well)
-      by true job job_is = goes_on (Read ok) (step.Fetched io.block) (once_given true) job job_is refl at.boot_is at.answer
-          at.entry stands.0
-      by false job job_is = goes_on (Read ok) (step.FetchFailed io.block) (once_given false) job job_is refl at.boot_is
-          at.answer at.entry stands.0
+      by true job job_is = goes_on (Read ok) (step.Fetched io.block) (once_given true) job job_is refl
+          at.boot_is at.answer at.entry stands.0
+      by false job job_is = goes_on (Read ok) (step.FetchFailed io.block) (once_given false) job job_is
+          refl at.boot_is at.answer at.entry stands.0
 
   refuses : (why : Cause) (job : Job) (tx : ℕ) (made : Step) → old.worker.work.job ≡ Some job
       → HasRefused why job tx old made new → LeavesIt (Refused why) (Some (step.Ended ending.Refused))
   refuses why job tx made job_is has phase_is stands =
       so (Refused why) _ _ has.worker
       (answers (Refused why) (step.Ended ending.Refused) (record old.worker { begun = none_begun })
-      (refusal job.call why) None job (told.Refused old_begun why) (with_job (Refused why) job job_is) at.boot_is
+      (refusal job.call why) None job (told.Refused old_begun why)
+      (with_job (Refused why) job job_is) at.boot_is
       (λ t answer has v p. (p, v)) at.entry)
 
   leaves : (tx : ℕ) (made : Step) → HasLeft tx old made new → LeavesIt Again (Some (step.Ended ending.Again))
@@ -459,7 +474,12 @@ module _ (boot number : ℕ) (entries : List Entry) (old new : Side) (at : IsWor
           (verdict.Reply kept.entry.reply) (Some place) kept.job (told.Waiting place.0) stage_is at.boot_is
           (λ t answer has v p.
           let (c, c_is, reply) = has place.0 kept.entry (stays_at entries _ place.0 kept.entry kept.entry_is) in
-          record { entry = c; is_entry = c_is; placed = p; told = v ∙ ap (λ (r : Reply). verdict.Reply r) (sym reply) })
+          record {
+            entry = c;
+            is_entry = c_is;
+            placed = p;
+            told = v ∙ ap (λ (r : Reply). verdict.Reply r) (sym reply);
+          })
           at.entry)
 
       broken_told : IsSomeAnd old.worker.work.broken_reply (λ reply. new.worker
@@ -469,7 +489,8 @@ module _ (boot number : ℕ) (entries : List Entry) (old new : Side) (at : IsWor
           ≡ with_answer (verdict.Reply reply) (Some place) (without_broken_reply old.worker))
           old.worker.work.broken_reply (refused status.Io kept.job.call) kept.broken_reply is)
           (answers (Waiting place) (step.Stable place false) (without_broken_reply old.worker)
-          (verdict.Reply (refused status.Io kept.job.call)) (Some place) kept.job (told.Waiting place.0) stage_is
+          (verdict.Reply (refused status.Io kept.job.call)) (Some place) kept.job
+          (told.Waiting place.0) stage_is
           at.boot_is (λ t answer has v p. (p, v)) at.entry)
 
       still : new.worker ≡ old.worker → Leaves (Waiting place) (Some (step.Stable place false)) new.worker

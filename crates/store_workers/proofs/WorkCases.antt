@@ -133,7 +133,8 @@ module _ (old new : Side) (P : Phase → Option Step → Type 0) (cases : Cases 
     goes : (next : Plan) (made : Step) → IsNext old.worker next → GoesByNext next tx old made new
         → P Planning (Some made)
     goes (plan.Need addr) made is has = so Planning made _ has.made_is (cases.wanted tx addr made tx_is is has)
-    goes (plan.Claim block) made is has = so Planning made _ has.made_is (cases.claimed tx block made tx_is is has)
+    goes (plan.Claim block) made is has = so Planning made _ has.made_is
+        (cases.claimed tx block made tx_is is has)
     goes (plan.Done done) made is has = ends done is made has
     goes plan.NoMemory made is has = lacks made has
 
@@ -149,7 +150,8 @@ module _ (old new : Side) (P : Phase → Option Step → Type 0) (cases : Cases 
 
   refuses : (why : Cause) (job : Option Job) (tx : Option ℕ) (made : Step) → old.worker.work.job ≡ job
       → old.worker.begun.tx ≡ tx
-      → IsSomeAnd job (λ job. IsSomeAnd tx (λ tx. HasRefused why job tx old made new)) → P (Refused why) (Some made)
+      → IsSomeAnd job (λ job. IsSomeAnd tx (λ tx. HasRefused why job tx old made new))
+      → P (Refused why) (Some made)
   refuses why None tx made job_is tx_is has = absurd has
   refuses why (Some job) None made job_is tx_is has = absurd has
   refuses why (Some job) (Some tx) made job_is tx_is has =
@@ -161,7 +163,8 @@ module _ (old new : Side) (P : Phase → Option Step → Type 0) (cases : Cases 
   by_cases Called (Some made) has = called old.worker.work.job made refl has
   by_cases Planning (Some made) has = goes has.tx has.tx_is has.next made has.next_is has.goes
   by_cases (Read ok) (Some made) has = gives ok old.worker.begun.io made refl has
-  by_cases (Refused why) (Some made) has = refuses why old.worker.work.job old.worker.begun.tx made refl refl has
+  by_cases (Refused why) (Some made) has =
+      refuses why old.worker.work.job old.worker.begun.tx made refl refl has
   by_cases Again (Some made) has = leaves old.worker.begun.tx made refl has
   by_cases (Waiting place) (Some made) has = so (Waiting place) made _ has.made_is (cases.waited place made has)
   by_cases Called None has = absurd has

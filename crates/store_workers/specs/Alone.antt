@@ -22,8 +22,9 @@ use Rattle.store_workers.specs.declared.workers.parts.State.{State}
 
 -- ---- what was read and taken
 
--- What a transaction has of its call, of this core's image: each object was asked for once, and is held still. What
--- is taken is taken alone, and the call asks for it by what was read. No call with rules claims a block yet.
+-- What a transaction has of its call, of this core's image: each object was asked for once, and is held
+-- still. What is taken is taken alone, and the call asks for it by what was read. No call with rules claims a
+-- block yet.
 pub record HasOfCall (job : Job) (tx : ℕ) (core : CoreState) (seen : Seen) : Type 0 where
   pub blocks : seen.geometry.blocks ≡ core.log.blocks
   pub inodes : seen.geometry.inodes ≡ core.inodes
@@ -71,8 +72,8 @@ abbrev pub is_full : Option Step → Bool
 is_full (Some (step.Commit added committing.Full)) = true
 is_full _ = false
 
--- after a step no fetch is pending but its own, and where no room was wanting, what is taken while it plans is of its
--- call
+-- after a step no fetch is pending but its own, and where no room was wanting, what is taken while it plans
+-- is of its call
 pub record StaysAlone (made : Option Step) (worker : State) (core : CoreState) : Type 0 where
   pub fetches : FetchesOnly worker.begun.io core
   pub plans : is_full made ≡ false → PlansAlone worker.phase worker core

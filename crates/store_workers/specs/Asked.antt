@@ -3,8 +3,8 @@ use Rattle.std.specs.Prelude.{Option, List, ◌++◌, option_to_list}
 use Rattle.objects.specs.declared.addr.Addr.{Addr}
 use Rattle.store_workers.specs.declared.workers.parts.Job.{Job}
 
--- the object whose block was fetched last, those whose blocks were fetched for the transaction, in order, and the
--- call whose procedure was committed and waits for its place
+-- the object whose block was fetched last, those whose blocks were fetched for the transaction, in order, and
+-- the call whose procedure was committed and waits for its place
 pub record Asking : Type 0 where
   pub wish : Option Addr
   pub fetched : List Addr

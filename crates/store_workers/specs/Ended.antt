@@ -33,8 +33,8 @@ pub record GivesFetchBack (io : Option Fetch) (old new : CoreState) : Type 0 whe
   pub stays : (other : ℕ) → KeepsReads old new other
   pub home : KeepsHome old new
 
--- The transaction that was out has ended, if there was one: what it had taken is free, and what others have taken
--- stays.
+-- The transaction that was out has ended, if there was one: what it had taken is free, and what others have
+-- taken stays.
 pub record GivesTransactionBack (tx : Option ℕ) (old new : CoreState) : Type 0 where
   pub only : new ≡ record old { out = []; holds = new.holds; present = new.present }
   pub holds : (other : ℕ) (addr : Addr) → taken_by new other addr ≡ but_of tx (taken_by old) other addr
@@ -43,8 +43,9 @@ pub record GivesTransactionBack (tx : Option ℕ) (old new : CoreState) : Type 0
   pub stays : (other : ℕ) → (tx ≡ Some other → ⊥) → KeepsReads old new other
   pub home : KeepsHome old new
 
--- What a worker had begun was given back: no transaction is out, what its own had taken is free, and its fetch is
--- pending no more. What others have taken or fetch stays, and so do the log, the counts and the kept commits.
+-- What a worker had begun was given back: no transaction is out, what its own had taken is free, and its
+-- fetch is pending no more. What others have taken or fetch stays, and so do the log, the counts and the kept
+-- commits.
 pub record GivesAllBack (begun : Begun) (old new : CoreState) : Type 0 where
   pub only : new ≡ record old { out = []; holds = new.holds; present = new.present }
   pub holds : (other : ℕ) (addr : Addr) → taken_by new other addr ≡ but_of begun.tx (taken_by old) other addr

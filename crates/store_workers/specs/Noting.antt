@@ -14,8 +14,8 @@ use Rattle.store_workers.specs.Stages.{IsWorkerAt, progress_of}
 use Rattle.store_workers.specs.WorkTells.{HasReplies, progress_after}
 use Rattle.store_workers.specs.WorkerSteps.{Side}
 
--- A procedure is noted more, with the next place: it is that of the call that the worker planned, and was committed
--- at the event now taken.
+-- A procedure is noted more, with the next place: it is that of the call that the worker planned, and was
+-- committed at the event now taken.
 pub record NotesProcedure (boot clock : ℕ) (progress : Progress) (place : ℕ) (before after : Run) : Type 0 where
   pub committed : Committed
   pub history : after.history.items ≡ before.history.items ++ committed ∷ []
@@ -35,9 +35,10 @@ NotesHistory boot clock progress (Some (step.Commit added (committing.Committed 
     NotesProcedure boot clock progress place.0 before after
 NotesHistory boot clock progress _ before after = after.history.items ≡ before.history.items
 
--- An answer is noted more: the one that the promise wants with the step, in each transcript that has the procedures
--- noted so far.
-pub record NotesAnswer (clock : ℕ) (progress : Progress) (made : Option Step) (before after : Run) : Type 0 where
+-- An answer is noted more: the one that the promise wants with the step, in each transcript that has the
+-- procedures noted so far.
+pub record NotesAnswer (clock : ℕ) (progress : Progress) (made : Option Step)
+    (before after : Run) : Type 0 where
   pub answer : Answer
   pub answers : after.answers.items ≡ before.answers.items ++ answer ∷ []
   pub worker : answer.worker ≡ 0
@@ -57,12 +58,12 @@ NotesAnswers true clock progress made before after = NotesAnswer clock progress 
 NotesAnswers false clock progress made before after = after.answers.items ≡ before.answers.items
 
 -- What a run notes with a step of its worker. The worker is then as far as the step tells.
-pub record NotesWork (boot clock : ℕ) (old : Side) (made : Option Step) (new : Side) (before after : Run) : Type 0
-  where
-    pub progress : progress_of new.worker ≡ progress_after old.core.log.broken made (progress_of old.worker)
-    pub history : NotesHistory boot clock (progress_of old.worker) made before after
-    pub answers : NotesAnswers (not (is_idle (progress_of old.worker)) && is_idle (progress_of new.worker)) clock
-        (progress_of old.worker) made before after
-    pub steps : after.steps ≡ before.steps
-    pub boot_is : after.boot ≡ before.boot
-    pub stands : IsWorkerAt boot (entries_of (transcript_of after)) new.worker
+pub record NotesWork (boot clock : ℕ) (old : Side) (made : Option Step) (new : Side)
+    (before after : Run) : Type 0 where
+  pub progress : progress_of new.worker ≡ progress_after old.core.log.broken made (progress_of old.worker)
+  pub history : NotesHistory boot clock (progress_of old.worker) made before after
+  pub answers : NotesAnswers (not (is_idle (progress_of old.worker)) && is_idle
+      (progress_of new.worker)) clock (progress_of old.worker) made before after
+  pub steps : after.steps ≡ before.steps
+  pub boot_is : after.boot ≡ before.boot
+  pub stands : IsWorkerAt boot (entries_of (transcript_of after)) new.worker

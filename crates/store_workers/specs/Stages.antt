@@ -1,4 +1,5 @@
--- How far a worker is with its call, as a function of its state, and what holds of it between the events of a run.
+-- How far a worker is with its call, as a function of its state, and what holds of it between the events of a
+-- run.
 use Rattle.std.specs.Prelude.{◌≡◌, ℕ, zero, suc, true, Option, Some, None, IsSomeAnd, List, [], map, slice_get}
 use Rattle.std.specs.Prelude.{unwrap_or}
 use Rattle.disk.specs.declared.block.BlockNo.{BlockNo}
@@ -101,8 +102,8 @@ abbrev pub IsFetchOf : State → Type 0
 IsFetchOf state = IsSomeAnd state.asked.wish (λ addr.
     IsSomeAnd state.begun.io (λ (io : Fetch). io.block ≡ addr.block))
 
--- The procedure of a call that is to be answered stable was committed at this place: kept for it are its reply and
--- the refusal in its stead.
+-- The procedure of a call that is to be answered stable was committed at this place: kept for it are its
+-- reply and the refusal in its stead.
 pub record WaitsFor (entries : List Entry) (place : Seq) (state : State) : Type 0 where
   pub job : Job
   pub job_is : state.asked.waiting ≡ Some job

@@ -57,9 +57,9 @@ abbrev pub told : State → State
 told state = record state { work = record state.work { entry = None; answer = None } }
 
 -- The worker made its step, and what it committed and answered is told, and doesn't lie ready any more.
-pub record HasWorked (worker clock : ℕ) (old : Side) (made : Option Step) (new : Side) (before after : Run) : Type 0
-  where
-    pub state : State
-    pub goes : GoesOn old.worker.phase old made (side state new.core)
-    pub taken : new.worker ≡ told state
-    pub tells : TellsWork worker clock state before after
+pub record HasWorked (worker clock : ℕ) (old : Side) (made : Option Step) (new : Side)
+    (before after : Run) : Type 0 where
+  pub state : State
+  pub goes : GoesOn old.worker.phase old made (side state new.core)
+  pub taken : new.worker ≡ told state
+  pub tells : TellsWork worker clock state before after

@@ -59,8 +59,8 @@ abbrev pub HasReplies : Transcript → List Entry → Type 0
 HasReplies t entries = (place : ℕ) (entry : Entry) → entry_at entries place ≡ Some entry
     → (c : noted.Committed) × (committed_at t place ≡ Some c) × (c.reply ≡ entry.reply)
 
--- What lies ready is what the promise wants of an answer, with the step that ends the call, in each transcript that
--- has these entries.
+-- What lies ready is what the promise wants of an answer, with the step that ends the call, in each
+-- transcript that has these entries.
 pub record IsAnswerOf (entries : List Entry) (progress : Progress) (made : Option Step) (ready : CallAnswer)
     : Type 0 where
   pub job : Job
@@ -79,14 +79,14 @@ pub record TellsAnswer (entries : List Entry) (old new : Progress) (made : Optio
 
 -- ---- a step of the worker
 
--- What a step tells, of a worker of this number: how far the worker is then, the entry and the answer that lie ready.
--- Once these are told, the worker stands between the events again.
+-- What a step tells, of a worker of this number: how far the worker is then, the entry and the answer that
+-- lie ready. Once these are told, the worker stands between the events again.
 pub record TellsStep (boot number : ℕ) (entries : List Entry) (old : Side) (made : Option Step) (new : Side)
     : Type 0 where
   pub progress : progress_of new.worker ≡ progress_after old.core.log.broken made (progress_of old.worker)
   pub entry : TellsEntry boot (length entries) (progress_of old.worker) made new.worker.work.entry
-  pub answer : TellsAnswer (with_ready number entries new.worker) (progress_of old.worker) (progress_of new.worker)
-      made new.worker.work.answer
+  pub answer : TellsAnswer (with_ready number entries new.worker) (progress_of old.worker)
+      (progress_of new.worker) made new.worker.work.answer
   pub stands : IsWorkerAt boot (with_ready number entries new.worker) (told new.worker)
 
 -- ---- a call that is handed over, and a read
@@ -97,8 +97,8 @@ once_handed job None progress = progress
 once_handed job (Some made) progress = At job Called
 
 -- what the event tells of a worker that may take a call
-pub record TellsCall (boot : ℕ) (entries : List Entry) (job : Job) (old : State) (made : Option Step) (new : State)
-    : Type 0 where
+pub record TellsCall (boot : ℕ) (entries : List Entry) (job : Job) (old : State)
+    (made : Option Step) (new : State) : Type 0 where
   pub may : IsStepOfCall (progress_of old) made
   pub progress : progress_of new ≡ once_handed job made (progress_of old)
   pub stands : IsWorkerAt boot entries new

@@ -21,8 +21,8 @@ use Rattle.store_workers.specs.declared.workers.Worker.{Worker}
 abbrev pub ReadsWithin : ℕ → State → Type 0
 ReadsWithin blocks state = IfSome state.begun.io (λ io. io.block.0 < blocks)
 
--- A core fits it: the transaction that is out of the core is the worker's, the block that it reads is one of the
--- image's, and the image's counts are lawful.
+-- A core fits it: the transaction that is out of the core is the worker's, the block that it reads is one of
+-- the image's, and the image's counts are lawful.
 pub record IsCoreOf (state : State) (core : CoreState) : Type 0 where
   pub out : core.out ≡ listed state.begun.tx
   pub reads : ReadsWithin core.log.blocks state

@@ -15,8 +15,8 @@ with_read ok io content state = record state {
   begun = record state.begun { io = Some (record { block = io.block; content = content }) };
 }
 
--- The block that was due was read, or not: the phase tells which, and where it was, the fetch has the newest content,
--- while the device keeps its model and no write of the block has failed.
+-- The block that was due was read, or not: the phase tells which, and where it was, the fetch has the newest
+-- content, while the device keeps its model and no write of the block has failed.
 pub record HasReadBlock (keeps_model : Type 0) (before : Device) (old : State) (made : Step) (after : Device)
     (new : State) : Type 0 where
   pub io : Fetch

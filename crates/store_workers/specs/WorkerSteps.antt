@@ -1,4 +1,5 @@
--- The step by which a worker goes on, by its phase: which step, and what it leaves of the worker and of the core.
+-- The step by which a worker goes on, by its phase: which step, and what it leaves of the worker and of the
+-- core.
 use Rattle.std.specs.Prelude.{◌≡◌, ◌↔◌, ℕ, ◌+◌, ◌^◌, ◌≤◌, Bool, true, false, if◌then◌else◌, IsTrue}
 use Rattle.std.specs.Prelude.{Option, Some, None, Ok, Err, List, [], ◌∷◌, IsSomeAnd}
 use Rattle.disk.specs.Crash.{Image}
@@ -143,8 +144,8 @@ planned_of done = record {
   inodes = done.inodes;
 }
 
--- What the plan ended in is given to the core, whose answer the step tells. Once it is committed, the entry is the
--- job with the plan's reply.
+-- What the plan ended in is given to the core, whose answer the step tells. Once it is committed, the entry
+-- is the job with the plan's reply.
 pub record HasCommitted (job : Job) (tx : ℕ) (done : Outcome) (old : Side) (made : Step) (new : Side) : Type 0
   where
     pub answer : Commit Outcome
@@ -259,7 +260,8 @@ HasToldReply place old new = IsSomeAnd old.work.reply (λ reply. new
 -- the one in its place
 abbrev pub HasToldBroken : Seq → State → State → Type 0
 HasToldBroken place old new = IsSomeAnd old.work.broken_reply (λ reply. new
-    ≡ with_answer (verdict.Reply reply) (Some place) (record old { work = record old.work { broken_reply = None } }))
+    ≡ with_answer (verdict.Reply reply) (Some place)
+    (record old { work = record old.work { broken_reply = None } }))
 
 -- a procedure whose place is settled gets its reply, and one whose place can't be any more the other
 abbrev pub IsTold : Bool → Bool → Seq → State → State → Type 0
@@ -294,7 +296,8 @@ abbrev pub IsFromHome : Phase → Option Fetch → CoreState → Image → Type 
 IsFromHome (Read true) (Some io) core base = IsPending core io.block → io.content ≡ base io.block.0
 IsFromHome _ _ core base = Unit {0}
 
--- whatever is at home, a step leads from a window over it to one over the same, where what was read is from there
+-- whatever is at home, a step leads from a window over it to one over the same, where what was read is from
+-- there
 abbrev pub KeepsHomeOf : Side → Side → Type 0
 KeepsHomeOf old new = (base : Image) → IsFromHome old.worker.phase old.worker.begun.io old.core base
     → IsHomeOf base old.core → IsHomeOf base new.core

@@ -23,5 +23,6 @@ pub fn a_lone_worker_stays_alone()
         → FetchesOnly old.worker.begun.io old.core → KeepsReadsOf old new
         → (phase : Phase) (made : Option Step) → old.worker.phase ≡ phase
         → is_some old.worker.begun.tx ≡ has_transaction phase → is_some old.worker.begun.io ≡ has_fetch phase
-        → PlansAlone phase old.worker old.core → GoesOn phase old made new → StaysAlone made new.worker new.core }
+        → PlansAlone phase old.worker old.core → GoesOn phase old made new
+        → StaysAlone made new.worker new.core }
 {}

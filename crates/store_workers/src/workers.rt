@@ -25,8 +25,8 @@ pub use telling::{
 };
 use txn::Core;
 
-/// A worker: the state of one procedure. What its steps commit and answer lies ready to be taken. Its type keeps
-/// that it has what it needs to go on.
+/// A worker: the state of one procedure. What its steps commit and answer lies ready to be taken. Its type
+/// keeps that it has what it needs to go on.
 pub struct Worker {
     state: State,
     pub ghost transaction: { is_some state.begun.tx ≡ has_transaction state.phase },
@@ -179,8 +179,9 @@ impl Worker {
         self.state.work.answer.take()
     }
 
-    /// Ends the worker, and gives back what it has begun: its transaction, and the read that is due or was made.
-    /// What it was to answer is lost; what it committed stays, and so does what other transactions have.
+    /// Ends the worker, and gives back what it has begun: its transaction, and the read that is due or was
+    /// made. What it was to answer is lost; what it committed stays, and so does what other transactions
+    /// have.
     pub fn end(self, core: &mut Core<Done>)
         requires { Fits self core.old }
         ensures frame { SameFrame core.old core.new }
@@ -201,9 +202,10 @@ impl Worker {
         begun.end(core);
     }
 
-    /// Whether the core fits the worker, as a step needs it: the transaction that is out of the core is the worker's,
-    /// by its number, or none is out where the worker has none; the block that it has to read is one of the image's;
-    /// and an image may have the core's counts. What the worker does with this core keeps it so.
+    /// Whether the core fits the worker, as a step needs it: the transaction that is out of the core is the
+    /// worker's, by its number, or none is out where the worker has none; the block that it has to read is
+    /// one of the image's; and an image may have the core's counts. What the worker does with this core keeps
+    /// it so.
     pub fn fits(&self, core: &Core<Done>) -> bool
         ensures { IsTrue result ↔ Fits self.now core.now }
     {

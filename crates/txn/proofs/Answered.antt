@@ -68,9 +68,11 @@ module _ (P : ℕ → ℕ → List ObjectBytes → List ObjectBytes → Type 0) 
   wanted_law old new tx addr mode (want.NoMemory back) is_out h = same_law old new h.2
 
   pub claimed_law : (old new : CoreState) (tx : ℕ) (block : BlockNo) (addr : Addr) (answer : Claim)
-      → IsWhole block addr → IsOut old tx → IsClaimedExactly old tx addr answer new → IsLawfulCore P old → IsLawfulCore P new
+      → IsWhole block addr → IsOut old tx → IsClaimedExactly old tx addr answer new → IsLawfulCore P old
+      → IsLawfulCore P new
   claimed_law old new tx block addr (claim.Held back) whole is_out h core =
-      subst (λ (now : CoreState). IsLawfulCore P now) (sym h.2) (lawful_claim P old tx block addr whole is_out h.1 core)
+      subst (λ (now : CoreState). IsLawfulCore P now) (sym h.2)
+      (lawful_claim P old tx block addr whole is_out h.1 core)
   claimed_law old new tx block addr (claim.Busy back) whole is_out h core = same_law old new h.2 core
   claimed_law old new tx block addr (claim.Loading back) whole is_out h core = same_law old new h.2 core
   claimed_law old new tx block addr (claim.Outside back) whole is_out h core = same_law old new h.2 core
@@ -81,7 +83,8 @@ module _ (P : ℕ → ℕ → List ObjectBytes → List ObjectBytes → Type 0) 
       → P plan.blocks plan.inodes plan.read plan.written → IsLawfulCore P old → IsLawfulCore P new
   commit_law old new tx plan change (commit.Committed place) h lawful whole is_plan core =
       subst (λ (now : CoreState). IsLawfulCore P now) (sym h.core)
-      (lawful_commit P old tx plan h.group.group new.log h.tried.own h.group.sizes h.group.blocks h.group.contents
+      (lawful_commit P old tx plan h.group.group new.log h.tried.own h.group.sizes h.group.blocks
+      h.group.contents
       h.group.grown h.still.blocks lawful whole is_plan core)
   commit_law old new tx plan change (commit.Full back same) h lawful whole is_plan core =
       same_law old new h.0.core core
@@ -100,17 +103,23 @@ commit_keeps old new tx plan change (commit.Committed place) lawful tidy h base 
     subst (λ (now : CoreState). IsHomeOf base now) (sym h.core)
     (commit_home base old tx plan h.group.group new.log lawful tidy h.tried.own h.group.sizes h.group.blocks
     h.group.contents h.group.grown h.still.blocks home)
-commit_keeps old new tx plan change (commit.Full back same) lawful tidy h base home = same_home old new h.0.core base home
-commit_keeps old new tx plan change (commit.Foreign back same) lawful tidy h base home = same_home old new h.0.core base home
-commit_keeps old new tx plan change (commit.NoMemory back same) lawful tidy h base home = same_home old new h.0.core base home
-commit_keeps old new tx plan change (commit.Broken back same) lawful tidy h base home = same_home old new h.0.core base home
-commit_keeps old new tx plan change (commit.Spent back same) lawful tidy h base home = same_home old new h.0.core base home
+commit_keeps old new tx plan change (commit.Full back same) lawful tidy h base home =
+    same_home old new h.0.core base home
+commit_keeps old new tx plan change (commit.Foreign back same) lawful tidy h base home =
+    same_home old new h.0.core base home
+commit_keeps old new tx plan change (commit.NoMemory back same) lawful tidy h base home =
+    same_home old new h.0.core base home
+commit_keeps old new tx plan change (commit.Broken back same) lawful tidy h base home =
+    same_home old new h.0.core base home
+commit_keeps old new tx plan change (commit.Spent back same) lawful tidy h base home =
+    same_home old new h.0.core base home
 
 -- the log's or the installer's next call goes out, or there is none
 module _ {X : Type 0} (old new : CoreState) (log : Log) where
   pub next_home : (o : Option X) → (IsSome o → new ≡ record old { log = log }) → (IsNone o → new ≡ old)
       → KeepsHome old (record old { log = log }) → KeepsHome old new
-  next_home (Some x) some none keeps base h = subst (λ (core : CoreState). IsHomeOf base core) (sym (some refl)) (keeps base h)
+  next_home (Some x) some none keeps base h =
+      subst (λ (core : CoreState). IsHomeOf base core) (sym (some refl)) (keeps base h)
   next_home None some none keeps base h = subst (λ (core : CoreState). IsHomeOf base core) (sym (none refl)) h
 
   pub next_law : (P : ℕ → ℕ → List ObjectBytes → List ObjectBytes → Type 0) (o : Option X)
@@ -119,7 +128,8 @@ module _ {X : Type 0} (old new : CoreState) (log : Log) where
   next_law P (Some x) some none lawful made h =
       subst (λ (core : CoreState). IsLawfulCore P core) (sym (some refl))
       (made (subst IsLawful (ap (λ (core : CoreState). core.log) (some refl)) lawful))
-  next_law P None some none lawful made h = subst (λ (core : CoreState). IsLawfulCore P core) (sym (none refl)) h
+  next_law P None some none lawful made h =
+      subst (λ (core : CoreState). IsLawfulCore P core) (sym (none refl)) h
 
 -- a transaction is begun, or not
 pub begun_law : (P : ℕ → ℕ → List ObjectBytes → List ObjectBytes → Type 0) (old new : CoreState)
@@ -137,7 +147,8 @@ begun_home old new (Ok tx) done none base h = subst (λ (core : CoreState). IsHo
 begun_home old new (Err fault) done none base h = subst (λ (core : CoreState). IsHomeOf base core) (sym none) h
 
 pub commit_set : {C : Type 0} (old new : CoreState) (tx : ℕ) (plan : Planned) (change : C) (answer : Commit C)
-    → IsLawful old.log → AreTidy old → IsCommitExactly old tx plan change answer new → IsSetBy old plan answer new
+    → IsLawful old.log → AreTidy old → IsCommitExactly old tx plan change answer new
+    → IsSetBy old plan answer new
 commit_set old new tx plan change (commit.Committed place) lawful tidy h =
     subst (λ (now : CoreState). SetsOnly old plan.written now) (sym h.core)
     (λ base home. commit_sets base old tx plan h.group.group new.log lawful tidy h.tried.own h.group.sizes
@@ -173,7 +184,8 @@ claimed_reads old new tx addr (claim.Outside back) h other = same_reads old new 
 claimed_reads old new tx addr (claim.NoMemory back) h other = same_reads old new h.2 other
 
 pub next_reads : {X : Type 0} (o : Option X) (old new : CoreState) (log : Log)
-    → (IsSome o → new ≡ record old { log = log }) → (IsNone o → new ≡ old) → (other : ℕ) → KeepsReads old new other
+    → (IsSome o → new ≡ record old { log = log }) → (IsNone o → new ≡ old) → (other : ℕ)
+    → KeepsReads old new other
 next_reads (Some x) old new log some none other =
     subst (λ (core : CoreState). KeepsReads old core other) (sym (some refl)) (reads_log old log other)
 next_reads None old new log some none other = same_reads old new (none refl) other
@@ -194,13 +206,19 @@ pub commit_reads : {C : Type 0} (P : ℕ → ℕ → List ObjectBytes → List O
     → IsCommitExactly old tx plan change answer new → (other : ℕ) → (other ≡ tx → ⊥) → KeepsReads old new other
 commit_reads P old new tx plan change (commit.Committed place) core h other differ =
     subst (λ (now : CoreState). KeepsReads old now other) (sym h.core)
-    (reads_commit core.home.0 old tx plan h.group.group new.log other core.log core.tidy h.tried.own h.group.sizes
+    (reads_commit core.home.0 old tx plan h.group.group new.log other core.log core.tidy
+    h.tried.own h.group.sizes
     h.group.blocks h.group.contents h.group.grown h.still.blocks core.home.1 differ)
-commit_reads P old new tx plan change (commit.Full back same) core h other differ = same_reads old new h.0.core other
-commit_reads P old new tx plan change (commit.Foreign back same) core h other differ = same_reads old new h.0.core other
-commit_reads P old new tx plan change (commit.NoMemory back same) core h other differ = same_reads old new h.0.core other
-commit_reads P old new tx plan change (commit.Broken back same) core h other differ = same_reads old new h.0.core other
-commit_reads P old new tx plan change (commit.Spent back same) core h other differ = same_reads old new h.0.core other
+commit_reads P old new tx plan change (commit.Full back same) core h other differ =
+    same_reads old new h.0.core other
+commit_reads P old new tx plan change (commit.Foreign back same) core h other differ =
+    same_reads old new h.0.core other
+commit_reads P old new tx plan change (commit.NoMemory back same) core h other differ =
+    same_reads old new h.0.core other
+commit_reads P old new tx plan change (commit.Broken back same) core h other differ =
+    same_reads old new h.0.core other
+commit_reads P old new tx plan change (commit.Spent back same) core h other differ =
+    same_reads old new h.0.core other
 
 -- What each answer leaves.
 
@@ -243,9 +261,11 @@ place_leaves old new tx plan place tidy h = record {
   law = h.law;
 }
 
-pub commit_leaves : {C : Type 0} (old new : CoreState) (tx : ℕ) (plan : Planned) (change : C) (answer : Commit C)
+pub commit_leaves : {C : Type 0} (old new : CoreState) (tx : ℕ) (plan : Planned) (change : C)
+    (answer : Commit C)
     → AreTidy old → IsCommitExactly old tx plan change answer new → IsCommit old tx plan change answer new
-commit_leaves old new tx plan change (commit.Committed place) tidy h = place_leaves old new tx plan place.0 tidy h
+commit_leaves old new tx plan change (commit.Committed place) tidy h =
+    place_leaves old new tx plan place.0 tidy h
 commit_leaves old new tx plan change (commit.Full back same) tidy h = h
 commit_leaves old new tx plan change (commit.Foreign back same) tidy h = h
 commit_leaves old new tx plan change (commit.NoMemory back same) tidy h = h

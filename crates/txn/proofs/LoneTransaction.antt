@@ -1,5 +1,6 @@
 -- A transaction that is out alone is kept off by nobody but itself, and its own change is never foreign.
-use Rattle.std.proofs.Common.{◌≡◌, ◌∙◌, refl, sym, ap, subst, true≢false, ℕ, ◌⊎◌, inl, inr, Bool, true, false, ◌||◌}
+use Rattle.std.proofs.Common.{◌≡◌, ◌∙◌, refl, sym, ap, subst, true≢false, ℕ, ◌⊎◌, inl, inr, Bool, true, false}
+use Rattle.std.proofs.Common.{◌||◌}
 use Rattle.std.proofs.Common.{◌++◌}
 use Rattle.std.proofs.Common.{◌&&◌, cond, nat_eq, Option, Some, None, List, [], ◌∷◌, All, get_or, arith}
 use Rattle.std.specs.Prelude.{Contains}
@@ -42,7 +43,8 @@ found_some test (y ∷ ys) x there passes = go (found_some test ys x) (test y) r
 
 -- what holds of the blocks of all objects holds of the group's
 blocks_all : (P : BlockNo → Type 0) (blocks : List BlockNo) (objects : List ObjectBytes) → All P blocks
-    → ((object : ObjectBytes) → Contains objects object → P object.addr.block) → All P (blocks_after blocks objects)
+    → ((object : ObjectBytes) → Contains objects object → P object.addr.block)
+    → All P (blocks_after blocks objects)
 blocks_all P blocks [] all each = all
 blocks_all P blocks (o ∷ os) all each =
     blocks_all P (cond (is_among o.addr.block blocks) blocks (blocks ++ o.addr.block ∷ [])) os
@@ -68,7 +70,8 @@ module _ (core : CoreState) (tx : ℕ) (tidy : AreTidy core) (alone : core.out �
       (is_hold_by tx x.addr x (mine x there) refl refl refl)
 
   -- what it has taken lies where a change may write
-  taken_home : (addr : Addr) (hold : Hold) → taken_by core tx addr ≡ Some hold → IsHomeOn core.log.blocks addr.block
+  taken_home : (addr : Addr) (hold : Hold) → taken_by core tx addr ≡ Some hold
+      → IsHomeOn core.log.blocks addr.block
   taken_home addr hold taken =
       let found = found_by (is_hold_of tx addr) core.holds hold taken in
       let four = all_four (nat_eq hold.transaction tx) (nat_eq hold.addr.block.0 addr.block.0)
@@ -88,13 +91,14 @@ module _ (core : CoreState) (tx : ℕ) (tidy : AreTidy core) (alone : core.out �
       each x there over =
           let found = taken_there x there in (mine x there, apart x.addr found.0 found.1 over)
 
-  -- Its change is its own: it was planned for this core and by what the transaction holds, and writes only what it read
-  -- and holds alone, while no fetch is pending of what it writes.
+  -- Its change is its own: it was planned for this core and by what the transaction holds, and writes only
+  -- what it read and holds alone, while no fetch is pending of what it writes.
   module _ (plan : Planned) (blocks : plan.blocks ≡ core.log.blocks) (inodes : plan.inodes ≡ core.inodes)
       (read : All (IsReadBy core tx) plan.read)
       (written : (object : ObjectBytes) → Contains plan.written object
       → (before : ObjectBytes) × Contains plan.read before × (before.addr ≡ object.addr))
-      (exclusive : (addr : Addr) (hold : Hold) → taken_by core tx addr ≡ Some hold → hold.mode ≡ modes.Exclusive)
+      (exclusive : (addr : Addr) (hold : Hold) → taken_by core tx addr ≡ Some hold
+      → hold.mode ≡ modes.Exclusive)
       (loaded : (object : ObjectBytes) → Contains plan.written object
       → is_fetching core object.addr.block ≡ false) where
     held_by : (object : ObjectBytes) → Contains plan.written object
@@ -134,9 +138,11 @@ module _ (core : CoreState) (tx : ℕ) (tidy : AreTidy core) (alone : core.out �
       inodes = inodes;
       read = read;
       written = λ k d lt. written_by (get_or plan.written k d) (All-contains_itself plan.written k d lt);
-      homes = blocks_all (IsHomeOn core.log.blocks) [] plan.written (All-nil (IsHomeOn core.log.blocks)) home_of;
+      homes = blocks_all (IsHomeOn core.log.blocks) [] plan.written
+          (All-nil (IsHomeOn core.log.blocks)) home_of;
     }
 
-pub never_loading : (core : CoreState) (tx : ℕ) (addr : Addr) (mode : Mode) → is_fetching core addr.block ≡ false
+pub never_loading : (core : CoreState) (tx : ℕ) (addr : Addr) (mode : Mode)
+    → is_fetching core addr.block ≡ false
     → IsLoading core tx addr mode → ⊥
 never_loading core tx addr mode none loading = true≢false (sym loading.2 ∙ none)

@@ -62,6 +62,7 @@ pub committed_is : (old new : CoreState) (tx : ℕ) (plan : Planned) (log : Log)
 committed_is old new tx plan log present records is here kept =
     let one : new ≡ committed old tx plan log =
     is ∙ ap (λ (xs : List Present). ended (record old { log = log; present = xs; records = records }) tx) here
-    ∙ ap (λ (rs : List Footprint). ended (record old { log = log; present = refreshed log old.present; records = rs })
+    ∙ ap (λ (rs : List Footprint). ended (record old
+    { log = log; present = refreshed log old.present; records = rs })
     tx) kept in
     one ∙ ap (λ (l : Log). committed old tx plan l) (sym (ap (λ (core : CoreState). core.log) one))

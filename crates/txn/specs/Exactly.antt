@@ -22,7 +22,8 @@ abbrev pub IsClaimedExactly : CoreState → ℕ → Addr → Claim → CoreState
 IsClaimedExactly old tx addr answer new =
     IsClaimedWith (new ≡ claimed old tx addr) old tx addr answer new
 
-pub record TakesPlaceExactly (old : CoreState) (tx : ℕ) (plan : Planned) (place : ℕ) (new : CoreState) : Type 0 where
+pub record TakesPlaceExactly (old : CoreState) (tx : ℕ) (plan : Planned) (place : ℕ)
+    (new : CoreState) : Type 0 where
   pub tried : IsTried old tx plan room.Fits
   pub next : place ≡ old.log.places + 1
   pub group : BringsGroup old plan new

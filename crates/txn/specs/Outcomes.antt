@@ -126,7 +126,8 @@ pub record IsRefused {C : Type 0} (old : CoreState) (tx : ℕ) (change : C) (bac
   pub change_back : same ≡ change
 
 -- what came of a commit, by what is left where it took a place
-abbrev pub IsCommitWith : {C : Type 0} → (ℕ → Type 0) → CoreState → ℕ → Planned → C → Commit C → CoreState → Type 0
+abbrev pub IsCommitWith : {C : Type 0} → (ℕ → Type 0) → CoreState → ℕ → Planned → C → Commit C
+    → CoreState → Type 0
 IsCommitWith taken old tx plan change (commit.Committed place) new = taken place.0
 IsCommitWith taken old tx plan change (commit.Full back same) new = IsRefused old tx change back same new
     × IsTried old tx plan room.Full

@@ -25,13 +25,14 @@ pub fn a_wish_is_met_after_its_fetch()
         → IsWanted core tx addr mode answer new → IsMet answer }
 {}
 
-/// A transaction that is out alone is told neither Busy nor Loading, where it wishes for no byte of what it has taken
-/// by another address and no fetch of the block is pending; and its change is its own, so not Foreign, where it was
-/// planned for this core, read what the transaction holds, and writes only what it read and holds alone, while no
-/// fetch of a block that it writes is pending.
+/// A transaction that is out alone is told neither Busy nor Loading, where it wishes for no byte of what it
+/// has taken by another address and no fetch of the block is pending; and its change is its own, so not
+/// Foreign, where it was planned for this core, read what the transaction holds, and writes only what it read
+/// and holds alone, while no fetch of a block that it writes is pending.
 pub fn a_lone_transaction_is_not_kept_off()
     ensures busy { (core : CoreState) (tx : ℕ) (addr : Addr) (mode : Mode) → AreTidy core → core.out ≡ tx ∷ []
-        → ((other : Addr) (hold : Hold) → taken_by core tx other ≡ Some hold → Overlap other addr → other ≡ addr)
+        → ((other : Addr) (hold : Hold) → taken_by core tx other ≡ Some hold → Overlap other addr
+        → other ≡ addr)
         → IsBusy core tx addr mode → ⊥ }
     ensures loading { (core : CoreState) (tx : ℕ) (addr : Addr) (mode : Mode)
         → is_fetching core addr.block ≡ false → IsLoading core tx addr mode → ⊥ }

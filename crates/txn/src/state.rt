@@ -11,7 +11,8 @@ ghost use Rattle.txn_law.specs.Group.{blocks_of};
 ghost use Rattle.wal_law.specs.Calls.{LogCallGoesOut, LogCallComesBack, InstCallGoesOut, InstCallComesBack};
 ghost use Rattle.wal_law.specs.Io.{IsCallWithin};
 ghost use Rattle.wal_law.specs.Logger.{IsNextLogCall, may_log, with_log_out, is_log_out, with_log_back};
-ghost use Rattle.wal_law.specs.Installer.{IsNextInstCall, may_install, with_inst_out, is_inst_out, with_inst_back};
+ghost use Rattle.wal_law.specs.Installer.{IsNextInstCall, may_install, with_inst_out, is_inst_out};
+ghost use Rattle.wal_law.specs.Installer.{with_inst_back};
 ghost use Rattle.txn_law.specs.Core.{with_begun, without, ended, past, installed};
 ghost use Rattle.txn_law.specs.Records.{swept};
 

@@ -11,7 +11,8 @@ ghost use Rattle.disk.specs.Device.{Device, current, newest as newest_content};
 ghost use Rattle.disk.specs.Crash.{Image};
 ghost use Rattle.wal_law.specs.Io.{IsCallWithin};
 ghost use Rattle.wal_law.specs.Logger.{IsNextLogCall, may_log, with_log_out, is_log_out, with_log_back};
-ghost use Rattle.wal_law.specs.Installer.{IsNextInstCall, may_install, with_inst_out, is_inst_out, with_inst_back};
+ghost use Rattle.wal_law.specs.Installer.{IsNextInstCall, may_install, with_inst_out, is_inst_out};
+ghost use Rattle.wal_law.specs.Installer.{with_inst_back};
 ghost use Rattle.txn_law.specs.Core.{IsOut, with_begun, without, past};
 ghost use Rattle.txn_law.specs.CoreLaw.{IsFresh, IsLawfulCore};
 ghost use Rattle.txn_law.specs.CoreWindow.{IsHomeOf, KeepsHome, KeepsReads, IsPending};
@@ -70,8 +71,8 @@ impl<C: Change> Core<C> {
         }
     }
 
-    /// What is true of every core: its log is lawful, what transactions have taken and what is in memory is tidy,
-    /// there are blocks that may be what is at home, and each commit that is kept is a plan's.
+    /// What is true of every core: its log is lawful, what transactions have taken and what is in memory is
+    /// tidy, there are blocks that may be what is at home, and each commit that is kept is a plan's.
     pub fn lawful(&self)
         ensures { IsLawfulCore C.is_plan self.now }
     {
@@ -133,8 +134,9 @@ impl<C: Change> Core<C> {
         self.state.claim(tx, block)
     }
 
-    /// Gives a fetch back with what was read. The block is in memory then while anyone has taken a part of it,
-    /// where its fetch was pending; else nothing changes. What the disk has of a pending block is what is at home.
+    /// Gives a fetch back with what was read. The block is in memory then while anyone has taken a part of
+    /// it, where its fetch was pending; else nothing changes. What the disk has of a pending block is what is
+    /// at home.
     pub fn fetched(&mut self, io: FetchIo)
         ensures only { self.new ≡ record self.old { present = self.new.present } }
         ensures leaves { HasFetched self.old io.block io.content self.new }
@@ -302,7 +304,8 @@ impl<C: Change> Core<C> {
         ensures law { InstCallComesBack self.old.log io ok self.new.log }
         ensures stays { (other : ℕ) → KeepsReads self.old self.new other }
         ensures keeps { (base : Image) → IsHomeOf base self.old
-            → IsHomeOf (if is_inst_out self.old.log io then home_after base self.old.log ok else base) self.new }
+            → IsHomeOf (if is_inst_out self.old.log io then home_after base self.old.log ok
+            else base) self.new }
     {
         self.state.inst_done(io, ok);
         self.state.lawful();

@@ -1,5 +1,6 @@
 -- Lemma: a transaction that has taken an address may wish for it again.
-use Rattle.std.proofs.Common.{◌≡◌, ℕ, false, nat_eq, ◌⊎◌, inl, inr, List, [], ◌∷◌, Some, sym, ap, subst, ◌∙◌, arith}
+use Rattle.std.proofs.Common.{◌≡◌, ℕ, false, nat_eq, ◌⊎◌, inl, inr, List, [], ◌∷◌, Some, sym, ap, subst, ◌∙◌}
+use Rattle.std.proofs.Common.{arith}
 use Rattle.std.proofs.Common.{get_or, true, ◌+◌, ◌<◌, ◌≤◌}
 use Rattle.std.proofs.Math.Bridge.{le_prop}
 use Rattle.limits.specs.declared.TheConstants.{BLOCK_BYTES}
@@ -37,7 +38,8 @@ same_addr a b block offset len =
     (subst (λ (n : ℕ). (within : n + b.len ≤ BLOCK_BYTES) → a ≡ addr_of a.block.0 n b.len b.some within) offset
     (subst (λ (n : ℕ). (some : 0 < n) (within : a.offset + n ≤ BLOCK_BYTES)
     → a ≡ addr_of a.block.0 a.offset n some within) len
-    (λ some within. λ i. addr_of a.block.0 a.offset a.len (le_prop a.some some i) (le_prop a.within within i)) b.some)
+    (λ some within. λ i. addr_of a.block.0 a.offset a.len (le_prop a.some some i)
+    (le_prop a.within within i)) b.some)
     b.within)
 
 overlap_back : (a b : Addr) → Overlap a b → Overlap b a

@@ -7,4 +7,5 @@ use Rattle.txn_law.specs.Core.{CoreState, IsOut}
 
 pub alone_is_out : (core : CoreState) (tx : ℕ) → core.out ≡ tx ∷ [] → IsOut core tx
 alone_is_out core tx alone =
-    ap (λ (out : List ℕ). list_any (λ other. nat_eq other tx) out) alone ∙ ap (λ b. b || false) (eq-eqb tx tx refl)
+    ap (λ (out : List ℕ). list_any (λ other. nat_eq other tx) out) alone
+    ∙ ap (λ b. b || false) (eq-eqb tx tx refl)

@@ -41,7 +41,8 @@ module _ (addr : Addr) where
       ]
 
       go : (t : Bool) → nat_eq addr.block.0 object.addr.block.0 ≡ t
-          → (take addr.len (drop addr.offset (if t then spliced (image addr.block.0) object.addr.offset object.bytes
+          → (take addr.len (drop addr.offset (if t then spliced (image addr.block.0)
+          object.addr.offset object.bytes
           else image addr.block.0)) ≡ object_at image addr)
           × (length (if t then spliced (image addr.block.0) object.addr.offset object.bytes
           else image addr.block.0) ≡ BLOCK_BYTES)
@@ -49,14 +50,17 @@ module _ (addr : Addr) where
       go true same = (
         elim (side (eqb-true addr.block.0 object.addr.block.0 same)) [
           | inl less ↦ ahead (image addr.block.0) object.bytes object.addr.offset fits addr.offset addr.len less
-          | inr more ↦ behind (image addr.block.0) object.bytes object.addr.offset fits addr.offset addr.len more
+          | inr more ↦ behind (image addr.block.0) object.bytes object.addr.offset fits
+              addr.offset addr.len more
         ],
         spliced-length (image addr.block.0) object.bytes object.addr.offset fits ∙ whole,
       )
 
   pub stays_beside : (image : Image) (objects : List ObjectBytes) → All IsApart objects → All IsSized objects
-      → length (image addr.block.0) ≡ BLOCK_BYTES → object_at (with_objects image objects) addr ≡ object_at image addr
+      → length (image addr.block.0) ≡ BLOCK_BYTES
+      → object_at (with_objects image objects) addr ≡ object_at image addr
   stays_beside image [] apart sizes whole = refl
   stays_beside image (o ∷ os) apart sizes whole =
       let (same, still) = one_apart image o (All-head IsApart o os apart) (All-head IsSized o os sizes) whole in
-      stays_beside (with_object image o) os (All-tail IsApart o os apart) (All-tail IsSized o os sizes) still ∙ same
+      stays_beside (with_object image o) os (All-tail IsApart o os apart)
+      (All-tail IsSized o os sizes) still ∙ same

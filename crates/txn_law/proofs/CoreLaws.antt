@@ -70,7 +70,8 @@ home_end old tx base h = record { whole = h.whole; window = core_end base old tx
 pub home_failed : (old : CoreState) (block : BlockNo) → KeepsHome old (fetch_failed old block)
 home_failed old block base h = record { whole = h.whole; window = core_fetch_failed base old block h.window }
 
-pub home_log_out : (old : CoreState) → IsLawful old.log → KeepsHome old (record old { log = with_log_out old.log })
+pub home_log_out : (old : CoreState) → IsLawful old.log
+    → KeepsHome old (record old { log = with_log_out old.log })
 home_log_out old lawful base h = record {
   whole = h.whole;
   window = window_log_out base old.log old.records (held_of old.present) lawful h.window;
@@ -167,7 +168,8 @@ done_changes log false ok h = h
 done_changes log true false h = h
 done_changes log true true h = first (nat_lt log.inst_step log.installing)
   where
-    second : (u : Bool) → All IsWholeChange (if u then record log { inst_step = log.inst_step + 1; inst_out = false }
+    second : (u : Bool) → All IsWholeChange
+        (if u then record log { inst_step = log.inst_step + 1; inst_out = false }
         else record log {
           start = log.start + log.installing;
           changes = drop log.installing log.changes;
@@ -180,7 +182,10 @@ done_changes log true true h = first (nat_lt log.inst_step log.installing)
     second false = All-drop IsWholeChange log.installing log.changes h
 
     first : (t : Bool) → All IsWholeChange (if t
-        then record log { inst_step = next_home log.changes log.installing (log.inst_step + 1); inst_out = false }
+        then record log {
+          inst_step = next_home log.changes log.installing (log.inst_step + 1);
+          inst_out = false;
+        }
         else if nat_lt log.inst_step (log.installing + 2)
         then record log { inst_step = log.inst_step + 1; inst_out = false }
         else record log {
@@ -326,7 +331,8 @@ module _ (P : ℕ → ℕ → List ObjectBytes → List ObjectBytes → Type 0) 
     log = lawful;
     tidy = tidy_log old (with_log_back old.log ok) (back_blocks old.log ok) (back_changes old.log ok) h.tidy;
     home = (h.home.0, home_log_done old true ok h.log h.home.0 h.home.1);
-    planned = subst (λ (n : ℕ). All (IsPlanned P n old.inodes) old.records) (sym (back_blocks old.log ok)) h.planned;
+    planned = subst (λ (n : ℕ). All (IsPlanned P n old.inodes) old.records)
+        (sym (back_blocks old.log ok)) h.planned;
   }
   lawful_log_done old false ok lawful h = record {
     log = lawful;
@@ -341,7 +347,8 @@ module _ (P : ℕ → ℕ → List ObjectBytes → List ObjectBytes → Type 0) 
     log = lawful;
     tidy = tidy_log old (with_inst_out old.log) (out_blocks old.log) (out_changes old.log) h.tidy;
     home = (h.home.0, home_inst_out old h.log h.home.0 h.home.1);
-    planned = subst (λ (n : ℕ). All (IsPlanned P n old.inodes) old.records) (sym (out_blocks old.log)) h.planned;
+    planned = subst (λ (n : ℕ). All (IsPlanned P n old.inodes) old.records)
+        (sym (out_blocks old.log)) h.planned;
   }
 
   pub lawful_inst_done : (old : CoreState) (is_out ok : Bool)

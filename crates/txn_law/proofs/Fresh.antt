@@ -85,7 +85,8 @@ found_window base log held found places before logged taken installing memory = 
 
 pub fresh_window : (base : Image) (log : Log) → IsLawful log → IsFresh log → IsWindowOver base log [] []
 fresh_window base log lawful fresh =
-    let rising : IsRising log.changes 0 = subst (λ (n : ℕ). IsRising log.changes n) fresh.places lawful.rising in
+    let rising : IsRising log.changes 0 = subst (λ (n : ℕ). IsRising log.changes n) fresh.places
+    lawful.rising in
     let found : All IsFound log.changes = (all_found log.changes rising).1 in
     let rest : drop log.logged log.changes ≡ [] =
     no_commits (drop log.logged log.changes) (All-drop IsFound log.logged log.changes found) lawful.committed in
@@ -117,7 +118,8 @@ fresh_next (Some x) old new some none h = subst IsFresh (sym (some refl)) (go (n
 pub fresh_back : (old new : Log) (is_out ok : Bool) → new ≡ (if is_out then with_inst_back old ok else old)
     → IsFresh old → IsFresh new
 fresh_back old new false ok e h = subst IsFresh (sym e) h
-fresh_back old new true false e h = subst IsFresh (sym e) (record { places = h.places; installing = h.installing })
+fresh_back old new true false e h = subst IsFresh (sym e)
+    (record { places = h.places; installing = h.installing })
 fresh_back old new true true e h = subst IsFresh (sym e) (first (nat_lt old.inst_step old.installing))
   where
     second : (u : Bool) → IsFresh (if u then record old { inst_step = old.inst_step + 1; inst_out = false }
@@ -133,7 +135,10 @@ fresh_back old new true true e h = subst IsFresh (sym e) (first (nat_lt old.inst
     second false = record { places = h.places; installing = λ some. absurd (omega (arith, some)) }
 
     first : (t : Bool) → IsFresh (if t
-        then record old { inst_step = next_home old.changes old.installing (old.inst_step + 1); inst_out = false }
+        then record old {
+          inst_step = next_home old.changes old.installing (old.inst_step + 1);
+          inst_out = false;
+        }
         else if nat_lt old.inst_step (old.installing + 2)
         then record old { inst_step = old.inst_step + 1; inst_out = false }
         else record old {

@@ -52,7 +52,8 @@ taken_read holds t a reads =
 keeps : (old new : CoreState) (t : ℕ)
     → ((a : Addr) → is_read (hold_of old.holds t a) ≡ true → is_read (hold_of new.holds t a) ≡ true)
     → ((a : Addr) (c : Content) → is_read (hold_of old.holds t a) ≡ true
-    → content_in (present_of old.present a.block) ≡ Some c → content_in (present_of new.present a.block) ≡ Some c)
+    → content_in (present_of old.present a.block) ≡ Some c
+    → content_in (present_of new.present a.block) ≡ Some c)
     → KeepsReads old new t
 keeps old new t holds contents object h = record {
   held = holds object.addr h.held;

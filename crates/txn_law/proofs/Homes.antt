@@ -37,16 +37,19 @@ use Rattle.txn_law.proofs.OtherHome.{other_home}
 use Rattle.txn_law.proofs.Swept.{window_swept, in_cons}
 
 -- what whole changes bring home is whole
-newest_whole : (xs : List LogChange) (block : ℕ) (c : Content) → All IsWholeChange xs → newest_of xs block ≡ Some c
+newest_whole : (xs : List LogChange) (block : ℕ) (c : Content) → All IsWholeChange xs
+    → newest_of xs block ≡ Some c
     → length c ≡ BLOCK_BYTES
 newest_whole [] block c h e = absurd (cc)
 newest_whole (x ∷ xs) block c h e =
-    go (newest_whole xs block c (All-tail IsWholeChange x xs h)) (newest_of xs block) refl (nat_eq x.block.0 block) e
+    go (newest_whole xs block c (All-tail IsWholeChange x xs h)) (newest_of xs block) refl
+    (nat_eq x.block.0 block) e
   where
     go : (newest_of xs block ≡ Some c → length c ≡ BLOCK_BYTES) → (o : Option Content) → newest_of xs block ≡ o
         → (t : Bool) → or_else o (if t then Some x.content else None) ≡ Some c → length c ≡ BLOCK_BYTES
     go rest (Some d) is t e = rest (is ∙ e)
-    go rest None is true e = let same : x.content ≡ c = cc in ap length (sym same) ∙ All-head IsWholeChange x xs h
+    go rest None is true e = let same : x.content ≡ c = cc in
+        ap length (sym same) ∙ All-head IsWholeChange x xs h
     go rest None is false e = absurd (cc)
 
 whole_under : (blocks : ℕ) (base : Image) (xs : List LogChange) → All IsWholeChange xs → AreBlocks blocks base
@@ -62,15 +65,16 @@ pub whole_after : (blocks : ℕ) (base : Image) (log : Log) (ok : Bool) → All 
 whole_after blocks base log ok h whole = go (ok && nat_le (log.installing + 2) log.inst_step)
   where
     go : (t : Bool) → AreBlocks blocks (if t then with_changes base (take log.installing log.changes) else base)
-    go true = whole_under blocks base (take log.installing log.changes) (All-take IsWholeChange log.installing log.changes h)
-        whole
+    go true = whole_under blocks base (take log.installing log.changes)
+        (All-take IsWholeChange log.installing log.changes h) whole
     go false = whole
 
 -- what is current is whole
 pub whole_now : (base : Image) (core : CoreState) → IsHomeOf base core → AreTidy core
     → AreBlocks core.log.blocks (now_of base core.log core.records)
 whole_now base core h tidy block lt =
-    sym (ap (λ (c : Content). length c) (tail_is_now base core.log core.records (held_of core.present) block h.window))
+    sym (ap (λ (c : Content). length c) (tail_is_now base core.log core.records (held_of core.present)
+    block h.window))
     ∙ whole_under core.log.blocks base core.log.changes tidy.changes h.whole block lt
 
 whole_with : (blocks : ℕ) (base : Image) (at : ℕ) (content : Content) → length content ≡ BLOCK_BYTES
@@ -102,7 +106,8 @@ not_there (x ∷ xs) block c e h = go (not_there xs block c) (nat_eq x.block.0 b
     go rest true is e = absurd (cc)
     go rest false is e =
         not_behind x.block block x.content c (held_of xs)
-        (λ same. absurd (let yes : nat_eq x.block.0 block.0 ≡ true = eq-eqb x.block.0 block.0 same in cc)) (rest e) h
+        (λ same. absurd (let yes : nat_eq x.block.0 block.0 ≡ true = eq-eqb x.block.0 block.0 same in
+        cc)) (rest e) h
 
 waits_away : (xs : List Present) (block : BlockNo) (c : Content) → IsOnce xs
     → is_pending (present_of xs block) ≡ true → Contains (held_of xs) (block.0, c) → ⊥
@@ -121,10 +126,12 @@ waits_away (x ∷ xs) block c once e h = go (waits_away xs block c once.1) (nat_
         (not_there xs block c (sym (ap (present_of xs) at) ∙ once.0)) h
     go rest false is e =
         not_behind x.block block x.content c (held_of xs)
-        (λ same. absurd (let yes : nat_eq x.block.0 block.0 ≡ true = eq-eqb x.block.0 block.0 same in cc)) (rest e) h
+        (λ same. absurd (let yes : nat_eq x.block.0 block.0 ≡ true = eq-eqb x.block.0 block.0 same in
+        cc)) (rest e) h
 
 -- nothing is filled in where no fetch is pending
-not_filled : (xs : List Present) (block : BlockNo) (content : Content) → is_pending (present_of xs block) ≡ false
+not_filled : (xs : List Present) (block : BlockNo) (content : Content)
+    → is_pending (present_of xs block) ≡ false
     → filled xs block content ≡ xs
 not_filled [] block content e = refl
 not_filled (x ∷ xs) block content e = go (not_filled xs block content) (nat_eq x.block.0 block.0) e
@@ -137,7 +144,8 @@ not_filled (x ∷ xs) block content e = go (not_filled xs block content) (nat_eq
         → is_pending (cond t (Some x) (present_of xs block)) ≡ false
         → (if t then record { block = x.block; content = or_else x.content (Some content) } ∷ xs
         else x ∷ filled xs block content) ≡ x ∷ xs
-    go rest true e = ap (λ (o : Option Content). record { block = x.block; content = o } ∷ xs) (some x.content e)
+    go rest true e = ap (λ (o : Option Content). record { block = x.block; content = o } ∷ xs)
+        (some x.content e)
     go rest false e = ap (λ ys. x ∷ ys) (rest e)
 
 pub unlogged_block : (core : CoreState) (block : BlockNo) → AreTidy core
@@ -148,7 +156,8 @@ unlogged_block core block tidy e = go (present_of core.present block) refl e
     none None e = refl
     none (Some d) e = absurd (cc)
 
-    go : (o : Option Present) → present_of core.present block ≡ o → is_pending o ≡ true → newest core.log block.0 ≡ None
+    go : (o : Option Present) → present_of core.present block ≡ o → is_pending o ≡ true
+        → newest core.log block.0 ≡ None
     go None is e = absurd (cc)
     go (Some x) is e =
         let (same, there) = found_by (is_of block) core.present x is in
@@ -160,7 +169,8 @@ placed_block : (core : CoreState) (block : BlockNo) → AreTidy core
     → is_pending (present_of core.present block) ≡ true → IsHomeOn core.log.blocks block
 placed_block core block tidy e = go (present_of core.present block) refl e
   where
-    go : (o : Option Present) → present_of core.present block ≡ o → is_pending o ≡ true → IsHomeOn core.log.blocks block
+    go : (o : Option Present) → present_of core.present block ≡ o → is_pending o ≡ true
+        → IsHomeOn core.log.blocks block
     go None is e = absurd (cc)
     go (Some x) is e =
         let (same, there) = found_by (is_of block) core.present x is in
@@ -168,7 +178,8 @@ placed_block core block tidy e = go (present_of core.present block) refl e
         (All-contains (IsPlaced core.log.blocks) core.present x tidy.placed there)
 
 -- what the disk has of it is what is at home
-pub pending_is_home : (d : Device) (base : Image) (core : CoreState) (logging installing : Pending) (block : BlockNo)
+pub pending_is_home : (d : Device) (base : Image) (core : CoreState) (logging installing : Pending)
+    (block : BlockNo)
     → AreTidy core → AgreesBeside d base core.log logging installing → IsReadable d core.log installing
     → HasContents d → is_pending (present_of core.present block) ≡ true
     → newest_content (current d block.0) ≡ base block.0
@@ -185,7 +196,8 @@ pub fetched_home : (base : Image) (core : CoreState) (block : BlockNo) (content 
 fetched_home base core block content tidy brought h =
     record { whole = h.whole; window = go (is_pending (present_of core.present block)) refl }
   where
-    go : (t : Bool) → is_pending (present_of core.present block) ≡ t → IsCoreWindow base (fetched core block content)
+    go : (t : Bool) → is_pending (present_of core.present block) ≡ t
+        → IsCoreWindow base (fetched core block content)
     go true e = core_fetched base core block content (unlogged_block core block tidy e) (brought e) h.window
     go false e = window_swept base core.log core.records core.holds (filled core.present block content)
         (subst (λ (xs : List Present). IsCoreWindow base (record core { present = xs }))
@@ -203,11 +215,13 @@ fetched_some_home core block content tidy size (base, h) = go (is_pending (prese
         let other : Image = with_home base block.0 content in (
           other,
           fetched_home other core block content tidy
-              (λ waits. sym (ap (λ (t : Bool). if t then content else base block.0) (eq-eqb block.0 block.0 refl)))
+              (λ waits. sym (ap (λ (t : Bool). if t then content else base block.0)
+              (eq-eqb block.0 block.0 refl)))
               (record {
                 whole = whole_with core.log.blocks base block.0 content size h.whole;
                 window = other_home base core.log core.records (held_of core.present) block.0 content
-                    (unlogged_block core block tidy e) (λ c. waits_away core.present block c tidy.once e) h.window;
+                    (unlogged_block core block tidy e)
+                    (λ c. waits_away core.present block c tidy.once e) h.window;
               }),
         )
     go false e = (base, fetched_home base core block content tidy (λ waits. absurd (cc)) h)

@@ -185,7 +185,8 @@ brought present log now commit group h = record {
               ∙ laid_is now commit.written block
           | inr hidden ↦ it
               ∙ whole under (now block.0) commit.written block
-              (omega (arith, ap length hidden.0, length-replicate {A = ℕ} BLOCK_BYTES 0)) hidden.1 hidden.2 there
+              (omega (arith, ap length hidden.0, length-replicate {A = ℕ} BLOCK_BYTES 0)) hidden.1
+              hidden.2 there
               ∙ laid_is now commit.written block
         ]
 

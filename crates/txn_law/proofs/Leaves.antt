@@ -41,7 +41,8 @@ pub leaves_installed : (old : CoreState) (log : Log) → AreTidy old
     → Leaves (installed old log) (taken_by old) (is_fetching old) (in_memory old)
 leaves_installed old log tidy = record {
   holds = λ t a. refl;
-  fetches = λ block. swept_fetches old.holds (past (installed_place log) old.records) old.present block tidy.once;
+  fetches = λ block. swept_fetches old.holds (past (installed_place log) old.records) old.present
+      block tidy.once;
   comes = λ block. swept_comes old.holds (past (installed_place log) old.records) old.present block tidy.once;
   stays = swept_stays old.holds (past (installed_place log) old.records) old.present;
 }
@@ -133,20 +134,21 @@ writes_new (Some x) tx addr = go x.is_read x.is_claimed
 pub leaves_claim : (old new : CoreState) (tx : ℕ) (addr : Addr) → IsOpen old tx addr modes.Exclusive
     → new ≡ claimed old tx addr
     → IsTaken old tx addr new
-leaves_claim old new tx addr open' is = subst (λ (core : CoreState). IsTaken old tx addr core) (sym is) (record {
-  only = refl;
-  leaves = record {
-    holds = taken_with old.holds (for_writing tx addr);
-    fetches = λ block. refl;
-    comes = λ block c e. e;
-    stays = λ block c e needed. e;
-  };
-  written = record {
-    held = ap is_written (taken_own old.holds (for_writing tx addr))
-        ∙ writes_new (hold_of old.holds tx addr) tx addr;
-    loaded = open'.settled;
-  };
-})
+leaves_claim old new tx addr open' is =
+    subst (λ (core : CoreState). IsTaken old tx addr core) (sym is) (record {
+      only = refl;
+      leaves = record {
+        holds = taken_with old.holds (for_writing tx addr);
+        fetches = λ block. refl;
+        comes = λ block c e. e;
+        stays = λ block c e needed. e;
+      };
+      written = record {
+        held = ap is_written (taken_own old.holds (for_writing tx addr))
+            ∙ writes_new (hold_of old.holds tx addr) tx addr;
+        loaded = open'.settled;
+      };
+    })
 
 -- Where no fetch of a block is pending, bringing its current content puts that in memory, and no other.
 module _ (old : CoreState) (block : BlockNo) (content : Content)
@@ -163,7 +165,8 @@ module _ (old : CoreState) (block : BlockNo) (content : Content)
 
       go : (t : Bool) → nat_eq at.0 block.0 ≡ t
           → is_pending (present_of (with_block old.present block (Some content)) at) ≡ is_fetching old at
-      go true same = subst (λ (b : BlockNo). is_pending (present_of (with_block old.present block (Some content)) b)
+      go true same = subst (λ (b : BlockNo). is_pending
+          (present_of (with_block old.present block (Some content)) b)
           ≡ is_fetching old b) (sym (same_block at block (eqb-true at.0 block.0 same)))
           (own (present_of old.present block) refl)
       go false other = ap is_pending (other_block old.present block (Some content) at other)
@@ -177,17 +180,20 @@ module _ (old : CoreState) (block : BlockNo) (content : Content)
       has x None e is =
           absurd (let not_so : is_fetching old block ≡ true = ap is_pending e ∙ ap is_none is in cc)
       has x (Some d) e is = is
-          ∙ sym (ap (λ (o : Option Content). or_else o (newest old.log block.0)) (ap content_in e ∙ is)) ∙ current_is
+          ∙ sym (ap (λ (o : Option Content). or_else o (newest old.log block.0))
+          (ap content_in e ∙ is)) ∙ current_is
 
       own : (o : Option Present) → present_of old.present block ≡ o
           → content_in (present_of (with_block old.present block (Some content)) block) ≡ Some content
-      own (Some x) e = ap content_in (own_block old.present block (Some content) block x e) ∙ has x x.content e refl
+      own (Some x) e = ap content_in (own_block old.present block (Some content) block x e)
+          ∙ has x x.content e refl
       own None e = ap content_in (new_block old.present block (Some content) block e)
 
       go : (t : Bool) → nat_eq at.0 block.0 ≡ t
           → content_in (present_of (with_block old.present block (Some content)) at)
           ≡ (if t then Some content else in_memory old at)
-      go true same = ap (λ (b : BlockNo). content_in (present_of (with_block old.present block (Some content)) b))
+      go true same = ap (λ (b : BlockNo). content_in
+          (present_of (with_block old.present block (Some content)) b))
           (same_block at block (eqb-true at.0 block.0 same)) ∙ own (present_of old.present block) refl
       go false other = ap content_in (other_block old.present block (Some content) at other)
 
@@ -251,12 +257,14 @@ leaves_fetch old new tx addr mode io fetch = subst (λ (core : CoreState). IsFet
             (same_block at addr.block (eqb-true at.0 addr.block.0 same)) ∙ ap is_pending new_one
         go false other = ap is_pending (other_block old.present addr.block None at other)
 
-    memory : (at : BlockNo) → content_in (present_of (with_block old.present addr.block None) at) ≡ in_memory old at
+    memory : (at : BlockNo) → content_in (present_of (with_block old.present addr.block None) at)
+        ≡ in_memory old at
     memory at = go (nat_eq at.0 addr.block.0) refl
       where
         go : (t : Bool) → nat_eq at.0 addr.block.0 ≡ t
             → content_in (present_of (with_block old.present addr.block None) at) ≡ in_memory old at
-        go true same = subst (λ (b : BlockNo). content_in (present_of (with_block old.present addr.block None) b)
+        go true same = subst (λ (b : BlockNo). content_in
+            (present_of (with_block old.present addr.block None) b)
             ≡ in_memory old b) (sym (same_block at addr.block (eqb-true at.0 addr.block.0 same)))
             (ap content_in new_one ∙ sym (ap content_in fetch.absent))
         go false other = ap content_in (other_block old.present addr.block None at other)

@@ -1,5 +1,6 @@
 -- Lemmas: what is in memory, and which fetches are pending, once the list of blocks has changed.
-use Rattle.std.proofs.Common.{◌≡◌, Bool, true, false, not, cond, ◌&&◌, ◌||◌, if◌then◌else◌, nat_eq, List, [], ◌∷◌}
+use Rattle.std.proofs.Common.{◌≡◌, Bool, true, false, not, cond, ◌&&◌, ◌||◌, if◌then◌else◌, nat_eq, List, []}
+use Rattle.std.proofs.Common.{◌∷◌}
 use Rattle.std.proofs.Common.{◌++◌, Option, Some, None, is_none, option_map, refl, sym, ap, ◌∙◌, ne_eqb}
 use Rattle.std.specs.Prelude.{is_some}
 use Rattle.std.specs.List.{filter}
@@ -35,7 +36,8 @@ present_filter q (x ∷ xs) block once =
   where
     go : present_of (filter q xs) block ≡ kept_if q (present_of xs block) → (t : Bool)
         → nat_eq x.block.0 block.0 ≡ t → (u : Bool) → q x ≡ u
-        → present_of (cond u (x ∷ filter q xs) (filter q xs)) block ≡ kept_if q (cond t (Some x) (present_of xs block))
+        → present_of (cond u (x ∷ filter q xs) (filter q xs)) block ≡ kept_if q
+        (cond t (Some x) (present_of xs block))
     go rest true is true kept = ap (λ b. cond b (Some x) (present_of (filter q xs) block)) is
         ∙ sym (ap (λ b. cond b (Some x) None) kept)
     go rest true is false kept =
@@ -49,7 +51,8 @@ present_filter q (x ∷ xs) block once =
 pub found_at : (xs : List Present) (block : BlockNo) (x : Present) → present_of xs block ≡ Some x
     → x.block ≡ block
 found_at xs block x e =
-    let (same, there) = found_by (is_of block) xs x e in same_block x.block block (eqb-true x.block.0 block.0 same)
+    let (same, there) = found_by (is_of block) xs x e in
+    same_block x.block block (eqb-true x.block.0 block.0 same)
 
 -- What is in memory after a sweep.
 module _ (holds : List Hold) (records : List Footprint) (present : List Present) (block : BlockNo)
@@ -113,7 +116,8 @@ module _ (present : List Present) (block : BlockNo) (content : Option Content) (
   abbrev new_one : Present
   new_one = record { block = block; content = content }
 
-  pub other_block : nat_eq at.0 block.0 ≡ false → present_of (with_block present block content) at ≡ present_of present at
+  pub other_block : nat_eq at.0 block.0 ≡ false
+      → present_of (with_block present block content) at ≡ present_of present at
   other_block differ = go (is_some (present_of present block)) (present_of present at) refl
     where
       away : nat_eq block.0 at.0 ≡ false
@@ -130,18 +134,22 @@ module _ (present : List Present) (block : BlockNo) (content : Option Content) (
   -- the block itself, where it has an entry and where it has none
   pub own_block : (x : Present) → present_of present block ≡ Some x
       → present_of (with_block present block content) block ≡ Some x
-  own_block x e = ap (λ (o : Option Present). present_of (if is_some o then present else present ++ new_one ∷ []) block) e
+  own_block x e = ap (λ (o : Option Present). present_of
+      (if is_some o then present else present ++ new_one ∷ []) block) e
       ∙ e
 
-  pub new_block : present_of present block ≡ None → present_of (with_block present block content) block ≡ Some new_one
-  new_block e = ap (λ (o : Option Present). present_of (if is_some o then present else present ++ new_one ∷ []) block) e
+  pub new_block : present_of present block ≡ None
+      → present_of (with_block present block content) block ≡ Some new_one
+  new_block e = ap (λ (o : Option Present). present_of
+      (if is_some o then present else present ++ new_one ∷ []) block) e
       ∙ find_push_none (is_of block) present (new_one ∷ []) e
       ∙ ap (λ b. cond b (Some new_one) None) (eq-eqb block.0 block.0 refl)
 
 -- What is in memory once a block is filled in.
 pub present_of-filled : (xs : List Present) (block : BlockNo) (content : Content) (at : BlockNo)
     → present_of (filled xs block content) at
-    ≡ (if nat_eq at.0 block.0 then option_map (filled_one block content) (present_of xs at) else present_of xs at)
+    ≡ (if nat_eq at.0 block.0 then option_map (filled_one block content) (present_of xs at)
+    else present_of xs at)
 present_of-filled [] block content at = go (nat_eq at.0 block.0)
   where
     go : (t : Bool) → None ≡ (if t then option_map (filled_one block content) None else None)
@@ -152,7 +160,8 @@ present_of-filled (x ∷ xs) block content at =
     (nat_eq at.0 block.0) refl
   where
     go : present_of (filled xs block content) at
-        ≡ (if nat_eq at.0 block.0 then option_map (filled_one block content) (present_of xs at) else present_of xs at)
+        ≡ (if nat_eq at.0 block.0 then option_map (filled_one block content) (present_of xs at)
+        else present_of xs at)
         → (t : Bool) → nat_eq x.block.0 block.0 ≡ t → (u : Bool) → nat_eq x.block.0 at.0 ≡ u
         → (v : Bool) → nat_eq at.0 block.0 ≡ v
         → present_of (if t then filled_one block content x ∷ xs else x ∷ filled xs block content) at
@@ -203,7 +212,8 @@ filled_memory xs block content at = ap content_in (present_of-filled xs block co
         ≡ (if is_pending (present_of xs block) then (if v then Some content else content_in (present_of xs at))
         else content_in (present_of xs at))
     go true same = own (present_of xs at)
-        ∙ ap (λ (b : BlockNo). if is_pending (present_of xs b) then Some content else content_in (present_of xs at))
+        ∙ ap (λ (b : BlockNo). if is_pending (present_of xs b) then Some content else content_in
+        (present_of xs at))
         (same_block at block (eqb-true at.0 block.0 same))
     go false other = else_same (is_pending (present_of xs block)) (content_in (present_of xs at))
 
@@ -240,7 +250,8 @@ module _ (xs : List Present) (block : BlockNo) (at : BlockNo) (once : IsOnce xs)
       one x c e true is = refl
       one x None e false is = sym e
       one x (Some d) e false is =
-          absurd (let yes : stays_with x ≡ true = ap (λ (o : Option Content). not (nat_eq x.block.0 block.0) || is_some o) e
+          absurd (let yes : stays_with x ≡ true =
+          ap (λ (o : Option Content). not (nat_eq x.block.0 block.0) || is_some o) e
           ∙ or-true (not (nat_eq x.block.0 block.0)) in cc)
 
       go : (o : Option Present) → content_in (kept_if stays_with o) ≡ content_in o

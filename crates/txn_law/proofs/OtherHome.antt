@@ -25,23 +25,28 @@ either (Some c) b e = absurd (cc)
 either None b e = (refl, e)
 
 -- a block that no change has is in no part of the changes
-none_recovered : (xs : List LogChange) (block : ℕ) → newest_of xs block ≡ None → newest_of (recovered xs) block ≡ None
+none_recovered : (xs : List LogChange) (block : ℕ) → newest_of xs block ≡ None
+    → newest_of (recovered xs) block ≡ None
 none_recovered [] block e = refl
 none_recovered (x ∷ xs) block e =
-    let (later, here) = either (newest_of xs block) (if nat_eq x.block.0 block then Some x.content else None) e in
+    let (later, here) = either (newest_of xs block)
+    (if nat_eq x.block.0 block then Some x.content else None) e in
     go (none_recovered xs block later) here (nat_eq x.place 0)
   where
     go : newest_of (recovered xs) block ≡ None
         → ◌≡◌ {A = Option Content} (if nat_eq x.block.0 block then Some x.content else None) None
         → (t : Bool) → newest_of (if t then x ∷ recovered xs else recovered xs) block ≡ None
-    go rest here true = ap (λ o. or_else o (if nat_eq x.block.0 block then Some x.content else None)) rest ∙ here
+    go rest here true = ap (λ o. or_else o
+        (if nat_eq x.block.0 block then Some x.content else None)) rest ∙ here
     go rest here false = rest
 
-none_taken : (xs : List LogChange) (n block : ℕ) → newest_of xs block ≡ None → newest_of (take n xs) block ≡ None
+none_taken : (xs : List LogChange) (n block : ℕ) → newest_of xs block ≡ None
+    → newest_of (take n xs) block ≡ None
 none_taken xs zero block e = refl
 none_taken [] (suc n) block e = refl
 none_taken (x ∷ xs) (suc n) block e =
-    let (later, here) = either (newest_of xs block) (if nat_eq x.block.0 block then Some x.content else None) e in
+    let (later, here) = either (newest_of xs block)
+    (if nat_eq x.block.0 block then Some x.content else None) e in
     ap (λ o. or_else o (if nat_eq x.block.0 block then Some x.content else None)) (none_taken xs n block later)
     ∙ here
 
@@ -62,7 +67,8 @@ module _ (at : ℕ) where
       ap (λ (c : Content). if nat_eq block o.addr.block.0 then spliced c o.addr.offset o.bytes else c)
       (same block else')
 
-  same_objects : (f g : Image) (os : List ObjectBytes) → AreSame f g → AreSame (with_objects f os) (with_objects g os)
+  same_objects : (f g : Image) (os : List ObjectBytes) → AreSame f g
+      → AreSame (with_objects f os) (with_objects g os)
   same_objects f g [] same = same
   same_objects f g (o ∷ os) same =
       same_objects (with_object f o) (with_object g o) os (same_object f g o same)
@@ -101,7 +107,8 @@ module _ (at : ℕ) where
     read_same f g os same (All-tail IsElsewhere o os h) r.1,
   )
 
-  follow_same : (f g : Image) (cs : List Footprint) → AreSame f g → All AreElsewhere cs → Follow f cs → Follow g cs
+  follow_same : (f g : Image) (cs : List Footprint) → AreSame f g → All AreElsewhere cs
+      → Follow f cs → Follow g cs
   follow_same f g [] same h r = tt
   follow_same f g (c ∷ cs) same h r = (
     read_same f g c.read same (All-head AreElsewhere c cs h).0 r.0,
@@ -146,7 +153,8 @@ module _ (base : Image) (log : Log) (commits : List Footprint) (held : List (ℕ
     λ i o less found. away (h.pinned k d lt i o less).0
         (subst (λ (n : ℕ). Contains held (n, (h.pinned k d lt i o less).0)) found (h.pinned k d lt i o less).1),
     λ i o less found. not_written (get_or (get_or commits k d).written i o) found
-        ((subst (λ (n : ℕ). All (AreInLog log.changes) (drop n commits)) first (h.written 0 (at_first refl))) k d lt i o
+        ((subst (λ (n : ℕ). All (AreInLog log.changes) (drop n commits)) first
+        (h.written 0 (at_first refl))) k d lt i o
         less),
   )
 
@@ -159,19 +167,22 @@ module _ (base : Image) (log : Log) (commits : List Footprint) (held : List (ℕ
           → with_changes there (take n log.changes) block ≡ after_commits (opening there log) cs block
       go true e =
           let is : block ≡ at = eqb-true block at e in
-          subst (λ (b : ℕ). with_changes there (take n log.changes) b ≡ after_commits (opening there log) cs b) (sym is)
+          subst (λ (b : ℕ). with_changes there (take n log.changes) b ≡ after_commits (opening there log)
+          cs b) (sym is)
           (bare (take n log.changes) (none_taken log.changes n at none)
           ∙ sym (left_commits at (opening there log) cs elsewhere
           ∙ bare (recovered log.changes) (none_recovered log.changes at none)))
       go false e =
-          let else' : block ≡ at → ⊥ = λ is. absurd (let yes : nat_eq block at ≡ true = eq-eqb block at is in cc) in
+          let else' : block ≡ at → ⊥ = λ is. absurd
+          (let yes : nat_eq block at ≡ true = eq-eqb block at is in cc) in
           sym (same_under (take n log.changes) block else') ∙ old block
-          ∙ same_commits at (opening base log) (opening there log) cs (same_under (recovered log.changes)) block else'
+          ∙ same_commits at (opening base log) (opening there log) cs
+          (same_under (recovered log.changes)) block else'
 
   pub other_home : IsWindowOver there log commits held
   other_home = record {
-    follow = follow_same at (opening base log) (opening there log) commits (same_under (recovered log.changes)) all_away
-        h.follow;
+    follow = follow_same at (opening base log) (opening there log) commits
+        (same_under (recovered log.changes)) all_away h.follow;
     placed = h.placed;
     all = h.all;
     opened = h.opened;

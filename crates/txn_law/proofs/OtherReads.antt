@@ -51,7 +51,8 @@ module _ (holds : List Hold) (tx : ℕ) (addr : Addr) (x : Hold) (found : hold_o
   abbrev four : (nat_eq x.transaction tx ≡ true) × (nat_eq x.addr.block.0 addr.block.0 ≡ true)
       × (nat_eq x.addr.offset addr.offset ≡ true) × (nat_eq x.addr.len addr.len ≡ true)
   four = all_four (nat_eq x.transaction tx) (nat_eq x.addr.block.0 addr.block.0)
-      (nat_eq x.addr.offset addr.offset) (nat_eq x.addr.len addr.len) (found_by (is_hold_of tx addr) holds x found).0
+      (nat_eq x.addr.offset addr.offset) (nat_eq x.addr.len addr.len)
+      (found_by (is_hold_of tx addr) holds x found).0
 
   there : Contains holds x
   there = (found_by (is_hold_of tx addr) holds x found).1
@@ -94,7 +95,8 @@ pub reads_commit : (base : Image) (old : CoreState) (tx : ℕ) (plan : Planned) 
     → group_blocks group ≡ blocks_of plan.written → All (IsLaid old.present old.log plan.written) group
     → GrowsBy old.log group log → log.blocks ≡ old.log.blocks → IsHomeOf base old → (t ≡ tx → ⊥)
     → KeepsReads old (committed old tx plan log) t
-reads_commit base old tx plan group log t lawful tidy own sizes blocks contents grown same home differ object h =
+reads_commit base old tx plan group log t lawful tidy own sizes blocks contents grown same home
+    differ object h =
     record {
       held = held;
       current = record { content = content; there = in_new; same = bytes };
@@ -125,7 +127,8 @@ reads_commit base old tx plan group log t lawful tidy own sizes blocks contents 
     behind = All-contains (IsCurrent (now_of base log (with_record log log.places plan old.records)))
         (held_of (committed old tx plan log).present) (object.addr.block.0, content) later.window.memory
         (found_in (committed old tx plan log).present object.addr.block content in_new)
-        ∙ commit_sets base old tx plan group log lawful tidy own sizes blocks contents grown home object.addr.block.0
+        ∙ commit_sets base old tx plan group log lawful tidy own sizes blocks contents grown home
+        object.addr.block.0
 
     inside : object.addr.block.0 < old.log.blocks
     inside = let (x, found, is) = some_read (hold_of old.holds t object.addr) h.held in

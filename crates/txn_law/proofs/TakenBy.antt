@@ -12,7 +12,8 @@ use Rattle.txn_law.proofs.Found.{find_push_none, find_push_other, find_none_kept
 find_same : {X : Type 0} (p q : X → Bool) (xs : List X) → ((x : X) → p x ≡ q x) → find p xs ≡ find q xs
 find_same p q [] same = refl
 find_same p q (x ∷ xs) same =
-    ap (λ (b : Bool). cond b (Some x) (find p xs)) (same x) ∙ ap (λ o. cond (q x) (Some x) o) (find_same p q xs same)
+    ap (λ (b : Bool). cond b (Some x) (find p xs)) (same x)
+    ∙ ap (λ o. cond (q x) (Some x) o) (find_same p q xs same)
 
 pub is_hold_by : (tx : ℕ) (addr : Addr) (x : Hold) → x.transaction ≡ tx → x.addr.block.0 ≡ addr.block.0
     → x.addr.offset ≡ addr.offset → x.addr.len ≡ addr.len → is_hold_of tx addr x ≡ true
@@ -24,7 +25,8 @@ is_hold_by tx addr x same block offset len =
     rw (a, b, o, l) refl
 
 -- two holds that each are this transaction's of this address are one another's
-pub is_hold_both : (tx : ℕ) (addr : Addr) (x y : Hold) → is_hold_of tx addr x ≡ true → is_hold_of tx addr y ≡ true
+pub is_hold_both : (tx : ℕ) (addr : Addr) (x y : Hold) → is_hold_of tx addr x ≡ true
+    → is_hold_of tx addr y ≡ true
     → is_hold_of y.transaction y.addr x ≡ true
 is_hold_both tx addr x y one other =
     let a = all_four (nat_eq x.transaction tx) (nat_eq x.addr.block.0 addr.block.0)
@@ -85,9 +87,11 @@ module _ (holds : List Hold) (hold : Hold) (t : ℕ) (a : Addr) where
           (find_none_kept own (λ x. not (own x)) holds (λ x is. ap not is))
           ∙ ap (λ (b : Bool). cond b (Some made) None)
           (made_at hold.transaction hold.addr ∙ is_hold_by hold.transaction hold.addr hold refl refl refl refl)
-          ∙ ap (λ (o : Option Hold). Some (joined o hold)) (sym (find_same (is_hold_of t a) own holds (same_test mine)))
+          ∙ ap (λ (o : Option Hold). Some (joined o hold))
+          (sym (find_same (is_hold_of t a) own holds (same_test mine)))
       go false mine =
-          find_push_other (is_hold_of t a) (without_hold holds hold.transaction hold.addr) made (made_at t a ∙ mine)
+          find_push_other (is_hold_of t a) (without_hold holds hold.transaction hold.addr) made
+          (made_at t a ∙ mine)
           ∙ find_through (is_hold_of t a) (λ x. not (own x)) holds (λ x is. away x is (own x) refl)
         where
           away : (x : Hold) → is_hold_of t a x ≡ true → (v : Bool) → own x ≡ v → not v ≡ true

@@ -1,6 +1,7 @@
 -- Lemmas: what transactions have taken and what is in memory stay tidy.
 use Rattle.std.proofs.Common.{◌≡◌, ℕ, Bool, true, false, not, cond, ◌||◌, if◌then◌else◌, nat_eq, List, [], ◌∷◌}
-use Rattle.std.proofs.Common.{◌++◌, Option, Some, None, is_none, All, refl, sym, ap, subst, ◌∙◌, ◌⊎◌, inl, inr, arith}
+use Rattle.std.proofs.Common.{◌++◌, Option, Some, None, is_none, All, refl, sym, ap, subst, ◌∙◌, ◌⊎◌, inl}
+use Rattle.std.proofs.Common.{inr, arith}
 use Rattle.std.specs.Prelude.{Contains, is_some}
 use Rattle.std.specs.List.{filter, list_any}
 use Rattle.std.proofs.lemmas.Bool.{eqb-true, eq-eqb}
@@ -22,7 +23,8 @@ use Rattle.txn_law.specs.Holds.{KeepsOff, IsHoldOf, IsFree, for_reading, for_fet
 use Rattle.txn_law.specs.Holds.{is_hold_of, hold_of, without_hold, joined, with_hold, released}
 use Rattle.txn_law.specs.Present.{present_of, content_in, is_pending}
 use Rattle.txn_law.specs.Records.{is_kept, swept}
-use Rattle.txn_law.specs.Tidy.{AreBeside, AreApart, IsReadHere, IsClaimedWhole, IsOnce, IsUnlogged, IsOfOne, IsPlaced}
+use Rattle.txn_law.specs.Tidy.{AreBeside, AreApart, IsReadHere, IsClaimedWhole, IsOnce, IsUnlogged, IsOfOne}
+use Rattle.txn_law.specs.Tidy.{IsPlaced}
 use Rattle.wal_law.specs.Grows.{IsWholeChange}
 use Rattle.txn_law.specs.Tidy.{AreTidy}
 use Rattle.txn_law.specs.Window.{Footprint}
@@ -32,7 +34,8 @@ use Rattle.txn_law.specs.declared.hold.Hold.{Hold}
 use Rattle.txn_law.specs.declared.present.Present.{Present}
 use Rattle.txn_law.proofs.Again.{same_addr, one_or_apart}
 use Rattle.txn_law.proofs.Claims.{found_by, all_four}
-use Rattle.txn_law.proofs.Entries.{is_of, same_block, once_filter, once_push, filled_content, once_filled, each_filled}
+use Rattle.txn_law.proofs.Entries.{is_of, same_block, once_filter, once_push, filled_content, once_filled}
+use Rattle.txn_law.proofs.Entries.{each_filled}
 use Rattle.txn_law.proofs.Found.{find_kept, find_push_some, find_push_none}
 use Rattle.txn_law.proofs.Memory.{swept_stays}
 use Rattle.txn_law.proofs.Swept.{or-true, in_cons}
@@ -235,7 +238,8 @@ module _ (present : List Present) (block : BlockNo) (content : Option Content) w
       go (Some x) e = once
       go None e = once_push present new_entry e once
 
-  pub block_each : (P : Present → Type 0) → P new_entry → All P present → All P (with_block present block content)
+  pub block_each : (P : Present → Type 0) → P new_entry → All P present
+      → All P (with_block present block content)
   block_each P new each = go (is_some (present_of present block))
     where
       go : (t : Bool) → All P (if t then present else present ++ new_entry ∷ [])
@@ -269,7 +273,8 @@ there_now present block content not_pending = go (present_of present block) refl
       content,
       ap (λ (o : Option Present). content_in (present_of (if is_some o then present else present
           ++ record { block = block; content = Some content } ∷ []) block)) e
-          ∙ ap content_in (find_push_none (is_of block) present (record { block = block; content = Some content } ∷ []) e)
+          ∙ ap content_in (find_push_none (is_of block) present
+          (record { block = block; content = Some content } ∷ []) e)
           ∙ ap (λ b. content_in (cond b (Some (record { block = block; content = Some content })) None))
           (eq-eqb block.0 block.0 refl),
     )
@@ -287,7 +292,8 @@ tidy_held old new tx addr mode bytes is_out open' held tidy =
     let hold : Hold = for_reading tx addr mode in
     subst AreTidy (sym held.core) (record {
       owned = owned_with old hold (is_out, open'.home) tidy.owned;
-      placed = block_each old.present addr.block (Some held.content) (IsPlaced old.log.blocks) open'.home tidy.placed;
+      placed = block_each old.present addr.block (Some held.content) (IsPlaced old.log.blocks)
+          open'.home tidy.placed;
       apart = apart_with old.holds hold tidy.apart open'.free;
       read = read_with old.holds hold old.present (with_block old.present addr.block (Some held.content))
           (block_stays old.present addr.block (Some held.content)) tidy.read
@@ -312,7 +318,8 @@ tidy_fetch old new tx addr mode io is_out open' fetch tidy =
           (block_stays old.present addr.block None) tidy.read (λ is. absurd (cc));
       claimed = claimed_with old.holds hold tidy.claimed (λ is. absurd (cc));
       once = block_once old.present addr.block None tidy.once;
-      pending = block_each old.present addr.block None (IsUnlogged old.log) (λ none. fetch.unlogged) tidy.pending;
+      pending = block_each old.present addr.block None (IsUnlogged old.log)
+          (λ none. fetch.unlogged) tidy.pending;
       changes = tidy.changes;
     })
 
@@ -369,7 +376,8 @@ out_still : (out : List ℕ) (tx t : ℕ) → nat_eq t tx ≡ false → list_any
 out_still [] tx t differ e = e
 out_still (o ∷ os) tx t differ e = go (out_still os tx t differ) (nat_eq o t) refl (nat_eq o tx) refl e
   where
-    go : (list_any (λ other. nat_eq other t) os ≡ true → list_any (λ other. nat_eq other t) (without tx os) ≡ true)
+    go : (list_any (λ other. nat_eq other t) os ≡ true
+        → list_any (λ other. nat_eq other t) (without tx os) ≡ true)
         → (u : Bool) → nat_eq o t ≡ u → (v : Bool) → nat_eq o tx ≡ v
         → (u || list_any (λ other. nat_eq other t) os) ≡ true
         → list_any (λ other. nat_eq other t) (cond (not v) (o ∷ without tx os) (without tx os)) ≡ true
@@ -458,7 +466,8 @@ tidy_failed old block tidy = record {
       (IsPlaced old.log.blocks) old.present tidy.placed;
   apart = tidy.apart;
   read = All-weaker (IsReadHere old.present) (IsReadHere (without_pending old.present block))
-      (λ x h is. let (content, there) = h is in (content, failed_stays old.present block x.addr.block content there)) old.holds tidy.read;
+      (λ x h is. let (content, there) = h is in
+      (content, failed_stays old.present block x.addr.block content there)) old.holds tidy.read;
   claimed = tidy.claimed;
   once = once_filter (λ entry. not (nat_eq entry.block.0 block.0) || is_some entry.content) old.present
       tidy.once;
@@ -485,7 +494,8 @@ tidy_installed old log same none whole tidy = record {
       || is_kept (past (installed_place log) old.records) entry.block) old.present tidy.once;
   pending = All-filter (λ entry. is_none entry.content || is_taken old.holds entry.block
       || is_kept (past (installed_place log) old.records) entry.block) (IsUnlogged log) old.present
-      (All-weaker (IsUnlogged old.log) (IsUnlogged log) (λ x h e. none x.block.0 (h e)) old.present tidy.pending);
+      (All-weaker (IsUnlogged old.log) (IsUnlogged log) (λ x h e. none x.block.0 (h e)) old.present
+      tidy.pending);
   changes = whole;
 }
 

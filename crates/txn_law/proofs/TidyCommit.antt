@@ -1,17 +1,20 @@
 -- Lemma: a commit leaves what transactions have taken and what is in memory tidy.
-use Rattle.std.proofs.Common.{◌≡◌, ℕ, Bool, true, false, not, cond, ◌||◌, nat_eq, List, [], ◌∷◌, Option, Some, None}
+use Rattle.std.proofs.Common.{◌≡◌, ℕ, Bool, true, false, not, cond, ◌||◌, nat_eq, List, [], ◌∷◌, Option, Some}
+use Rattle.std.proofs.Common.{None}
 use Rattle.std.proofs.Common.{is_none, All, option_map, refl, sym, ap, subst, ◌∙◌, arith}
 use Rattle.std.specs.Prelude.{is_some}
 use Rattle.std.proofs.Common.{get_or}
 use Rattle.std.proofs.lemmas.Bool.{eqb-true, eq-eqb}
-use Rattle.std.proofs.lemmas.List.Elements.{All-nil, All-cons, All-head, All-tail, All-weaker, All-filter, All-map}
+use Rattle.std.proofs.lemmas.List.Elements.{All-nil, All-cons, All-head, All-tail, All-weaker, All-filter}
+use Rattle.std.proofs.lemmas.List.Elements.{All-map}
 use Rattle.disk.specs.Device.{Content}
 use Rattle.disk.specs.declared.block.BlockNo.{BlockNo}
 use Rattle.wal_law.specs.Effects.{newest_in}
 use Rattle.wal_law.specs.Grows.{GrowsBy}
 use Rattle.wal_law.specs.Log.{Log, IsHomeOn, newest, or_else, blocks_of as group_blocks}
 use Rattle.wal_law.specs.Overlay.{content_or}
-use Rattle.txn_law.specs.Commit.{Planned, IsWrittenBy, IsOwn, with_record, refreshed_content, refreshed_entry, refreshed}
+use Rattle.txn_law.specs.Commit.{Planned, IsWrittenBy, IsOwn, with_record, refreshed_content, refreshed_entry}
+use Rattle.txn_law.specs.Commit.{refreshed}
 use Rattle.txn_law.specs.Commit.{committed}
 use Rattle.txn_law.specs.Core.{CoreState, IsOut, ended}
 use Rattle.txn_law.specs.Group.{is_among, blocks_of}
@@ -48,13 +51,16 @@ none_lies : (present : List Present) (written : List ObjectBytes) (block : Block
     → is_pending (present_of present block) ≡ true → lies_in written block ≡ false
 none_lies present [] block loaded waits = refl
 none_lies present (o ∷ os) block loaded waits =
-    go (none_lies present os block (All-tail (λ object. is_pending (present_of present object.addr.block) ≡ false) o os
+    go (none_lies present os block (All-tail
+    (λ object. is_pending (present_of present object.addr.block) ≡ false) o os
     loaded) waits) (nat_eq o.addr.block.0 block.0) refl
   where
-    go : lies_in os block ≡ false → (t : Bool) → nat_eq o.addr.block.0 block.0 ≡ t → (t || lies_in os block) ≡ false
+    go : lies_in os block ≡ false → (t : Bool) → nat_eq o.addr.block.0 block.0 ≡ t
+        → (t || lies_in os block) ≡ false
     go rest true same =
         let at : o.addr.block ≡ block = same_block o.addr.block block (eqb-true o.addr.block.0 block.0 same) in
-        absurd (let not_so : true ≡ false = sym waits ∙ sym (ap (λ (b : BlockNo). is_pending (present_of present b)) at)
+        absurd (let not_so : true ≡ false = sym waits
+        ∙ sym (ap (λ (b : BlockNo). is_pending (present_of present b)) at)
         ∙ All-head (λ object. is_pending (present_of present object.addr.block) ≡ false) o os loaded in cc)
     go rest false same = rest
 
@@ -98,7 +104,8 @@ module _ (old : CoreState) (tx : ℕ) (plan : Planned) (group : List (BlockNo ×
             ∙ ap (λ (o : Option Content). refreshed_content o (newest log x.block.0)) e,
       )
 
-  pub tidy_commit : log.blocks ≡ old.log.blocks → All IsWholeChange log.changes → AreTidy (committed old tx plan log)
+  pub tidy_commit : log.blocks ≡ old.log.blocks → All IsWholeChange log.changes
+      → AreTidy (committed old tx plan log)
   tidy_commit same whole = record {
     owned = subst (λ (n : ℕ). All (λ hold. IsOut (ended old tx) hold.transaction × IsHomeOn n hold.addr.block)
         (released old.holds tx)) (sym same) (owned_end old tx tidy);
@@ -108,8 +115,8 @@ module _ (old : CoreState) (tx : ℕ) (plan : Planned) (group : List (BlockNo ×
         (All-map (IsPlaced log.blocks) (refreshed_entry log) old.present
         (subst (λ (n : ℕ). All (IsPlaced n) old.present) (sym same) tidy.placed));
     apart = apart_filter (λ hold. not (nat_eq hold.transaction tx)) old.holds tidy.apart;
-    read = read_swept (released old.holds tx) (with_record log log.places plan old.records) (refreshed log old.present)
-        (refreshed log old.present) (λ at c e. e)
+    read = read_swept (released old.holds tx) (with_record log log.places plan old.records)
+        (refreshed log old.present) (refreshed log old.present) (λ at c e. e)
         (All-weaker (IsReadHere old.present) (IsReadHere (refreshed log old.present))
         (λ x h is. let (content, there) = h is in stays x.addr.block content there) (released old.holds tx)
         (All-filter (λ hold. not (nat_eq hold.transaction tx)) (IsReadHere old.present) old.holds tidy.read));
@@ -121,6 +128,7 @@ module _ (old : CoreState) (tx : ℕ) (plan : Planned) (group : List (BlockNo ×
         || is_kept (with_record log log.places plan old.records) entry.block) (IsUnlogged log)
         (refreshed log old.present)
         (All-map (IsUnlogged log) (refreshed_entry log) old.present
-        (λ k d lt. unlogged (get_or old.present k d) (tidy.pending k d lt) (once_is old.present tidy.once k d lt)));
+        (λ k d lt. unlogged (get_or old.present k d) (tidy.pending k d lt)
+        (once_is old.present tidy.once k d lt)));
     changes = whole;
   }

@@ -9,7 +9,8 @@ use Rattle.disk.specs.Device.{Content}
 use Rattle.disk.specs.Crash.{Image}
 use Rattle.disk.specs.declared.block.BlockNo.{BlockNo}
 use Rattle.wal_law.specs.declared.change.LogChange.{LogChange}
-use Rattle.wal_law.specs.Log.{Log, IsLawful, IsRising, IsCommitted, newest_of, or_else, place_before, changes_of}
+use Rattle.wal_law.specs.Log.{Log, IsLawful, IsRising, IsCommitted, newest_of, or_else, place_before}
+use Rattle.wal_law.specs.Log.{changes_of}
 use Rattle.wal_law.specs.Room.{with_group}
 use Rattle.wal_law.proofs.Newest.{newest_of-append, place_before-all}
 use Rattle.wal_law.proofs.Places.{place_before-drop-le, rising-drop}

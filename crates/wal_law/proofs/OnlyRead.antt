@@ -16,7 +16,8 @@ read_alone before later read = record {
   clock = omega (arith, read.later.clock);
   past = λ clock block below. read.later.past clock block below;
   during = λ clock block from to. elim (cases_lt before.clock clock) [
-    | inl after ↦ ap (λ n. later.contents n block) (omega (arith, after, to, read.later.clock)) ∙ read.contents block
+    | inl after ↦ ap (λ n. later.contents n block) (omega (arith, after, to, read.later.clock))
+        ∙ read.contents block
     | inr at ↦ read.later.past clock block at ∙ ap (λ n. before.contents n block) (omega (arith, at, from))
   ];
   spoiled = λ block. read.spoiled block;

@@ -104,7 +104,8 @@ pub fn a_call_of_the_installer_keeps_agreement()
 /// group over what was at home or over what is written there, and once the write is settled it is at home.
 pub fn a_write_beside_the_log_keeps_agreement()
     ensures crash { (old new : Device) (base : Image) (log : Log) (block : ℕ) (content : Content)
-        (answer : Result Unit Failed) (image : Image) → IsLawful log → IsOutside log.blocks block → newest log block ≡ None
+        (answer : Result Unit Failed) (image : Image) → IsLawful log → IsOutside log.blocks block
+        → newest log block ≡ None
         → HasWritten old block content answer new → Agrees old base log → IsCrashImage new new.clock image
         → IsBoundary base log image ⊎ IsBoundary (with_home base block content) log image }
     ensures settled { (old middle new : Device) (base : Image) (log : Log) (block : ℕ) (content : Content)

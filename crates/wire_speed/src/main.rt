@@ -1,5 +1,5 @@
-//! The program `wire_speed ROUNDS`: how many megabytes a second the server's wire reads and writes, beside a plain copy
-//! of the same bytes. Without arguments it does nothing.
+//! The program `wire_speed ROUNDS`: how many megabytes a second the server's wire reads and writes, beside a
+//! plain copy of the same bytes. Without arguments it does nothing.
 #![tactic(auto)]
 
 mod measured;

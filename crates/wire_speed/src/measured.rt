@@ -60,8 +60,8 @@ impl From<XdrFault> for Fault {
     }
 }
 
-/// Megabytes of data a second: of a plain copy, of reading a WRITE's call out of its stream, and of writing a READ's
-/// reply.
+/// Megabytes of data a second: of a plain copy, of reading a WRITE's call out of its stream, and of writing a
+/// READ's reply.
 #[derive(Clone, Copy, Debug, PartialEq, Eq)]
 pub struct Rates {
     pub copy: u64,
@@ -159,7 +159,8 @@ fn copied(alloc: Global, bytes: &[u8]) -> Result<Vec<u8>, AllocError>
     Ok(copy)
 }
 
-// Reads the call of a WRITE of so many bytes out of a stream of such records. Tells how many bytes were written.
+// Reads the call of a WRITE of so many bytes out of a stream of such records. Tells how many bytes were
+// written.
 fn read_rounds(alloc: Global, rounds: u32, record: &[u8], bytes: usize) -> Result<u64, Fault>
     ensures { IfOk result (λ moved. moved ≡ rounds * bytes) }
 {
@@ -216,8 +217,8 @@ fn write_rounds(alloc: Global, rounds: u32, reply: &Reply, bytes: usize) -> Resu
     Ok(moved)
 }
 
-// Reads the record of these bytes out of a stream of such records, that comes byte by byte, and asks for a record
-// after each. Tells how many bytes came.
+// Reads the record of these bytes out of a stream of such records, that comes byte by byte, and asks for a
+// record after each. Tells how many bytes came.
 fn byte_rounds(alloc: Global, rounds: u32, bytes: &[u8]) -> Result<u64, Fault>
     ensures { IfOk result (λ moved. moved ≡ rounds * length bytes.now) }
 {

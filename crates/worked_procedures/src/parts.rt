@@ -18,8 +18,8 @@ pub const TARGET: [u32; 2] = [3, 0x612f_6200];
 /// The five bytes `hello`, and three zeros.
 pub const DATA: [u32; 3] = [5, 0x6865_6c6c, 0x6f00_0000];
 
-/// Attributes that are set (`sattr3`): mode 420, owner 1000, no group, a size of 4,096 bytes, the server's time for
-/// the access, and second 2000 and nanosecond 5 for the modification.
+/// Attributes that are set (`sattr3`): mode 420, owner 1000, no group, a size of 4,096 bytes, the server's
+/// time for the access, and second 2000 and nanosecond 5 for the modification.
 pub const SET: [u32; 12] = [1, 420, 1, 1000, 0, 1, 0, 4096, 1, 2, 2000, 5];
 
 /// None that are set.
@@ -37,8 +37,9 @@ pub const NONE: [u32; 1] = [0];
 /// The status OK.
 pub const OK: [u32; 1] = [0];
 
-/// What is told of a regular file (`fattr3`): its kind and mode, 2 links, owner 1000, group 100; a size of 5 bytes of
-/// which 4,096 are used; a device of the numbers 11 and 12; file 9 of file system 7; and the three times.
+/// What is told of a regular file (`fattr3`): its kind and mode, 2 links, owner 1000, group 100; a size of 5
+/// bytes of which 4,096 are used; a device of the numbers 11 and 12; file 9 of file system 7; and the three
+/// times.
 pub const ATTRIBUTES: [u32; 21] = [
     1, 420, 2, 1000, 100, 0, 5, 0, 4096, 11, 12, 0, 7, 0, 9, 100, 1, 200, 2, 300, 3,
 ];

@@ -1,5 +1,5 @@
-//! The result of a worked reply to each procedure (RFC 1813, sections 3.3 and 5.2). It begins with its status; NULL's
-//! and UMNT's have none.
+//! The result of a worked reply to each procedure (RFC 1813, sections 3.3 and 5.2). It begins with its
+//! status; NULL's and UMNT's have none.
 
 use crate::parts::{
     ATTRIBUTES, BEFORE, DATA, HANDLE, NAME, NEW_NAME, NONE, OK, SOME, TARGET, VERIFIER,
@@ -104,8 +104,8 @@ pub const FS_STAT_RESULT: [&[u32]; 5] = [
     &[40],
 ];
 
-/// FSINFO: sizes of reads, of writes and of listings, the largest file, the clock's step of a microsecond, and the
-/// properties as bits.
+/// FSINFO: sizes of reads, of writes and of listings, the largest file, the clock's step of a microsecond,
+/// and the properties as bits.
 pub const FS_INFO_RESULT: [&[u32]; 7] = [
     &OK,
     &NONE,

@@ -1,6 +1,8 @@
 -- Reading a chain as a loop does: what was read so far stands in front of what is still read.
 use Rattle.std.specs.Prelude.{Bool, ◌||◌}
-use Rattle.std.proofs.Common.{◌≡◌, ℕ, zero, suc, ◌<◌, true, false, List, [], ◌∷◌, ◌++◌, length, drop, get_or, ◌+◌, ◌-◌, ◌≤◌, Result, Ok, Err, refl, sym, ap, ◌∙◌, append_assoc, arith, inl, inr}
+use Rattle.std.proofs.Common.{◌≡◌, ℕ, zero, suc, ◌<◌, true, false, List, [], ◌∷◌, ◌++◌, length, drop, get_or}
+use Rattle.std.proofs.Common.{◌+◌, ◌-◌, ◌≤◌, Result, Ok, Err, refl, sym, ap, ◌∙◌, append_assoc, arith, inl}
+use Rattle.std.proofs.Common.{inr}
 use Rattle.std.proofs.lemmas.List.{append-nil, at_drop_more}
 use Rattle.std.proofs.Math.ListN.{drop_of_length-le}
 use Rattle.xdr.specs.declared.fault.XdrFault.{XdrFault}
@@ -10,11 +12,13 @@ use Rattle.xdr.specs.Codes.{Code, chain_bytes, chain_at, chain, items_bytes, ite
 use Rattle.xdr.specs.Writing.{RefusesToWrite}
 use Rattle.xdr.proofs.Lawful.{IsCode, flag_shrinks}
 
-abbrev pub behind : {A : Type 0} → List A → Result (List A × List ℕ) XdrFault → Result (List A × List ℕ) XdrFault
+abbrev pub behind : {A : Type 0} → List A → Result (List A × List ℕ) XdrFault
+    → Result (List A × List ℕ) XdrFault
 behind front read = read >>= λ x. Ok (front ++ x.0, x.1)
 
 -- so many links are enough for what is left
-pub record Links {A : Type 0} (F : Code A) (front : List A) (bytes : List ℕ) (total : Result (List A × List ℕ) XdrFault) : Type 0 where
+pub record Links {A : Type 0} (F : Code A) (front : List A) (bytes : List ℕ)
+    (total : Result (List A × List ℕ) XdrFault) : Type 0 where
   pub links : ℕ
   pub enough : length bytes < suc links
   pub so_far : behind front (chain_at F (suc links) bytes) ≡ total
@@ -24,39 +28,54 @@ same_read (Ok x) = refl
 same_read (Err e) = refl
 
 pub begins : {A : Type 0} (F : Code A) (bytes : List ℕ) → Links F [] bytes ((chain F).read bytes)
-begins F bytes = record { links = length bytes; enough = omega arith; so_far = same_read (chain_at F (suc (length bytes)) bytes) }
+begins F bytes = record {
+  links = length bytes;
+  enough = omega arith;
+  so_far = same_read (chain_at F (suc (length bytes)) bytes);
+}
 
-regroup : {A : Type 0} (front : List A) (x : A) (read : Result (List A × List ℕ) XdrFault) → behind front (read >>= λ xs. Ok (x ∷ xs.0, xs.1)) ≡ behind (front ++ x ∷ []) read
+regroup : {A : Type 0} (front : List A) (x : A) (read : Result (List A × List ℕ) XdrFault)
+    → behind front (read >>= λ xs. Ok (x ∷ xs.0, xs.1)) ≡ behind (front ++ x ∷ []) read
 regroup front x (Ok xs) = ap (λ (ys : List _). Ok (ys, xs.1)) (simp append_assoc)
 regroup front x (Err f) = refl
 
-more_links : {A : Type 0} (F : Code A) (front : List A) (bytes middle after : List ℕ) (x : A) (total : Result (List A × List ℕ) XdrFault)
-    → flag_at bytes ≡ Ok (true, middle) → F.read middle ≡ Ok (x, after) → (links : ℕ) → length after < links → behind front (chain_at F (suc links) bytes) ≡ total → Links F (front ++ x ∷ []) after total
+more_links : {A : Type 0} (F : Code A) (front : List A) (bytes middle after : List ℕ) (x : A)
+    (total : Result (List A × List ℕ) XdrFault)
+    → flag_at bytes ≡ Ok (true, middle) → F.read middle ≡ Ok (x, after) → (links : ℕ) → length after < links
+    → behind front (chain_at F (suc links) bytes) ≡ total → Links F (front ++ x ∷ []) after total
 more_links F front bytes middle after x total more there zero lt so_far = absurd (omega arith)
 more_links F front bytes middle after x total more there (suc links) lt so_far =
-    let one : behind front (chain_at F (suc (suc links)) bytes) ≡ behind (front ++ x ∷ []) (chain_at F (suc links) after) = rw (more, there) (regroup front x (chain_at F (suc links) after)) in
+    let one : behind front (chain_at F (suc (suc links)) bytes) ≡ behind (front ++ x ∷ [])
+    (chain_at F (suc links) after) = rw (more, there) (regroup front x (chain_at F (suc links) after)) in
     record { links = links; enough = lt; so_far = sym one ∙ so_far }
 
-pub goes_on : {A : Type 0} (F : Code A) → IsCode F → (front : List A) (bytes middle after : List ℕ) (x : A) (total : Result (List A × List ℕ) XdrFault)
-    → flag_at bytes ≡ Ok (true, middle) → F.read middle ≡ Ok (x, after) → Links F front bytes total → Links F (front ++ x ∷ []) after total
+pub goes_on : {A : Type 0} (F : Code A) → IsCode F
+    → (front : List A) (bytes middle after : List ℕ) (x : A) (total : Result (List A × List ℕ) XdrFault)
+    → flag_at bytes ≡ Ok (true, middle) → F.read middle ≡ Ok (x, after) → Links F front bytes total
+    → Links F (front ++ x ∷ []) after total
 goes_on F f front bytes middle after x total more there l =
     let less = flag_shrinks bytes true middle more in
     let fewer = f.shrinks middle x after there in
-    more_links F front bytes middle after x total more there l.links (omega (arith, less, fewer, l.enough)) l.so_far
+    more_links F front bytes middle after x total more there l.links
+    (omega (arith, less, fewer, l.enough)) l.so_far
 
-pub is_done : {A : Type 0} (F : Code A) (front : List A) (bytes middle : List ℕ) (total : Result (List A × List ℕ) XdrFault)
+pub is_done : {A : Type 0} (F : Code A) (front : List A) (bytes middle : List ℕ)
+    (total : Result (List A × List ℕ) XdrFault)
     → flag_at bytes ≡ Ok (false, middle) → Links F front bytes total → total ≡ Ok (front, middle)
 is_done F front bytes middle total e l =
-    let one : behind front (chain_at F (suc l.links) bytes) ≡ Ok (front, middle) = rw e (ap (λ (ys : List _). Ok (ys, middle)) (append-nil front)) in
+    let one : behind front (chain_at F (suc l.links) bytes) ≡ Ok (front, middle) =
+    rw e (ap (λ (ys : List _). Ok (ys, middle)) (append-nil front)) in
     sym l.so_far ∙ one
 
-pub no_flag : {A : Type 0} (F : Code A) (front : List A) (bytes : List ℕ) (total : Result (List A × List ℕ) XdrFault) (d : XdrFault)
+pub no_flag : {A : Type 0} (F : Code A) (front : List A) (bytes : List ℕ)
+    (total : Result (List A × List ℕ) XdrFault) (d : XdrFault)
     → flag_at bytes ≡ Err d → Links F front bytes total → total ≡ Err d
 no_flag F front bytes total d e l =
     let one : behind front (chain_at F (suc l.links) bytes) ≡ Err d = rw e refl in
     sym l.so_far ∙ one
 
-pub no_item : {A : Type 0} (F : Code A) (front : List A) (bytes middle : List ℕ) (total : Result (List A × List ℕ) XdrFault) (d : XdrFault)
+pub no_item : {A : Type 0} (F : Code A) (front : List A) (bytes middle : List ℕ)
+    (total : Result (List A × List ℕ) XdrFault) (d : XdrFault)
     → flag_at bytes ≡ Ok (true, middle) → F.read middle ≡ Err d → Links F front bytes total → total ≡ Err d
 no_item F front bytes middle total d more e l =
     let one : behind front (chain_at F (suc l.links) bytes) ≡ Err d = rw (more, e) refl in
@@ -64,14 +83,19 @@ no_item F front bytes middle total d more e l =
 
 -- ---- writing a chain as a loop does
 
-pub put_on : {A : Type 0} (F : Code A) (xs : List A) (i : ℕ) (x : A) (out whole : List ℕ) → i < length xs → x ≡ get_or xs i x
-    → out ++ chain_bytes F (drop i xs) ≡ whole → ((out ++ items.flag true) ++ F.spell x) ++ chain_bytes F (drop (i + 1) xs) ≡ whole
+pub put_on : {A : Type 0} (F : Code A) (xs : List A) (i : ℕ) (x : A) (out whole : List ℕ) → i < length xs
+    → x ≡ get_or xs i x
+    → out ++ chain_bytes F (drop i xs) ≡ whole
+    → ((out ++ items.flag true) ++ F.spell x) ++ chain_bytes F (drop (i + 1) xs) ≡ whole
 put_on F xs i x out whole lt is so_far =
-    let next : chain_bytes F (drop i xs) ≡ items.flag true ++ (F.spell x ++ chain_bytes F (drop (i + 1) xs)) = at_drop_more (chain_bytes F) xs i x lt ∙ ap (λ (y : _). chain_bytes F (y ∷ drop (i + 1) xs)) (sym is) in
-    let regrouped : ((out ++ items.flag true) ++ F.spell x) ++ chain_bytes F (drop (i + 1) xs) ≡ out ++ (items.flag true ++ (F.spell x ++ chain_bytes F (drop (i + 1) xs))) = simp append_assoc refl in
+    let next : chain_bytes F (drop i xs) ≡ items.flag true ++ (F.spell x ++ chain_bytes F (drop (i + 1) xs)) =
+    at_drop_more (chain_bytes F) xs i x lt ∙ ap (λ (y : _). chain_bytes F (y ∷ drop (i + 1) xs)) (sym is) in
+    let regrouped : ((out ++ items.flag true) ++ F.spell x) ++ chain_bytes F (drop (i + 1) xs) ≡ out
+    ++ (items.flag true ++ (F.spell x ++ chain_bytes F (drop (i + 1) xs))) = simp append_assoc refl in
     regrouped ∙ ap (λ (t : List ℕ). out ++ t) (sym next) ∙ so_far
 
-pub put_end : {A : Type 0} (F : Code A) (xs : List A) (i : ℕ) (out whole : List ℕ) → length xs ≤ i → out ++ chain_bytes F (drop i xs) ≡ whole → out ++ items.flag false ≡ whole
+pub put_end : {A : Type 0} (F : Code A) (xs : List A) (i : ℕ) (out whole : List ℕ) → length xs ≤ i
+    → out ++ chain_bytes F (drop i xs) ≡ whole → out ++ items.flag false ≡ whole
 put_end F xs i out whole le so_far =
     let none : drop i xs ≡ [] = drop_of_length-le xs le in
     ap (λ (y : List _). out ++ chain_bytes F y) (sym none) ∙ so_far
@@ -96,8 +120,8 @@ put_last F xs i out whole le so_far =
 
 -- ---- reading counted items as a loop does
 
-pub more_items : {A : Type 0} (F : Code A) (front : List A) (count i : ℕ) (bytes : List ℕ) (x : A) (after : List ℕ)
-    (total : Result (List A × List ℕ) XdrFault) → i < count → F.read bytes ≡ Ok (x, after)
+pub more_items : {A : Type 0} (F : Code A) (front : List A) (count i : ℕ) (bytes : List ℕ) (x : A)
+    (after : List ℕ) (total : Result (List A × List ℕ) XdrFault) → i < count → F.read bytes ≡ Ok (x, after)
     → behind front (items_at F (count - i) bytes) ≡ total
     → behind (front ++ x ∷ []) (items_at F (count - (i + 1)) after) ≡ total
 more_items F front count i bytes x after total lt there so_far =
@@ -136,7 +160,8 @@ pub short_on : {A : Type 0} (F : Code A) (xs : List A) (i : ℕ) (x : A) (whole 
     → x ≡ get_or xs i x → F.too_long x ≡ false → some_too_long F (drop i xs) ≡ whole
     → some_too_long F (drop (i + 1) xs) ≡ whole
 short_on F xs i x whole lt is short so_far =
-    ap (λ (b : Bool). b || some_too_long F (drop (i + 1) xs)) (sym short) ∙ sym (more_left F xs i x lt is) ∙ so_far
+    ap (λ (b : Bool). b || some_too_long F (drop (i + 1) xs)) (sym short)
+    ∙ sym (more_left F xs i x lt is) ∙ so_far
 
 pub short_end : {A : Type 0} (F : Code A) (xs : List A) (i : ℕ) (whole : Bool) → length xs ≤ i
     → some_too_long F (drop i xs) ≡ whole → whole ≡ false

@@ -1,5 +1,7 @@
 -- Why reading refuses: what each step of a reader made of a refusal, both ways.
-use Rattle.std.proofs.Common.{◌≡◌, ◌⊎◌, inl, inr, ℕ, zero, suc, ◌+◌, ◌<◌, ◌≤◌, Bool, true, false, cond, ltb, List, [], ◌∷◌, ◌++◌, length, take, drop, Result, Ok, Err, refl, sym, ap, ◌∙◌, arith}
+use Rattle.std.proofs.Common.{◌≡◌, ◌⊎◌, inl, inr, ℕ, zero, suc, ◌+◌, ◌<◌, ◌≤◌, Bool, true, false, cond, ltb}
+use Rattle.std.proofs.Common.{List, [], ◌∷◌, ◌++◌, length, take, drop, Result, Ok, Err, refl, sym, ap, ◌∙◌}
+use Rattle.std.proofs.Common.{arith}
 use Rattle.std.specs.Prelude.{◌==◌}
 use Rattle.std.specs.Int.{Width, byte_len, from_be_bytes}
 use Rattle.std.specs.List.{list_all}
@@ -17,24 +19,29 @@ pub err_is : {A : Type 0} (d e : XdrFault) → failed {A = A} d ≡ failed e →
 err_is d e h = cc
 
 -- a step that failed, or what came behind it did
-pub bind_err : {A B : Type 0} (r : Result A XdrFault) (f : A → Result B XdrFault) (e : XdrFault) → (r >>= f) ≡ Err e
+pub bind_err : {A B : Type 0} (r : Result A XdrFault) (f : A → Result B XdrFault) (e : XdrFault)
+    → (r >>= f) ≡ Err e
     → (r ≡ Err e) ⊎ ((x : A) × (r ≡ Ok x) × (f x ≡ Err e))
 bind_err (Ok x) f e h = inr (x, refl, h)
 bind_err {A} {B} (Err d) f e h = inl (ap (λ (t : XdrFault). failed {A = A} t) (sym (err_is {A = B} d e h)))
 
-pub made_err : {A B : Type 0} (r : Result (A × List ℕ) XdrFault) (f : A → B) (e : XdrFault) → (r >>= made_of f) ≡ Err e
+pub made_err : {A B : Type 0} (r : Result (A × List ℕ) XdrFault) (f : A → B) (e : XdrFault)
+    → (r >>= made_of f) ≡ Err e
     → r ≡ Err e
 made_err (Ok x) f e h = absurd cc
-made_err {A} {B} (Err d) f e h = ap (λ (t : XdrFault). failed {A = A × List ℕ} t) (sym (err_is {A = B × List ℕ} d e h))
+made_err {A} {B} (Err d) f e h = ap (λ (t : XdrFault). failed {A = A × List ℕ} t)
+    (sym (err_is {A = B × List ℕ} d e h))
 
 -- a test that failed, or what came behind it did
-pub guard_err : {A : Type 0} (b : Bool) (d : XdrFault) (r : Result A XdrFault) (e : XdrFault) → cond b (Err d) r ≡ Err e
+pub guard_err : {A : Type 0} (b : Bool) (d : XdrFault) (r : Result A XdrFault) (e : XdrFault)
+    → cond b (Err d) r ≡ Err e
     → ((b ≡ true) × (e ≡ d)) ⊎ ((b ≡ false) × (r ≡ Err e))
 guard_err {A} true d r e h = inl (refl, err_is {A = A} d e h)
 guard_err false d r e h = inr (refl, h)
 
 -- the same of a condition that has to hold
-pub holds_err : {A : Type 0} (b : Bool) (d : XdrFault) (r : Result A XdrFault) (e : XdrFault) → cond b r (Err d) ≡ Err e
+pub holds_err : {A : Type 0} (b : Bool) (d : XdrFault) (r : Result A XdrFault) (e : XdrFault)
+    → cond b r (Err d) ≡ Err e
     → ((b ≡ true) × (r ≡ Err e)) ⊎ ((b ≡ false) × (e ≡ d))
 holds_err true d r e h = inl (refl, h)
 holds_err {A} false d r e h = inr (refl, err_is {A = A} d e h)
@@ -47,7 +54,8 @@ no_err x e h = cc
 pub number_refuses : (w : Width) (bytes : List ℕ) (e : XdrFault) → number_at w bytes ≡ Err e
     → fewer_than (byte_len w) bytes e
 number_refuses w bytes e h =
-    elim (guard_err (ltb (length bytes) (byte_len w)) Short (Ok (from_be_bytes w (take (byte_len w) bytes), drop (byte_len w) bytes)) e h) [
+    elim (guard_err (ltb (length bytes) (byte_len w)) Short
+    (Ok (from_be_bytes w (take (byte_len w) bytes), drop (byte_len w) bytes)) e h) [
       | inl short ↦ (ltb-true _ _ short.0, short.1)
       | inr long ↦ absurd (no_err _ e long.1)
     ]
@@ -90,15 +98,17 @@ pub string_refuses : (bound n : ℕ) (rest : List ℕ) (e : XdrFault) → string
 string_refuses bound n rest e h =
     let zeros = list_all (λ b. b == 0) (take (padding n) (drop n rest)) in
     let made : Result (List ℕ × List ℕ) XdrFault = Ok (take n rest, drop (padding n) (drop n rest)) in
-    elim (guard_err (ltb bound n) Length (cond (ltb (length rest) (n + padding n)) (Err Short) (cond zeros made (Err Padding))) e h) [
+    elim (guard_err (ltb bound n) Length (cond (ltb (length rest) (n + padding n)) (Err Short)
+    (cond zeros made (Err Padding))) e h) [
       | inl long ↦ inl (ltb-true _ _ long.0, long.1)
-      | inr bounded ↦ elim (guard_err (ltb (length rest) (n + padding n)) Short (cond zeros made (Err Padding)) e bounded.1) [
-        | inl short ↦ inr (inl (ltb-false _ _ bounded.0, ltb-true _ _ short.0, short.1))
-        | inr there ↦ elim (holds_err zeros Padding made e there.1) [
-          | inl held ↦ absurd (no_err _ e held.1)
-          | inr not ↦ inr (inr (ltb-false _ _ bounded.0, ltb-false _ _ there.0, not.0, not.1))
-        ]
-      ]
+      | inr bounded ↦ elim (guard_err (ltb (length rest) (n + padding n)) Short
+          (cond zeros made (Err Padding)) e bounded.1) [
+            | inl short ↦ inr (inl (ltb-false _ _ bounded.0, ltb-true _ _ short.0, short.1))
+            | inr there ↦ elim (holds_err zeros Padding made e there.1) [
+              | inl held ↦ absurd (no_err _ e held.1)
+              | inr not ↦ inr (inr (ltb-false _ _ bounded.0, ltb-false _ _ there.0, not.0, not.1))
+            ]
+          ]
     ]
 
 pub string_refused_so : (bound n : ℕ) (rest : List ℕ) (e : XdrFault) → string_refused bound n rest e

@@ -1,7 +1,9 @@
--- Codes: how a value is spelled, which values have a spelling, what reading gives, why bytes are refused, and which
--- values have a length that four bytes can't tell (RFC 4506). Why bytes are refused is said of the bytes alone: each
--- refusal is that of the first item from the left without a spelling.
-use Rattle.std.specs.Prelude.{get_or, ◌≡◌, ◌<◌, ◌≤◌, ◌^◌, ◌⊎◌, ℕ, zero, suc, Bool, true, false, ◌==◌, ◌||◌, if◌then◌else◌, nat_lt, List, [], ◌∷◌, ◌++◌, length, take, drop, ◌+◌, Option, Some, None, IfSome, Result, Ok, Err}
+-- Codes: how a value is spelled, which values have a spelling, what reading gives, why bytes are refused, and
+-- which values have a length that four bytes can't tell (RFC 4506). Why bytes are refused is said of the
+-- bytes alone: each refusal is that of the first item from the left without a spelling.
+use Rattle.std.specs.Prelude.{get_or, ◌≡◌, ◌<◌, ◌≤◌, ◌^◌, ◌⊎◌, ℕ, zero, suc, Bool, true, false, ◌==◌, ◌||◌}
+use Rattle.std.specs.Prelude.{if◌then◌else◌, nat_lt, List, [], ◌∷◌, ◌++◌, length, take, drop, ◌+◌, Option}
+use Rattle.std.specs.Prelude.{Some, None, IfSome, Result, Ok, Err}
 use Rattle.std.proofs.Common.{inl, inr}
 use Rattle.std.specs.Int.{w32, w64}
 use Rattle.std.specs.List.{AllByRecursion, list_all}
@@ -36,10 +38,22 @@ abbrev pub fewer_than : ℕ → List ℕ → XdrFault → Type 0
 fewer_than n bytes e = (length bytes < n) × (e ≡ Short)
 
 abbrev pub word : Code ℕ
-word = record { spell = items.word; Fits = λ n. n < 2 ^ 32; read = number_at w32; too_long = λ n. false; Refuses = fewer_than 4 }
+word = record {
+  spell = items.word;
+  Fits = λ n. n < 2 ^ 32;
+  read = number_at w32;
+  too_long = λ n. false;
+  Refuses = fewer_than 4;
+}
 
 abbrev pub double : Code ℕ
-double = record { spell = items.double; Fits = λ n. n < 2 ^ 64; read = number_at w64; too_long = λ n. false; Refuses = fewer_than 8 }
+double = record {
+  spell = items.double;
+  Fits = λ n. n < 2 ^ 64;
+  read = number_at w64;
+  too_long = λ n. false;
+  Refuses = fewer_than 8;
+}
 
 abbrev pub flag : Code Bool
 flag = record {
@@ -147,7 +161,8 @@ chain_bytes F (x ∷ xs) = items.flag true ++ (F.spell x ++ chain_bytes F xs)
 abbrev pub chain_at : {A : Type 0} → Code A → ℕ → List ℕ → Result (List A × List ℕ) XdrFault
 chain_at F zero bytes = Err Short
 chain_at F (suc links) bytes = flag_at bytes >>= λ more.
-    if more.0 then (F.read more.1 >>= λ x. chain_at F links x.1 >>= λ xs. Ok (x.0 ∷ xs.0, xs.1)) else Ok ([], more.1)
+    if more.0 then (F.read more.1 >>= λ x. chain_at F links x.1 >>= λ xs. Ok (x.0 ∷ xs.0, xs.1))
+    else Ok ([], more.1)
 
 -- whether one of these is
 abbrev pub some_too_long : {A : Type 0} → Code A → List A → Bool
@@ -227,7 +242,8 @@ arm_or k F G = record {
   has = λ n. n == k || G.has n;
   spell = on_either F.spell G.spell;
   Fits = on_either F.Fits G.Fits;
-  read = λ n bytes. if n == k then (F.read bytes >>= λ x. Ok (inl x.0, x.1)) else (G.read n bytes >>= λ y. Ok (inr y.0, y.1));
+  read = λ n bytes. if n == k then (F.read bytes >>= λ x. Ok (inl x.0, x.1))
+      else (G.read n bytes >>= λ y. Ok (inr y.0, y.1));
   too_long = on_either F.too_long G.too_long;
   Refuses = λ n bytes e. (((n == k) ≡ true) × F.Refuses bytes e) ⊎ (((n == k) ≡ false) × G.Refuses n bytes e);
 }
@@ -241,7 +257,8 @@ abbrev pub is_some : {S : Type 0} → Option S → Bool
 is_some (Some s) = true
 is_some None = false
 
-abbrev pub on_listed : {S B : Type 0} → Option S → Result (B × List ℕ) XdrFault → Result ((S × B) × List ℕ) XdrFault
+abbrev pub on_listed : {S B : Type 0} → Option S → Result (B × List ℕ) XdrFault
+    → Result ((S × B) × List ℕ) XdrFault
 on_listed (Some s) read = read >>= λ x. Ok ((s, x.0), x.1)
 on_listed None read = Err Value
 

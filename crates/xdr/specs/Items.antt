@@ -1,5 +1,6 @@
 -- How items are spelled, each in a multiple of four bytes (RFC 4506).
-use Rattle.std.specs.Prelude.{ℕ, ◌-◌, ◌%◌, nat_lt, Bool, true, false, List, ◌++◌, length, replicate, Option, Some}
+use Rattle.std.specs.Prelude.{ℕ, ◌-◌, ◌%◌, nat_lt, Bool, true, false, List, ◌++◌, length, replicate, Option}
+use Rattle.std.specs.Prelude.{Some}
 use Rattle.std.specs.Prelude.{None}
 use Rattle.std.specs.Int.{w32, w64, to_be_bytes}
 

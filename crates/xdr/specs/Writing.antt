@@ -4,8 +4,8 @@ use Rattle.xdr.specs.declared.fault.XdrFault.{XdrFault}
 use Rattle.xdr.specs.declared.fault.XdrFault.TheVariants.{Length, NoMemory}
 use Rattle.xdr.specs.Codes.{Code}
 
--- Length is refused to what has a length that four bytes can't tell, and to nothing else; all else that a writer
--- refuses is for want of memory
+-- Length is refused to what has a length that four bytes can't tell, and to nothing else; all else that a
+-- writer refuses is for want of memory
 abbrev pub RefusesToWrite : XdrFault → Bool → Type 0
 RefusesToWrite e too_long = ((e ≡ Length) × (too_long ≡ true)) ⊎ (e ≡ NoMemory)
 

@@ -1,5 +1,5 @@
-//! External data representation (RFC 4506): items of four bytes each, the greatest byte first, and in `specs/` the
-//! codes that are built of them.
+//! External data representation (RFC 4506): items of four bytes each, the greatest byte first, and in
+//! `specs/` the codes that are built of them.
 #![tactic(auto)]
 
 mod fault;

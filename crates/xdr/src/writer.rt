@@ -1,5 +1,6 @@
 //! Items one after another at the end of bytes.
-ghost use Rattle.std.specs.Prelude.{◌≡◌, ◌≤◌, ◌++◌, [], true, false, length as len, drop, OnOk, OnErr, IfOk, IfErr};
+ghost use Rattle.std.specs.Prelude.{◌≡◌, ◌≤◌, ◌++◌, [], true, false, length as len, drop, OnOk, OnErr, IfOk};
+ghost use Rattle.std.specs.Prelude.{IfErr};
 ghost use Rattle.xdr.specs.declared.fault.XdrFault.TheVariants.{Length, NoMemory};
 ghost use Rattle.xdr.specs.Items.{word, double, flag, opaque, is_uncounted};
 ghost use Rattle.xdr.specs.Writing.{WritesBytes};
@@ -96,7 +97,8 @@ impl Writer {
         Ok(())
     }
 
-    /// A string with its length and its padding (RFC 4506, section 4.10). One of 2^32 bytes or more has no spelling.
+    /// A string with its length and its padding (RFC 4506, section 4.10). One of 2^32 bytes or more has no
+    /// spelling.
     pub fn opaque(&mut self, string: &[u8]) -> Result<(), XdrFault>
         ensures written { WritesBytes result self.old self.new (opaque string.now) (is_uncounted string.now) }
         ensures refused { OnErr result (self.new ≡ self.old) }

@@ -1,5 +1,5 @@
-//! A call or a reply both ways: it is written as these words, and what is read of them is written as them again. No two
-//! of a procedure are written alike, so what was read is what was written.
+//! A call or a reply both ways: it is written as these words, and what is read of them is written as them
+//! again. No two of a procedure are written alike, so what was read is what was written.
 
 use nfs_client_codec::{decode_reply, encode_call};
 use nfs_codec::decode_call;

@@ -1,6 +1,7 @@
 use Rattle.std.proofs.Common.{rules, refl}
 use Rattle.clap.specs.Words.{found_of, rows_of}
-use Rattle.nfsd_words.proofs.Found.{if_none, no_blocks, no_image, no_inodes, no_number_found, no_text_found, no_time}
+use Rattle.nfsd_words.proofs.Found.{if_none, no_blocks, no_image, no_inodes, no_number_found, no_text_found}
+use Rattle.nfsd_words.proofs.Found.{no_time}
 use Rattle.nfsd_words.proofs.Found.{number_found, text_found}
 use Rattle.nfsd_words.proofs.asked_format.Goals as goal
 

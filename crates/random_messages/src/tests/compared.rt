@@ -1,5 +1,5 @@
-//! Random spellings, also with damage, by the plain grammar and by the codecs: both read them, or both refuse them with
-//! the same number; and what the codecs read of them is written as them again.
+//! Random spellings, also with damage, by the plain grammar and by the codecs: both read them, or both refuse
+//! them with the same number; and what the codecs read of them is written as them again.
 
 use crate::tests::arguments::{arguments, mount_arguments};
 use crate::tests::damage::{DAMAGES, Damage, spoil};

@@ -1,5 +1,5 @@
-//! Random messages, also with damage, by the server's wire and by plain readers and writers that share nothing with it:
-//! both take a message for the same, and both spell a reply or a refusal by the same bytes.
+//! Random messages, also with damage, by the server's wire and by plain readers and writers that share
+//! nothing with it: both take a message for the same, and both spell a reply or a refusal by the same bytes.
 
 use crate::tests::compared::{PROCEDURES, Part, random};
 use crate::tests::damage::{DAMAGES, Damage, spoil};

@@ -1,5 +1,5 @@
-//! A tape of bytes that is written at random, or read: the plain items (RFC 4506). One grammar does for both, since what
-//! it takes from the tape is what it puts on it.
+//! A tape of bytes that is written at random, or read: the plain items (RFC 4506). One grammar does for both,
+//! since what it takes from the tape is what it puts on it.
 
 use std::alloc::Global;
 

@@ -45,8 +45,8 @@ const ROOT: [u32; 32] = [
     520, 521, 522, 523, 524, 525, 0,
 ];
 
-/// The file: mode 420, of user 7 and group 8, one name, as long as a file can be, made by transaction 5 of boot 1.
-/// Its index 0 is block 527, index 3 is block 528, and 529 is the indirect one.
+/// The file: mode 420, of user 7 and group 8, one name, as long as a file can be, made by transaction 5 of
+/// boot 1. Its index 0 is block 527, index 3 is block 528, and 529 is the indirect one.
 pub const FILE: [u32; 32] = [
     1, 420, 7, 8, 1, 0, 4_227_072, 0, 1000, 1, 1001, 2, 1002, 3, 1, 0, 5, 0, 0, 0, 0, 0, 527, 0, 0,
     528, 0, 0, 0, 0, 529, 0,
@@ -55,7 +55,8 @@ pub const FILE: [u32; 32] = [
 // The slot of the name `f` of file 2.
 const SLOT: [u32; 3] = [2, 1, 0x66];
 
-// The first bytes of the bitmaps and their length are told; behind them are so many bytes of zeros, and then ones.
+// The first bytes of the bitmaps and their length are told; behind them are so many bytes of zeros, and then
+// ones.
 fn set_bitmap(
     alloc: Global,
     disk: &mut MemDisk,
@@ -70,8 +71,8 @@ fn set_bitmap(
     set(alloc, disk, number, &bytes)
 }
 
-// The bitmaps: blocks 0 to 531 are in use, which are 66 bytes of ones and the bits of blocks 528 to 531, and the
-// inodes 0 to 2.
+// The bitmaps: blocks 0 to 531 are in use, which are 66 bytes of ones and the bits of blocks 528 to 531, and
+// the inodes 0 to 2.
 fn set_bitmaps(alloc: Global, disk: &mut MemDisk) -> Result<(), Fail> {
     let mut used = Vec::new(alloc);
     used.resize(66, 0xff)?;

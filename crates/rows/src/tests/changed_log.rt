@@ -1,5 +1,5 @@
-//! Logs of which one byte was changed, of the header or of the start: what an opening answers by the rules of the
-//! format.
+//! Logs of which one byte was changed, of the header or of the start: what an opening answers by the rules of
+//! the format.
 
 use crate::tests::changed_bytes::{assert_opened, assert_refused, opened, put_byte};
 use crate::tests::served::{formatted, has_replies, serve};
@@ -30,8 +30,8 @@ fn bytes_behind_the_start(rt: HostRuntime) -> Result<(), Fail> {
     assert_opened(&rt, START_BLOCK, (8, BLOCK_BYTES))
 }
 
-// An image whose log has one position, that of a SETATTR of the root's mode: `start` is 0 and `end` is 1, and the
-// address of slot 0 is 516, which is 4 and 2.
+// An image whose log has one position, that of a SETATTR of the root's mode: `start` is 0 and `end` is 1, and
+// the address of slot 0 is 516, which is 4 and 2.
 fn logged(alloc: Global) -> Result<MemDisk, Fail> {
     Ok(serve(alloc, formatted(alloc)?, &[&SETATTR])?.disk)
 }
@@ -89,8 +89,8 @@ fn unlawful_homes_of_a_logged_block(rt: HostRuntime) -> Result<(), Fail> {
     Ok(())
 }
 
-// Whether GETATTR of the root is answered so in an image with a logged SETATTR where the first byte of this block has
-// another value.
+// Whether GETATTR of the root is answered so in an image with a logged SETATTR where the first byte of this
+// block has another value.
 fn is_told(alloc: Global, block: u32, value: u8, reply: &[u32]) -> Result<bool, Fail> {
     let mut disk = logged(alloc)?;
     put_byte(alloc, &mut disk, block, 0, value)?;

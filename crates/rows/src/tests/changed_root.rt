@@ -1,5 +1,5 @@
-//! Tables of inodes of which one byte was changed: an opening doesn't look at them, and GETATTR tells whether the root is
-//! an inode.
+//! Tables of inodes of which one byte was changed: an opening doesn't look at them, and GETATTR tells whether
+//! the root is an inode.
 
 use crate::tests::changed_bytes::{assert_opened, put_byte};
 use crate::tests::served::{Served, formatted, has_replies, serve};
@@ -26,8 +26,8 @@ fn told_of_root(alloc: Global, at: usize, value: u8) -> Result<Served, Fail> {
     serve(alloc, disk, &[&GETATTR])
 }
 
-// Bytes of the root's inode, by the offset of their field, with values that no inode of a directory without blocks
-// has.
+// Bytes of the root's inode, by the offset of their field, with values that no inode of a directory without
+// blocks has.
 const UNSOUND: [(usize, u8); 24] = [
     // the kind: free, regular, of no file, a link
     (0, 0),

@@ -1,5 +1,5 @@
-//! Runs on images that were made for them, on a device in memory: what they answer and leave, and what is answered
-//! where no image is made or none is opened.
+//! Runs on images that were made for them, on a device in memory: what they answer and leave, and what is
+//! answered where no image is made or none is opened.
 
 use crate::tests::left::assert_left;
 use crate::tests::runs::{has_worked_answers, schedule};

@@ -1,5 +1,5 @@
-//! Records that are written and room that is made, with ample memory: what comes of functions that may answer want
-//! of memory, past their smallest sizes.
+//! Records that are written and room that is made, with ample memory: what comes of functions that may answer
+//! want of memory, past their smallest sizes.
 ghost use Rattle.std.specs.Prelude.{◌≡◌, IfOk, length};
 ghost use Rattle.limits.specs.declared.TheConstants.{BLOCK_BYTES};
 

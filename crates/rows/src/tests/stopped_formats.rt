@@ -42,8 +42,8 @@ fn assert_none(rt: &impl Host, disk: MemDisk) -> Result<(), Fail> {
     }
 }
 
-// Block 0 is emptied by the first call and settled by the second: until then it may be either, and it is the one
-// block with two contents.
+// Block 0 is emptied by the first call and settled by the second: until then it may be either, and it is the
+// one block with two contents.
 #[test]
 fn the_first_two_calls_leave_the_old_image_or_none(rt: HostRuntime) -> Result<(), Fail> {
     for call in [1, 2] {

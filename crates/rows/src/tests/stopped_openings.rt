@@ -16,8 +16,8 @@ fn logged(alloc: Global) -> Result<MemDisk, Fail> {
     )
 }
 
-// Opens an image up to a call, which fails; what it did may have been done or not. Then crashes: of the blocks that
-// have several contents each keeps an old one or a new one.
+// Opens an image up to a call, which fails; what it did may have been done or not. Then crashes: of the
+// blocks that have several contents each keeps an old one or a new one.
 fn stopped(rt: &impl Host, disk: MemDisk, call: u64, digits: [u32; 2]) -> Result<MemDisk, Fail> {
     let mut disk = disk;
     disk.fail_at(&[call])?;

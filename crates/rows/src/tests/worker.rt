@@ -1,5 +1,5 @@
-//! A worker that is driven by hand over a device: what it needs for each step comes from the clauses of the calls
-//! before.
+//! A worker that is driven by hand over a device: what it needs for each step comes from the clauses of the
+//! calls before.
 ghost use Rattle.std.specs.Prelude.{◌≡◌, ◌<◌, IfOk, []};
 ghost use Rattle.layout.specs.Geometry.{IsLawful};
 ghost use Rattle.store_workers.specs.Worker.{Fits};
@@ -123,8 +123,8 @@ fn a_worker_driven_by_hand_answers(rt: HostRuntime) -> Result<(), Fail> {
     Ok(())
 }
 
-// What `fits` answers: of a new worker and of each of two cores; of both once its call began a transaction of the
-// first; and of another new worker and the first then.
+// What `fits` answers: of a new worker and of each of two cores; of both once its call began a transaction of
+// the first; and of another new worker and the first then.
 fn fitted<D: CrashDisk>(alloc: Global, disk: &mut D) -> Result<[bool; 5], Fail> {
     let mut core = core_of(alloc, disk)?;
     let other = core_of(alloc, disk)?;

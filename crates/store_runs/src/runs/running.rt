@@ -1,5 +1,6 @@
 //! The events of a run.
-ghost use Rattle.std.specs.Prelude.{◌≡◌, ℕ, ◌+◌, ◌^◌, ◌<◌, ◌++◌, IsTrue, List, [], None, length, vec_len, vec_capacity};
+ghost use Rattle.std.specs.Prelude.{◌≡◌, ℕ, ◌+◌, ◌^◌, ◌<◌, ◌++◌, IsTrue, List, [], None, length, vec_len};
+ghost use Rattle.std.specs.Prelude.{vec_capacity};
 ghost use Rattle.model.specs.Entry.{Entry as ToldEntry};
 ghost use Rattle.model.specs.Sound.{SoundTime};
 ghost use Rattle.txn.specs.Core.{CoreState};
@@ -36,8 +37,8 @@ use store_workers::{
 };
 use txn::{Core, InstIo, LogIo};
 
-/// A run that goes on: the store with its worker, the device calls that are out, and how many device calls the events
-/// have made.
+/// A run that goes on: the store with its worker, the device calls that are out, and how many device calls
+/// the events have made.
 pub(super) struct Running<D: CrashDisk> {
     store: Store<D>,
     worker: Worker,

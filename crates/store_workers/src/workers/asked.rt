@@ -1,4 +1,5 @@
-//! What a worker has asked for, beside what it goes by. With it, how far a worker is can be told from its state.
+//! What a worker has asked for, beside what it goes by. With it, how far a worker is can be told from its
+//! state.
 ghost use Rattle.std.specs.Prelude.{◌≡◌, Some, None, []};
 ghost use Rattle.store_workers.specs.Asked.{with_fetched};
 
@@ -8,8 +9,9 @@ use objects::Addr;
 use std::marker::Model;
 use std::snapshot::Snapshot;
 
-// The object whose block was fetched last, the objects whose blocks were fetched for the transaction, and the call
-// whose procedure was committed and waits for its place. Only proofs read the last two, which take no memory.
+// The object whose block was fetched last, the objects whose blocks were fetched for the transaction, and the
+// call whose procedure was committed and waits for its place. Only proofs read the last two, which take no
+// memory.
 #[derive(Drop)]
 pub(crate) struct Asked {
     wish: Option<Addr>,

@@ -21,8 +21,8 @@ ghost use Rattle.store_promise.specs.declared.events.Step.{Step};
 ghost use Rattle.store_promise.specs.declared.events.Step.TheVariants as step;
 ghost use Rattle.store_promise.specs.declared.transcript.Run.{Run};
 
-/// How far a worker is after a step of its own, its entry and its answer are what the promise tells of the step, and
-/// once they are told the worker stands between the events again.
+/// How far a worker is after a step of its own, its entry and its answer are what the promise tells of the
+/// step, and once they are told the worker stands between the events again.
 pub fn a_worker_tells_its_steps()
     ensures { (boot number : ℕ) (entries : List Entry) (old new : Side) (made : Option Step)
         → IsWorkerAt boot entries old.worker → old.core.log.places ≡ length entries
@@ -42,7 +42,8 @@ pub fn a_worker_tells_its_call()
     ensures { (boot : ℕ) (entries : List Entry) (credential : Credential) (moment : Moment) (call : Call)
         (old new : State) (made : Option Step) → SoundTime moment → IsWorkerAt boot entries old
         → TakesCall 0 (ctx_of credential moment old.boot) call old made new
-        → TellsCall boot entries (record { credential = credential; moment = moment; call = call }) old made new }
+        → TellsCall boot entries (record { credential = credential; moment = moment; call = call })
+        old made new }
 {}
 
 /// It reads where a read is due, the block of the object that it asked for.

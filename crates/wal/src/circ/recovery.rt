@@ -35,7 +35,8 @@ pub fn recover<D: CrashDisk>(alloc: Global, disk: &mut D) -> Result<Recovered, L
     requires { FIRST_HOME_BLOCK ≤ (D.device disk.old).size }
     ensures slots { IfOk result (λ found. length found.logged.items ≤ LOG_SLOTS) }
     ensures positions { IfOk result (λ found. found.start + length found.logged.items < 2 ^ 64) }
-    ensures homes { IfOk result (λ found. All (IsHomeOn (D.device disk.old).size) (blocks_of found.logged.items)) }
+    ensures homes { IfOk result (λ found. All (IsHomeOn (D.device disk.old).size)
+        (blocks_of found.logged.items)) }
     ensures reads { HasOnlyRead (D.device disk.old) (D.device disk.new) }
     ensures failure { CountsFault (D.device disk.old) (D.device disk.new) result }
     ensures model { D.keeps_model disk.new → D.keeps_model disk.old }
@@ -62,7 +63,8 @@ fn positions_told(header: &Block, start: u64, blocks: u32) -> Result<usize, LogF
         → number_at header.now 0 ≤ start + LOG_SLOTS → ⊥ }
     ensures address { IsErrOf result LogFault.Address → (start ≤ number_at header.now 0)
         × (number_at header.now 0 ≤ start + LOG_SLOTS)
-        × (((k : ℕ) → k < number_at header.now 0 - start → IsHomeOn blocks (home_at header.now (start + k))) → ⊥) }
+        × (((k : ℕ) → k < number_at header.now 0 - start
+        → IsHomeOn blocks (home_at header.now (start + k))) → ⊥) }
     ensures other { OnErr result (IsErrOf result LogFault.Range ⊎ IsErrOf result LogFault.Address) }
 {
     let end = end_of(header);

@@ -5,7 +5,8 @@ use Rattle.std.proofs.lemmas.Grind.{drop_more_same}
 use Rattle.txn_law.specs.Commit.{refreshed_entry}
 use Rattle.holds.proofs.present.refresh_each.Goals as goal
 
-same_first : {X : Type 0} (xs ys : List X) (i : ℕ) (d : X) → drop i xs ≡ drop i ys → get_or xs i d ≡ get_or ys i d
+same_first : {X : Type 0} (xs ys : List X) (i : ℕ) (d : X) → drop i xs ≡ drop i ys
+    → get_or xs i d ≡ get_or ys i d
 same_first xs ys i d e = ap (λ k. get_or xs k d) (sym (add-zero i)) ∙ sym (get_or-drop i xs 0 d)
     ∙ ap (λ zs. get_or zs 0 d) e ∙ get_or-drop i ys 0 d ∙ ap (λ k. get_or ys k d) (add-zero i)
 
@@ -23,8 +24,10 @@ loop-entry-preserved c =
     let less : i < length c.args.present.now = c.loop-entry-test.true in
     let lt : i < length c.loop-entry.present = omega arith in
     record {
-      done = one_more (refreshed_entry c.args.wal.now) c.loop-entry.present c.args.present.now i c.entry-item.result
-          c.refresh_one.new.entry lt less c.loop-entry.invariant.done c.loop-entry.invariant.left c.refresh_one.ensures;
+      done = one_more (refreshed_entry c.args.wal.now) c.loop-entry.present c.args.present.now i
+          c.entry-item.result
+          c.refresh_one.new.entry lt less c.loop-entry.invariant.done c.loop-entry.invariant.left
+          c.refresh_one.ensures;
       left = drop-set-lt (i + 1) c.loop-entry.present i c.refresh_one.new.entry (omega arith)
           ∙ drop_more_same c.loop-entry.present c.args.present.now i c.loop-entry.invariant.left;
     }

@@ -13,26 +13,39 @@ loop-entries-init c = rw c.new-entries.ensures.items (begins entry c.args.reader
 pub returns-in_err-flag : goal.returns-in_err-flag
 returns-in_err-flag c =
     let p = err_from_is_err_and c.from_residual.result c.from_residual.ensures.1 in
-    rw (p.1, p.2) (inl (no_flag entry c.loop-entries.entries.items c.loop-entries.reader (entries.read c.args.reader.now) c.in_err-flag.field-0.0 c.in_err-flag.ensures c.loop-entries.invariant))
+    rw (p.1, p.2) (inl (no_flag entry c.loop-entries.entries.items c.loop-entries.reader
+    (entries.read c.args.reader.now) c.in_err-flag.field-0.0 c.in_err-flag.ensures
+    c.loop-entries.invariant))
 
 pub returns-in_err-read_entry : goal.returns-in_err-read_entry
 returns-in_err-read_entry c =
-    let p = err_from_is_err_and c.from_residual-in_err-read_entry.result c.from_residual-in_err-read_entry.ensures.1 in
+    let p = err_from_is_err_and c.from_residual-in_err-read_entry.result
+    c.from_residual-in_err-read_entry.ensures.1 in
     let more = rw c.if-branch.true at c.in_ok-flag.ensures in
     rw (p.1, p.2) (elim c.in_err-read_entry.ensures [
-      | inl e ↦ inl (no_item entry c.loop-entries.entries.items c.loop-entries.reader c.flag.new.self (entries.read c.args.reader.now) c.in_err-read_entry.field-0.0 more e c.loop-entries.invariant)
+      | inl e ↦ inl (no_item entry c.loop-entries.entries.items c.loop-entries.reader c.flag.new.self
+          (entries.read c.args.reader.now) c.in_err-read_entry.field-0.0 more e c.loop-entries.invariant)
       | inr e ↦ inr e
     ])
 
 pub loop-entries-smaller : goal.loop-entries-smaller
-loop-entries-smaller c = omega (arith, flag_shrinks c.loop-entries.reader c.in_ok-flag.field-0 c.flag.new.self c.in_ok-flag.ensures, entry_is.shrinks c.flag.new.self c.in_ok-read_entry.field-0 c.read_entry.new.reader c.in_ok-read_entry.ensures)
+loop-entries-smaller c = omega (
+  arith,
+  flag_shrinks c.loop-entries.reader c.in_ok-flag.field-0 c.flag.new.self
+      c.in_ok-flag.ensures,
+  entry_is.shrinks c.flag.new.self c.in_ok-read_entry.field-0 c.read_entry.new.reader
+      c.in_ok-read_entry.ensures,
+)
 
 pub loop-entries-preserved : goal.loop-entries-preserved
 loop-entries-preserved c =
     let more = rw c.if-branch.true at c.in_ok-flag.ensures in
-    rw c.in_ok-push.ensures.items (goes_on entry entry_is c.loop-entries.entries.items c.loop-entries.reader c.flag.new.self c.read_entry.new.reader c.in_ok-read_entry.field-0 (entries.read c.args.reader.now) more c.in_ok-read_entry.ensures c.loop-entries.invariant)
+    rw c.in_ok-push.ensures.items (goes_on entry entry_is c.loop-entries.entries.items c.loop-entries.reader
+    c.flag.new.self c.read_entry.new.reader c.in_ok-read_entry.field-0 (entries.read c.args.reader.now)
+    more c.in_ok-read_entry.ensures c.loop-entries.invariant)
 
 pub returns : goal.returns
 returns c =
     let more = rw c.if-branch.false at c.in_ok-flag.ensures in
-    rw c.new.ensures (is_done entry c.loop-entries.entries.items c.loop-entries.reader c.flag.new.self (entries.read c.args.reader.now) more c.loop-entries.invariant)
+    rw c.new.ensures (is_done entry c.loop-entries.entries.items c.loop-entries.reader c.flag.new.self
+    (entries.read c.args.reader.now) more c.loop-entries.invariant)

@@ -5,5 +5,6 @@ use Rattle.nfs_results.proofs.entries.put_entries_plus.Given as goal
 
 abbrev pub invariant-loop-entry : goal.invariant-loop-entry
 invariant-loop-entry l =
-    (l.out ++ chain_bytes entry_plus (drop l.entry-index l.entries) ≡ l.fn.out ++ chain_bytes entry_plus l.entries)
+    (l.out ++ chain_bytes entry_plus (drop l.entry-index l.entries) ≡ l.fn.out
+    ++ chain_bytes entry_plus l.entries)
     × (some_too_long entry_plus (drop l.entry-index l.entries) ≡ some_too_long entry_plus l.entries)

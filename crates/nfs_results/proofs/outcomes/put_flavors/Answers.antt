@@ -10,6 +10,7 @@ pub returns : goal.returns
 unfolding flavors
 returns c = (
   rw (c.in_ok-put_numbers.ensures.0, c.in_ok-unsigned.ensures.written.0)
-      (append_assoc c.args.out.now (items.word (length c.args.flavors.now)) (items_bytes word c.args.flavors.now)),
+      (append_assoc c.args.out.now (items.word (length c.args.flavors.now))
+      (items_bytes word c.args.flavors.now)),
   rw (le-ltb 4294967295 (length c.args.flavors.now) c.if-flavors.false) (short c.args.flavors.now),
 )

@@ -3,4 +3,5 @@ use Rattle.xdr.specs.Codes.{word, items_bytes}
 use Rattle.nfs_results.proofs.outcomes.put_numbers.Given as goal
 
 abbrev pub invariant-loop-number : goal.invariant-loop-number
-invariant-loop-number l = l.out ++ items_bytes word (drop l.number-index l.numbers) ≡ l.fn.out ++ items_bytes word l.numbers
+invariant-loop-number l = l.out ++ items_bytes word (drop l.number-index l.numbers) ≡ l.fn.out
+    ++ items_bytes word l.numbers

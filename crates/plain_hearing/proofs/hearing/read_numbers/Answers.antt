@@ -12,7 +12,8 @@ returns-clause-procedure c =
 pub returns-clause-flavor : goal.returns-clause-flavor
 returns-clause-flavor c =
     c.in_ok-flavor.ensures.is
-    ∙ ap word_at (c.in_ok-procedure.ensures.behind ∙ ap (λ (l : List ℕ). drop 4 l) (c.in_ok-version.ensures.behind
+    ∙ ap word_at (c.in_ok-procedure.ensures.behind
+    ∙ ap (λ (l : List ℕ). drop 4 l) (c.in_ok-version.ensures.behind
     ∙ ap (λ (l : List ℕ). drop 4 l) c.in_ok-program.ensures.behind ∙ drop-drop 4 4 c.args.reader.now)
     ∙ drop-drop 4 8 c.args.reader.now)
 

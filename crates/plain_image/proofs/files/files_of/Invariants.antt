@@ -10,4 +10,5 @@ abbrev pub invariant-inodes : goal.invariant-inodes
 invariant-inodes l =
     All (IsDecoded l.geometry (image_of l.disk)) l.files.items
     × (numbers_in l.files.items ≡ used_below l.geometry (image_of l.disk) l.number)
-    × ((k : ℕ) → k < l.number → CanBeRead l.geometry (image_of l.disk) (inode_at l.geometry (image_of l.disk) k))
+    × ((k : ℕ) → k < l.number → CanBeRead l.geometry (image_of l.disk)
+    (inode_at l.geometry (image_of l.disk) k))

@@ -14,5 +14,6 @@ returns-in_ok-map_err-clause-decoded c =
     rw c.in-Some.is at c.in_ok-inode.ensures.at in
     let sound : SoundInode g c.in-Some.inode = rw c.in-Some.is at c.in_ok-inode.ensures.sound in
     let one : IsDecoded g image c.in_ok-file.file =
-    is_decoded g image c.args.number c.in-Some.inode c.in_ok-file.file c.requires.number at sound c.in_ok-file.ensures.file
+    is_decoded g image c.args.number c.in-Some.inode c.in_ok-file.file c.requires.number at sound
+    c.in_ok-file.ensures.file
     in search rules

@@ -17,8 +17,8 @@ each_slot-preserved c =
           ++ one_entry c.args.inodes c.each_slot.index
           (take (width i) (drop (SLOT_SIZE * c.each_slot.index) c.args.bytes.now)))
           ∙ sym (one_slot c.args.inodes c.args.bytes.now c.each_slot.index),
-      below_more (λ (k : ℕ). IsOk (read_slot c.args.inodes (take SLOT_SIZE (drop (SLOT_SIZE * k) c.args.bytes.now))))
-          c.each_slot.index c.each_slot.invariant.1
+      below_more (λ (k : ℕ). IsOk (read_slot c.args.inodes
+          (take SLOT_SIZE (drop (SLOT_SIZE * k) c.args.bytes.now)))) c.each_slot.index c.each_slot.invariant.1
           (subst (λ n. IsOk (read_slot c.args.inodes
           (take n (drop (SLOT_SIZE * c.each_slot.index) c.args.bytes.now)))) width
           c.in_ok-push_name.ensures.slot),
@@ -34,5 +34,6 @@ returns-in_err-push_name-clause-refused c =
     let part = take (SLOT_SIZE * index + SLOT_SIZE - SLOT_SIZE * index) (drop (SLOT_SIZE * index) bytes) in
     let refused : IfErr c.from_residual.result (IsRangeFor (IsOk (read_slot inodes part) → ⊥)) = search rules in
     err_for {B = AreSlots inodes bytes (length bytes / SLOT_SIZE) → ⊥}
-    (λ none are. none (subst (λ n. IsOk (read_slot inodes (take n (drop (SLOT_SIZE * index) bytes)))) (sym width)
+    (λ none are. none (subst (λ n. IsOk (read_slot inodes
+    (take n (drop (SLOT_SIZE * index) bytes)))) (sym width)
     (are index less))) c.from_residual.result refused

@@ -31,7 +31,8 @@ returns-in_ok-create_at-in-None c =
     let allowed = may_change c.args.ctx.now.credential node in
     let tree = tree_of c.args.tree.now in
     c.in_ok-create_at-in-None.ensures
-    ∙ ap (create_at tree c.args.ctx.now c.args.how.now (least_unused tree) c.args.directory.now.number node name)
+    ∙ ap (create_at tree c.args.ctx.now c.args.how.now (least_unused tree)
+    c.args.directory.now.number node name)
     c.named_file-file.ensures.is
     ∙ unless_none _ _ (joined (place_tests allowed node name) (rest name)
     ∙ sym (λ i. first_of ((c.place_refusal-place.ensures

@@ -18,5 +18,6 @@ returns c =
     let tree = tree_of c.args.tree.now in
     let directory = numbered c.args.directory.now in
     c.in_ok-make.ensures
-    ∙ ap (make tree c.args.ctx.now (least_unused tree) directory.0 directory.1 c.args.name.now c.args.wanted.now)
+    ∙ ap (make tree c.args.ctx.now (least_unused tree) directory.0 directory.1 c.args.name.now
+    c.args.wanted.now)
     (c.fresh-node.ensures ∙ ap (fresh c.args.ctx.now c.args.mode c.args.verifier) c.no_bytes.ensures)

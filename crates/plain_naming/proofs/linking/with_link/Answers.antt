@@ -13,7 +13,8 @@ with_linked-requires c =
     links_stay (tree_of c.args.tree.now) _ c.args.at c.args.file.now.number
     (entered_with c.args.moment c.args.name.now entry 0) (λ d. omega arith)
     (c.in_ok-named.ensures
-    ∙ ap (λ t. changed_at t c.args.at (entered_with c.args.moment c.args.name.now entry 0)) c.in_ok-old.ensures.cases)
+    ∙ ap (λ t. changed_at t c.args.at (entered_with c.args.moment c.args.name.now entry 0))
+    c.in_ok-old.ensures.cases)
     c.requires.room
 
 pub returns : goal.returns

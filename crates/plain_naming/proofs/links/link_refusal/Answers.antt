@@ -28,4 +28,5 @@ returns c =
     ∙ (λ i. first_of ((c.place_refusal-place.ensures
     ∙ ap (λ may. first_of_tests (place_tests may node name)) c.may_change.ensures) i)
     (c.link_tests.ensures i))
-    ∙ sym (joined (place_tests (may_change c.args.caller.now node) node name) (rest tree node name c.args.target.now))
+    ∙ sym (joined (place_tests (may_change c.args.caller.now node) node name)
+    (rest tree node name c.args.target.now))

@@ -12,6 +12,7 @@ returns-clause-step c =
     let tree = tree_of c.args.tree.now in
     acts _ _ _ _ file (effect_in c.in_ok-effect-in-Ok.effect) _ _ _ c.in-Ok.ensures.ok
     (c.in_ok-effect-in-Ok.ensures
-    ∙ (λ i. make_link tree c.args.ctx.now (c.as_slice-name.ensures i) c.args.wanted.now (c.as_slice-target.ensures i)
+    ∙ (λ i. make_link tree c.args.ctx.now (c.as_slice-name.ensures i) c.args.wanted.now
+    (c.as_slice-target.ensures i)
     (least_unused tree) file.0 file.1))
     c.led_to.ensures.answer c.led_to.ensures.tree c.before_change.ensures c.led_to.ensures.told

@@ -11,7 +11,9 @@ returns-in_ok-unnamed-in-Some c =
     let tree = tree_of c.args.tree in
     c.in_ok-unnamed-in-Some.ensures
     ∙ ap (λ t. unnamed t c.args.moment file.number (node_of file.node)) c.in_ok-left-in-Some.ensures
-    ∙ ap (λ links. unnamed (changed_at tree c.args.directory (departed_with c.args.moment c.args.name.now links))
+    ∙ ap (λ links. unnamed (changed_at tree c.args.directory
+    (departed_with c.args.moment c.args.name.now links))
     c.args.moment file.number (node_of file.node)) c.parent_links-links.ensures.is
-    ∙ ap (λ f. without_name tree c.args.moment c.args.directory c.args.name.now (option_map (λ g. numbered g.now) f))
+    ∙ ap (λ f. without_name tree c.args.moment c.args.directory c.args.name.now
+    (option_map (λ g. numbered g.now) f))
     (sym c.in-Some.is)

@@ -8,8 +8,10 @@ use Rattle.plain_procedures.proofs.numbers.is_unused.Goals as goal
 pub returns-in-Some : goal.returns-in-Some
 returns-in-Some c =
     some_there (node_at (tree_of c.args.tree.now) c.args.number)
-    (is_got c.args.tree.now.nodes.items c.args.number c.in-Some.field-0 (sym c.position_of.ensures ∙ c.in-Some.is))
+    (is_got c.args.tree.now.nodes.items c.args.number c.in-Some.field-0
+    (sym c.position_of.ensures ∙ c.in-Some.is))
 
 pub returns-in-None : goal.returns-in-None
 returns-in-None c =
-    ap is_none (sym (got_none c.args.tree.now.nodes.items c.args.number (sym c.position_of.ensures ∙ c.in-None.is)))
+    ap is_none (sym (got_none c.args.tree.now.nodes.items c.args.number
+    (sym c.position_of.ensures ∙ c.in-None.is)))

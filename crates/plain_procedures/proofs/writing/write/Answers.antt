@@ -17,7 +17,10 @@ returns-in_err-outcome-clause-err c =
     let tree = c.args.tree.now in
     let old = read_is tree c.in-Ok.index _ c.in-Ok.ensures c.index_mut-file.result.now
     c.index_mut-file.ensures.value in
-    let back : NumberedNode = record { number = c.index_mut-file.result.now.number; node = c.write_node.new.node } in
+    let back : NumberedNode = record {
+      number = c.index_mut-file.result.now.number;
+      node = c.write_node.new.node;
+    } in
     let files = put_back tree c.in-Ok.index _ c.in-Ok.ensures back (ap (λ n. n.number) old)
     (c.in_err-outcome.ensures.err ∙ ap (λ n. node_of n.node) old) in
     on_err c.from_residual.result _

@@ -6,7 +6,8 @@ use Rattle.plain_server.specs.declared.names.PlainEntry.{PlainEntry}
 use Rattle.plain_server.proofs.Rising.{falling, is_under, rising}
 use Rattle.plain_server.proofs.names.do_names_rise.Goals as goal
 
-told : (xs : List PlainEntry) (r : Bool) → IsAllAdjacentAnswer (λ x y b. b ≡ is_under x y) xs r → r ≡ are_sorted xs
+told : (xs : List PlainEntry) (r : Bool) → IsAllAdjacentAnswer (λ x y b. b ≡ is_under x y) xs r
+    → r ≡ are_sorted xs
 told xs true all =
     sym (rising xs (λ k below d.
     subst (λ i. is_under (get_or xs k d) (get_or xs i d) ≡ true) (add-one k) (sym (all k d (omega arith)))))

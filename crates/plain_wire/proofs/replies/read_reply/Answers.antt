@@ -11,5 +11,6 @@ returns-in-Ok-clause-found c =
 pub returns-in_default : goal.returns-in_default
 returns-in_default c = record {
   found = tt;
-  none = none_replied c.args.procedure c.args.bytes.now c.in-Err.fault c.in-Err.ensures c.in_default.not-NoMemory;
+  none = none_replied c.args.procedure c.args.bytes.now c.in-Err.fault c.in-Err.ensures
+      c.in_default.not-NoMemory;
 }

@@ -21,5 +21,6 @@ never failure tree next ctx asked fails stable steps =
 pub returns : goal.returns
 returns c = record {
   io = λ tree next ctx asked stable steps. never status.Io tree next ctx asked refl stable steps;
-  server_fault = λ tree next ctx asked stable steps. never status.ServerFault tree next ctx asked refl stable steps;
+  server_fault = λ tree next ctx asked stable steps. never status.ServerFault tree next ctx asked
+      refl stable steps;
 }

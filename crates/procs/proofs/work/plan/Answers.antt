@@ -16,4 +16,5 @@ returns-in-Ok-clause-io c =
 
 pub returns-in-Ok-told-clause-io : goal.returns-in-Ok-told-clause-io
 returns-in-Ok-told-clause-io c =
-    io_by_reply c.args.call.now c.args.snap.now _ _ c.finish-in-Ok-told.ensures.done (search rules) (search rules)
+    io_by_reply c.args.call.now c.args.snap.now _ _ c.finish-in-Ok-told.ensures.done (search rules)
+    (search rules)

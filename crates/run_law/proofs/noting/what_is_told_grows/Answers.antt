@@ -26,13 +26,14 @@ returns-clause-well c = λ b o later t event noted is_event well same blocks tak
       taken = taken_on o later b.workers b.events t event noted c.what_was_made_stays.ensures is_event
           well.ledger.places same blocks well.taken taken;
       history = history_on b.events t event noted is_event well.history well.ledger.numbers tells.entry;
-      answers = answers_on o b.workers b.events t event noted is_event taken well.ledger.places well.ledger.waits
-          well.answers tells.answer;
+      answers = answers_on o b.workers b.events t event noted is_event taken well.ledger.places
+          well.ledger.waits well.answers tells.answer;
       ledger = record {
         places = subst (λ (told : Told). told.log.places ≡ length grown.history) last places;
         numbers = subst (λ (told : Told). AreNumbered told grown.history) last
             (numbers_on o b.workers b.events t event noted taken well.ledger.numbers tells.entry);
         waits = subst (λ (told : Told). ArePlaced told grown.history grown.answers) last
-            (waits_on o b.workers b.events t event noted taken well.ledger.places well.ledger.waits tells.answer places);
+            (waits_on o b.workers b.events t event noted taken well.ledger.places well.ledger.waits
+            tells.answer places);
       };
     }

@@ -47,10 +47,16 @@ module _ (b : Beginning) (position : ℕ) (opens : IsOpened b.before b.opened b.
 
 pub returns : goal.returns
 returns c = λ b base core position opens new.
-    let since = c.an_opening_leaves_an_open_store.ensures b.before b.opened base core b.tree b.first position opens new in
-    let has = c.what_is_held_is_what_the_files_are.ensures.stands base b.opened core _ _ (b.first + 1) b.tree b.tree []
+    let since = c.an_opening_leaves_an_open_store.ensures b.before b.opened base core b.tree b.first
+    position opens new in
+    let has = c.what_is_held_is_what_the_files_are.ensures.stands base b.opened core _ _ (b.first + 1)
+    b.tree b.tree []
     since in
-    let o : Setting = record { geometry = has.geometry; position = position; blocks = λ place. file_blocks base core } in
+    let o : Setting = record {
+      geometry = has.geometry;
+      position = position;
+      blocks = λ place. file_blocks base core;
+    } in
     let size = new.agrees.agrees.size in (
       has.geometry,
       record {
@@ -68,7 +74,10 @@ returns c = λ b base core position opens new.
         files = λ place. record { left = b.tree; leads = no_entry_after b.tree place; stands = has.stands };
         changes = λ index entry same. absurd (no_some entry same);
         well = record {
-          taken = record { fewer = omega arith; each = λ index event made same none. absurd (no_some made none) };
+          taken = record {
+            fewer = omega arith;
+            each = λ index event made same none. absurd (no_some made none);
+          };
           history = record {
             each = λ index entry same. absurd (no_some entry same);
             whole = λ at place tail same. absurd (no_some _ same);

@@ -19,18 +19,20 @@ returns c = λ b o later t base home side new fetches left last next noted run g
     record {
       opens = subst (λ (at : ℕ). IsOpened b.before b.opened b.tree b.first at)
           (sym (ap (λ (s : Setting). s.position) goes.same)) run.opens;
-      geometry = subst (λ g. IsGeometryOf b.opened.size b.tree g) (sym (ap (λ (s : Setting). s.geometry) goes.same))
-          run.geometry;
+      geometry = subst (λ g. IsGeometryOf b.opened.size b.tree g)
+          (sym (ap (λ (s : Setting). s.geometry) goes.same)) run.geometry;
       running = goes.running;
-      told = subst (λ (told : Told). IsTold later told new) (sym (notes.told b t goes.event noted goes.next)) goes.told;
-      moved = c.a_device_counts_the_calls_of_its_steps.ensures.step b.opened side.device new.device t.steps noted.made
-          run.moved goes.device;
+      told = subst (λ (told : Told). IsTold later told new)
+          (sym (notes.told b t goes.event noted goes.next)) goes.told;
+      moved = c.a_device_counts_the_calls_of_its_steps.ensures.step b.opened side.device new.device
+          t.steps noted.made run.moved goes.device;
       boot = run.boot;
       leads = goes.leads;
       files = goes.files;
-      changes = changes_on b.opened.size b.events t goes.event noted run.well.history goes.notes.entry o.blocks later.blocks
-          goes.blocks run.changes goes.changes;
-      well = notes.well b o later t goes.event noted goes.next run.well goes.same goes.blocks goes.taken goes.notes;
+      changes = changes_on b.opened.size b.events t goes.event noted run.well.history goes.notes.entry
+          o.blocks later.blocks goes.blocks run.changes goes.changes;
+      well = notes.well b o later t goes.event noted goes.next run.well goes.same goes.blocks
+          goes.taken goes.notes;
       past = past_then b o later t base home side new fetches left last next noted run goes
           (λ index within. told_stays b.events t.steps (noted.made ∷ []) index within)
           (λ image crash. left_now b o t base side fetches last run image

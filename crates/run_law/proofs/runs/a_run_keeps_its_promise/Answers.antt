@@ -73,7 +73,8 @@ returns c = λ b o t base side fetches last run left.
       opened = b.opened;
       setting = o;
       opens = run.opens;
-      geometry = subst (λ (size : ℕ). IsGeometryOf size b.tree o.geometry) (sym run.moved.past.size) run.geometry;
+      geometry = subst (λ (size : ℕ). IsGeometryOf size b.tree o.geometry)
+          (sym run.moved.past.size) run.geometry;
       past = run.moved.past;
       calls = run.moved.calls ∙ ap (λ (n : ℕ). b.opened.clock + n) (sym (clock_is t));
       failures = run.moved.failures;
@@ -81,7 +82,8 @@ returns c = λ b o t base side fetches last run left.
       left = left;
       stops = each_stop b o t base side fetches last run settled_is now
           (λ clock place was. was_told o b.workers b.events t b.tree last run.well.taken run.well.history
-          run.well.answers run.leads c.no_stable_answer_tells_a_failure.ensures.io b.opened.clock clock place was);
+          run.well.answers run.leads c.no_stable_answer_tells_a_failure.ensures.io b.opened.clock
+          clock place was);
       last = last;
       leads = run.leads;
       boot = run.boot;
@@ -89,5 +91,6 @@ returns c = λ b o t base side fetches last run left.
       answers = run.well.answers;
       taken = run.well.taken;
       files = run.files;
-      changes = subst (λ (size : ℕ). ChangeTheirOwn size b.events t o.blocks) (sym run.moved.past.size) run.changes;
+      changes = subst (λ (size : ℕ). ChangeTheirOwn size b.events t o.blocks)
+          (sym run.moved.past.size) run.changes;
     }

@@ -16,10 +16,12 @@ returns-in-Nfs-clause-serves g c =
     let new = store_of (device after.disk) after.core after.boot in
     let xid = c.args.xid in
     delivers_so (IsSpelled xid (body_of c.reply_to.result))
-    (λ (reply : List ℕ). IsCallAnswered (keeps after.disk) c.args.moment old xid c.args.credential c.args.call reply
+    (λ (reply : List ℕ). IsCallAnswered (keeps after.disk) c.args.moment old xid c.args.credential
+    c.args.call reply
     new) _ _ _
     (λ reply is. subst
-    (λ (call : ProgramCall). IsCallAnswered (keeps after.disk) c.args.moment old xid c.args.credential call reply new)
+    (λ (call : ProgramCall). IsCallAnswered (keeps after.disk) c.args.moment old xid c.args.credential
+    call reply new)
     (sym c.in-Nfs.is) (
       c.procedure-verdict.result,
       record {
@@ -38,7 +40,8 @@ returns-in-Mount-clause-serves g c =
     let keeps = g.D.CrashDisk.keeps_model c.args.store.now.disk in
     let xid = c.args.xid in
     delivers_so (IsMountReply xid c.in-Mount.call)
-    (λ (reply : List ℕ). IsCallAnswered keeps c.args.moment old xid c.args.credential c.args.call reply old) _ _ _
+    (λ (reply : List ℕ). IsCallAnswered keeps c.args.moment old xid c.args.credential c.args.call
+    reply old) _ _ _
     (λ reply is. subst
     (λ (call : ProgramCall). IsCallAnswered keeps c.args.moment old xid c.args.credential call reply old)
     (sym c.in-Mount.is) (refl, is))

@@ -31,6 +31,7 @@ returns-in-Call-clause-serves g c =
     inl (delivers_so
     (λ (reply : List ℕ). IsCallAnswered keeps c.args.moment old told.xid told.credential told.call reply new)
     (λ (reply : List ℕ). IsAnswered keeps c.args.moment old (judged message) reply new) _ _ _
-    (λ reply is. judged_call keeps c.args.moment old new (judged message) told.xid told.credential told.call reply
+    (λ reply is. judged_call keeps c.args.moment old new (judged message) told.xid told.credential
+    told.call reply
     told.ensures is)
     c.serve_call.ensures.serves)

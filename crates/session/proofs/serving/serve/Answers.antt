@@ -20,14 +20,16 @@ returns-in-Err-Output-clause-stream g c =
     let keeps = g.D.CrashDisk.keeps_model served.disk in
     let output : c.serve_all-served.result ≡ Err faults.Output = search rules in
     let d = device served.disk in
-    served_behind c.a_stop_leaves_a_beginning.ensures.files c.an_open_store_keeps_its_files.ensures.longer keeps keeps
+    served_behind c.a_stop_leaves_a_beginning.ensures.files
+    c.an_open_store_keeps_its_files.ensures.longer keeps keeps
     (λ kept. kept) c.args.moment (store_of (device was.disk) was.core was.boot)
     (g.R.Read.remaining c.args.reader.now) (g.W.Write.contents c.args.writer.now) c.serve_all-served.result
     (g.R.Read.remaining c.serve_all-served.new.reader) (g.W.Write.contents c.serve_all-served.new.writer)
     (store_of (device served.disk) served.core served.boot) (device served.disk) served.core served.boot
     (same_open d served.core) refl (λ later is. is)
     (λ kept. prefixes_kept d d served.core served.core (g.met.D.CrashDisk.whole served.disk kept)
-    c.an_open_store_keeps_its_files.ensures.now c.a_stop_leaves_a_beginning.ensures.files (still_open d served.core))
+    c.an_open_store_keeps_its_files.ensures.now c.a_stop_leaves_a_beginning.ensures.files
+    (still_open d served.core))
     (λ kept. g.met.D.CrashDisk.whole served.disk kept) c.serve_all-served.ensures.stream
     (subst (λ r. IsSettledBehind r served.core) (sym output) tt)
 
@@ -42,9 +44,11 @@ returns-in-Err g c =
       boot = c.settle.ensures.boot ∙ c.serve_all-served.ensures.boot;
       model = λ kept. c.serve_all-served.ensures.model (c.settle.ensures.model kept);
       served = has_served (store_of (device was.disk) was.core was.boot)
-          (client_of (g.R.Read.remaining c.args.reader.now) (g.W.Write.contents c.args.writer.now)) c.args.moment
+          (client_of (g.R.Read.remaining c.args.reader.now)
+          (g.W.Write.contents c.args.writer.now)) c.args.moment
           c.serve_all-served.result (store_of (device now.disk) now.core now.boot)
-          (client_of (g.R.Read.remaining c.serve_all-served.new.reader) (g.W.Write.contents c.serve_all-served.new.writer))
+          (client_of (g.R.Read.remaining c.serve_all-served.new.reader)
+          (g.W.Write.contents c.serve_all-served.new.writer))
           (record {
             idle = idle;
             ended = subst (λ r. IsEnded r (store_of (device now.disk) now.core now.boot)
@@ -62,9 +66,11 @@ returns-in-Err g c =
           (g.R.Read.remaining c.serve_all-served.new.reader) (g.W.Write.contents c.serve_all-served.new.writer)
           (store_of (device served.disk) served.core served.boot) (device now.disk) now.core now.boot
           c.settle.ensures.open c.settle.ensures.boot
-          (λ later is. c.a_settled_store_stays_open.ensures (store_of (device served.disk) served.core served.boot)
+          (λ later is. c.a_settled_store_stays_open.ensures
+          (store_of (device served.disk) served.core served.boot)
           (device now.disk) now.core later.first later.last later.entries c.settle.ensures.open is)
-          c.settle.ensures.keeps (λ kept. g.met.D.CrashDisk.whole now.disk kept) c.serve_all-served.ensures.stream
+          c.settle.ensures.keeps (λ kept. g.met.D.CrashDisk.whole now.disk kept)
+          c.serve_all-served.ensures.stream
           (subst (λ r. IsSettledBehind r now.core) (sym c.in-Err.is)
           (settled_after fault now.core c.settle.result
           (λ is. c.serve_all-served.ensures.device (c.in-Err.is ∙ ap (λ (f : SessionFault). Err f) is))
@@ -79,14 +85,16 @@ returns-in-Ok-settle-clause-stream g c =
     let device = g.D.CrashDisk.device in
     let keeps = g.D.CrashDisk.keeps_model in
     served_behind c.a_stop_leaves_a_beginning.ensures.files c.an_open_store_keeps_its_files.ensures.longer
-    (keeps served.disk) (keeps now.disk) c.settle-in-Ok.ensures.model c.args.moment (store_of (device was.disk) was.core was.boot) (g.R.Read.remaining c.args.reader.now)
+    (keeps served.disk) (keeps now.disk) c.settle-in-Ok.ensures.model c.args.moment
+    (store_of (device was.disk) was.core was.boot) (g.R.Read.remaining c.args.reader.now)
     (g.W.Write.contents c.args.writer.now) c.serve_all-served.result
     (g.R.Read.remaining c.serve_all-served.new.reader) (g.W.Write.contents c.serve_all-served.new.writer)
     (store_of (device served.disk) served.core served.boot) (device now.disk) now.core now.boot
     c.settle-in-Ok.ensures.open c.settle-in-Ok.ensures.boot
     (λ later is. c.a_settled_store_stays_open.ensures (store_of (device served.disk) served.core served.boot)
     (device now.disk) now.core later.first later.last later.entries c.settle-in-Ok.ensures.open is)
-    c.settle-in-Ok.ensures.keeps (λ kept. g.met.D.CrashDisk.whole now.disk kept) c.serve_all-served.ensures.stream
+    c.settle-in-Ok.ensures.keeps (λ kept. g.met.D.CrashDisk.whole now.disk kept)
+    c.serve_all-served.ensures.stream
     (subst (λ r. IsSettledBehind r now.core) (sym c.in-Ok.is) c.in-Ok-settle.ensures.settled)
 
 pub returns-in-Err-settle-clause-stream : goal.returns-in-Err-settle-clause-stream
@@ -106,7 +114,8 @@ returns-in-Err-settle-clause-stream g c =
     (keeps served.disk) (keeps now.disk) c.settle-in-Ok.ensures.model c.args.moment old unread first
     (Err faults.Device) rest written mid (device now.disk) now.core now.boot c.settle-in-Ok.ensures.open
     c.settle-in-Ok.ensures.boot
-    (λ later is. c.a_settled_store_stays_open.ensures mid (device now.disk) now.core later.first later.last later.entries
+    (λ later is. c.a_settled_store_stays_open.ensures mid (device now.disk) now.core later.first
+    later.last later.entries
     c.settle-in-Ok.ensures.open is)
     c.settle-in-Ok.ensures.keeps (λ kept. g.met.D.CrashDisk.whole now.disk kept)
     (failed_behind (keeps served.disk) c.args.moment old unread first c.in-Ok.field-0 rest written mid

@@ -1,4 +1,5 @@
--- Before each read the bytes so far are messages that were answered and what is left; so they are where it ends.
+-- Before each read the bytes so far are messages that were answered and what is left; so they are where it
+-- ends.
 use Rattle.std.proofs.Common.{◌≡◌, ◌∙◌, ◌++◌, [], ℕ, List, Err, IfSome, IfNone, refl, subst, sym, inl, take}
 use Rattle.std.proofs.lemmas.List.{append-nil}
 use Rattle.std.specs.Io.KnownBytes.{Consumes, IsAtEnd, Keeps}
@@ -44,7 +45,8 @@ returns-in-Err-clause-stream g c =
     (sym failed.0)
     (ends_between keeps c.args.moment old unread first (Err faults.Input) rest written new c.reads.invariant.4.0
     c.reads.records c.reads.count
-    (read_kept unread (g.R.Read.remaining c.reads.reader) rest c.reads.invariant.4.0 c.reads.invariant.4.1 failed.1) course
+    (read_kept unread (g.R.Read.remaining c.reads.reader) rest c.reads.invariant.4.0 c.reads.invariant.4.1
+    failed.1) course
     (c.reads.invariant.1, course.told))
 
 pub returns-in-Err-serve_piece-clause-device : goal.returns-in-Err-serve_piece-clause-device
@@ -52,10 +54,12 @@ returns-in-Err-serve_piece-clause-device g c = λ is.
     let was = c.args.store.now in
     let now = c.serve_piece.new.store in
     let old = store_of (g.D.CrashDisk.device was.disk) was.core was.boot in
-    let going = c.in-Err-serve_piece.ensures.going old (g.W.Write.contents c.args.writer.now) c.reads.invariant.4.0
+    let going = c.in-Err-serve_piece.ensures.going old (g.W.Write.contents c.args.writer.now)
+    c.reads.invariant.4.0
     c.reads.invariant.4.2 in
     let same : c.in-Err-serve_piece.fault ≡ faults.Device = cc is in
-    subst (λ (fault : SessionFault). StopsAt (g.D.CrashDisk.keeps_model now.disk) c.args.moment fault going.0 going.2
+    subst (λ (fault : SessionFault). StopsAt (g.D.CrashDisk.keeps_model now.disk) c.args.moment fault
+    going.0 going.2
     going.3 (store_of (g.D.CrashDisk.device now.disk) now.core now.boot)
     (g.W.Write.contents c.serve_piece.new.writer)) same going.5
 
@@ -131,10 +135,15 @@ returns-then-read-eq0-clause-stream g c =
     let none = subst (λ n. Consumes mid rest (take n piece)) c.if-read-eq0.true some in
     let at_end = subst (λ o. IfSome o (λ count. count ≡ 0 → IsAtEnd rest)) c.in-Ok-Some.field-0-is
     c.in-Ok-Some.ensures.end c.if-read-eq0.true in
-    ends_between keeps c.args.moment old unread (g.W.Write.contents c.args.writer.now) (Err faults.Truncated) rest
+    ends_between keeps c.args.moment old unread (g.W.Write.contents c.args.writer.now)
+    (Err faults.Truncated) rest
     (g.W.Write.contents c.reads.writer) new read c.reads.records c.reads.count
-    (subst (Consumes unread rest) (append-nil read) (read_more unread mid rest read [] c.reads.invariant.4.1 none)) course
-    (begun_of c.reads.records c.reads.invariant.1 (sym c.is_empty.ensures ∙ c.if-is_empty.false), at_end, course.told)
+    (subst (Consumes unread rest) (append-nil read)
+    (read_more unread mid rest read [] c.reads.invariant.4.1 none)) course (
+      begun_of c.reads.records c.reads.invariant.1 (sym c.is_empty.ensures ∙ c.if-is_empty.false),
+      at_end,
+      course.told,
+    )
 
 pub returns-clause-stream : goal.returns-clause-stream
 returns-clause-stream g c =
@@ -146,5 +155,6 @@ returns-clause-stream g c =
     let course = c.reads.invariant.4.2 in
     ends_between keeps c.args.moment old (g.R.Read.remaining c.args.reader.now)
     (g.W.Write.contents c.args.writer.now) (Err faults.Input) (g.R.Read.remaining c.reads.reader)
-    (g.W.Write.contents c.reads.writer) new c.reads.invariant.4.0 c.reads.records c.reads.count c.reads.invariant.4.1 course
+    (g.W.Write.contents c.reads.writer) new c.reads.invariant.4.0 c.reads.records c.reads.count
+    c.reads.invariant.4.1 course
     (c.reads.invariant.1, course.told)

@@ -1,5 +1,5 @@
--- nothing is out, the boot number stays, the device has kept its model so far where it does, and the bytes that were
--- read are messages that were answered, and what is left
+-- nothing is out, the boot number stays, the device has kept its model so far where it does, and the bytes
+-- that were read are messages that were answered, and what is left
 use Rattle.std.proofs.Common.{◌≡◌, ℕ, List}
 use Rattle.std.specs.Io.KnownBytes.{Consumes}
 use Rattle.store_images.specs.Opening.{store_of}

@@ -9,7 +9,8 @@ pub returns-in-Ok-None-clause-going : goal.returns-in-Ok-None-clause-going
 returns-in-Ok-None-clause-going g c = λ first unwritten read course.
     let was = c.records.store in
     let old = store_of (g.D.CrashDisk.device was.disk) was.core was.boot in
-    let same = sym (subst (λ o. IfNone o (c.next_record.new.records ≡ c.records.records)) c.in-Ok-None.field-0-is
+    let same = sym (subst (λ o. IfNone o (c.next_record.new.records ≡ c.records.records))
+    c.in-Ok-None.field-0-is
     c.in-Ok-None.ensures.nothing) in (
       subst (λ (l : List ℕ). IsCourse (g.D.CrashDisk.keeps_model was.disk) c.args.moment first unwritten read l
           c.records.replies old (g.W.Write.contents c.records.writer)) same
@@ -41,7 +42,8 @@ returns-in-Err-serve_record-clause-going g c = λ first unwritten read course.
     let now = c.serve_record.new.store in
     let new = store_of (g.D.CrashDisk.device now.disk) now.core now.boot in
     let found = subst (λ o. IfSome o (λ content. (text : List ℕ) × IsRecord text content
-    × (c.records.records ≡ text ++ c.next_record.new.records))) c.in-Ok-Some.field-0-is c.in-Ok-Some.ensures.found in
+    × (c.records.records ≡ text ++ c.next_record.new.records))) c.in-Ok-Some.field-0-is
+    c.in-Ok-Some.ensures.found in
     let is = subst (IsRecord found.0) (sym c.deref.ensures) found.1 in (
       c.records.records,
       c.records.replies,
@@ -67,12 +69,15 @@ records-preserved-in-Ok g c = (
       let now = c.serve_record.new.store in
       let new = store_of (g.D.CrashDisk.device now.disk) now.core now.boot in
       let found = subst (λ o. IfSome o (λ content. (text : List ℕ) × IsRecord text content
-      × (c.records.records ≡ text ++ c.next_record.new.records))) c.in-Ok-Some.field-0-is c.in-Ok-Some.ensures.found in
+      × (c.records.records ≡ text ++ c.next_record.new.records))) c.in-Ok-Some.field-0-is
+      c.in-Ok-Some.ensures.found in
       let is = subst (IsRecord found.0) (sym c.deref.ensures) found.1 in
-      serves (keeps now.disk) c.args.moment first unwritten read c.records.records c.records.replies old told found.0 _
+      serves (keeps now.disk) c.args.moment first unwritten read c.records.records c.records.replies old
+      told found.0 _
       c.next_record.new.records _ new (g.W.Write.contents c.serve_record.new.writer)
       (longer (keeps was.disk) (keeps now.disk) c.serve_record.ensures.model c.args.moment first unwritten read
-      c.records.records c.records.replies old told (c.records.invariant.3 first unwritten read course)) found.2 is
+      c.records.records c.records.replies old told
+      (c.records.invariant.3 first unwritten read course)) found.2 is
       c.in-Ok.ensures.serves (omega (arith, c.saturating_add-replies.ensures)),
 )
 
@@ -89,11 +94,14 @@ records-preserved g c = (
       let now = c.serve_record.new.store in
       let new = store_of (g.D.CrashDisk.device now.disk) now.core now.boot in
       let found = subst (λ o. IfSome o (λ content. (text : List ℕ) × IsRecord text content
-      × (c.records.records ≡ text ++ c.next_record.new.records))) c.in-Ok-Some.field-0-is c.in-Ok-Some.ensures.found in
+      × (c.records.records ≡ text ++ c.next_record.new.records))) c.in-Ok-Some.field-0-is
+      c.in-Ok-Some.ensures.found in
       let is = subst (IsRecord found.0) (sym c.deref.ensures) found.1 in
-      serves (keeps now.disk) c.args.moment first unwritten read c.records.records c.records.replies old told found.0 _
+      serves (keeps now.disk) c.args.moment first unwritten read c.records.records c.records.replies old
+      told found.0 _
       c.next_record.new.records _ new (g.W.Write.contents c.serve_record.new.writer)
       (longer (keeps was.disk) (keeps now.disk) c.serve_record.ensures.model c.args.moment first unwritten read
-      c.records.records c.records.replies old told (c.records.invariant.3 first unwritten read course)) found.2 is
+      c.records.records c.records.replies old told
+      (c.records.invariant.3 first unwritten read course)) found.2 is
       c.in-Ok.ensures.serves (omega (arith, c.saturating_add-replies.ensures)),
 )

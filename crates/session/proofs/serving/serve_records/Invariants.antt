@@ -1,5 +1,5 @@
--- nothing is out, the boot number stays, the device has kept its model so far where it does, each reply took bytes of
--- the stream, and its course goes on
+-- nothing is out, the boot number stays, the device has kept its model so far where it does, each reply took
+-- bytes of the stream, and its course goes on
 use Rattle.std.proofs.Common.{◌≡◌, ℕ, List, Option, length}
 use Rattle.store_images.specs.Opening.{Opened, store_of}
 use Rattle.store_images.specs.Settling.{IsIdle}
@@ -11,7 +11,8 @@ invariant-records g l = IsIdle l.store.core
     × (l.store.boot ≡ l.fn.store.boot)
     × (g.D.CrashDisk.keeps_model l.store.disk → g.D.CrashDisk.keeps_model l.fn.store.disk)
     × ((first : Opened) (unwritten : Option (List ℕ)) (read : List ℕ)
-    → IsCourse (g.D.CrashDisk.keeps_model l.fn.store.disk) l.fn.moment first unwritten read l.fn.records l.fn.count
+    → IsCourse (g.D.CrashDisk.keeps_model l.fn.store.disk) l.fn.moment first unwritten read
+    l.fn.records l.fn.count
     (store_of (g.D.CrashDisk.device l.fn.store.disk) l.fn.store.core l.fn.store.boot)
     (g.W.Write.contents l.fn.writer)
     → IsCourse (g.D.CrashDisk.keeps_model l.store.disk) l.fn.moment first unwritten read l.records l.replies

@@ -24,19 +24,25 @@ returns-clause-goes c = λ o now worker new made calling goes home reads lawful 
     subst (λ n. IsWorkerAt n entries worker) (sym calling.boot) calling.stands in
     let files : setting.blocks told.log.places ≡ file_blocks calling.base now.core =
     ap setting.blocks (sym since.over.files.home.window.all) ∙ runs.placed (length now.core.records)
-    ∙ ap (λ (rs : List Footprint). after_commits (homes_of now.core.log.blocks (opening calling.base now.core.log)) rs)
+    ∙ ap (λ (rs : List Footprint). after_commits
+    (homes_of now.core.log.blocks (opening calling.base now.core.log)) rs)
     (take_all (length now.core.records) now.core.records (omega arith)) in
     stepped o now worker new made calling
-    (c.a_workers_step_may_be_made.ensures setting told 0 calling.base so_far (fetches_of worker) now.boot o.first
+    (c.a_workers_step_may_be_made.ensures setting told 0 calling.base so_far (fetches_of worker)
+    now.boot o.first
     calling.last entries runs tells_so runs.inodes files worker new made goes calling.at_work stands)
     (c.a_worker_tells_its_steps.ensures now.boot 0 entries old new made stands (sym since.counted) goes)
-    (c.a_workers_step_is_told.ensures setting told 0 so_far tells_so worker new since.over.lawful lawful runs.position
+    (c.a_workers_step_is_told.ensures setting told 0 so_far tells_so worker new since.over.lawful
+    lawful runs.position
     made goes)
-    (c.a_core_at_work_stays_so.ensures old new made now.boot entries calling.at_work stands since.over.tidy reads goes
+    (c.a_core_at_work_stays_so.ensures old new made now.boot entries calling.at_work stands
+    since.over.tidy reads goes
     with) goes
-    (λ uncommitted. c.a_worker_leaves_the_run_going.ensures.beside setting calling.base so_far worker new now.boot
+    (λ uncommitted. c.a_worker_leaves_the_run_going.ensures.beside setting calling.base so_far
+    worker new now.boot
     o.first calling.last entries made runs goes home lawful tidy uncommitted)
-    (λ has. c.a_worker_leaves_the_run_going.ensures.committed setting calling.base so_far worker new now.boot 0 o.first
+    (λ has. c.a_worker_leaves_the_run_going.ensures.committed setting calling.base so_far worker new
+    now.boot 0 o.first
     calling.last entries made runs goes home lawful tidy stands has)
     c.an_open_store_keeps_its_files.ensures.longer
 
@@ -52,9 +58,13 @@ returns-clause-served c = λ o now worker new made calling goes waits.
     subst (λ n. IsWorkerAt n entries worker) (sym calling.boot) calling.stands in
     let files : setting.blocks told.log.places ≡ file_blocks calling.base now.core =
     ap setting.blocks (sym since.over.files.home.window.all) ∙ runs.placed (length now.core.records)
-    ∙ ap (λ (rs : List Footprint). after_commits (homes_of now.core.log.blocks (opening calling.base now.core.log)) rs)
+    ∙ ap (λ (rs : List Footprint). after_commits
+    (homes_of now.core.log.blocks (opening calling.base now.core.log)) rs)
     (take_all (length now.core.records) now.core.records (omega arith)) in
-    waits_served o now setting told calling.entry calling.last calling.comes (progress_of worker) made calling.so_far
-    (c.a_workers_step_may_be_made.ensures setting told 0 calling.base so_far (fetches_of worker) now.boot o.first
-    calling.last entries runs (is_told setting now refl) runs.inodes files worker new made goes calling.at_work stands)
+    waits_served o now setting told calling.entry calling.last calling.comes (progress_of worker) made
+    calling.so_far
+    (c.a_workers_step_may_be_made.ensures setting told 0 calling.base so_far (fetches_of worker)
+    now.boot o.first
+    calling.last entries runs (is_told setting now refl) runs.inodes files worker new made goes
+    calling.at_work stands)
     waits

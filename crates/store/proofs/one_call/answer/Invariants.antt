@@ -1,5 +1,5 @@
--- the worker fits the core and has the store alone, its call is under way, no device call is out, and the device has
--- kept its model so far where it does; each round leaves less of the call
+-- the worker fits the core and has the store alone, its call is under way, no device call is out, and the
+-- device has kept its model so far where it does; each round leaves less of the call
 use Rattle.std.proofs.Common.{◌≡◌}
 use Rattle.store_workers.specs.Alone.{IsAlone}
 use Rattle.store.specs.Calling.{IsCalling, Outset}
@@ -16,7 +16,8 @@ invariant-steps g l = Fits l.worker l.store.core × IsQuiet l.store.core.log
     × (g.D.CrashDisk.keeps_model l.store.disk → g.D.CrashDisk.keeps_model l.fn.store.disk)
     × (l.store.boot ≡ l.fn.store.boot)
     × ((o : Outset) → g.D.CrashDisk.keeps_model l.store.disk
-    → IsCalling o (store_of (g.D.CrashDisk.device l.fn.store.disk) l.fn.store.core l.fn.store.boot) l.fn.worker.state
+    → IsCalling o (store_of (g.D.CrashDisk.device l.fn.store.disk) l.fn.store.core l.fn.store.boot)
+    l.fn.worker.state
     → IsCalling o (store_of (g.D.CrashDisk.device l.store.disk) l.store.core l.store.boot) l.worker.state)
 
 abbrev pub decreases-steps : goal.decreases-steps

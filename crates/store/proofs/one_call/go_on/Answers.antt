@@ -34,7 +34,8 @@ returns-then-is_full-clause-alone g c =
           after_none (waits_for_log made) mid.core core (sym w.if-waits_for_log.ensures) (search rules)
     ] in
     let r = round old mid made core c.args.worker.now.transaction c.args.worker.now.fetch c.lawful.ensures.tidy
-    c.requires.fits c.requires.alone c.requires.under_way c.step-made.ensures.step c.step-made.ensures.stays log in
+    c.requires.fits c.requires.alone c.requires.under_way c.step-made.ensures.step
+    c.step-made.ensures.stays log in
     full_alone old made mid core r (sym c.if-is_full.ensures) c.begin_again.new.self.state
     c.begin_again.ensures.planning
 
@@ -54,8 +55,10 @@ returns-then-is_full-clause-nearer g c =
           after_none (waits_for_log made) mid.core core (sym w.if-waits_for_log.ensures) (search rules)
     ] in
     let r = round old mid made core c.args.worker.now.transaction c.args.worker.now.fetch c.lawful.ensures.tidy
-    c.requires.fits c.requires.alone c.requires.under_way c.step-made.ensures.step c.step-made.ensures.stays log in
-    begins_again old.worker.phase old made mid refl r.came (sym c.if-is_full.ensures) c.begin_again.new.self.state core
+    c.requires.fits c.requires.alone c.requires.under_way c.step-made.ensures.step
+    c.step-made.ensures.stays log in
+    begins_again old.worker.phase old made mid refl r.came (sym c.if-is_full.ensures)
+    c.begin_again.new.self.state core
     c.begin_again.ensures.planning
     (room_then old made mid core r (sym c.if-is_full.ensures) c.lawful-3.ensures.log) log.blocks
 
@@ -75,7 +78,8 @@ returns-then-is_some-clause-alone g c =
           after_none (waits_for_log made) mid.core core (sym w.if-waits_for_log.ensures) (search rules)
     ] in
     let r = round old mid made core c.args.worker.now.transaction c.args.worker.now.fetch c.lawful.ensures.tidy
-    c.requires.fits c.requires.alone c.requires.under_way c.step-made.ensures.step c.step-made.ensures.stays log in
+    c.requires.fits c.requires.alone c.requires.under_way c.step-made.ensures.step
+    c.step-made.ensures.stays log in
     let some : is_some c.read.result ≡ true = search rules in
     let (step, has) = was_made c.read.result _ _ some c.read.ensures.step in
     let fits : IsCoreOf c.read.new.self.state core = search rules in
@@ -100,10 +104,12 @@ returns-then-is_some-clause-nearer g c =
           after_none (waits_for_log made) mid.core core (sym w.if-waits_for_log.ensures) (search rules)
     ] in
     let r = round old mid made core c.args.worker.now.transaction c.args.worker.now.fetch c.lawful.ensures.tidy
-    c.requires.fits c.requires.alone c.requires.under_way c.step-made.ensures.step c.step-made.ensures.stays log in
+    c.requires.fits c.requires.alone c.requires.under_way c.step-made.ensures.step
+    c.step-made.ensures.stays log in
     let some : is_some c.read.result ≡ true = search rules in
     let (step, has) = was_made c.read.result _ _ some c.read.ensures.step in
-    reads_on old.worker.phase old made mid refl r.came (sym c.if-is_full.ensures) (c.read.ensures.due.0 some) core
+    reads_on old.worker.phase old made mid refl r.came (sym c.if-is_full.ensures)
+    (c.read.ensures.due.0 some) core
     log.same _ _ _ step c.read.new.self.state c.step.result (side c.step.new.self.state c.step.new.core) has
     c.step.ensures.step
 
@@ -123,10 +129,12 @@ returns-else-is_some-clause-alone g c =
           after_none (waits_for_log made) mid.core core (sym w.if-waits_for_log.ensures) (search rules)
     ] in
     let r = round old mid made core c.args.worker.now.transaction c.args.worker.now.fetch c.lawful.ensures.tidy
-    c.requires.fits c.requires.alone c.requires.under_way c.step-made.ensures.step c.step-made.ensures.stays log in
+    c.requires.fits c.requires.alone c.requires.under_way c.step-made.ensures.step
+    c.step-made.ensures.stays log in
     let none : is_some c.read.result ≡ false = search rules in
     let same = none_made c.read.result _ _ none c.read.ensures.step in
-    subst (λ (w : Worker). IsAlone w.state core) (sym same.0) (goes_alone old made mid core r (sym c.if-is_full.ensures))
+    subst (λ (w : Worker). IsAlone w.state core) (sym same.0)
+    (goes_alone old made mid core r (sym c.if-is_full.ensures))
 
 pub returns-else-is_some-clause-nearer : goal.returns-else-is_some-clause-nearer
 returns-else-is_some-clause-nearer g c =
@@ -144,7 +152,8 @@ returns-else-is_some-clause-nearer g c =
           after_none (waits_for_log made) mid.core core (sym w.if-waits_for_log.ensures) (search rules)
     ] in
     let r = round old mid made core c.args.worker.now.transaction c.args.worker.now.fetch c.lawful.ensures.tidy
-    c.requires.fits c.requires.alone c.requires.under_way c.step-made.ensures.step c.step-made.ensures.stays log in
+    c.requires.fits c.requires.alone c.requires.under_way c.step-made.ensures.step
+    c.step-made.ensures.stays log in
     let none : is_some c.read.result ≡ false = search rules in
     let same = none_made c.read.result _ _ none c.read.ensures.step in
     subst (λ (w : Worker). HasGoneOn (steps_left c.args.worker.now.state c.args.store.now.core) w.state core)
@@ -178,7 +187,8 @@ returns-then-is_full-clause-going g c = λ o keeps calling.
           let same_core : core ≡ w.settle.new.store.core = search rules in
           let same_disk : disk ≡ w.settle.new.store.disk = search rules in
           subst (λ x. HasWaited (waits_for_log made) d mid.core (device x) core) (sym same_disk)
-          (subst (λ x. HasWaited (waits_for_log made) d mid.core (device w.settle.new.store.disk) x) (sym same_core)
+          (subst (λ x. HasWaited (waits_for_log made) d mid.core (device w.settle.new.store.disk) x)
+          (sym same_core)
           (has_settled (waits_for_log made) d (device w.settle.new.store.disk) mid.core w.settle.new.store.core
           (sym w.if-waits_for_log.ensures) w.settle.ensures.open
           (w.settle.ensures.keeps (subst (λ x. g.D.CrashDisk.keeps_model x) same_disk model))))
@@ -196,8 +206,10 @@ returns-then-is_full-clause-going g c = λ o keeps calling.
       | else-waits_for_log w ↦ search rules
     ] in
     let r = round old mid made core c.args.worker.now.transaction c.args.worker.now.fetch c.lawful.ensures.tidy
-    c.requires.fits c.requires.alone c.requires.under_way c.step-made.ensures.step c.step-made.ensures.stays log in
-    let fits = still_fits mid.worker mid.core core c.step-made.ensures.fits opens.core.out log.blocks opens.core.inodes in
+    c.requires.fits c.requires.alone c.requires.under_way c.step-made.ensures.step
+    c.step-made.ensures.stays log in
+    let fits = still_fits mid.worker mid.core core c.step-made.ensures.fits opens.core.out log.blocks
+    opens.core.inodes in
     let first = store_of d was.core was.boot in
     let stepped : HasStepped o (store_of d mid.core was.boot) mid.worker =
     c.a_step_keeps_a_call_going.ensures.goes o first old.worker mid made calling c.step-made.ensures.step
@@ -207,14 +219,16 @@ returns-then-is_full-clause-going g c = λ o keeps calling.
     let settled : HasStepped o now mid.worker =
     c.a_settling_keeps_a_call_going.ensures o (store_of d mid.core was.boot) (device disk) core mid.worker
     (waits_for_log made)
-    (c.a_step_keeps_a_call_going.ensures.served o first old.worker mid made calling c.step-made.ensures.step) stepped
+    (c.a_step_keeps_a_call_going.ensures.served o first old.worker mid made calling
+    c.step-made.ensures.step) stepped
     waited (goes_told c.step-made.new.self core fits) in
     let planning = full_plans old.worker.phase old made mid refl r.came (sym c.if-is_full.ensures) in
     let state_is = c.begin_again.ensures.planning planning in
     let with = goes_told c.begin_again.new.self core (c.begin_again.ensures.fits core fits) in
     subst (λ b. HasStepped o (store_of (device disk) core b) c.begin_again.new.self.state) (sym boot_is)
     (subst (λ (s : State). HasStepped o now s) (sym state_is)
-    (again_goes o now mid.worker settled planning (subst (λ (s : State). GoesWith (told s) core) state_is with)))
+    (again_goes o now mid.worker settled planning
+    (subst (λ (s : State). GoesWith (told s) core) state_is with)))
 
 pub returns-then-is_some-clause-going : goal.returns-then-is_some-clause-going
 returns-then-is_some-clause-going g c = λ o keeps calling.
@@ -242,7 +256,8 @@ returns-then-is_some-clause-going g c = λ o keeps calling.
           let same_core : core ≡ w.settle.new.store.core = search rules in
           let same_disk : disk ≡ w.settle.new.store.disk = search rules in
           subst (λ x. HasWaited (waits_for_log made) d mid.core (device x) core) (sym same_disk)
-          (subst (λ x. HasWaited (waits_for_log made) d mid.core (device w.settle.new.store.disk) x) (sym same_core)
+          (subst (λ x. HasWaited (waits_for_log made) d mid.core (device w.settle.new.store.disk) x)
+          (sym same_core)
           (has_settled (waits_for_log made) d (device w.settle.new.store.disk) mid.core w.settle.new.store.core
           (sym w.if-waits_for_log.ensures) w.settle.ensures.open
           (w.settle.ensures.keeps (subst (λ x. g.D.CrashDisk.keeps_model x) same_disk model))))
@@ -260,8 +275,10 @@ returns-then-is_some-clause-going g c = λ o keeps calling.
       | else-waits_for_log w ↦ search rules
     ] in
     let r = round old mid made core c.args.worker.now.transaction c.args.worker.now.fetch c.lawful.ensures.tidy
-    c.requires.fits c.requires.alone c.requires.under_way c.step-made.ensures.step c.step-made.ensures.stays log in
-    let fits = still_fits mid.worker mid.core core c.step-made.ensures.fits opens.core.out log.blocks opens.core.inodes in
+    c.requires.fits c.requires.alone c.requires.under_way c.step-made.ensures.step
+    c.step-made.ensures.stays log in
+    let fits = still_fits mid.worker mid.core core c.step-made.ensures.fits opens.core.out log.blocks
+    opens.core.inodes in
     let first = store_of d was.core was.boot in
     let stepped : HasStepped o (store_of d mid.core was.boot) mid.worker =
     c.a_step_keeps_a_call_going.ensures.goes o first old.worker mid made calling c.step-made.ensures.step
@@ -271,18 +288,21 @@ returns-then-is_some-clause-going g c = λ o keeps calling.
     let settled : HasStepped o now mid.worker =
     c.a_settling_keeps_a_call_going.ensures o (store_of d mid.core was.boot) (device disk) core mid.worker
     (waits_for_log made)
-    (c.a_step_keeps_a_call_going.ensures.served o first old.worker mid made calling c.step-made.ensures.step) stepped
+    (c.a_step_keeps_a_call_going.ensures.served o first old.worker mid made calling
+    c.step-made.ensures.step) stepped
     waited (goes_told c.step-made.new.self core fits) in
     let some : is_some c.read.result ≡ true = search rules in
     let (step, has) = was_made c.read.result _ _ some c.read.ensures.step in
     let reading = c.read.ensures.due.0 some in
     let nothing = nothing_new old.worker.phase old made mid refl r.came (sym c.if-is_full.ensures) reading in
-    let same_told = none_to_tell mid.worker (nothing.0 ∙ calling.stands.entry) (nothing.1 ∙ calling.stands.answer) in
+    let same_told = none_to_tell mid.worker (nothing.0 ∙ calling.stands.entry)
+    (nothing.1 ∙ calling.stands.answer) in
     let after = device c.read.new.disk in
     let was_read = c.a_read_keeps_a_call_going.ensures o now after mid.worker c.read.new.self.state step
     (subst (λ (s : State). IsCalling o now s) same_told settled.calling) reading
     (has_contents (device disk) (g.met.D.CrashDisk.whole disk (c.read.ensures.model keeps)))
-    (with_model (g.D.CrashDisk.keeps_model c.read.new.disk) 0 (device disk) after mid.worker c.read.new.self.state
+    (with_model (g.D.CrashDisk.keeps_model c.read.new.disk) 0 (device disk) after mid.worker
+    c.read.new.self.state
     (Some step) keeps (refl, reading, has)).2
     (goes_with c.read.new.self core (c.read.ensures.fits core fits)) in
     subst (λ b. HasStepped o (store_of after c.step.new.core b) c.step.new.self.state) (sym boot_is)
@@ -317,7 +337,8 @@ returns-else-is_some-clause-going g c = λ o keeps calling.
           let same_core : core ≡ w.settle.new.store.core = search rules in
           let same_disk : disk ≡ w.settle.new.store.disk = search rules in
           subst (λ x. HasWaited (waits_for_log made) d mid.core (device x) core) (sym same_disk)
-          (subst (λ x. HasWaited (waits_for_log made) d mid.core (device w.settle.new.store.disk) x) (sym same_core)
+          (subst (λ x. HasWaited (waits_for_log made) d mid.core (device w.settle.new.store.disk) x)
+          (sym same_core)
           (has_settled (waits_for_log made) d (device w.settle.new.store.disk) mid.core w.settle.new.store.core
           (sym w.if-waits_for_log.ensures) w.settle.ensures.open
           (w.settle.ensures.keeps (subst (λ x. g.D.CrashDisk.keeps_model x) same_disk model))))
@@ -335,8 +356,10 @@ returns-else-is_some-clause-going g c = λ o keeps calling.
       | else-waits_for_log w ↦ search rules
     ] in
     let r = round old mid made core c.args.worker.now.transaction c.args.worker.now.fetch c.lawful.ensures.tidy
-    c.requires.fits c.requires.alone c.requires.under_way c.step-made.ensures.step c.step-made.ensures.stays log in
-    let fits = still_fits mid.worker mid.core core c.step-made.ensures.fits opens.core.out log.blocks opens.core.inodes in
+    c.requires.fits c.requires.alone c.requires.under_way c.step-made.ensures.step
+    c.step-made.ensures.stays log in
+    let fits = still_fits mid.worker mid.core core c.step-made.ensures.fits opens.core.out log.blocks
+    opens.core.inodes in
     let first = store_of d was.core was.boot in
     let stepped : HasStepped o (store_of d mid.core was.boot) mid.worker =
     c.a_step_keeps_a_call_going.ensures.goes o first old.worker mid made calling c.step-made.ensures.step
@@ -346,7 +369,8 @@ returns-else-is_some-clause-going g c = λ o keeps calling.
     let settled : HasStepped o now mid.worker =
     c.a_settling_keeps_a_call_going.ensures o (store_of d mid.core was.boot) (device disk) core mid.worker
     (waits_for_log made)
-    (c.a_step_keeps_a_call_going.ensures.served o first old.worker mid made calling c.step-made.ensures.step) stepped
+    (c.a_step_keeps_a_call_going.ensures.served o first old.worker mid made calling
+    c.step-made.ensures.step) stepped
     waited (goes_told c.step-made.new.self core fits) in
     let none : is_some c.read.result ≡ false = search rules in
     let same = none_made c.read.result _ _ none c.read.ensures.step in

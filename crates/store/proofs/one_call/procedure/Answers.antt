@@ -35,8 +35,10 @@ returns-then-keeps_too_many-clause-answered g c = λ first last entries keeps ti
     (sym (c.end.ensures.idle has.1)) has.0 in
     let later = c.settle.new.store in
     let many : MOST_KEPT_COMMITS < length c.end.new.core.records = c.if-keeps_too_many.ensures.0 refl in
-    subst (λ boot. HasAnswered o verdict (store_of (device later.disk) later.core boot)) (sym c.settle.ensures.boot)
-    (settled_answer o verdict now (device later.disk) later.core c.settle.ensures.open (c.settle.ensures.keeps keeps)
+    subst (λ boot. HasAnswered o verdict (store_of (device later.disk) later.core boot))
+    (sym c.settle.ensures.boot)
+    (settled_answer o verdict now (device later.disk) later.core c.settle.ensures.open
+    (c.settle.ensures.keeps keeps)
     (g.met.D.CrashDisk.whole later.disk keeps) many ended)
 
 pub returns-else-keeps_too_many-clause-answered : goal.returns-else-keeps_too_many-clause-answered

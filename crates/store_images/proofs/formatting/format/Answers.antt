@@ -30,7 +30,8 @@ returns-in-Ok-make-clause-left g c = λ keeps.
       subst (λ (m : Moment). IsFormatted (device c.args.disk.now) (device c.make.new.disk) image.geometry m)
           c.in_ok-image.ensures.made
           (formatted (device c.args.disk.now) (device c.make.new.disk) image.geometry image.made sizes
-          (g.met.D.CrashDisk.whole c.make.new.disk keeps) c.in-Ok-make.ensures.stops c.in-Ok-make.ensures.failure
+          (g.met.D.CrashDisk.whole c.make.new.disk keeps) c.in-Ok-make.ensures.stops
+          c.in-Ok-make.ensures.failure
           c.in-Ok-make.ensures.rest c.in-Ok-make.ensures.made),
     )
 
@@ -42,8 +43,8 @@ returns-clause-left g c = λ keeps.
       image.geometry,
       sizes,
       search rules,
-      subst (λ (m : Moment). HasFailedToFormat (device c.args.disk.now) (device c.make.new.disk) image.geometry m)
-          c.in_ok-image.ensures.made
+      subst (λ (m : Moment). HasFailedToFormat (device c.args.disk.now) (device c.make.new.disk)
+          image.geometry m) c.in_ok-image.ensures.made
           (not_formatted (device c.args.disk.now) (device c.make.new.disk) image.geometry image.made sizes
           (g.met.D.CrashDisk.whole c.make.new.disk keeps) c.in-Err.ensures.stops c.in-Err.ensures.failure),
     )

@@ -34,7 +34,8 @@ pub returns-clause-numbers : goal.returns-clause-numbers
 returns-clause-numbers g c = record {
   begun = search rules;
   places = inst_places c.args.store.now.core.log c.inst_next.new.self.log c.inst_done.new.self.log c.in-Some.io
-      c.is_ok-ok.result (ap (λ (core : CoreState). core.log) (c.in-Some.ensures.some refl)) c.inst_done.ensures.log;
+      c.is_ok-ok.result (ap (λ (core : CoreState). core.log) (c.in-Some.ensures.some refl))
+      c.inst_done.ensures.log;
 }
 
 pub returns-clause-open : goal.returns-clause-open
@@ -73,8 +74,10 @@ returns-clause-open g c =
     (is ∙ ap (λ l. record old { log = l }) (sym log_is))
     (subst (HasSameChanges old.log) (sym log_is) (inst_out_same old.log))) in
     let ok_is : ok ≡ is_ok answer = c.is_ok-ok.ensures.value in
-    let same : made ≡ was_made io answer = ap (λ b. pending_of (Some io) (Some b)) ok_is ∙ answer_is io answer in
-    let performed : IsLogStep MayInstIo (side d mid idle (out io)) (Some (step.InstIo ok)) (side e mid idle made) =
+    let same : made ≡ was_made io answer =
+    ap (λ b. pending_of (Some io) (Some b)) ok_is ∙ answer_is io answer in
+    let performed : IsLogStep MayInstIo (side d mid idle (out io)) (Some (step.InstIo ok))
+    (side e mid idle made) =
     goes_on MayInstIo (side d mid idle (out io)) (side e mid idle made) (Some (step.InstIo ok))
     (calls.call d e (Some (step.InstIo ok)) answer refl (failed_is answer ok ok_is)
     (made_later d io answer e c.perform.ensures.call) c.perform.ensures.failure)
@@ -97,7 +100,8 @@ returns-clause-open g c =
     let given : IsLogStep MayInstall (side e mid idle made) (Some (step.InstDone ok)) (at_rest e new) =
     goes_on MayInstall (side e mid idle made) (at_rest e new) (Some (step.InstDone ok))
     (calls.none e (Some (step.InstDone ok)) refl) back_kept
-    (inst_given e mid.log idle c.lawful-2.ensures.log io new.log ok c.inst_done.ensures.log c.inst_done.ensures.law)
+    (inst_given e mid.log idle c.lawful-2.ensures.log io new.log ok c.inst_done.ensures.log
+    c.inst_done.ensures.law)
     (λ base boot first last entries since.
     law.given_back base e mid new io answer ok idle boot first last entries
     (subst (λ (p : Pending). IsOpenSince base e mid idle p boot first entries last) same since) (sym ok_is)
@@ -108,7 +112,8 @@ returns-clause-open g c =
       home = c.inst_done.ensures.keeps base since.over.files.home;
     }))
     (λ base boot first last entries fetches since all.
-    c.what_was_read_is_at_home.ensures.installed base e mid new idle made ok boot first last entries fetches since
+    c.what_was_read_is_at_home.ensures.installed base e mid new idle made ok boot first last
+    entries fetches since
     (fewer mid new back_kept) all)
     (λ base boot first last entries since.
     places_home base e mid new idle made ok boot first last entries since
@@ -117,7 +122,8 @@ returns-clause-open g c =
     let called : HasCalled old.log d new.log e =
     inst_called old.log mid.log new.log d e io answer ok c.lawful.ensures.log c.in-Some.ensures.causes log_is
     c.lawful-2.ensures.log c.in-Some.ensures.call ok_is c.inst_done.ensures.log c.perform.ensures.failure in
-    open_by MayInstall MayInstIo MayInstall d e old new (side d mid idle (out io)) (side e mid idle made) _ _ _ taken
+    open_by MayInstall MayInstIo MayInstall d e old new (side d mid idle (out io))
+    (side e mid idle made) _ _ _ taken
     performed given
     (called_further old mid new d e (back_kept.begun ∙ out_kept.begun)
     (inst_places old.log mid.log new.log io ok log_is c.inst_done.ensures.log)
@@ -139,9 +145,11 @@ returns-clause-few g c =
     let d = g.D.CrashDisk.device c.args.store.now.disk in
     let e = g.D.CrashDisk.device c.perform.new.disk in
     spends_one c.args.store.now.core.log c.inst_done.new.self.log d e
-    (inst_called c.args.store.now.core.log c.inst_next.new.self.log c.inst_done.new.self.log d e c.in-Some.io c.perform.result
+    (inst_called c.args.store.now.core.log c.inst_next.new.self.log c.inst_done.new.self.log d e c.in-Some.io
+    c.perform.result
     c.is_ok-ok.result c.lawful.ensures.log c.in-Some.ensures.causes
-    (ap (λ (core : CoreState). core.log) (c.in-Some.ensures.some refl)) c.lawful-2.ensures.log c.in-Some.ensures.call
+    (ap (λ (core : CoreState). core.log) (c.in-Some.ensures.some refl)) c.lawful-2.ensures.log
+    c.in-Some.ensures.call
     c.is_ok-ok.ensures.value c.inst_done.ensures.log c.perform.ensures.failure)
     (made_later d c.in-Some.io c.perform.result e c.perform.ensures.call).clock
 
@@ -164,7 +172,8 @@ returns-clause-stays g c = λ base boot first last entries since.
     let settled = c.what_is_settled_stays_settled.ensures.installer in
     let later = made_later d io answer e c.perform.ensures.call in
     let is : out ≡ record core { log = with_inst_out core.log } = c.in-Some.ensures.some refl in
-    let taken = laws.taken base d core out io idle boot first last entries since (sym c.in-Some.ensures.causes) is
+    let taken = laws.taken base d core out io idle boot first last entries since
+    (sym c.in-Some.ensures.causes) is
     c.in-Some.ensures.law
     (record {
       lawful = c.lawful-2.ensures.log;
@@ -180,15 +189,17 @@ returns-clause-stays g c = λ base boot first last entries since.
       home = c.inst_done.ensures.keeps base made.over.files.home;
     }) in
     let one : settled_place core.log ≤ settled_place out.log =
-    subst (λ (log : Log). settled_place core.log ≤ settled_place log) (sym (ap (λ (core : CoreState). core.log) is))
+    subst (λ (log : Log). settled_place core.log ≤ settled_place log)
+    (sym (ap (λ (core : CoreState). core.log) is))
     (settled core.log true true c.lawful.ensures.log).0 in
     let two : settled_place out.log ≤ settled_place new.log =
     subst (λ (log : Log). settled_place out.log ≤ settled_place log) (sym c.inst_done.ensures.log)
     (settled out.log (is_inst_out out.log io) ok c.lawful-2.ensures.log).1 in
     record {
       past = past_one d e later;
-      left = c.an_open_store_keeps_its_files.ensures.call d d e base core idle idle boot (settled_place core.log) first
-          last entries (none_left d boot first entries (settled_place core.log)) since (omega arith) later;
+      left = c.an_open_store_keeps_its_files.ensures.call d d e base core idle idle boot
+          (settled_place core.log) first last entries
+          (none_left d boot first entries (settled_place core.log)) since (omega arith) later;
       further = omega (arith, one, two);
       calls = record { device = e; core = new } ∷ [];
       by_calls = (
@@ -199,7 +210,8 @@ returns-clause-stays g c = λ base boot first last entries since.
             base = home_after base out.log ok;
             since = given;
             stops = λ image crash.
-                c.a_stop_leaves_a_beginning.ensures.files (home_after base out.log ok) e new idle idle boot first last entries image given
+                c.a_stop_leaves_a_beginning.ensures.files (home_after base out.log ok) e new idle idle boot
+                first last entries image given
                 crash;
           };
         },

@@ -32,8 +32,10 @@ returns-clause-called g c = λ _.
 pub returns-clause-numbers : goal.returns-clause-numbers
 returns-clause-numbers g c = record {
   begun = search rules;
-  places = log_keeps_places c.args.store.now.core.log c.log_next.new.self.log c.log_done.new.self.log c.in-Some.io
-      c.is_ok-ok.result (ap (λ (core : CoreState). core.log) (c.in-Some.ensures.some refl)) c.log_done.ensures.log;
+  places = log_keeps_places c.args.store.now.core.log c.log_next.new.self.log
+      c.log_done.new.self.log c.in-Some.io
+      c.is_ok-ok.result (ap (λ (core : CoreState). core.log) (c.in-Some.ensures.some refl))
+      c.log_done.ensures.log;
 }
 
 pub returns-clause-open : goal.returns-clause-open
@@ -57,7 +59,8 @@ returns-clause-open g c =
     let taken : IsLogStep MayLog (at_rest d old) (Some (step.LogNext io.call)) (side d mid (out io) idle) =
     goes_on MayLog (at_rest d old) (side d mid (out io) idle) (Some (step.LogNext io.call))
     (calls.none d (Some (step.LogNext io.call)) refl) out_kept
-    (log_taken d old.log idle c.lawful.ensures.log io mid.log (sym c.in-Some.ensures.causes) log_is c.in-Some.ensures.law)
+    (log_taken d old.log idle c.lawful.ensures.log io mid.log (sym c.in-Some.ensures.causes) log_is
+    c.in-Some.ensures.law)
     (λ base boot first last entries since.
     law.taken base d old mid io idle boot first last entries since is c.in-Some.ensures.law
     (record {
@@ -71,8 +74,10 @@ returns-clause-open g c =
     (is ∙ ap (λ l. record old { log = l }) (sym log_is))
     (subst (HasSameChanges old.log) (sym log_is) (log_out_same old.log))) in
     let ok_is : ok ≡ is_ok answer = c.is_ok-ok.ensures.value in
-    let same : made ≡ was_made io answer = ap (λ b. pending_of (Some io) (Some b)) ok_is ∙ answer_is io answer in
-    let performed : IsLogStep MayLogIo (side d mid (out io) idle) (Some (step.LogIo ok)) (side e mid made idle) =
+    let same : made ≡ was_made io answer =
+    ap (λ b. pending_of (Some io) (Some b)) ok_is ∙ answer_is io answer in
+    let performed : IsLogStep MayLogIo (side d mid (out io) idle) (Some (step.LogIo ok))
+    (side e mid made idle) =
     goes_on MayLogIo (side d mid (out io) idle) (side e mid made idle) (Some (step.LogIo ok))
     (calls.call d e (Some (step.LogIo ok)) answer refl (failed_is answer ok ok_is)
     (made_later d io answer e c.perform.ensures.call) c.perform.ensures.failure)
@@ -83,11 +88,13 @@ returns-clause-open g c =
     (law.made base d e mid io answer idle boot first last entries since c.perform.ensures.call))
     (λ base boot first last entries fetches since all. all)
     (λ base boot first last entries since. same_core_places base mid) in
-    let back_kept : KeepsTransactions mid new = log_alone mid new c.log_done.ensures.others c.log_done.ensures.stays in
+    let back_kept : KeepsTransactions mid new =
+    log_alone mid new c.log_done.ensures.others c.log_done.ensures.stays in
     let given : IsLogStep MayLog (side e mid made idle) (Some (step.LogDone ok)) (at_rest e new) =
     goes_on MayLog (side e mid made idle) (at_rest e new) (Some (step.LogDone ok))
     (calls.none e (Some (step.LogDone ok)) refl) back_kept
-    (log_given e mid.log idle c.lawful-2.ensures.log io new.log ok c.log_done.ensures.log c.log_done.ensures.law)
+    (log_given e mid.log idle c.lawful-2.ensures.log io new.log ok c.log_done.ensures.log
+    c.log_done.ensures.law)
     (λ base boot first last entries since.
     law.given_back base e mid new io answer ok idle boot first last entries
     (subst (λ (p : Pending). IsOpenSince base e mid p idle boot first entries last) same since) (sym ok_is)
@@ -105,7 +112,8 @@ returns-clause-open g c =
     let called : HasCalled old.log d new.log e =
     log_called old.log mid.log new.log d e io answer ok c.lawful.ensures.log c.in-Some.ensures.causes log_is
     c.lawful-2.ensures.log c.in-Some.ensures.call ok_is c.log_done.ensures.log c.perform.ensures.failure in
-    open_by MayLog MayLogIo MayLog d e old new (side d mid (out io) idle) (side e mid made idle) _ _ _ taken performed
+    open_by MayLog MayLogIo MayLog d e old new (side d mid (out io) idle) (side e mid made idle) _ _ _
+    taken performed
     given
     (called_further old mid new d e (back_kept.begun ∙ out_kept.begun)
     (log_keeps_places old.log mid.log new.log io ok log_is c.log_done.ensures.log)
@@ -127,9 +135,11 @@ returns-clause-few g c =
     let d = g.D.CrashDisk.device c.args.store.now.disk in
     let e = g.D.CrashDisk.device c.perform.new.disk in
     spends_one c.args.store.now.core.log c.log_done.new.self.log d e
-    (log_called c.args.store.now.core.log c.log_next.new.self.log c.log_done.new.self.log d e c.in-Some.io c.perform.result
+    (log_called c.args.store.now.core.log c.log_next.new.self.log c.log_done.new.self.log d e c.in-Some.io
+    c.perform.result
     c.is_ok-ok.result c.lawful.ensures.log c.in-Some.ensures.causes
-    (ap (λ (core : CoreState). core.log) (c.in-Some.ensures.some refl)) c.lawful-2.ensures.log c.in-Some.ensures.call
+    (ap (λ (core : CoreState). core.log) (c.in-Some.ensures.some refl)) c.lawful-2.ensures.log
+    c.in-Some.ensures.call
     c.is_ok-ok.ensures.value c.log_done.ensures.log c.perform.ensures.failure)
     (made_later d c.in-Some.io c.perform.result e c.perform.ensures.call).clock
 
@@ -167,15 +177,17 @@ returns-clause-stays g c = λ base boot first last entries since.
       home = c.log_done.ensures.keeps base made.over.files.home;
     }) in
     let one : settled_place core.log ≤ settled_place out.log =
-    subst (λ (log : Log). settled_place core.log ≤ settled_place log) (sym (ap (λ (core : CoreState). core.log) is))
+    subst (λ (log : Log). settled_place core.log ≤ settled_place log)
+    (sym (ap (λ (core : CoreState). core.log) is))
     (settled core.log true true c.lawful.ensures.log).0 in
     let two : settled_place out.log ≤ settled_place new.log =
     subst (λ (log : Log). settled_place out.log ≤ settled_place log) (sym c.log_done.ensures.log)
     (settled out.log (is_log_out out.log io) ok c.lawful-2.ensures.log).1 in
     record {
       past = past_one d e later;
-      left = c.an_open_store_keeps_its_files.ensures.call d d e base core idle idle boot (settled_place core.log) first
-          last entries (none_left d boot first entries (settled_place core.log)) since (omega arith) later;
+      left = c.an_open_store_keeps_its_files.ensures.call d d e base core idle idle boot
+          (settled_place core.log) first last entries
+          (none_left d boot first entries (settled_place core.log)) since (omega arith) later;
       further = omega (arith, one, two);
       calls = record { device = e; core = new } ∷ [];
       by_calls = (
@@ -186,7 +198,8 @@ returns-clause-stays g c = λ base boot first last entries since.
             base = base;
             since = given;
             stops = λ image crash.
-                c.a_stop_leaves_a_beginning.ensures.files (base) e new idle idle boot first last entries image given
+                c.a_stop_leaves_a_beginning.ensures.files (base) e new idle idle boot first last
+                entries image given
                 crash;
           };
         },

@@ -78,7 +78,8 @@ calls-preserved g c =
     stay_along (device first.disk) (device old.disk) (device mid.disk) first.core old.core mid.core
     c.calls.invariant.9 c.log_one.ensures.stays in
     let spent : SpendsCalls (device first.disk) first.core.log (device mid.disk) mid.core.log =
-    spends_along (device first.disk) (device old.disk) (device mid.disk) first.core.log old.core.log mid.core.log
+    spends_along (device first.disk) (device old.disk) (device mid.disk) first.core.log
+    old.core.log mid.core.log
     c.calls.invariant.10 c.log_one.ensures.few in
     elim c.else-not-log_one.branch [
       | else-not-log_one-via-then-not-log_one+else-not-install_one w ↦
@@ -93,13 +94,16 @@ calls-preserved g c =
             search rules,
             search rules,
             subst (λ s. LeavesOpen (device first.disk) first.core (device s.disk) s.core) same
-                (open_then (device first.disk) (device mid.disk) (device new.disk) first.core mid.core new.core logged
+                (open_then (device first.disk) (device mid.disk) (device new.disk) first.core mid.core
+                new.core logged
                 w.install_one.ensures.open),
             subst (λ s. StayOpen (device first.disk) first.core (device s.disk) s.core) same
-                (stay_along (device first.disk) (device mid.disk) (device new.disk) first.core mid.core new.core stayed
+                (stay_along (device first.disk) (device mid.disk) (device new.disk) first.core mid.core
+                new.core stayed
                 w.install_one.ensures.stays),
             subst (λ s. SpendsCalls (device first.disk) first.core.log (device s.disk) s.core.log) same
-                (spends_along (device first.disk) (device mid.disk) (device new.disk) first.core.log mid.core.log
+                (spends_along (device first.disk) (device mid.disk) (device new.disk)
+                first.core.log mid.core.log
                 new.core.log spent w.install_one.ensures.few),
           )
       | else-not-log_one-via-else-not-log_one w ↦

@@ -1,6 +1,6 @@
--- no transaction begins or ends, the image's counts and the pending fetches stay, no device call is out, what has
--- failed was counted, the device has kept its model so far where it does, the store has stayed open, and each call was one
--- of those that were left
+-- no transaction begins or ends, the image's counts and the pending fetches stay, no device call is out, what
+-- has failed was counted, the device has kept its model so far where it does, the store has stayed open, and
+-- each call was one of those that were left
 use Rattle.std.proofs.Common.{◌≡◌, ◌≤◌, true}
 use Rattle.store_images.specs.Counts.{SameFrame}
 use Rattle.store_images.specs.Fetches.{KeepsFetches}
@@ -19,8 +19,10 @@ invariant-calls g l = (l.store.core.out ≡ l.fn.store.core.out)
     → HasFailed l.fn.store.core.log (g.D.CrashDisk.device l.fn.store.disk) (g.D.CrashDisk.device l.store.disk))
     × (g.D.CrashDisk.keeps_model l.store.disk → g.D.CrashDisk.keeps_model l.fn.store.disk)
     × (l.store.boot ≡ l.fn.store.boot)
-    × LeavesOpen (g.D.CrashDisk.device l.fn.store.disk) l.fn.store.core (g.D.CrashDisk.device l.store.disk) l.store.core
-    × StayOpen (g.D.CrashDisk.device l.fn.store.disk) l.fn.store.core (g.D.CrashDisk.device l.store.disk) l.store.core
+    × LeavesOpen (g.D.CrashDisk.device l.fn.store.disk) l.fn.store.core
+    (g.D.CrashDisk.device l.store.disk) l.store.core
+    × StayOpen (g.D.CrashDisk.device l.fn.store.disk) l.fn.store.core
+    (g.D.CrashDisk.device l.store.disk) l.store.core
     × SpendsCalls (g.D.CrashDisk.device l.fn.store.disk) l.fn.store.core.log (g.D.CrashDisk.device l.store.disk)
     l.store.core.log
 

@@ -14,7 +14,8 @@ returns-in-Err-Range-clause-refused g c =
     c.in_ok-found.ensures.boot
     (λ kept clean. c.in_ok-found.ensures.found (c.recover.ensures.model kept) clean)
     (subst (CountsFault middle later) is c.recover.ensures.failure ∙ c.in_ok-found.ensures.failure)
-    (λ kept clean log. subst (IsRecovered middle.size (image_of middle)) is (c.recover.ensures.found kept clean) log.0)
+    (λ kept clean log. subst (IsRecovered middle.size (image_of middle))
+    is (c.recover.ensures.found kept clean) log.0)
 
 pub returns-in-Err-Address-clause-refused : goal.returns-in-Err-Address-clause-refused
 returns-in-Err-Address-clause-refused g c =

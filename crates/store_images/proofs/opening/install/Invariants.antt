@@ -16,10 +16,14 @@ invariant-calls g l = record {
   quiet : IsQuiet l.wal;
   model : g.D.CrashDisk.keeps_model l.disk → g.D.CrashDisk.keeps_model l.fn.disk;
   same : (g.D.CrashDisk.device l.disk).size ≡ l.wal.blocks;
-  sound : l.wal.broken ≡ false → (g.D.CrashDisk.device l.disk).failures ≡ (g.D.CrashDisk.device l.fn.disk).failures;
-  failed : l.wal.broken ≡ true → (g.D.CrashDisk.device l.fn.disk).failures < (g.D.CrashDisk.device l.disk).failures;
-  clean : l.wal.broken ≡ false → IsUnspoiled (g.D.CrashDisk.device l.fn.disk) → IsUnspoiled (g.D.CrashDisk.device l.disk);
-  home : (before : Device) (raised : Content) → BringsHome before raised (g.D.CrashDisk.device l.fn.disk) l.fn.wal
+  sound : l.wal.broken ≡ false → (g.D.CrashDisk.device l.disk).failures
+      ≡ (g.D.CrashDisk.device l.fn.disk).failures;
+  failed : l.wal.broken ≡ true → (g.D.CrashDisk.device l.fn.disk).failures <
+      (g.D.CrashDisk.device l.disk).failures;
+  clean : l.wal.broken ≡ false → IsUnspoiled (g.D.CrashDisk.device l.fn.disk)
+      → IsUnspoiled (g.D.CrashDisk.device l.disk);
+  home : (before : Device) (raised : Content)
+      → BringsHome before raised (g.D.CrashDisk.device l.fn.disk) l.fn.wal
       → BringsHome before raised (g.D.CrashDisk.device l.disk) l.wal;
 }
 

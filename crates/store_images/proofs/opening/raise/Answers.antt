@@ -8,4 +8,5 @@ returns-clause-raised g c = λ before log lawful none brings.
     let written = c.put_whole.ensures ∙ c.deref.ensures.value ∙ c.in-Ok.ensures.bytes in
     subst (λ raised. KeepsBlocks before (g.D.CrashDisk.device c.put_super.new.disk) raised) written
     (c.in-Err.ensures.raised before log lawful none
-    (subst (λ raised. BringsHome before raised (g.D.CrashDisk.device c.args.disk.now) log) (sym written) brings))
+    (subst (λ raised. BringsHome before raised (g.D.CrashDisk.device c.args.disk.now) log)
+    (sym written) brings))

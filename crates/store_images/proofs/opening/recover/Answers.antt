@@ -30,7 +30,8 @@ returns-in_default-clause-keeps g c = λ tree first holds kept.
 
 pub returns-in-Err-clause-keeps : goal.returns-in-Err-clause-keeps
 returns-in-Err-clause-keeps g c = λ tree first holds kept.
-    read_refused (g.D.CrashDisk.device c.args.disk.now) tree first holds (g.D.CrashDisk.keeps_model c.find.new.disk)
+    read_refused (g.D.CrashDisk.device c.args.disk.now) tree first holds
+    (g.D.CrashDisk.keeps_model c.find.new.disk)
     c.in-Err.fault (g.D.CrashDisk.device c.find.new.disk) kept (g.met.D.CrashDisk.whole c.find.new.disk kept)
     c.in-Err.ensures.reads c.in-Err.ensures.failure c.in-Err.ensures.refused
 
@@ -50,7 +51,8 @@ returns-in-Err-install-clause-keeps g c = λ tree first holds kept.
     let same = c.in-Ok-find.ensures.failure in
     later_refused before tree first holds found (next found) (super_bytes (next found)) is.is_super refl refl
     (c.a_super_block_is_its_bytes.ensures (next found) found.geometry.lawful c.in-Ok-find.ensures.boot)
-    (full (next found)) later c.in-Err-install.fault (g.met.D.CrashDisk.whole c.install.new.disk kept) brings.keeps
+    (full (next found)) later c.in-Err-install.fault
+    (g.met.D.CrashDisk.whole c.install.new.disk kept) brings.keeps
     (subst (λ cause. IsCauseOf cause before later first) (sym failed.0) (omega (arith, failed.1, same)))
 
 pub returns-in-Err-raise-clause-keeps : goal.returns-in-Err-raise-clause-keeps
@@ -64,7 +66,8 @@ returns-in-Err-raise-clause-keeps g c = λ tree first holds kept.
     let kept_now = c.install.ensures.model (c.raise.ensures.model kept) in
     let is = c.in-Ok-find.ensures.found kept_now holds.rest.unspoiled in
     let brings = c.install.ensures.home before (super_bytes (next found))
-    (begins before tree first holds found c.in-Ok-find.found.1 now (super_bytes (next found)) c.in-Ok-find.ensures.reads
+    (begins before tree first holds found c.in-Ok-find.found.1 now (super_bytes (next found))
+    c.in-Ok-find.ensures.reads
     is c.lawful.ensures (g.met.D.CrashDisk.whole c.find.new.disk kept_now)) in
     let none = c.in_default-install.ensures.none in
     let empty = none_home log c.lawful-2.ensures none.0 c.install.ensures.quiet.installing none.1
@@ -77,7 +80,8 @@ returns-in-Err-raise-clause-keeps g c = λ tree first holds kept.
       | inl failed ↦ subst (λ cause. IsCauseOf cause before later first) (sym failed.0)
           (omega (arith, failed.1, c.in_default-install.ensures.failure, c.in-Ok-find.ensures.failure))
       | inr memory ↦ subst (λ cause. IsCauseOf cause before later first) (sym memory.0)
-          (ap (λ (d : Device). d.failures) memory.1 ∙ c.in_default-install.ensures.failure ∙ c.in-Ok-find.ensures.failure)
+          (ap (λ (d : Device). d.failures) memory.1 ∙ c.in_default-install.ensures.failure
+          ∙ c.in-Ok-find.ensures.failure)
     ])
 
 pub returns-clause-keeps : goal.returns-clause-keeps
@@ -91,25 +95,29 @@ returns-clause-keeps g c = λ tree first holds kept.
     let kept_now = c.install.ensures.model (c.raise.ensures.model kept) in
     let is = c.in-Ok-find.ensures.found kept_now holds.rest.unspoiled in
     let brings = c.install.ensures.home before (super_bytes (next found))
-    (begins before tree first holds found c.in-Ok-find.found.1 now (super_bytes (next found)) c.in-Ok-find.ensures.reads
+    (begins before tree first holds found c.in-Ok-find.found.1 now (super_bytes (next found))
+    c.in-Ok-find.ensures.reads
     is c.lawful.ensures (g.met.D.CrashDisk.whole c.find.new.disk kept_now)) in
     let none = c.in_default-install.ensures.none in
     let empty = none_home log c.lawful-2.ensures none.0 c.install.ensures.quiet.installing none.1
     brings.coming.logged in
     let raises = c.in_default-raise.ensures.raised before log c.lawful-2.ensures empty brings in
-    let is_raised = c.a_super_block_is_its_bytes.ensures (next found) found.geometry.lawful c.in-Ok-find.ensures.boot in
+    let is_raised = c.a_super_block_is_its_bytes.ensures (next found) found.geometry.lawful
+    c.in-Ok-find.ensures.boot in
     let blocks = g.met.D.CrashDisk.whole c.raise.new.disk kept in
     let clean = c.in_default-install.ensures.clean
     (unspoiled_then before now c.in-Ok-find.ensures.reads holds.rest.unspoiled) in
-    let over = is_new before tree first holds found (next found) (super_bytes (next found)) is.is_super refl refl
+    let over = is_new before tree first holds found (next found) (super_bytes (next found))
+    is.is_super refl refl
     is_raised (full (next found)) home later log c.lawful-2.ensures empty raises blocks c.new-core.result
     c.new-core.ensures c.lawful-3.ensures.tidy c.install.ensures.fresh none.0 clean in (
-      next_boot before tree first holds found (next found) (super_bytes (next found)) is.is_super refl refl is_raised
-          (full (next found)),
+      next_boot before tree first holds found (next found) (super_bytes (next found)) is.is_super refl
+          refl is_raised (full (next found)),
       log.start,
       is_opened before tree first holds found (next found) (super_bytes (next found)) is.is_super refl refl
           is_raised (full (next found)) home later log c.lawful-2.ensures empty raises blocks
-          (c.in_default-raise.ensures.failure ∙ c.in_default-install.ensures.failure ∙ c.in-Ok-find.ensures.failure),
+          (c.in_default-raise.ensures.failure ∙ c.in_default-install.ensures.failure
+          ∙ c.in-Ok-find.ensures.failure),
       over.0,
       over.1,
     )

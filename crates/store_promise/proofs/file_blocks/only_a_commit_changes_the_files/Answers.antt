@@ -3,7 +3,8 @@ use Rattle.wal_law.specs.Installer.{with_inst_out}
 use Rattle.wal_law.specs.Logger.{with_log_back, with_log_out}
 use Rattle.store_promise.proofs.OpenCommits.{blocks_now}
 use Rattle.store_promise.proofs.OpenInstalls.{blocks_then}
-use Rattle.store_promise.proofs.OpenSteps.{blocks_same, inst_out_same, log_back_same, log_out_same, same_changes}
+use Rattle.store_promise.proofs.OpenSteps.{blocks_same, inst_out_same, log_back_same, log_out_same}
+use Rattle.store_promise.proofs.OpenSteps.{same_changes}
 use Rattle.store_promise.proofs.file_blocks.only_a_commit_changes_the_files.Goals as goal
 
 pub returns-clause-commit : goal.returns-clause-commit

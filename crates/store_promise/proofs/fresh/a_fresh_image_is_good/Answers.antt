@@ -46,8 +46,8 @@ returns c = λ g moment image lawful now fresh.
       boot_is = refl;
       range = record { order = omega (arith, starts_at, ends_at); slots = omega (arith, starts_at, ends_at) };
       homes = λ k less. absurd (omega (arith, less, starts_at, ends_at));
-      stands = subst (λ (blocks : Image). Stands g (homes_of g.blocks blocks) (format_tree (geometry_of g) moment))
-          (λ i block. sym (empty block) i)
+      stands = subst (λ (blocks : Image). Stands g (homes_of g.blocks blocks)
+          (format_tree (geometry_of g) moment)) (λ i block. sym (empty block) i)
           (c.a_fresh_image_stands_for_the_format_tree.ensures g moment image lawful now fresh.homes);
       stamps = made_before g moment image fresh;
     }

@@ -9,7 +9,8 @@ use Rattle.store_promise.proofs.OneSetAttrTold.{answers, changes, history}
 use Rattle.store_promise.proofs.one_setattr.a_run_of_one_setattr_keeps_the_promise.Goals as goal
 
 pub returns : goal.returns
-returns c = λ before opened later g blocks changed tree next first one reply opens geometry stands after_it room went trees
+returns c =
+    λ before opened later g blocks changed tree next first one reply opens geometry stands after_it room went trees
     others rules asks steps.
     record {
       opened = opened;
@@ -19,9 +20,12 @@ returns c = λ before opened later g blocks changed tree next first one reply op
       past = went.past;
       calls = went.clock;
       failures = omega (arith, went.failures);
-      told = none_is_told opened later (told_of (first + 1) one reply).steps went.past went.failures went.clock refl;
-      left = left before opened later tree next first one.position one reply opens went blocks changed trees steps;
-      stops = stops before opened later tree next first one.position one reply opens went blocks changed trees steps;
+      told = none_is_told opened later (told_of (first + 1) one reply).steps went.past went.failures
+          went.clock refl;
+      left = left before opened later tree next first one.position one reply opens went blocks
+          changed trees steps;
+      stops = stops before opened later tree next first one.position one reply opens went blocks
+          changed trees steps;
       last = next;
       leads = (next, steps, refl);
       boot = refl;

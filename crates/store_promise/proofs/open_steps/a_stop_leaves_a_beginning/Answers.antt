@@ -26,8 +26,9 @@ module _ (base : Image) (d : Device) (core : CoreState) (logging installing : Pe
   abbrev rest : List Entry
   rest = drop n entries
 
-  module _ (left : HasPrefix core.log.blocks (IsBoot boot) since.home rest (length rest) (IsSettledOf core.log) image)
-      (homes : homes_of core.log.blocks (over image) ≡ blocks_after base core left.count) where
+  module _ (left : HasPrefix core.log.blocks (IsBoot boot) since.home rest (length rest)
+      (IsSettledOf core.log) image) (homes : homes_of core.log.blocks (over image) ≡ blocks_after base core
+      left.count) where
     abbrev beginning : LeavesBeginning core.log.blocks boot first entries (settled_place core.log) image
     beginning =
         let few = left.few in

@@ -45,8 +45,8 @@ more_entries size boot settled first entries more image left = record {
   good = left.good;
   count = left.count;
   few = let few = left.few in let long = length-append entries more in omega (arith, few, long);
-  prefix = subst (λ (es : List Entry). after first es left.left) (sym (take-append-le left.count entries more left.few))
-      left.prefix;
+  prefix = subst (λ (es : List Entry). after first es left.left)
+      (sym (take-append-le left.count entries more left.few)) left.prefix;
   lasts = left.lasts;
 }
 
@@ -72,19 +72,22 @@ by_clock before d boot settled least first entries kept now low clock image from
         (now image (subst (λ (at : ℕ). IsCrashImage d at image) same crash)) low
 
 pub returns-clause-call : goal.returns-clause-call
-returns-clause-call c = λ before old new base core logging installing boot settled first last entries kept since low later
+returns-clause-call c =
+    λ before old new base core logging installing boot settled first last entries kept since low later
     clock image from to crash.
     let past = later.clock in
     let early : clock ≤ old.clock = omega (arith, past, to) in
     subst (λ (size : ℕ). LeavesBeginning size boot first entries settled image) (sym later.size)
     (by_clock before old boot settled (settled_place core.log) first entries kept
-    (λ left at. c.a_stop_leaves_a_beginning.ensures.files base old core logging installing boot first last entries left since
+    (λ left at. c.a_stop_leaves_a_beginning.ensures.files base old core logging installing boot first last
+    entries left since
     at) low clock image from early (as_before old new clock image later early crash))
 
 pub returns-clause-now : goal.returns-clause-now
 returns-clause-now c = λ before d base core logging installing boot settled first last entries kept since low.
     by_clock before d boot settled (settled_place core.log) first entries kept
-    (λ left at. c.a_stop_leaves_a_beginning.ensures.files base d core logging installing boot first last entries left since
+    (λ left at. c.a_stop_leaves_a_beginning.ensures.files base d core logging installing boot first last
+    entries left since
     at) low
 
 pub returns-clause-longer : goal.returns-clause-longer

@@ -1,4 +1,5 @@
-use Rattle.std.proofs.Common.{◌≡◌, ap, refl, subst, sym, ◌∙◌, Bool, true, false, if◌then◌else◌, not, ◌&&◌, nat_eq}
+use Rattle.std.proofs.Common.{◌≡◌, ap, refl, subst, sym, ◌∙◌, Bool, true, false, if◌then◌else◌, not, ◌&&◌}
+use Rattle.std.proofs.Common.{nat_eq}
 use Rattle.std.proofs.Common.{Result, Ok, Err}
 use Rattle.std.proofs.lemmas.Bool.{eq-eqb}
 use Rattle.disk.specs.Crash.{Image}
@@ -64,12 +65,14 @@ returns-clause-made c = λ base d later core io answer logging boot first last e
     since.over.lawful made since.over.agrees since.over.readable)
 
 pub returns-clause-given_back : goal.returns-clause-given_back
-returns-clause-given_back c = λ base d old new io answer ok logging boot first last entries since answered is log_is back
+returns-clause-given_back c =
+    λ base d old new io answer ok logging boot first last entries since answered is log_is back
     sound.
     let out = made_is_out d base old.log io answer since.over.agrees.installer in
     let is_back : new.log ≡ with_inst_back old.log ok =
     log_is ∙ ap (λ (t : Bool). if t then with_inst_back old.log ok else old.log) out in
-    let home_is : (if is_inst_out old.log io then home_after base old.log ok else base) ≡ home_after base old.log ok =
+    let home_is : (if is_inst_out old.log io then home_after base old.log ok else base) ≡ home_after
+    base old.log ok =
     ap (λ (t : Bool). if t then home_after base old.log ok else base) out in
     open_over base d old new logging (pending.was_made io answer) ok boot first last entries since is_back
     (ap (λ (core : CoreState). core.records) is) (ap (λ (core : CoreState). core.inodes) is)

@@ -35,8 +35,8 @@ module _ (base : Image) (core : CoreState) (boot : ℕ) (tree last : Tree) (entr
 
   -- ---- so it is good
 
-  module _ (k : ℕ) (settled : settled_place core.log - installed_place core.log ≤ k) (few : k ≤ length core.records)
-      (there : (block : ℕ) → IsOutside size block
+  module _ (k : ℕ) (settled : settled_place core.log - installed_place core.log ≤ k)
+      (few : k ≤ length core.records) (there : (block : ℕ) → IsOutside size block
       → over image block ≡ after_commits (opening base core.log) (take k core.records) block) where
     found : (left : Tree) × after tree (take k entries) left
         × Stands files.super.geometry (after_commits (homes_of size (opening base core.log))
@@ -78,6 +78,7 @@ module _ (base : Image) (core : CoreState) (boot : ℕ) (tree last : Tree) (entr
 
 pub returns : goal.returns
 returns c = λ base core boot tree last entries image lawful files boundary.
-    let prefix = c.a_crash_leaves_a_prefix.ensures base core.log core.records (held_of core.present) image lawful
+    let prefix = c.a_crash_leaves_a_prefix.ensures base core.log core.records
+    (held_of core.present) image lawful
     files.home.window boundary in
     left base core boot tree last entries image lawful files boundary prefix.0 prefix.1 prefix.2 prefix.3

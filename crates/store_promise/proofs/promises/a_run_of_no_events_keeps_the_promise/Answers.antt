@@ -127,8 +127,8 @@ returns c = λ before later tree first position workers blocks opened whole.
       failures = omega arith;
       told = tt;
       left = opened.left;
-      stops = λ clock image from to crash. either before later tree first position clock image blocks opened whole from to
-          crash (cases_lt clock later.clock);
+      stops = λ clock image from to crash. either before later tree first position clock image blocks
+          opened whole from to crash (cases_lt clock later.clock);
       last = tree;
       leads = refl;
       boot = refl;
@@ -152,6 +152,7 @@ returns c = λ before later tree first position workers blocks opened whole.
       files = λ place. record {
         left = tree;
         leads = no_entry_after tree place;
-        stands = subst (λ (image : Image). Stands good.super.geometry image tree) (whole there.0 there.1) good.stands;
+        stands = subst (λ (image : Image). Stands good.super.geometry image tree)
+            (whole there.0 there.1) good.stands;
       };
     }

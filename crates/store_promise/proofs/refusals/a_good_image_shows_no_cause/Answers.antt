@@ -15,7 +15,8 @@ module _ (size boot : ℕ) (image : Image) (tree : Tree) (good : IsGoodImage siz
   boot_left = let is = good.boot_is in omega (arith, is, left)
 
   shows_none : (cause : OpenFault) → IsShownBy cause size image → ⊥
-  shows_none fault.Magic (inl none) = has_blocks size (image SUPER_BLOCK) good.super good.is_super good.size_is none
+  shows_none fault.Magic (inl none) = has_blocks size (image SUPER_BLOCK) good.super good.is_super
+      good.size_is none
   shows_none fault.Magic (inr none) = not_magic (image SUPER_BLOCK) good.super good.is_super none
   shows_none fault.Version none = not_version (image SUPER_BLOCK) good.super good.is_super none
   shows_none fault.Range (inl none) = not_range (image SUPER_BLOCK) good.super good.is_super none

@@ -62,19 +62,23 @@ pub returns-clause-call : goal.returns-clause-call
 returns-clause-call c = λ old new made answer calls failed later counts. record {
   past = past_one old new later;
   calls = (let is = ap one_if calls in let clock = later.clock in omega (arith, is, clock));
-  failures = (let is = ap one_if failed in let count = counted old new answer counts in omega (arith, is, count));
+  failures = (let is = ap one_if failed in let count = counted old new answer counts in
+      omega (arith, is, count));
   told = tells_of_its_call old new made answer failed later (counted old new answer counts);
 }
 
 pub returns-clause-step : goal.returns-clause-step
 returns-clause-step c = λ opened old new steps made along moved. record {
   past = past_more opened old new along.past moved.past;
-  calls = (let so_far = along.calls in let more = moved.calls in let count = count_more calls_device steps made in
+  calls = (let so_far = along.calls in let more = moved.calls in
+      let count = count_more calls_device steps made in
       omega (arith, so_far, more, count));
-  failures = (let so_far = along.failures in let more = moved.failures in let count = count_more fails steps made in
+  failures = (let so_far = along.failures in let more = moved.failures in
+      let count = count_more fails steps made in
       omega (arith, so_far, more, count));
   told = told_more new.failed opened.clock steps made
       (still_told old.failed new.failed opened.clock steps
-      (λ number below. moved.past.failed number (let calls = along.calls in omega (arith, below, calls))) along.told)
+      (λ number below. moved.past.failed number
+      (let calls = along.calls in omega (arith, below, calls))) along.told)
       (subst (λ (n : ℕ). TellsFailure new.failed n made) along.calls moved.told);
 }

@@ -8,25 +8,31 @@ use Rattle.store_promise.proofs.ToldLog.{stands_after_commit}
 use Rattle.store_promise.proofs.running.a_worker_keeps_the_run_going.Goals as goal
 
 pub returns-clause-beside : goal.returns-clause-beside
-returns-clause-beside c = λ o base d old new logging installing fetches left boot first last entries run beside sound brought.
+returns-clause-beside c =
+    λ o base d old new logging installing fetches left boot first last entries run beside sound brought.
     record {
-      since = c.a_transaction_leaves_the_store_open.ensures base d old new logging installing boot first last entries
-          run.since beside sound;
+      since = c.a_transaction_leaves_the_store_open.ensures base d old new logging installing boot
+          first last entries run.since beside sound;
       position = subst (λ log. o.position ≤ log.start + length log.changes) (sym beside.log) run.position;
       blocks = run.blocks ∙ sym (ap (λ log. log.blocks) beside.log);
       inodes = run.inodes ∙ sym beside.inodes;
       stands = subst StandsAtHome (sym beside.log) run.stands;
       fetched = brought;
       placed = stay_placed o base base old new (same_places base old new
-          (record { log = same_changes old.log new.log beside.log; inodes = beside.inodes; records = beside.records }))
+          (record {
+            log = same_changes old.log new.log beside.log;
+            inodes = beside.inodes;
+            records = beside.records;
+          }))
           run.placed;
     }
 
 pub returns-clause-read : goal.returns-clause-read
-returns-clause-read c = λ o base d later core logging installing fetches read boot first last entries run has brought.
+returns-clause-read c =
+    λ o base d later core logging installing fetches read boot first last entries run has brought.
     record {
-      since = c.a_read_leaves_the_store_open.ensures base d later core logging installing boot first last entries
-          run.since has;
+      since = c.a_read_leaves_the_store_open.ensures base d later core logging installing boot
+          first last entries run.since has;
       position = run.position;
       blocks = run.blocks;
       inodes = run.inodes;
@@ -36,9 +42,11 @@ returns-clause-read c = λ o base d later core logging installing fetches read b
     }
 
 pub returns-clause-commit : goal.returns-clause-commit
-returns-clause-commit c = λ o base d old new logging installing fetches left boot first last entries tx place plan entry
+returns-clause-commit c =
+    λ o base d old new logging installing fetches left boot first last entries tx place plan entry
     run took sound tells brought.
-    let led = c.a_commit_leaves_the_store_open.ensures base d old new logging installing boot first last entries tx
+    let led = c.a_commit_leaves_the_store_open.ensures base d old new logging installing boot first
+    last entries tx
     place plan entry run.since took sound tells in
     let grown = took.group.grown in (
       led.0,
@@ -55,13 +63,15 @@ returns-clause-commit c = λ o base d old new logging installing fetches left bo
             omega (arith, before, logged, taken, starts, tail, within);
         blocks = run.blocks ∙ sym took.still.blocks;
         inodes = run.inodes ∙ sym (ap (λ (core : CoreState). core.inodes) took.only);
-        stands = stands_after_commit old.log new.log took.group.group run.since.over.lawful grown took.still run.stands;
+        stands = stands_after_commit old.log new.log took.group.group run.since.over.lawful grown
+            took.still run.stands;
         fetched = brought;
-        placed = placed_on o base d old new logging installing boot first last entries tx place plan run.since took
-            run.placed;
+        placed = placed_on o base d old new logging installing boot first last entries tx place plan
+            run.since took run.placed;
       },
     )
 
 pub returns-clause-writes : goal.returns-clause-writes
-returns-clause-writes c = λ o base d old new logging installing fetches boot first last entries tx place plan run took.
+returns-clause-writes c =
+    λ o base d old new logging installing fetches boot first last entries tx place plan run took.
     blocks_now base d old new logging installing boot first last entries tx place plan run.since took

@@ -136,7 +136,8 @@ no_commit base core none count =
 pub returns-clause-runs : goal.returns-clause-runs
 returns-clause-runs c = λ before opened base core tree first o opens new blocks inodes files. record {
   since = c.an_opening_leaves_an_open_store.ensures before opened base core tree first o.position opens new;
-  position = (let at = position_is before opened base core tree first o.position opens new in omega (arith, at));
+  position = (let at = position_is before opened base core tree first o.position opens new in
+      omega (arith, at));
   blocks = blocks ∙ new.agrees.agrees.size;
   inodes = inodes;
   placed = λ count. files (installed_place core.log + count) ∙ sym (no_commit base core new.records count);

@@ -8,13 +8,14 @@ use Rattle.store_promise.specs.Running.{IsFetchOver}
 use Rattle.store_promise.proofs.running.what_was_read_is_at_home.Goals as goal
 
 pub returns-clause-read : goal.returns-clause-read
-returns-clause-read c = λ base d core logging installing boot first last entries fetch since contents read pending.
+returns-clause-read c =
+    λ base d core logging installing boot first last entries fetch since contents read pending.
     read ∙ pending_is_home d base core logging installing fetch.block since.over.tidy since.over.agrees
     since.over.readable contents pending
 
 pub returns-clause-kept : goal.returns-clause-kept
-returns-clause-kept c = λ base old new fetches fewer all. All-weaker (IsFetchOver base old) (IsFetchOver base new)
-    (λ fetch is pending. is (fewer fetch.block pending)) fetches all
+returns-clause-kept c = λ base old new fetches fewer all. All-weaker (IsFetchOver base old)
+    (IsFetchOver base new) (λ fetch is pending. is (fewer fetch.block pending)) fetches all
 
 not_this : (this rest : Bool) → (this ≡ true → ⊥) → (this || rest) ≡ true → rest ≡ true
 not_this true rest none is = absurd (none refl)
@@ -25,11 +26,13 @@ pub returns-clause-wanted : goal.returns-clause-wanted
 returns-clause-wanted c = λ base old new fetches block fetching others all.
     All-weaker (λ fetch. IsFetchOver base old fetch × Contains fetches fetch) (IsFetchOver base new)
     (λ fetch is pending. is.0 (not_this (nat_eq fetch.block.0 block.0) _
-    (λ same. others fetch is.1 (eqb-true fetch.block.0 block.0 same)) (sym (fetching fetch.block) ∙ pending))) fetches
+    (λ same. others fetch is.1 (eqb-true fetch.block.0 block.0 same))
+    (sym (fetching fetch.block) ∙ pending))) fetches
     (λ k fetch at. (all k fetch at, All-contains_itself fetches k fetch at))
 
 pub returns-clause-installed : goal.returns-clause-installed
-returns-clause-installed c = λ base d old new logging installing ok boot first last entries fetches since fewer all.
+returns-clause-installed c =
+    λ base d old new logging installing ok boot first last entries fetches since fewer all.
     All-weaker (IsFetchOver base old) (IsFetchOver _ new)
     (λ fetch is pending.
     is (fewer fetch.block pending)

@@ -3,8 +3,10 @@ use Rattle.store_promise.proofs.Told.{planned_step}
 use Rattle.store_promise.proofs.steps_made.a_call_changes_no_more_than_it_may.Goals as goal
 
 pub returns : goal.returns
-returns c = λ before later tree first workers index worker blocks events t job begun answer is_event less is_step
+returns c =
+    λ before later tree first workers index worker blocks events t job begun answer is_event less is_step
     planning more kept.
-    let step = planned_step kept.setting workers events t.steps kept.taken index worker job begun _ is_event less
+    let step = planned_step kept.setting workers events t.steps kept.taken index worker job begun
+    _ is_event less
     is_step planning in
     let few = step.0 in omega (arith, few, more)

@@ -11,7 +11,8 @@ takes_nothing : (wished : Wished) (progress : Progress) → progress ≡ Idle �
 takes_nothing wished progress idle takes =
     let none : has_taken wished progress ≡ false = ap (has_taken wished) idle in cc
 
-fetches_nothing : (block : BlockNo) (progress : Progress) → progress ≡ Idle → is_fetching block progress ≡ true → ⊥
+fetches_nothing : (block : BlockNo) (progress : Progress) → progress ≡ Idle
+    → is_fetching block progress ≡ true → ⊥
 fetches_nothing block progress idle fetches =
     let none : is_fetching block progress ≡ false = ap (is_fetching block) idle in cc
 

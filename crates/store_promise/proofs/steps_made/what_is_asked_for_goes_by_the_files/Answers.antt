@@ -4,9 +4,11 @@ use Rattle.store_promise.specs.Schedule.{told_before}
 use Rattle.store_promise.proofs.steps_made.what_is_asked_for_goes_by_the_files.Goals as goal
 
 pub returns : goal.returns
-returns c = λ before later tree first workers index worker events t job begun addr mode answer is_event less is_step
+returns c =
+    λ before later tree first workers index worker events t job begun addr mode answer is_event less is_step
     planning none kept.
-    let step = planned_step kept.setting workers events t.steps kept.taken index worker job begun _ is_event less
+    let step = planned_step kept.setting workers events t.steps kept.taken index worker job begun
+    _ is_event less
     is_step planning in
     let place = (told_before events t.steps index).log.places in
     let files = kept.files place in

@@ -11,14 +11,16 @@ use Rattle.store_promise.specs.declared.events.Event.TheVariants as event
 use Rattle.store_promise.specs.declared.events.Step.{Step}
 use Rattle.store_promise.specs.declared.events.Step.TheVariants as step
 use Rattle.store_promise.specs.LogTold.{CallTold, idle, out, was_made}
-use Rattle.store_promise.specs.Progress.{Again, At, Begun, Called, Idle, Planning, Progress, Read, Reading, Refused}
+use Rattle.store_promise.specs.Progress.{Again, At, Begun, Called, Idle, Planning, Progress, Read, Reading}
+use Rattle.store_promise.specs.Progress.{Refused}
 use Rattle.store_promise.specs.Progress.{Stage, Waiting, addrs_of}
 use Rattle.store_promise.specs.Schedule.{HasNumbers, IsCommitting, IsStepByPlan, IsStepOf}
 use Rattle.store_promise.specs.Schedule.{IsStepOfInstaller, IsStepOfLog, IsStepOfWork}
 use Rattle.store_promise.specs.Schedule.{IsStepWith, Setting, Told, objects_at}
 use Rattle.store_promise.proofs.steps_made.what_was_made_stays.Goals as goal
 
-module _ (o : Setting) (told : Told) (later : ℕ → Image) (same : later told.log.places ≡ o.blocks told.log.places) where
+module _ (o : Setting) (told : Told) (later : ℕ → Image)
+    (same : later told.log.places ≡ o.blocks told.log.places) where
   abbrev with_later : Setting
   with_later = record o { blocks = later }
 
@@ -37,7 +39,8 @@ module _ (o : Setting) (told : Told) (later : ℕ → Image) (same : later told.
   commits blocks committing.Full is = (is.0, numbers blocks is.1, is.2)
   commits blocks committing.NoMemory is = (is.0, numbers blocks is.1, is.2)
 
-  by_plan : (worker : ℕ) (call : Call) (begun : Begun) (made : Step) → IsStepByPlan o told worker call begun made
+  by_plan : (worker : ℕ) (call : Call) (begun : Begun) (made : Step)
+      → IsStepByPlan o told worker call begun made
       → IsStepByPlan with_later told worker call begun made
   by_plan worker call begun (step.Wanted addr mode answer) is = (
     record {
@@ -51,8 +54,8 @@ module _ (o : Setting) (told : Told) (later : ℕ → Image) (same : later told.
   by_plan worker call begun (step.Claimed block answer) is = (
     record {
       unclaimed = is.0.unclaimed;
-      claims = subst (λ (blocks : Image). Claims o.geometry call (objects_at blocks (addrs_of begun.held)) block)
-          (sym same)
+      claims = subst (λ (blocks : Image). Claims o.geometry call
+          (objects_at blocks (addrs_of begun.held)) block) (sym same)
           is.0.claims;
     },
     is.1,
@@ -75,7 +78,8 @@ module _ (o : Setting) (told : Told) (later : ℕ → Image) (same : later told.
   by_plan worker call begun (step.InstIo ok) is = is
   by_plan worker call begun (step.InstDone ok) is = is
 
-  with_call : (worker : ℕ) (call : Call) (stage : Stage) (made : Step) → IsStepWith o told worker call stage made
+  with_call : (worker : ℕ) (call : Call) (stage : Stage) (made : Step)
+      → IsStepWith o told worker call stage made
       → IsStepWith with_later told worker call stage made
   with_call worker call Called made is = is
   with_call worker call (Planning begun) made is = by_plan worker call begun made is
@@ -92,7 +96,8 @@ module _ (o : Setting) (told : Told) (later : ℕ → Image) (same : later told.
   of_work worker (At job (Reading begun addr)) made is = is
   of_work worker (At job Called) (Some made) is = is
   of_work worker (At job (Planning begun)) (Some made) is = with_call worker job.call (Planning begun) made is
-  of_work worker (At job (Read begun addr ok)) (Some made) is = with_call worker job.call (Read begun addr ok) made is
+  of_work worker (At job (Read begun addr ok)) (Some made) is =
+      with_call worker job.call (Read begun addr ok) made is
   of_work worker (At job (Refused begun why)) (Some made) is = is
   of_work worker (At job (Again begun)) (Some made) is = is
   of_work worker (At job (Waiting place)) (Some made) is = is

@@ -10,5 +10,6 @@ returns-clause-told c = λ o told number store after block ok is. record { log =
 pub returns-clause-runs : goal.returns-clause-runs
 returns-clause-runs c = λ o base store after ok io content old boot first last entries read brings contents run.
     read_runs o base store after ok io content old boot first last entries brings contents run
-    (c.a_read_leaves_the_store_open.ensures base store.device after store.core store.logging store.installing boot first
+    (c.a_read_leaves_the_store_open.ensures base store.device after store.core store.logging
+    store.installing boot first
     last entries run.since read)

@@ -10,12 +10,13 @@ use Rattle.store_workers.specs.WorkerSteps.{side}
 use Rattle.store_runs.proofs.at_work.a_worker_leaves_the_run_going.Goals as goal
 
 pub returns-clause-beside : goal.returns-clause-beside
-returns-clause-beside c = λ o base store worker new boot first last entries made run goes keeps lawful tidy none.
+returns-clause-beside c =
+    λ o base store worker new boot first last entries made run goes keeps lawful tidy none.
     let old = side worker store.core in
     let beside = stands_beside old new made goes none in
     let sound = sound_core base old new keeps run.fetched run.since.over.files.home lawful tidy in (
-      subst (λ (fetches : List Fetch). IsRunningOver o base (with_core store new.core) fetches boot first entries last)
-          (sym (none_left old new made goes))
+      subst (λ (fetches : List Fetch). IsRunningOver o base (with_core store new.core) fetches boot
+          first entries last) (sym (none_left old new made goes))
           (c.a_worker_keeps_the_run_going.ensures.beside o base store.device store.core new.core store.logging
           store.installing (fetches_of worker) [] boot first last entries run beside sound
           (All-nil (IsFetchOver base new.core))),
@@ -23,23 +24,29 @@ returns-clause-beside c = λ o base store worker new boot first last entries mad
     )
 
 pub returns-clause-committed : goal.returns-clause-committed
-returns-clause-committed c = λ o base store worker new boot number first last entries made run goes keeps lawful tidy
+returns-clause-committed c =
+    λ o base store worker new boot number first last entries made run goes keeps lawful tidy
     worker_at has.
     let old = side worker store.core in
     let sound = sound_core base old new keeps run.fetched run.since.over.files.home lawful tidy in
     let taken = takes_place old new boot number entries made goes worker_at has in
     let entry = entry_by number taken.entry in
-    let left = c.a_worker_keeps_the_run_going.ensures.commit o base store.device store.core new.core store.logging
-    store.installing (fetches_of worker) [] boot first last entries taken.tx taken.place taken.plan entry run taken.took
+    let left = c.a_worker_keeps_the_run_going.ensures.commit o base store.device store.core
+    new.core store.logging
+    store.installing (fetches_of worker) [] boot first last entries taken.tx taken.place taken.plan entry
+    run taken.took
     sound taken.tells (All-nil (IsFetchOver base new.core)) in
     record {
       taken = taken;
       next = taken.took.next ∙ ap (λ (n : ℕ). n + 1) (sym run.since.counted);
       left = left.0;
       goes = left.1;
-      runs = subst (λ (fetches : List Fetch). IsRunningOver (with_blocks o (length entries) (file_blocks base new.core)) base
+      runs = subst (λ (fetches : List Fetch). IsRunningOver
+          (with_blocks o (length entries) (file_blocks base new.core)) base
           (with_core store new.core) fetches boot first (entries ++ entry ∷ []) left.0)
           (sym (none_left old new made goes)) left.2;
-      writes = c.a_worker_keeps_the_run_going.ensures.writes o base store.device store.core new.core store.logging
-          store.installing (fetches_of worker) boot first last entries taken.tx taken.place taken.plan run taken.took;
+      writes = c.a_worker_keeps_the_run_going.ensures.writes o base store.device store.core
+          new.core store.logging
+          store.installing (fetches_of worker) boot first last entries taken.tx taken.place taken.plan
+          run taken.took;
     }

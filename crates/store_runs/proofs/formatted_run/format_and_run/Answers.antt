@@ -33,8 +33,10 @@ returns-clause-promised c = λ sound timely.
     subst (λ n. IsLawful n c.args.inodes) size c.in_ok-format.ensures.lawful in
     let blocks_are : g.blocks ≡ c.args.blocks = left.1 ∙ size in
     let lawful_g : IsLawful g.blocks g.inodes =
-    subst (λ n. IsLawful n g.inodes) (sym blocks_are) (subst (λ n. IsLawful c.args.blocks n) (sym left.2) lawful) in
-    let may = c.a_made_image_may_run.ensures empty before g c.args.made c.args.events.items lawful_g sound timely rest
+    subst (λ n. IsLawful n g.inodes) (sym blocks_are)
+    (subst (λ n. IsLawful c.args.blocks n) (sym left.2) lawful) in
+    let may = c.a_made_image_may_run.ensures empty before g c.args.made c.args.events.items lawful_g
+    sound timely rest
     left.3 in
     record {
       empty = empty;
@@ -46,6 +48,8 @@ returns-clause-promised c = λ sound timely.
       inodes_are = left.2;
       formatted = left.3;
       may = may;
-      answered = is_answered (Unit {0}) before (memory_device c.run.result.0) (format_tree (geometry_of g) c.args.made) 0
-          1 c.args.events.items c.run.result.1 (c.run.ensures.promised (format_tree (geometry_of g) c.args.made) 0) may;
+      answered = is_answered (Unit {0}) before (memory_device c.run.result.0)
+          (format_tree (geometry_of g) c.args.made) 0
+          1 c.args.events.items c.run.result.1
+          (c.run.ensures.promised (format_tree (geometry_of g) c.args.made) 0) may;
     }

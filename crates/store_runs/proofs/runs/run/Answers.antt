@@ -39,12 +39,14 @@ events-init g c =
           } in
           let with = goes_with made.worker store.core
           (subst (λ s. Fits made.worker s.core) same c.new-running.ensures.well.fits) in
-          let going = first_going b o opens.3 store.core made.worker.state store.boot made.calls c.new-run.result begun.1
+          let going = first_going b o opens.3 store.core made.worker.state store.boot made.calls
+          c.new-run.result begun.1
           opens.4.present c.new-running.ensures.worker opens.0 c.new-running.ensures.calls
           (c.new-run.ensures.boot ∙ c.boot.ensures) c.new-run.ensures.empty c.new-running.ensures.stands with in
           let none = c.new-running.ensures.clock in
           subst (λ s. HasGone before tree first c.args.events.items
-          (run_side (g.D.CrashDisk.device s.disk) s.core made.calls made.worker.state made.clock) c.new-run.result)
+          (run_side (g.D.CrashDisk.device s.disk) s.core made.calls made.worker.state made.clock)
+          c.new-run.result)
           (sym same)
           (record { opened = opened; at = record { going = going; clock = omega (arith, none) } }),
     )
@@ -64,7 +66,8 @@ events-preserved g c =
           let long = length-append c.events.yielded (c.in-Some.event ∷ []) in
           omega (arith, told, so_far, long)),
       λ tree first may.
-          gone_on before tree first c.args.events.items (g.D.CrashDisk.keeps_model new.store.disk) c.in-Some.event
+          gone_on before tree first c.args.events.items (g.D.CrashDisk.keeps_model new.store.disk)
+          c.in-Some.event
           (run_side (g.D.CrashDisk.device old.store.disk) old.store.core old.calls old.worker.state old.clock)
           (run_side (g.D.CrashDisk.device new.store.disk) new.store.core new.calls new.worker.state new.clock)
           c.events.run c.take.new.run c.events.yielded _ may.model may items invariant.3
@@ -87,10 +90,12 @@ returns-clause-promised g c = λ tree first may.
     let told = c.match-next.run in
     let disk_is = c.close.ensures ∙ c.end.ensures in
     let keeps = subst g.D.CrashDisk.keeps_model disk_is may.model in
-    let side = run_side (g.D.CrashDisk.device last.store.disk) last.store.core last.calls last.worker.state last.clock in
+    let side = run_side (g.D.CrashDisk.device last.store.disk) last.store.core last.calls
+    last.worker.state last.clock in
     let old = c.events.running in
     let so_far : g.D.CrashDisk.keeps_model old.store.disk → HasGone before tree first events
-    (run_side (g.D.CrashDisk.device old.store.disk) old.store.core old.calls old.worker.state old.clock) c.events.run =
+    (run_side (g.D.CrashDisk.device old.store.disk) old.store.core old.calls old.worker.state old.clock)
+    c.events.run =
     λ kept. invariant.4 tree first
     (record { model = kept; rest = may.rest; good = may.good; alone = refl; timely = may.timely }) in
     let gone : HasGone before tree first events side told = elim c.match-next.branch [
@@ -99,7 +104,8 @@ returns-clause-promised g c = λ tree first may.
           (run_side (g.D.CrashDisk.device r.store.disk) r.store.core r.calls r.worker.state r.clock) told)
           (sym w.running-is)
           (subst (λ t. HasGone before tree first events
-          (run_side (g.D.CrashDisk.device old.store.disk) old.store.core old.calls old.worker.state old.clock) t)
+          (run_side (g.D.CrashDisk.device old.store.disk) old.store.core old.calls
+          old.worker.state old.clock) t)
           (sym w.run-is)
           (so_far (subst (λ r. g.D.CrashDisk.keeps_model r.store.disk) w.running-is keeps)))
       | in-Some+then-not-take w ↦
@@ -110,18 +116,22 @@ returns-clause-promised g c = λ tree first may.
           (run_side (g.D.CrashDisk.device r.store.disk) r.store.core r.calls r.worker.state r.clock) told)
           (sym w.running-is)
           (subst (λ t. HasGone before tree first events
-          (run_side (g.D.CrashDisk.device new.store.disk) new.store.core new.calls new.worker.state new.clock) t)
+          (run_side (g.D.CrashDisk.device new.store.disk) new.store.core new.calls
+          new.worker.state new.clock) t)
           (sym w.run-is)
           (gone_on before tree first events (g.D.CrashDisk.keeps_model new.store.disk) w.in-Some.event
           (run_side (g.D.CrashDisk.device old.store.disk) old.store.core old.calls old.worker.state old.clock)
           (run_side (g.D.CrashDisk.device new.store.disk) new.store.core new.calls new.worker.state new.clock)
           c.events.run w.take.new.run c.events.yielded _ kept
-          (record { model = kept; rest = may.rest; good = may.good; alone = refl; timely = may.timely }) items invariant.3
+          (record { model = kept; rest = may.rest; good = may.good; alone = refl; timely = may.timely })
+          items invariant.3
           (so_far (w.take.ensures.model kept)) w.take.ensures.goes))
     ] in
-    subst (λ disk. KeepsPromise before (g.D.CrashDisk.device disk) tree first c.args.workers events (transcript_of told))
+    subst (λ disk. KeepsPromise before (g.D.CrashDisk.device disk) tree first c.args.workers events
+    (transcript_of told))
     (sym disk_is)
-    (subst (λ n. KeepsPromise before (g.D.CrashDisk.device last.store.disk) tree first n events (transcript_of told))
+    (subst (λ n. KeepsPromise before (g.D.CrashDisk.device last.store.disk) tree first n events
+    (transcript_of told))
     (sym may.alone)
     (promise_kept before tree first events side told (g.met.D.CrashDisk.whole last.store.disk keeps) gone
     c.a_run_keeps_its_promise.ensures))

@@ -10,6 +10,8 @@ invariant-events g l = RunsWell l.running.worker l.running.store.core l.running.
     × (g.D.CrashDisk.keeps_model l.running.store.disk → g.D.CrashDisk.keeps_model l.fn.disk)
     × (l.fn.events.items ≡ l.yielded ++ into_iter_items l.event-iterator)
     × (length l.run.steps.items ≡ length l.yielded)
-    × GoesOnWell (g.D.CrashDisk.keeps_model l.running.store.disk) (g.D.CrashDisk.device l.fn.disk) l.fn.events.items
-    (run_side (g.D.CrashDisk.device l.running.store.disk) l.running.store.core l.running.calls l.running.worker.state
+    × GoesOnWell (g.D.CrashDisk.keeps_model l.running.store.disk) (g.D.CrashDisk.device l.fn.disk)
+    l.fn.events.items
+    (run_side (g.D.CrashDisk.device l.running.store.disk) l.running.store.core l.running.calls
+    l.running.worker.state
     l.running.clock) l.run

@@ -25,7 +25,8 @@ returns-clause-err c =
     let bytes = c.args.bytes.now in
     let are : AreBytes bytes = λ i. omega (arith, c.type_inv.bytes i) in
     under (λ (found : Result (Option Slot) LayoutFault). found ≡ read_slot inodes bytes)
-    (λ found. IfErr found (λ fault. (fault ≡ Range) × ((one : Option Slot) → IsInDirectory inodes bytes one → ⊥)))
+    (λ found. IfErr found (λ fault. (fault ≡ Range)
+    × ((one : Option Slot) → IsInDirectory inodes bytes one → ⊥)))
     (told_err (IsInDirectory inodes bytes) (read_slot inodes bytes)
     (is_read inodes bytes are c.requires) (read_is inodes bytes are c.requires)
     (fault_is inodes bytes are c.requires)) c.read_slot.result c.read_slot.ensures

@@ -6,4 +6,5 @@ use Rattle.plain_server.proofs.names.PlainNames.of_rising.Goals as goal
 pub returns-then-do_names_rise-clause-some : goal.returns-then-do_names_rise-clause-some
 returns-then-do_names_rise-clause-some c =
     entries_named c.args.entries.items
-    (subst T (sym (ap are_sorted (sym c.deref.ensures.value) ∙ sym c.do_names_rise.ensures ∙ c.if-do_names_rise.true)) tt)
+    (subst T (sym (ap are_sorted (sym c.deref.ensures.value) ∙ sym c.do_names_rise.ensures
+    ∙ c.if-do_names_rise.true)) tt)

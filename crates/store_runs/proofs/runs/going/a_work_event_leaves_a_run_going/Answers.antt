@@ -1,4 +1,5 @@
-use Rattle.std.proofs.Common.{◌≡◌, ◌∙◌, ◌+◌, ap, sym, subst, Bool, true, false, List, length, arith, None, refl, not, ◌&&◌}
+use Rattle.std.proofs.Common.{◌≡◌, ◌∙◌, ◌+◌, ap, sym, subst, Bool, true, false, List, length, arith, None}
+use Rattle.std.proofs.Common.{refl, not, ◌&&◌}
 use Rattle.std.proofs.lemmas.List.{length-map, take_all}
 use Rattle.txn_law.specs.Window.{Footprint, after_commits, opening}
 use Rattle.layout.specs.Homes.{homes_of}
@@ -19,7 +20,8 @@ use Rattle.store_runs.proofs.GoingWork.{goes, goes_on, left_by, noted, noting}
 use Rattle.store_runs.proofs.runs.going.a_work_event_leaves_a_run_going.Goals as goal
 
 pub returns-clause-goes : goal.returns-clause-goes
-returns-clause-goes c = λ b clock store worker new core made before mid after is_next going clock_is worked kept last_note.
+returns-clause-goes c =
+    λ b clock store worker new core made before mid after is_next going clock_is worked kept last_note.
     let t = transcript_of before in
     let o = going.setting in
     let entries = entries_of t in
@@ -30,20 +32,25 @@ returns-clause-goes c = λ b clock store worker new core made before mid after i
     let d = store.device in
     let counted : store.core.log.places ≡ length before.history.items =
     sym run.since.counted ∙ length-map before.history.items _ in
-    let notes = c.a_run_notes_its_workers_steps.ensures boot clock old (side new core) made before mid going.stands
+    let notes = c.a_run_notes_its_workers_steps.ensures boot clock old (side new core) made before
+    mid going.stands
     counted worked in
     let all_placed : store.core.log.places ≡ _ = sym run.since.over.files.home.window.all in
     let before_it : o.blocks store.core.log.places ≡ file_blocks going.base store.core =
     ap o.blocks all_placed
     ∙ run.placed (length store.core.records)
-    ∙ ap (λ (rs : List Footprint). after_commits (homes_of store.core.log.blocks (opening going.base store.core.log)) rs)
+    ∙ ap (λ (rs : List Footprint). after_commits
+    (homes_of store.core.log.blocks (opening going.base store.core.log)) rs)
     (take_all (length store.core.records) store.core.records (omega arith)) in
     let places_are : o.blocks (told_now b.events t).log.places ≡ file_blocks going.base store.core =
     ap o.blocks (ap (λ log. log.places) going.run.told.log) ∙ before_it in
-    let may = c.a_workers_step_may_be_made.ensures o (told_now b.events t) 0 going.base store (fetches_of worker) boot
-    b.tree going.last entries run going.run.told run.inodes places_are worker step_to made worked.goes going.at_work
+    let may = c.a_workers_step_may_be_made.ensures o (told_now b.events t) 0 going.base store
+    (fetches_of worker) boot
+    b.tree going.last entries run going.run.told run.inodes places_are worker step_to made
+    worked.goes going.at_work
     going.stands in
-    let told_then = c.a_workers_step_is_told.ensures o (told_now b.events t) 0 store going.run.told worker step_to
+    let told_then = c.a_workers_step_is_told.ensures o (told_now b.events t) 0 store going.run.told
+    worker step_to
     run.since.over.lawful kept.lawful run.position made worked.goes in
     let at_work = subst (λ (s : State). IsCoreAtWork s core) (sym worked.taken)
     (c.a_core_at_work_stays_so.ensures old step_to made boot entries going.at_work going.stands
@@ -52,9 +59,11 @@ returns-clause-goes c = λ b clock store worker new core made before mid after i
     (subst (λ (s : State). GoesWith s core) worked.taken kept.with)) in
     let home : KeepsHomeOf old step_to = kept.home in
     let left =
-    left_by b clock store worker new core made before mid after is_next going clock_is worked kept last_note notes may
+    left_by b clock store worker new core made before mid after is_next going clock_is worked kept
+    last_note notes may
     worked.taken
-    (λ uncommitted. (c.a_worker_leaves_the_run_going.ensures.beside o going.base store worker step_to boot b.tree
+    (λ uncommitted. (c.a_worker_leaves_the_run_going.ensures.beside o going.base store worker
+    step_to boot b.tree
     going.last entries made run worked.goes home kept.lawful kept.tidy uncommitted).0)
     (λ has.
     let goes = c.a_worker_leaves_the_run_going.ensures.committed o going.base store worker step_to boot 0 b.tree
@@ -65,11 +74,14 @@ returns-clause-goes c = λ b clock store worker new core made before mid after i
     ))
     c.counts_make_one_geometry.ensures (ap o.blocks (sym counted) ∙ before_it)
     (noting boot clock (progress_of worker) made before mid notes.history) in
-    let many = noted b clock store worker new core made before mid after is_next going clock_is worked kept last_note notes may in
-    let step = goes b clock store worker new core made before mid after is_next going clock_is worked kept last_note notes
+    let many = noted b clock store worker new core made before mid after is_next going clock_is worked kept
+    last_note notes may in
+    let step = goes b clock store worker new core made before mid after is_next going clock_is worked kept
+    last_note notes
     may left told_then
     (c.a_device_counts_the_calls_of_its_steps.ensures.none d made) in
-    goes_on b clock store worker new core made before mid after is_next going clock_is worked kept last_note notes may left
+    goes_on b clock store worker new core made before mid after is_next going clock_is worked kept last_note
+    notes may left
     told_then (c.a_device_counts_the_calls_of_its_steps.ensures.none d made)
     (c.a_run_goes_on.ensures b o left.later t going.base going.base store _ (fetches_of worker) (fetches_of new)
     going.last left.next many going.run step)

@@ -33,7 +33,8 @@ returns c = λ b number store device worker new made before after is_next conten
     going.stands)
     (moves.call d device (Some (step.Read read.io.block ok)) read.answer refl (failed_is read.answer ok refl)
     read.call.later read.failure)
-    (c.a_read_leaves_the_run_going.ensures.runs o going.base store device ok read.io read.content worker boot b.tree
+    (c.a_read_leaves_the_run_going.ensures.runs o going.base store device ok read.io read.content
+    worker boot b.tree
     going.last (entries_of t) read.call (read.brings tt) contents going.run.running)
     (c.a_read_leaves_the_run_going.ensures.told o (told_now b.events t) 0 store device read.io.block ok
     going.run.told)

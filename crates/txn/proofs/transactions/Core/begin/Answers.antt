@@ -13,10 +13,12 @@ invariant_of-self g c =
 pub returns-clause-keeps : goal.returns-clause-keeps
 returns-clause-keeps g c =
     subst (λ (old : CoreState). KeepsHome old c.begin.new.self) c.self.view_is
-    (begun_home c.self.inside.state c.begin.new.self c.begin.result c.begin.ensures.begun c.begin.ensures.refused)
+    (begun_home c.self.inside.state c.begin.new.self c.begin.result c.begin.ensures.begun
+    c.begin.ensures.refused)
 
 pub returns-clause-stays : goal.returns-clause-stays
 returns-clause-stays g c = λ other.
     subst (λ (old : CoreState). KeepsReads old c.begin.new.self other) c.self.view_is
-    (begun_reads c.self.inside.state c.begin.new.self c.begin.result c.begin.ensures.begun c.begin.ensures.refused
+    (begun_reads c.self.inside.state c.begin.new.self c.begin.result c.begin.ensures.begun
+    c.begin.ensures.refused
     other)

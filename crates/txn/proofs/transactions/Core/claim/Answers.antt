@@ -9,8 +9,10 @@ use Rattle.txn.proofs.transactions.Core.claim.Goals as goal
 pub invariant_of-self : goal.invariant_of-self
 invariant_of-self g c =
     let (addr, whole, done) = c.claim.ensures in
-    claimed_law g.C.Change.is_plan c.self.inside.state c.claim.new.self c.args.tx c.args.block addr c.claim.result
-    whole (subst (λ (old : CoreState). IsOut old c.args.tx) (sym c.self.view_is) c.requires) done c.self.invariant
+    claimed_law g.C.Change.is_plan c.self.inside.state c.claim.new.self c.args.tx c.args.block addr
+    c.claim.result
+    whole (subst (λ (old : CoreState). IsOut old c.args.tx) (sym c.self.view_is) c.requires) done
+    c.self.invariant
 
 pub returns-clause-answer : goal.returns-clause-answer
 returns-clause-answer g c =

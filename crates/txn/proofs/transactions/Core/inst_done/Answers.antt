@@ -34,9 +34,11 @@ returns-clause-keeps g c =
     → IsHomeOf (if is_inst_out before.log c.args.io then home_after base before.log c.args.ok else base)
     c.inst_done.new.self) c.self.view_is
     (λ base h. subst
-    (λ (core : CoreState). IsHomeOf (if is_inst_out old.log c.args.io then home_after base old.log c.args.ok else base)
+    (λ (core : CoreState). IsHomeOf (if is_inst_out old.log c.args.io then home_after base old.log
+    c.args.ok else base)
     core) (sym (c.inst_done.ensures.others ∙ ap (λ (log : Log). installed old log) c.inst_done.ensures.log))
-    (home_inst_done base old (is_inst_out old.log c.args.io) c.args.ok c.self.invariant.log c.self.invariant.tidy h))
+    (home_inst_done base old (is_inst_out old.log c.args.io) c.args.ok c.self.invariant.log
+    c.self.invariant.tidy h))
 
 pub returns-clause-stays : goal.returns-clause-stays
 returns-clause-stays g c = λ other.

@@ -11,23 +11,28 @@ use Rattle.txn.proofs.transactions.Core.inst_next.Goals as goal
 
 pub invariant_of-self : goal.invariant_of-self
 invariant_of-self g c =
-    next_law c.self.inside.state c.inst_next-io.new.self (with_inst_out c.self.inside.state.log) g.C.Change.is_plan c.inst_next-io.result
+    next_law c.self.inside.state c.inst_next-io.new.self (with_inst_out c.self.inside.state.log)
+    g.C.Change.is_plan c.inst_next-io.result
     c.inst_next-io.ensures.some c.inst_next-io.ensures.none c.lawful.ensures
     (λ lawful. lawful_inst_out g.C.Change.is_plan c.self.inside.state lawful c.self.invariant) c.self.invariant
 
 pub returns-clause-law : goal.returns-clause-law
 returns-clause-law g c =
-    subst (λ (old : CoreState). IfSome c.inst_next-io.result (λ io. InstCallGoesOut old.log io c.inst_next-io.new.self.log))
+    subst (λ (old : CoreState). IfSome c.inst_next-io.result
+    (λ io. InstCallGoesOut old.log io c.inst_next-io.new.self.log))
     c.self.view_is c.inst_next-io.ensures.law
 
 pub returns-clause-keeps : goal.returns-clause-keeps
 returns-clause-keeps g c =
     subst (λ (old : CoreState). KeepsHome old c.inst_next-io.new.self) c.self.view_is
-    (next_home c.self.inside.state c.inst_next-io.new.self (with_inst_out c.self.inside.state.log) c.inst_next-io.result
-    c.inst_next-io.ensures.some c.inst_next-io.ensures.none (home_inst_out c.self.inside.state c.self.invariant.log))
+    (next_home c.self.inside.state c.inst_next-io.new.self (with_inst_out c.self.inside.state.log)
+    c.inst_next-io.result
+    c.inst_next-io.ensures.some c.inst_next-io.ensures.none
+    (home_inst_out c.self.inside.state c.self.invariant.log))
 
 pub returns-clause-stays : goal.returns-clause-stays
 returns-clause-stays g c = λ other.
     subst (λ (old : CoreState). KeepsReads old c.inst_next-io.new.self other) c.self.view_is
-    (next_reads c.inst_next-io.result c.self.inside.state c.inst_next-io.new.self (with_inst_out c.self.inside.state.log)
+    (next_reads c.inst_next-io.result c.self.inside.state c.inst_next-io.new.self
+    (with_inst_out c.self.inside.state.log)
     c.inst_next-io.ensures.some c.inst_next-io.ensures.none other)

@@ -11,23 +11,28 @@ use Rattle.txn.proofs.transactions.Core.log_next.Goals as goal
 
 pub invariant_of-self : goal.invariant_of-self
 invariant_of-self g c =
-    next_law c.self.inside.state c.log_next-io.new.self (with_log_out c.self.inside.state.log) g.C.Change.is_plan c.log_next-io.result
+    next_law c.self.inside.state c.log_next-io.new.self (with_log_out c.self.inside.state.log)
+    g.C.Change.is_plan c.log_next-io.result
     c.log_next-io.ensures.some c.log_next-io.ensures.none c.lawful.ensures
     (λ lawful. lawful_log_out g.C.Change.is_plan c.self.inside.state lawful c.self.invariant) c.self.invariant
 
 pub returns-clause-law : goal.returns-clause-law
 returns-clause-law g c =
-    subst (λ (old : CoreState). IfSome c.log_next-io.result (λ io. LogCallGoesOut old.log io c.log_next-io.new.self.log))
+    subst (λ (old : CoreState). IfSome c.log_next-io.result
+    (λ io. LogCallGoesOut old.log io c.log_next-io.new.self.log))
     c.self.view_is c.log_next-io.ensures.law
 
 pub returns-clause-keeps : goal.returns-clause-keeps
 returns-clause-keeps g c =
     subst (λ (old : CoreState). KeepsHome old c.log_next-io.new.self) c.self.view_is
-    (next_home c.self.inside.state c.log_next-io.new.self (with_log_out c.self.inside.state.log) c.log_next-io.result
-    c.log_next-io.ensures.some c.log_next-io.ensures.none (home_log_out c.self.inside.state c.self.invariant.log))
+    (next_home c.self.inside.state c.log_next-io.new.self (with_log_out c.self.inside.state.log)
+    c.log_next-io.result
+    c.log_next-io.ensures.some c.log_next-io.ensures.none
+    (home_log_out c.self.inside.state c.self.invariant.log))
 
 pub returns-clause-stays : goal.returns-clause-stays
 returns-clause-stays g c = λ other.
     subst (λ (old : CoreState). KeepsReads old c.log_next-io.new.self other) c.self.view_is
-    (next_reads c.log_next-io.result c.self.inside.state c.log_next-io.new.self (with_log_out c.self.inside.state.log)
+    (next_reads c.log_next-io.result c.self.inside.state c.log_next-io.new.self
+    (with_log_out c.self.inside.state.log)
     c.log_next-io.ensures.some c.log_next-io.ensures.none other)

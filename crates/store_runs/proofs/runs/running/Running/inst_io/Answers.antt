@@ -24,7 +24,8 @@ returns-clause-step g c =
     let beside = pending_of calls.log calls.log_made in
     let law = c.the_installer_leaves_the_store_open.ensures.made in
     let ok_is : ok ≡ is_ok answer = search rules in
-    let same : made ≡ was_made io answer = ap (λ b. pending_of (Some io) (Some b)) ok_is ∙ answer_is io answer in
+    let same : made ≡ was_made io answer =
+    ap (λ b. pending_of (Some io) (Some b)) ok_is ∙ answer_is io answer in
     let some : calls.inst ≡ Some io = search rules in
     let unmade : calls.inst_made ≡ None = search rules in
     subst (λ r. IsLogStep MayInstIo (side_of d core calls) (Some (step.InstIo ok))

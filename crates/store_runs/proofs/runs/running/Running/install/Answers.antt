@@ -28,7 +28,8 @@ returns-in_default-clause-step g c =
     let may : may_install core.log ≡ true = search rules in
     let is : new ≡ record core { log = with_inst_out core.log } = search rules in
     let log_is : new.log ≡ with_inst_out core.log = ap (λ (core : CoreState). core.log) is in
-    let kept : KeepsTransactions core new = log_alone core new (is ∙ ap (λ l. record core { log = l }) (sym log_is)) c.inst_next.ensures.stays in
+    let kept : KeepsTransactions core new =
+    log_alone core new (is ∙ ap (λ l. record core { log = l }) (sym log_is)) c.inst_next.ensures.stays in
     of_installer MayInstall (Some (step.InstNext c.call-call.result)) d d core new beside idle (out io) _ _
     (none_out calls.inst calls.inst_made (search rules))
     (some_out c.put.new.option calls.inst_made io (search rules) (search rules))
@@ -89,7 +90,8 @@ returns-in-Some-take-clause-step g c =
       home = c.inst_done.ensures.keeps base since.over.files.home;
     }))
     (λ base boot first last entries fetches since all.
-    c.what_was_read_is_at_home.ensures.installed base d core new beside made ok boot first last entries fetches since
+    c.what_was_read_is_at_home.ensures.installed base d core new beside made ok boot first last
+    entries fetches since
     (fewer core new kept) all)
     (λ base boot first last entries since.
     places_home base d core new beside made ok boot first last entries since

@@ -26,7 +26,8 @@ returns-in_default-clause-step g c =
     let may : may_log core.log ≡ true = search rules in
     let is : new ≡ record core { log = with_log_out core.log } = search rules in
     let log_is : new.log ≡ with_log_out core.log = ap (λ (core : CoreState). core.log) is in
-    let kept : KeepsTransactions core new = log_alone core new (is ∙ ap (λ l. record core { log = l }) (sym log_is)) c.log_next.ensures.stays in
+    let kept : KeepsTransactions core new =
+    log_alone core new (is ∙ ap (λ l. record core { log = l }) (sym log_is)) c.log_next.ensures.stays in
     of_logger MayLog (Some (step.LogNext c.call-call.result)) d d core new beside idle (out io) _ _
     (none_out calls.log calls.log_made (search rules))
     (some_out c.put.new.option calls.log_made io (search rules) (search rules))
@@ -59,7 +60,8 @@ returns-in-Some-take-clause-step g c =
     let made = pending_of (Some io) (Some ok) in
     let beside = pending_of calls.inst calls.inst_made in
     let law = c.the_logger_leaves_the_store_open.ensures.given_back in
-    let kept : KeepsTransactions core new = log_alone core new c.log_done.ensures.others c.log_done.ensures.stays in
+    let kept : KeepsTransactions core new =
+    log_alone core new c.log_done.ensures.others c.log_done.ensures.stays in
     let was = answered io ok in
     of_logger MayLog (Some (step.LogDone ok)) d d core new beside made idle _ _
     (some_made calls.log calls.log_made io ok (sym c.take.ensures.value ∙ c.in-Some.is)

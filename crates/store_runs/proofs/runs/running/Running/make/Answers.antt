@@ -19,10 +19,12 @@ use Rattle.store_runs.proofs.runs.running.Running.make.Goals as goal
 
 -- by whether it is the one worker
 by_number : (b : Beginning) (number : ℕ) (old new : StoreSide) (worker later : State) (made : Option Step)
-    (before mid after : Run) → (number ≡ 0 → IsGoing b new later after) → ((number ≡ 0 → ⊥) → IsGoing b new later after)
+    (before mid after : Run) → (number ≡ 0 → IsGoing b new later after)
+    → ((number ≡ 0 → ⊥) → IsGoing b new later after)
     → IsGoing b new later after
 by_number b zero old new worker later made before mid after one other = one refl
-by_number b (suc number) old new worker later made before mid after one other = other (λ zero. absurd (omega (arith, zero)))
+by_number b (suc number) old new worker later made before mid after one other =
+    other (λ zero. absurd (omega (arith, zero)))
 
 pub returns-in-Log-clause-goes : goal.returns-in-Log-clause-goes
 returns-in-Log-clause-goes g c = λ b keeps next at.
@@ -32,15 +34,23 @@ returns-in-Log-clause-goes g c = λ b keeps next at.
     let old = side_of (g.D.CrashDisk.device before.store.disk) before.store.core before.calls in
     let new = side_of (g.D.CrashDisk.device after.store.disk) after.store.core after.calls in
     let with = goes_with after.worker after.store.core c.log-step.ensures.well.fits in
-    taken_on b old new before.worker.state after.worker.state before.clock after.clock c.log-step.result c.args.run.now
-    c.note_step-in-Log.new.self at c.has_few_steps.ensures c.log-step.ensures.clock c.log-step.ensures.step.device
+    taken_on b old new before.worker.state after.worker.state before.clock after.clock c.log-step.result
+    c.args.run.now
+    c.note_step-in-Log.new.self at c.has_few_steps.ensures c.log-step.ensures.clock
+    c.log-step.ensures.step.device
     (subst (λ (s : State). IsGoing b new s c.note_step-in-Log.new.self)
     (sym (ap (λ (w : Worker). w.state) c.log-step.ensures.worker))
-    (c.a_log_event_leaves_a_run_going.ensures b event.Log old new c.log-step.result before.worker.state c.args.run.now
+    (c.a_log_event_leaves_a_run_going.ensures b event.Log old new c.log-step.result before.worker.state
+    c.args.run.now
     c.note_step-in-Log.new.self (subst (λ (e : Event). IsNextEvent b e c.args.run.now) c.in-Log.is next)
     c.log-step.ensures.step
     (subst (λ (w : Worker). GoesWith w.state after.store.core) c.log-step.ensures.worker with)
-    (record { steps = notes.steps; boot = notes.boot; history = ap (λ v. v.items) notes.history; answers = ap (λ v. v.items) notes.answers })
+    (record {
+      steps = notes.steps;
+      boot = notes.boot;
+      history = ap (λ v. v.items) notes.history;
+      answers = ap (λ v. v.items) notes.answers;
+    })
     at.going))
 
 pub returns-in-LogIo-clause-goes : goal.returns-in-LogIo-clause-goes
@@ -51,15 +61,23 @@ returns-in-LogIo-clause-goes g c = λ b keeps next at.
     let old = side_of (g.D.CrashDisk.device before.store.disk) before.store.core before.calls in
     let new = side_of (g.D.CrashDisk.device after.store.disk) after.store.core after.calls in
     let with = goes_with after.worker after.store.core c.log_io-step.ensures.well.fits in
-    taken_on b old new before.worker.state after.worker.state before.clock after.clock c.log_io-step.result c.args.run.now
-    c.note_step-in-LogIo.new.self at c.has_few_steps.ensures c.log_io-step.ensures.clock c.log_io-step.ensures.step.device
+    taken_on b old new before.worker.state after.worker.state before.clock after.clock c.log_io-step.result
+    c.args.run.now
+    c.note_step-in-LogIo.new.self at c.has_few_steps.ensures c.log_io-step.ensures.clock
+    c.log_io-step.ensures.step.device
     (subst (λ (s : State). IsGoing b new s c.note_step-in-LogIo.new.self)
     (sym (ap (λ (w : Worker). w.state) c.log_io-step.ensures.worker))
-    (c.a_log_event_leaves_a_run_going.ensures b event.LogIo old new c.log_io-step.result before.worker.state c.args.run.now
+    (c.a_log_event_leaves_a_run_going.ensures b event.LogIo old new c.log_io-step.result before.worker.state
+    c.args.run.now
     c.note_step-in-LogIo.new.self (subst (λ (e : Event). IsNextEvent b e c.args.run.now) c.in-LogIo.is next)
     c.log_io-step.ensures.step
     (subst (λ (w : Worker). GoesWith w.state after.store.core) c.log_io-step.ensures.worker with)
-    (record { steps = notes.steps; boot = notes.boot; history = ap (λ v. v.items) notes.history; answers = ap (λ v. v.items) notes.answers })
+    (record {
+      steps = notes.steps;
+      boot = notes.boot;
+      history = ap (λ v. v.items) notes.history;
+      answers = ap (λ v. v.items) notes.answers;
+    })
     at.going))
 
 pub returns-in-Install-clause-goes : goal.returns-in-Install-clause-goes
@@ -70,15 +88,23 @@ returns-in-Install-clause-goes g c = λ b keeps next at.
     let old = side_of (g.D.CrashDisk.device before.store.disk) before.store.core before.calls in
     let new = side_of (g.D.CrashDisk.device after.store.disk) after.store.core after.calls in
     let with = goes_with after.worker after.store.core c.install-step.ensures.well.fits in
-    taken_on b old new before.worker.state after.worker.state before.clock after.clock c.install-step.result c.args.run.now
-    c.note_step-in-Install.new.self at c.has_few_steps.ensures c.install-step.ensures.clock c.install-step.ensures.step.device
+    taken_on b old new before.worker.state after.worker.state before.clock after.clock c.install-step.result
+    c.args.run.now
+    c.note_step-in-Install.new.self at c.has_few_steps.ensures c.install-step.ensures.clock
+    c.install-step.ensures.step.device
     (subst (λ (s : State). IsGoing b new s c.note_step-in-Install.new.self)
     (sym (ap (λ (w : Worker). w.state) c.install-step.ensures.worker))
-    (c.a_log_event_leaves_a_run_going.ensures b event.Install old new c.install-step.result before.worker.state c.args.run.now
+    (c.a_log_event_leaves_a_run_going.ensures b event.Install old new c.install-step.result
+    before.worker.state c.args.run.now
     c.note_step-in-Install.new.self (subst (λ (e : Event). IsNextEvent b e c.args.run.now) c.in-Install.is next)
     c.install-step.ensures.step
     (subst (λ (w : Worker). GoesWith w.state after.store.core) c.install-step.ensures.worker with)
-    (record { steps = notes.steps; boot = notes.boot; history = ap (λ v. v.items) notes.history; answers = ap (λ v. v.items) notes.answers })
+    (record {
+      steps = notes.steps;
+      boot = notes.boot;
+      history = ap (λ v. v.items) notes.history;
+      answers = ap (λ v. v.items) notes.answers;
+    })
     at.going))
 
 pub returns-in-InstIo-clause-goes : goal.returns-in-InstIo-clause-goes
@@ -89,15 +115,23 @@ returns-in-InstIo-clause-goes g c = λ b keeps next at.
     let old = side_of (g.D.CrashDisk.device before.store.disk) before.store.core before.calls in
     let new = side_of (g.D.CrashDisk.device after.store.disk) after.store.core after.calls in
     let with = goes_with after.worker after.store.core c.inst_io-step.ensures.well.fits in
-    taken_on b old new before.worker.state after.worker.state before.clock after.clock c.inst_io-step.result c.args.run.now
-    c.note_step-in-InstIo.new.self at c.has_few_steps.ensures c.inst_io-step.ensures.clock c.inst_io-step.ensures.step.device
+    taken_on b old new before.worker.state after.worker.state before.clock after.clock c.inst_io-step.result
+    c.args.run.now
+    c.note_step-in-InstIo.new.self at c.has_few_steps.ensures c.inst_io-step.ensures.clock
+    c.inst_io-step.ensures.step.device
     (subst (λ (s : State). IsGoing b new s c.note_step-in-InstIo.new.self)
     (sym (ap (λ (w : Worker). w.state) c.inst_io-step.ensures.worker))
-    (c.a_log_event_leaves_a_run_going.ensures b event.InstIo old new c.inst_io-step.result before.worker.state c.args.run.now
+    (c.a_log_event_leaves_a_run_going.ensures b event.InstIo old new c.inst_io-step.result before.worker.state
+    c.args.run.now
     c.note_step-in-InstIo.new.self (subst (λ (e : Event). IsNextEvent b e c.args.run.now) c.in-InstIo.is next)
     c.inst_io-step.ensures.step
     (subst (λ (w : Worker). GoesWith w.state after.store.core) c.inst_io-step.ensures.worker with)
-    (record { steps = notes.steps; boot = notes.boot; history = ap (λ v. v.items) notes.history; answers = ap (λ v. v.items) notes.answers })
+    (record {
+      steps = notes.steps;
+      boot = notes.boot;
+      history = ap (λ v. v.items) notes.history;
+      answers = ap (λ v. v.items) notes.answers;
+    })
     at.going))
 
 pub returns-in-Read-clause-goes : goal.returns-in-Read-clause-goes
@@ -122,13 +156,16 @@ returns-in-Read-clause-goes g c = λ b keeps next at.
       answers = ap (λ v. v.items) notes.answers;
     } in
     let going = subst (λ (s : StoreSide). IsGoing b s after.worker.state last) same
-    (c.a_read_leaves_a_run_going.ensures b number old e before.worker.state after.worker.state c.read-step.result told
+    (c.a_read_leaves_a_run_going.ensures b number old e before.worker.state after.worker.state
+    c.read-step.result told
     last (subst (λ (e : Event). IsNextEvent b e told) c.in-Read.is next)
     (has_contents d (g.met.D.CrashDisk.whole before.store.disk (c.read-step.ensures.model keeps)))
     (with_model (g.D.CrashDisk.keeps_model after.store.disk) number d e before.worker.state after.worker.state
     c.read-step.result keeps c.read-step.ensures.step)
-    (subst (λ (core : CoreState). GoesWith after.worker.state core) c.read-step.ensures.rest.1 with) noted at.going) in
-    read_on b old new before.worker.state after.worker.state before.clock after.clock c.read-step.result told last at
+    (subst (λ (core : CoreState). GoesWith after.worker.state core) c.read-step.ensures.rest.1 with)
+    noted at.going) in
+    read_on b old new before.worker.state after.worker.state before.clock after.clock
+    c.read-step.result told last at
     c.has_few_steps.ensures c.read-step.ensures.clock notes.steps going
 
 pub returns-in-Work-clause-goes : goal.returns-in-Work-clause-goes
@@ -160,14 +197,18 @@ returns-in-Work-clause-goes g c = λ b keeps next at.
     (λ zero.
     subst (λ (s : StoreSide). IsGoing b s after.worker.state last) same
     (c.a_work_event_leaves_a_run_going.ensures.goes b before.clock old before.worker.state after.worker.state
-    after.store.core made told mid last (subst (λ (n : ℕ). IsNextEvent b (event.Work n) told) zero is_next) at.going
+    after.store.core made told mid last (subst (λ (n : ℕ). IsNextEvent b (event.Work n) told) zero
+    is_next) at.going
     (clock_told b old before.worker.state before.clock told at)
     (subst (λ (n : ℕ). HasWorked n before.clock (side before.worker.state before.store.core) made
     (side after.worker.state after.store.core) told mid) zero (c.work-step.ensures.step zero))
     (c.work-step.ensures.core zero) noted))
     (λ other.
     let none = c.work-step.ensures.none other in
-    let stays = c.a_work_event_leaves_a_run_going.ensures.absent b c.in-Work.worker old before.worker.state told last is_next
-    other (subst (λ (r : Run). NotesStep None r last) none.2 (subst (λ m. NotesStep m mid last) none.0 noted)) at.going in
-    subst (λ r. IsGoing b (side_of (g.D.CrashDisk.device r.store.disk) r.store.core r.calls) r.worker.state last)
+    let stays = c.a_work_event_leaves_a_run_going.ensures.absent b c.in-Work.worker old before.worker.state
+    told last is_next
+    other (subst (λ (r : Run). NotesStep None r last) none.2
+    (subst (λ m. NotesStep m mid last) none.0 noted)) at.going in
+    subst (λ r. IsGoing b (side_of (g.D.CrashDisk.device r.store.disk) r.store.core r.calls)
+    r.worker.state last)
     (sym none.1) stays))
