@@ -165,8 +165,7 @@ module _ (g : Geometry) (blocks : Image) (tree : Tree) (n : ℕ) (inode : Inode)
       (rules g old.content inode t inode.kind
       (subst (IsFile g old.content) table_is (stands.parts.has.inodes n low))))
       (here_next ∙ sym (ap (file_of g.inodes old.content) at_n
-      ∙ file g old.content inode t g.inodes node file_is))
-      there_next
+      ∙ file g old.content inode t g.inodes node file_is)) there_next
 
   owners : owned g new ≡ owned g old
   owners = same_owners g old new n one
@@ -209,8 +208,7 @@ module _ (g : Geometry) (blocks : Image) (tree : Tree) (n : ℕ) (inode : Inode)
 
   each_block : (number : ℕ) → number < g.blocks → IsBlock (written number)
   each_block number inside = elim (cases_eq number (inode_block g n)) [
-    | inl is ↦ subst (λ k. IsBlock (written k)) (sym is)
-        (subst IsBlock
+    | inl is ↦ subst (λ k. IsBlock (written k)) (sym is) (subst IsBlock
         (sym (here blocks (inode_block g n) (inode_offset n) (inode_bytes new_inode))) (
           spliced-length (blocks (inode_block g n)) (inode_bytes new_inode) (inode_offset n)
               (omega (arith, long, size)) ∙ long,
@@ -218,8 +216,7 @@ module _ (g : Geometry) (blocks : Image) (tree : Tree) (n : ℕ) (inode : Inode)
               (stands.bytes (inode_block g n) on_disk).1 (inode_are new_inode fits),
         ))
     | inr not ↦ subst IsBlock
-        (sym (elsewhere blocks (inode_block g n) (inode_offset n) (inode_bytes new_inode)
-        number
+        (sym (elsewhere blocks (inode_block g n) (inode_offset n) (inode_bytes new_inode) number
         not)) (stands.bytes number inside)
   ]
 

@@ -17,8 +17,8 @@ use Rattle.layout.specs.Places.{is_data, inode_block}
 use Rattle.layout.specs.Places.{inode_offset}
 use Rattle.layout.proofs.Written.{not_same, elsewhere, here, same_bits, same_bits_below}
 
-module _ (g : Geometry) (blocks : Image) (at offset : ℕ) (bytes : List ℕ) (whole : g.inodes % INODES_PER_BLOCK
-    ≡ 0) where
+module _ (g : Geometry) (blocks : Image) (at offset : ℕ) (bytes : List ℕ)
+    (whole : g.inodes % INODES_PER_BLOCK ≡ 0) where
   abbrev written : Image
   written = with_bytes blocks at offset bytes
 

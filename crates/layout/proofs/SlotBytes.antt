@@ -82,8 +82,7 @@ module _ (inodes : ℕ) (bytes : List ℕ) (are : AreBytes bytes) (long : length
         ∙ sym (followed bytes are 0 (8 + count) (SLOT_BYTES - 8 - count) _ _
         (followed bytes are 0 8 count _ _
         (followed bytes are 0 4 4 _ _ (first_four bytes are 0 (omega (arith, long)))
-        (ap four_bytes name-length ∙ first_four bytes are 4 (omega (arith, long))))
-        refl)
+        (ap four_bytes name-length ∙ first_four bytes are 4 (omega (arith, long)))) refl)
         (rest ∙ ap (λ from. take (SLOT_BYTES - 8 - count) (drop from bytes)) there))
 
     pub is_slot : IsSlot inodes bytes (slot_of bytes)

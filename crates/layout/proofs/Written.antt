@@ -72,8 +72,8 @@ part_of blocks block number = take INODE_BYTES (drop (inode_offset number) (bloc
 
 module _ (g : Geometry) (blocks : Image) (n : ℕ) (bytes : List ℕ) (one : Option Inode)
     (whole : g.inodes % INODES_PER_BLOCK ≡ 0) (less : n < g.inodes)
-    (long : length (blocks (inode_block g n)) ≡ BLOCK_BYTES) (size : length bytes
-    ≡ INODE_BYTES)
+    (long : length (blocks (inode_block g n)) ≡ BLOCK_BYTES)
+    (size : length bytes ≡ INODE_BYTES)
     (reads : read_inode g bytes ≡ Ok one) where
   abbrev at : ℕ
   at = inode_block g n

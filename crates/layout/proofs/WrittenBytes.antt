@@ -17,8 +17,7 @@ taken {bytes} k all = record {
     | inl less ↦ subst (λ n. n < 256) (sym (get_or-take k bytes index 0 less)) (all.are index)
     | inr more ↦ subst (λ n. n < 256)
         (sym (get_or_past (take k bytes) index 0 (let long = length-take k bytes in
-        omega (arith, long, more))))
-        (omega arith)
+        omega (arith, long, more)))) (omega arith)
   ];
 }
 
@@ -46,5 +45,4 @@ inode_are i fits = join (join
     (join (four i.ctime.seconds) (four i.ctime.nanoseconds))) (eight i.stamp.boot))
     (eight i.stamp.transaction)))
     (join (join (join (join (four i.parent) (verifiers i.verifier fits.verifier)) (fours i.direct))
-    (four i.indirect))
-    (four 0))
+    (four i.indirect)) (four 0))

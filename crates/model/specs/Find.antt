@@ -39,5 +39,4 @@ stamped number stamp (Some node) = cond (same_stamp stamp node.stamp) (Ok (numbe
 abbrev pub find_file : Tree → List ℕ → Result (ℕ × Node) Status
 find_file tree handle =
     cond (nat_eq (length handle) HANDLE_BYTES && is_number tree (number_in handle))
-    (stamped (number_in handle) (stamp_in handle) (node_at tree (number_in handle)))
-    (Err status.BadHandle)
+    (stamped (number_in handle) (stamp_in handle) (node_at tree (number_in handle))) (Err status.BadHandle)

@@ -1,6 +1,5 @@
-//! READDIR and READDIRPLUS computed in a plain, slow way over trees in memory. Each is proved to be the
-//! step that
-//! `procedures` defines.
+//! READDIR and READDIRPLUS computed in a plain, slow way over trees in memory. Each is proved to be the step
+//! that `procedures` defines.
 #![tactic(auto)]
 
 mod entries;

@@ -1,6 +1,5 @@
-//! CREATE, MKDIR, SYMLINK, LINK, REMOVE and RMDIR computed in a plain, slow way over trees in memory. Each
-//! is proved
-//! to be the step that `procedures` defines.
+//! CREATE, MKDIR, SYMLINK, LINK, REMOVE and RMDIR computed in a plain, slow way over trees in memory. Each is
+//! proved to be the step that `procedures` defines.
 #![tactic(auto)]
 
 mod creating;

@@ -46,8 +46,8 @@ module _ (tree : Tree) (ctx : Ctx) (offset count : ℕ) (stability : Stability) 
   kept = λ i. record { geometry = tree.geometry; nodes = insert_same tree.nodes number node was i }
 
   -- the file alone tells the answer and the tree
-  record Agree (local : Result (Written × Node) Status) (whole : Result
-      (Effect Written) Status) : Type 0 where
+  record Agree (local : Result (Written × Node) Status)
+      (whole : Result (Effect Written) Status) : Type 0 where
     answer_is : answer_of whole ≡ outcome_of local
     tree_is : tree_after tree whole ≡ with_node tree number (node_after node local)
 

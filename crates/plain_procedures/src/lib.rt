@@ -1,7 +1,6 @@
 //! The procedures of NFS version 3 computed in a plain, slow way over trees in memory: those that tell
-//! something, WRITE,
-//! and the parts of which the crates above make those that change names. Each is proved to be the step that
-//! `procedures` defines.
+//! something, WRITE, and the parts of which the crates above make those that change names. Each is proved to
+//! be the step that `procedures` defines.
 #![tactic(auto)]
 
 mod changes;

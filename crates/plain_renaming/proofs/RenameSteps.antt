@@ -63,8 +63,7 @@ module _ (tree next : Tree) (ctx : Ctx) (from name to new_name : List ℕ) (outc
       → told ≡ change_of source.0 source.1 source.1 → new_told ≡ untold
       → RenameStep tree ctx from name to new_name outcome told new_told next
   names_no_target source status is other_is answered leads parts new_parts =
-      step (Ok source) (Err status) is other_is answered leads
-      (parts
+      step (Ok source) (Err status) is other_is answered leads (parts
       ∙ ap (λ a. record { before = Some (before_change source.1); after = a })
       (ap (option_map (attributes_of source.0)) (sym (found-stands tree from source is)))
       ∙ ap (λ t. change_told t (Ok source)) (sym leads)) new_parts

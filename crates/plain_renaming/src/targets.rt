@@ -20,8 +20,7 @@ fn slot_of(body: &PlainBody, name: &[u8]) -> Option<u32>
 }
 
 /// The slot of the new name: that of the entry that it replaces, or within one directory that of the old
-/// name, or the
-/// least free one.
+/// name, or the least free one.
 pub(crate) fn new_slot(
     source: &NumberedNode,
     name: &[u8],

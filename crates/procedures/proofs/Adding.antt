@@ -266,5 +266,4 @@ module _ (tree next : Tree) (lacks after : ℕ → ℕ) (number : ℕ) (old : No
       changed_tree tree next lacks after number (Some old) None change good
       (λ node is. cc)
       (beside tree next lacks after number (Some old) None change good going.unnamed going.others names_none
-      (λ q. refl) no_child_of (good.files number old change.was).least)
-      going.not_root
+      (λ q. refl) no_child_of (good.files number old change.was).least) going.not_root

@@ -50,8 +50,7 @@ module _ {A : Type 0} (tree : Tree) (handle : List ℕ) where
 
   tells : (tell : ℕ → Node → Result A Status)
       → Tells tree handle tell (found_then (find_file tree handle) tell) (told_in tree
-      (find_file tree handle))
-      tree
+      (find_file tree handle)) tree
   tells tell = record { answered = refl; parts = refl; unchanged = refl }
 
   module _ (put : Result A Status → WeakCacheData → Reply) (act : ℕ → Node → Result (Effect A) Status) where

@@ -406,8 +406,7 @@ module _ (tree : Tree) (ctx : Ctx) (fits : Type 0) where
         let placed = placed_by (may_change ctx.credential directory) directory name
         (is_there tree directory name) status.Exist
         ((nat_eq (length target) 0, status.Inval) ∷ (
-          nat_lt TARGET_BYTES
-              (length target),
+          nat_lt TARGET_BYTES (length target),
           status.NameTooLong,
         ) ∷ [])
         (λ there. (neither _ _ there).0) tested in

@@ -143,8 +143,7 @@ found_by p (y ∷ ys) most x small is =
     by true passes rest e =
         let same : y ≡ x = cc in (
           ap p (sym same) ∙ passes,
-          subst (λ n. n < most) same (small 0 0
-              (omega arith)),
+          subst (λ n. n < most) same (small 0 0 (omega arith)),
         )
     by false fails rest e = rest e
 

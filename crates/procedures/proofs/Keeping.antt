@@ -255,8 +255,7 @@ module _ (tree next : Tree) (lacks after : ℕ → ℕ) (number : ℕ) (old new 
       let one : new ≡ node = cc in
       subst (LackingAt next after number) one
       (kept_at tree next lacks after change.geometry number old new
-      (good.files number old change.was) entered_at))
-      entered_beside
+      (good.files number old change.was) entered_at)) entered_beside
       (λ is. entry.directory, λ is. entry.stamp ∙ ap (λ n. n.stamp) (root_was is) ∙ good.root_stamp)
 
 -- A directory that lacks its name gets another parent, below which it doesn't lie.

@@ -294,8 +294,7 @@ module _ (tree : Tree) (ctx : Ctx) (fits : Type 0) (next : Tree) (good : Sound t
         before = λ name entry is. at name ∙ entry_before source.name name source.directory.body entry is;
         old_gone = λ _. entry_gone source.name source.directory.body;
         kept = λ entry is other.
-            entry_kept source.name target.name source.directory.body
-            (λ same_name.
+            entry_kept source.name target.name source.directory.body (λ same_name.
             let both : Some entry ≡ Some named.entry =
             sym is ∙ at target.name ∙ ap (entry_at source.directory.body) same_name ∙ named.entry_is in
             let entry_is : entry ≡ named.entry = cc in

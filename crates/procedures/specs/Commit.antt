@@ -1,6 +1,5 @@
 -- COMMIT (RFC 1813, section 3.3.21). What it makes stable is no matter of the tree: all that was written
--- before
--- it. So its offset and its count are read and change nothing.
+-- before it. So its offset and its count are read and change nothing.
 use Rattle.std.specs.Prelude.{ℕ, not, List, [], ◌∷◌, Option, Result, Ok}
 use Rattle.nfs_types.specs.Verifier.{boot_verifier}
 use Rattle.nfs_types.specs.declared.attributes.WeakCacheData.{WeakCacheData}

@@ -1,6 +1,5 @@
 -- The tests that come first, in this order: of the handle, of what it names, of the name in it, and of what
--- the
--- caller may do there (RFC 1813, sections 2.6, 3.2 and 4.4).
+-- the caller may do there (RFC 1813, sections 2.6, 3.2 and 4.4).
 use Rattle.std.specs.Prelude.{ℕ, Bool, not, ◌&&◌, ◌||◌, List, [], ◌∷◌, length, nat_eq, nat_lt, Option, Some}
 use Rattle.std.specs.Prelude.{None, Result, Ok, Err}
 use Rattle.std.specs.List.{list_any}

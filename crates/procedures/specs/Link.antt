@@ -51,8 +51,8 @@ linking tree ctx file directory name =
     (link tree ctx name number node))
 
 -- Both files are told of.
-pub record LinkStep (tree : Tree) (ctx : Ctx) (file directory name : List ℕ) (outcome : Result
-    (Unit {0}) Status)
+pub record LinkStep (tree : Tree) (ctx : Ctx) (file directory name : List ℕ)
+    (outcome : Result (Unit {0}) Status)
     (told : Option Attributes) (directory_told : WeakCacheData) (next : Tree) : Type 0 where
   pub answered : outcome ≡ answer_of (linking tree ctx file directory name)
   pub leads : next ≡ tree_after tree (linking tree ctx file directory name)

@@ -61,8 +61,7 @@ numbered_step tree ctx new (call.RmDir name) (reply.RmDir outcome told) next =
     RmDirStep tree ctx name.directory.bytes name.name outcome told next
 numbered_step tree ctx new (call.Rename source target) (reply.Rename outcome told tells) next =
     RenameStep tree ctx source.directory.bytes source.name target.directory.bytes target.name outcome told
-    tells
-    next
+    tells next
 numbered_step tree ctx new (call.Link file name) (reply.Link outcome told tells) next =
     LinkStep tree ctx file.bytes name.directory.bytes name.name outcome told tells next
 numbered_step tree ctx new (call.ReadDir directory cookie verifier count) (reply.ReadDir outcome told) next =

@@ -1,7 +1,6 @@
 //! The procedures of NFS version 3 over trees, as definitions: what each may answer and which tree it leads
-//! to
-//! (RFC 1813, section 3.3), and the step of the sequential server over all of them. They stand in `specs/`, one
-//! file a procedure; the functions here have laws about them as their contracts.
+//! to (RFC 1813, section 3.3), and the step of the sequential server over all of them. They stand in
+//! `specs/`, one file a procedure; the functions here have laws about them as their contracts.
 #![tactic(auto)]
 
 mod bits;

@@ -44,8 +44,7 @@ module _ (g : Geometry) (content : Image) (inode : Inode) (some : nat_eq inode.i
   far_pass Regular good file = mapped_far file.mapped
   far_pass Directory good file = mapped_far file.mapped
   far_pass Link good file =
-      let three = all_three (is_sound_file inode) (is_sound_map g inode) (is_sound_link inode)
-      good in
+      let three = all_three (is_sound_file inode) (is_sound_map g inode) (is_sound_link inode) good in
       let rules = all_five (nat_le 1 inode.size) (nat_le inode.size TARGET_BYTES) (nat_eq inode.parent 0)
       (names_first 1 inode.direct) (nat_eq inode.indirect 0)
       (all_two _ (is_none inode.verifier) three.2).0 in

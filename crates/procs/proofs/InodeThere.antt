@@ -64,8 +64,7 @@ module _ (g : Geometry) (blocks : Image) (tree : Tree) (n : ℕ) (inode : Inode)
   is_read = read_fits g
       (take INODE_BYTES (drop (inode_offset n) (blocks (inode_block g n)))) bytes_there
       (part-length INODE_BYTES (inode_offset n) (blocks (inode_block g n))
-      (let whole = (stands.bytes (inode_block g n) on_disk).0 in omega (arith, whole))) inode
-      read
+      (let whole = (stands.bytes (inode_block g n) on_disk).0 in omega (arith, whole))) inode read
 
   pub is_sound : is_sound_kind g inode.kind inode ≡ true
   unfolding is_sound_inode

@@ -146,8 +146,7 @@ module _ (events : Schedule) (t : Transcript) (now : Event) (noted : Noted)
       (number_of events t now noted.made b second.1) first same)
   alone one other a b (inr first) (inl second) same =
       absurd (numbered.unused a.worker a.ctx.transaction other b
-      (number_of events t now noted.made a first.1) second
-      (sym same))
+      (number_of events t now noted.made a first.1) second (sym same))
   alone one other a b (inr first) (inr second) same = first.0 ∙ sym second.0
 
   pub history_on : IsHistory events grown

@@ -261,8 +261,7 @@ module _ (boot : ℕ) (moment : Moment) (failed : ℕ → Bool) where
         → wire.IsNfsReply s (standing_of old files.last) (has_rules asked) xid credential asked bytes
         (standing_of new last)
     by_entry (Some entry) last made after goes past same (inl reply) =
-        by_rules true (left (Some entry) last) made.begun_for.rules
-        (wire.Done entry.reply
+        by_rules true (left (Some entry) last) made.begun_for.rules (wire.Done entry.reply
         (steps entry last made after (goes_on old new files (left (Some entry) last) goes past same))
         (told_as (verdicts.Reply entry.reply) reply.told_is))
     by_entry (Some entry) last made after goes past same (inr un) =

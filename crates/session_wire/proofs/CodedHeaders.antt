@@ -289,8 +289,7 @@ caller_again s fits =
     ∙ rw (
       words.again s.stamp (opaque s.machine
           ++ (word s.caller.uid ++ (word s.caller.gid ++ (gids g ++ [])))) fits.stamp_fits,
-      machines.again s.machine (word s.caller.uid ++ (word s.caller.gid ++ (gids g ++ [])))
-          fits.machine_fits,
+      machines.again s.machine (word s.caller.uid ++ (word s.caller.gid ++ (gids g ++ []))) fits.machine_fits,
       words.again s.caller.uid (word s.caller.gid ++ (gids g ++ [])) fits.uid,
       words.again s.caller.gid (gids g ++ []) fits.gid,
       counted.again g [] (record { few = fits.few; each = fits.gids }),

@@ -51,8 +51,7 @@ abbrev pub on_opening : Result (Opening × List ℕ) XdrFault → Judged
 on_opening (Ok o) =
     if o.0.kind == CALL then
     (if o.0.rpc_version == RPC_VERSION then on_header o.0.xid (header_at o.1)
-    else Refused o.0.xid RpcMismatch)
-    else Closed
+    else Refused o.0.xid RpcMismatch) else Closed
 on_opening (Err e) = Closed
 
 -- no call is closed; then the version of RPC, the rest of the header, the credential, and what is called

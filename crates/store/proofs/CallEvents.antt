@@ -82,8 +82,7 @@ begins o worker timely idle is with opened = record {
   opened = subst (λ (w : State). IsOpenAt opened.base o.store (fetches_of w) o.first (o.entries ++ [])
       o.last) (sym is)
       (subst (λ (es : List Entry). IsOpenAt opened.base o.store [] o.first es o.last)
-      (sym (append-nil o.entries))
-      opened.opened);
+      (sym (append-nil o.entries)) opened.opened);
   stands = subst (λ (w : State). IsWorkerAt o.store.boot (o.entries ++ []) w) (sym is) (record {
     boot_is = refl;
     entry = refl;
@@ -247,8 +246,7 @@ module _ (o : Outset) (now : Opened) (device : Device) (core : CoreState) (worke
           (settled_place now.core.log) o.first entries calling.past stays.past
           calling.further.settled calling.kept
           (subst (λ (boot : ℕ). HasKeptFiles now.device device boot o.first entries
-          (settled_place now.core.log))
-          calling.boot stays.left)
+          (settled_place now.core.log)) calling.boot stays.left)
 
       abbrev settles_on : IsCalling o settled worker
       settles_on = record {
@@ -290,8 +288,7 @@ settled_step o now device core worker waits served waited stepped with = record 
   answer = answer_still o now (store_of device core now.boot)
       (still_after o now device core (told worker) waits served waited) waited.opens.core.begun
       (same_unserved o now device core (told worker) waits served waited) stepped.calling.entry
-      worker.work.answer
-      stepped.answer;
+      worker.work.answer stepped.answer;
 }
 
 -- one store led to another, and that to a third
@@ -427,8 +424,7 @@ again_goes o now worker stepped planning with =
           (begun_of worker.begun.tx (seen_in worker.work.snap) worker.asked.fetched)
           (subst (λ (p : phases.Phase). is_idle (progress_in p worker.work.job
           (begun_of worker.begun.tx (seen_in worker.work.snap) worker.asked.fetched) worker.asked)
-          ≡ true) planning
-          (stepped.ends some));
+          ≡ true) planning (stepped.ends some));
       answer = stepped.answer;
     }
 

@@ -445,8 +445,7 @@ module _ (o : Outset) (now : Opened) (worker : State) (new : Side) (made : Optio
       answer_by None ends is = tt
       answer_by (Some ready) ends is =
           answered_by ready (both_true (not (is_idle (progress_of worker)))
-          (is_idle (progress_of new.worker)) (sym ends))
-          is
+          (is_idle (progress_of new.worker)) (sym ends)) is
 
       pub stepped_on : HasStepped o later new.worker
       unfolding calling_then
@@ -599,8 +598,7 @@ module _ (o : Outset) (now : Opened) (worker : State) (new : Side) (made : Optio
         answer_made None ends is = tt
         answer_made (Some ready) ends is =
             made_answer ready (both_true (not (is_idle (progress_of worker)))
-            (is_idle (progress_of new.worker)) (sym ends))
-            is
+            (is_idle (progress_of new.worker)) (sym ends)) is
 
         pub stepped_with : HasStepped o later new.worker
         unfolding calling_made

@@ -276,8 +276,7 @@ module _ (old new : Side) (addr : Addr) (job : Job) (tx : ℕ) (snap : Snap)
           subst (λ r. r + (3 + (unread new.worker.work * (new.core.log.blocks + 1) + away new.core)) <
           left) (sym rounds)
           (subst (λ u. rounds_left old.worker.work old.core +
-          (3 + (u * (new.core.log.blocks + 1) + away new.core)) < left)
-          (sym counted)
+          (3 + (u * (new.core.log.blocks + 1) + away new.core)) < left) (sym counted)
           (subst (λ b. rounds_left old.worker.work old.core
           + (3 + ((most_asked job.call - (length snap.objects.items + 1)) * (b + 1) + away new.core)) <
           left) (sym blocks)
@@ -418,8 +417,7 @@ goes old new tx made next tx_is is taken free goes_so = of_next next is.plan goe
           committed_so old new tx job done job_is
           (few_of (most_changed is.job.call) planned.1 (few_changed is.job.call))
           made (record (with_snap new.worker old.worker) { begun = none_begun }) has.answer _ refl
-          free has.made_is
-          has.core has.worker
+          free has.made_is has.core has.worker
     ]
       where
         few_of : (most : ℕ) → length (blocks_of done.written) ≤ most → most ≤ CHANGED_BLOCKS
@@ -512,8 +510,7 @@ again old new made has = by old.worker.begun.tx has
         less = subst (λ r. r + whole_round new.worker.work.job new.core.log.blocks
             < left_in Again old.worker.work old.core) (sym (same_rounds old new (ap most_of job) log))
             (subst (λ w. rounds_left old.worker.work old.core + w < left_in Again old.worker.work
-            old.core) (sym whole)
-            (grind (arith)))
+            old.core) (sym whole) (grind (arith)))
 
 pub stepped : (phase : Phase) (old new : Side) (made : Option Step) → IsUnder phase old.core
     → PlansAlone phase old.worker old.core → is_kept_off made ≡ false → GoesOn phase old made new
@@ -541,8 +538,7 @@ given : (old mid new : Side) (is : IsToRead old mid) (read : State) (back : Fetc
     → HasGoneOn (left_in Planning old.worker.work old.core) new.worker new.core
 given old mid new is read back made same work false has =
     nearer (left_in Planning old.worker.work old.core) new.worker new.core _
-    (ap (λ (s : State). s.phase) has.worker) tt
-    (grind (arith))
+    (ap (λ (s : State). s.phase) has.worker) tt (grind (arith))
 given old mid new is read back made same work true has =
     nearer left new.worker new.core Planning (ap (λ (s : State). s.phase) has.worker) tt less
   where
@@ -574,8 +570,7 @@ given old mid new is read back made same work true has =
     less : left_in Planning new.worker.work new.core < left
     less =
         let fewer = fewer_away old.core mid.core new.core is.tx is.addr is.io back is.fetched same
-        has.leaves blocks
-        is.within in
+        has.leaves blocks is.within in
         subst (λ n. n < left) (sym now) (grind (arith))
 
 pub given_on : (old mid new : Side) (is : IsToRead old mid) (read : State) (back : Fetch) (ok : Bool)

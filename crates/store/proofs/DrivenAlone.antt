@@ -88,8 +88,7 @@ pub given_alone : (keeps : Type 0) (before after : Device) (mid read : State) (t
 given_alone keeps before after mid read told core new last reading has alone tidy fits out fetch goes stays =
     let here = read_alone keeps before after mid read told core reading has alone in
     let then_ = stays_alone (side read core) new tidy fits here.fetches stays read.phase last refl out
-    fetch here.plans
-    goes in
+    fetch here.plans goes in
     let room = given_room (is_ok has.answer) (side read core) new last
     (subst (λ p. GoesOn p (side read core) last new) (ap (λ (s : State). s.phase) has.worker) goes) in
     record { fetches = then_.fetches; plans = then_.plans room }

@@ -265,5 +265,4 @@ pub stuck : (core after : CoreState) (is_plan : ℕ → ℕ → List ObjectBytes
 stuck core after is_plan lawful sound no_log no_inst idle same rest =
     at_rest core.log.changes core.log.logged core.log.places (length core.records)
     (none_left core.log lawful.log sound no_log no_inst (sym idle)
-    (sym (rest ∙ ap (λ (c : CoreState). may_install c.log) same)))
-    lawful.home.1.window.all
+    (sym (rest ∙ ap (λ (c : CoreState). may_install c.log) same))) lawful.home.1.window.all

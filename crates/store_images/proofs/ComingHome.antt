@@ -231,8 +231,7 @@ module _ (first : Image) (now next : Device) (log out new : Log) (io : Io)
       subst (StaysOver coming.base out (home_after coming.base out ok)) (sym back)
       (back_over coming.base out out_lawful
       (out_is.1 ∙ coming.logged ∙ ap (λ (cs : List LogChange). length cs) (sym out_is.0))
-      (out_is.2 ∙ coming.taken)
-      ok)
+      (out_is.2 ∙ coming.taken) ok)
 
   pub called_home : IsComingHome first next new
   called_home = record {

@@ -229,8 +229,7 @@ module _ (before : Device) (tree : Tree) (first : ℕ) (holds : HoldsTree before
           by_block block false at there =
               subst (λ (cs : List Content). Contains cs (image block))
               (sym (raises.write.others block (λ (here : block ≡ SUPER_BLOCK). let eq = at in
-              grind (arith, nat_tests))))
-              there
+              grind (arith, nat_tests)))) there
 
       last_left : (image : Image) × IsCrashImage later (later.clock - 1) image
           × IsGoodImage later.size image tree first

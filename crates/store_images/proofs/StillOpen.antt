@@ -165,8 +165,7 @@ open_by May Make Give d e old new out back one two three taken made given furthe
       let a = taken.runs o base fetches boot first last entries run in
       let b = made.runs o (home_next base old.log one) fetches boot first last entries a.running in
       let c = given.runs o (home_next (home_next base old.log one) out.core.log two) fetches boot
-      first last entries
-      b.running in
+      first last entries b.running in
       record {
         home = home_next (home_next (home_next base old.log one) out.core.log two) back.core.log three;
         running = c.running;

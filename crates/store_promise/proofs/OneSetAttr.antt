@@ -70,8 +70,7 @@ module _ (g : Geometry) (blocks changed : Image) (one : OneSetAttr) (room : one.
       )
       then (tt, slot) then (tt, tt) then (tt, refl) then (tt, refl) then (tt, tt) then (tt, refl)
       then (tt, refl) then (tt, tt) then (tt, refl) then (tt, refl) then (tt, tt) then (tt, refl)
-      then (less, (refl, refl))
-      then tt
+      then (less, (refl, refl)) then tt
 
   pub taken : AreTaken o 1 (events_of one) (steps_of one)
   taken = record {

@@ -124,8 +124,7 @@ module _ (one : OneSetAttr) where
       let passed = tested ends_last at_first (events_of one) (steps_of one) refl index e m.0 is_event m.1 in
       let same : nat_eq index 19 ≡ true =
       ends_there (is_idle ((told_at index).workers worker))
-      (is_idle ((told_after (told_at index) e m.0).workers worker)) (nat_eq index 19)
-      (subst
+      (is_idle ((told_after (told_at index) e m.0).workers worker)) (nat_eq index 19) (subst
       (λ w. not (ends_own w (told_at index) (told_after (told_at index) e m.0)) || nat_eq index 19 ≡ true)
       own passed) busy (sym (ap (λ (told : Told). is_idle (told.workers worker)) next) ∙ idle) in
       grind (arith, nat_tests)

@@ -152,8 +152,7 @@ module _ (base : Image) (d : Device) (old new : CoreState) (logging installing :
   there block outside =
       subst (λ (log : Log). opening home log block
       ≡ after_commits (opening base old.log)
-      (take (installed_place log - installed_place old.log) old.records) block)
-      (sym back)
+      (take (installed_place log - installed_place old.log) old.records) block) (sym back)
       (home_moves base old.log old.records (held_of old.present) since.over.lawful files.home.window block ok)
 
   homes_are : after_commits homes (take n old.records) ≡ homes_of new.log.blocks (opening home new.log)

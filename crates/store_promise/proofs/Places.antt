@@ -31,8 +31,7 @@ same_places base old new same = record {
   blocks = λ count.
       ap (λ (image : Image). after_commits image (take count new.records)) (sym (homes_same base old new same))
       ∙ ap (λ (rs : List Footprint). after_commits (homes_of old.log.blocks (opening base old.log))
-      (take count rs))
-      same.records
+      (take count rs)) same.records
       ∙ ap (λ (n : ℕ). blocks_after base old n)
       (let is = installed_same base old new same in omega (arith, is));
 }
@@ -96,8 +95,7 @@ module _ (o : Setting) (base : Image) (d : Device) (old new : CoreState)
           early (installed_place new.log + count) (omega (arith, few, same, whole))
           ∙ ap (λ (n : ℕ). o.blocks (n + count)) same ∙ placed count
           ∙ sym (blocks_kept base d old new logging installing boot first last entries tx place plan
-          since took count
-          few)
+          since took count few)
       by_count false is =
           let many = leb-false count (length old.records) is in
           let same = has.same in

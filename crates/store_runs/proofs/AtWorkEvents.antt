@@ -124,8 +124,7 @@ module _ (o : Setting) (base : Image) (store : StoreSide) (after : Device) (ok :
 
   pub read_runs : IsOpenSince base after store.core store.logging store.installing boot first entries last
       → IsRunningOver o base (record store { device = after })
-      (fetches_of (with_read ok io content old)) boot first
-      entries last
+      (fetches_of (with_read ok io content old)) boot first entries last
   read_runs since = record {
     since = since;
     position = run.position;

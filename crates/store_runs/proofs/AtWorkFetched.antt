@@ -129,8 +129,7 @@ module _ (old new : CoreState) (tx : ℕ) (fetched : List Addr) (addr : Addr) wh
         record {
           taken = some;
           content = io.content;
-          there = leaves.stays addr.block io.content
-              (there_is addr.block
+          there = leaves.stays addr.block io.content (there_is addr.block
               ∙ ap (λ (b : BlockNo). with_content io.block io.content (in_memory old) b) (sym block)
               ∙ ap (λ (b : Bool). if b then Some io.content else in_memory old io.block)
               (eq-eqb io.block.0 io.block.0 refl))

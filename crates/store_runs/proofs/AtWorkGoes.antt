@@ -179,8 +179,7 @@ module _ (old new : Side) (boot number : ℕ) (entries : List Committed) where
         (some_of (λ (j : Job). IsJobIn boot old.worker.begun.tx j) old.worker.work.job job job_is stands);
     own = subst (λ (seen : Option Seen). IsSomeAnd seen (λ seen. All (IsSeenIn seen) done.written))
         (sym next.snap_is) (All-weaker (IsWritable next.snap) (IsSeenIn (seen_of next.snap))
-        (was_seen next.snap) done.written
-        next.plan.0.writable);
+        (was_seen next.snap) done.written next.plan.0.writable);
   }
   place_taken job tx done base (commit.Full back change) added next job_is took is stands has =
       absurd (true≢false (sym has))
@@ -209,8 +208,7 @@ module _ (old new : Side) (boot number : ℕ) (entries : List Committed) where
     claimed = λ tx block made tx_is next was stands has. absurd (true≢false (sym has));
     committed = λ job tx done made tx_is next job_is was.
         place_taken job tx done _ was.answer (added_blocks old.core.log (blocks_of done.written)) next
-        job_is was.core
-        was.worker;
+        job_is was.core was.worker;
     lacked = λ tx made tx_is was stands has. absurd (true≢false (sym has));
     given = given_not;
     refused = λ why job tx made job_is tx_is was stands has. absurd (true≢false (sym has));

@@ -330,8 +330,7 @@ module _ (o : Setting) (told : Told) (number : ℕ) (base : Image) (store : Stor
       from_plan is.job tx is.snap _ is.job_is tx_is is.snap_is
       (commit_may o base store fetches boot first last entries run tx (planned_of done) told number is.job.call
       (begun_of (Some tx) (Some (seen_of is.snap)) worker.asked.fetched) done has.answer new.core
-      is_told is.plan.1
-      has.core off)
+      is_told is.plan.1 has.core off)
 
   lacked_so : (tx : ℕ) (made : Step) → worker.begun.tx ≡ Some tx → HasLacked tx old made new
       → May Planning (Some (step.Ended ending.NoMemory))

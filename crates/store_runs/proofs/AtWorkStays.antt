@@ -167,8 +167,7 @@ module _ (old new : Side) where
         loads_by _ has.worker (given_loads old.worker.begun.tx old.worker.asked io loads
         (fetch_of io io_is at.1)
         (pending io.block ∙ ap (λ (o : Option Fetch). is_fetch_of o io.block) io_is
-        ∙ eq-eqb io.block.0 io.block.0 refl)
-        has.leaves)
+        ∙ eq-eqb io.block.0 io.block.0 refl) has.leaves)
     given_so false io made io_is has phase_is loads at = loads_by _ has.worker tt
 
     loads_cases : Cases old new Stays
@@ -249,8 +248,7 @@ module _ (old new : Side) where
     claimed = λ tx block made tx_is next has room plans. absurd (true≢false (sym room));
     committed = λ job tx done made tx_is next job_is has.
         full_so tx job done _ has.answer (added_blocks old.core.log (blocks_of done.written)) tx_is
-        refl refl has.core
-        has.worker has.seen;
+        refl refl has.core has.worker has.seen;
     lacked = λ tx made tx_is has room plans. absurd (true≢false (sym room));
     given = given_not_full;
     refused = λ why job tx made job_is tx_is has room plans. absurd (true≢false (sym room));

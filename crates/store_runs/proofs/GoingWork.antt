@@ -488,8 +488,8 @@ module _ (b : Beginning) (clock : ℕ) (store : StoreSide) (worker new : State) 
     pub left_by : (has_committed made ≡ false
         → IsRunningOver o going.base then_store (fetches_of worked.state) boot b.tree
         (entries_of t) going.last)
-        → (has_committed made ≡ true → (goes : GoesOnWith o going.base store step_to boot 0 b.tree
-        (entries_of t) going.last
+        → (has_committed made ≡ true →
+        (goes : GoesOnWith o going.base store step_to boot 0 b.tree (entries_of t) going.last
         (side worker store.core)) × HasFileBlocks going.base core goes.left)
         → ((g h : Geometry) → g.blocks ≡ h.blocks → g.inodes ≡ h.inodes → g ≡ h)
         → o.blocks (length t.history) ≡ file_blocks going.base store.core

@@ -289,8 +289,7 @@ module _ (boot : ℕ) (entries : List Entry) (old new : Side) where
       ∙ ap (λ j. progress_as (phase_claimed has.answer) j (begun_claimed has.answer).tx
       (seen_claimed block has.answer (seen_in (Some next.snap))) old.worker.asked) next.job_is
       ∙ claimed_told old.core.log.broken next.job tx _ old.worker.asked old.core new.core block
-      has.core.0 has.answer
-      has.core.2
+      has.core.0 has.answer has.core.2
       ∙ sym (planned (step.Claimed block (claim_wish has.answer)) next.job tx _ next.job_is tx_is next.snap_is)
 
   commits : (job : Job) (tx : ℕ) (done : Outcome) (made : Step) → old.worker.begun.tx ≡ Some tx
@@ -323,8 +322,7 @@ module _ (boot : ℕ) (entries : List Entry) (old new : Side) where
       ∙ ap (λ j. progress_as (phase_given ok) j old.worker.begun.tx (seen_in old.worker.work.snap)
       (with_fetched old.worker.asked)) job_is
       ∙ given_told old.core.log.broken io job old.worker.begun.tx (seen_in old.worker.work.snap)
-      old.worker.asked ok
-      addr wish_is
+      old.worker.asked ok addr wish_is
       ∙ sym (with_call (Read ok) job (given_step ok io) job_is)
 
   leaves : (tx : ℕ) (made : Step) → HasLeft tx old made new → IsToldBy Again (Some (step.Ended ending.Again))

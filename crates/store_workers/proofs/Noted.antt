@@ -144,8 +144,7 @@ module _ (boot clock : ℕ) (old : Side) (made : Option Step) (new : Side) (befo
         (tells.answer.ends ∙ ap (λ p. not (is_idle (progress_of old.worker)) && is_idle p) (sym progress_same))
         has.tells.answers
         (subst (λ e. IfSome has.state.work.answer (IsAnswerOf e (progress_of old.worker) made))
-        (sym noted_entries)
-        tells.answer.is_of);
+        (sym noted_entries) tells.answer.is_of);
     steps = has.tells.steps;
     boot_is = has.tells.boot;
     stands = subst (λ s. IsWorkerAt boot (entries_of (transcript_of after)) s) (sym has.taken)

@@ -170,8 +170,7 @@ module _ (core mid : CoreState) (job : Job) (tx : ℕ) (snap : Snap) (addr : Add
         were = one_asked_once snap.geometry job.call snap.objects.items object has.were is_plan.1 is_plan.0;
         read = All-push (IsReadBy mid tx) snap.objects.items object
             (All-weaker (IsReadBy core tx) (IsReadBy mid tx) (λ object is. reads object is)
-            snap.objects.items has.read)
-            held.read;
+            snap.objects.items has.read) held.read;
         exclusive = all_exclusive core mid tx addr taken refl (alone_for_reading tx addr)
             (λ a. held.leaves.holds tx a) has.exclusive;
         asked = all_asked core mid tx addr taken refl (alone_for_reading tx addr) (λ a. held.leaves.holds tx a)
@@ -500,13 +499,11 @@ module _ (old new : Side) (tidy : AreTidy old.core) (fits : IsCoreOf old.worker 
       (beginning old new made has)
   stays_alone Planning (Some made) at out fetch plans has =
       planned_so has.tx has.tx_is (no_fetch old.worker.begun.io old.core fetch fetches) made has.next
-      has.next_is plans
-      has.goes
+      has.next_is plans has.goes
   stays_alone (Read ok) (Some made) at out fetch plans has = read_so ok made old.worker.begun.io refl plans has
   stays_alone (Refused why) (Some made) at out fetch plans has =
       refused_so why made (no_fetch old.worker.begun.io old.core fetch fetches) old.worker.work.job
-      old.worker.begun.tx
-      refl has
+      old.worker.begun.tx refl has
   stays_alone Again (Some made) at out fetch plans has =
       left_so made (no_fetch old.worker.begun.io old.core fetch fetches) old.worker.begun.tx refl has
   stays_alone (Waiting place) (Some made) at out fetch plans has = waited_so place made at has

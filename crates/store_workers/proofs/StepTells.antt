@@ -479,8 +479,7 @@ module _ (boot number : ℕ) (entries : List Entry) (old new : Side) (at : IsWor
             is_entry = c_is;
             placed = p;
             told = v ∙ ap (λ (r : Reply). verdict.Reply r) (sym reply);
-          })
-          at.entry)
+          }) at.entry)
 
       broken_told : IsSomeAnd old.worker.work.broken_reply (λ reply. new.worker
           ≡ with_answer (verdict.Reply reply) (Some place) (without_broken_reply old.worker))

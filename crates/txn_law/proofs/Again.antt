@@ -39,8 +39,7 @@ same_addr a b block offset len =
     (subst (λ (n : ℕ). (some : 0 < n) (within : a.offset + n ≤ BLOCK_BYTES)
     → a ≡ addr_of a.block.0 a.offset n some within) len
     (λ some within. λ i. addr_of a.block.0 a.offset a.len (le_prop a.some some i)
-    (le_prop a.within within i)) b.some)
-    b.within)
+    (le_prop a.within within i)) b.some) b.within)
 
 overlap_back : (a b : Addr) → Overlap a b → Overlap b a
 overlap_back a b (same, less, more) = (sym same, more, less)

@@ -103,8 +103,7 @@ module _ (base : Image) (old new : Log) (commits : List Footprint) (held kept : 
       let few : length commits ≡ 0 = omega (arith, window.all) in
       let empty : commits ≡ [] = empty_list commits (ap (λ n. nat_eq n 0) few) in
       let kept_out : with_commit new commit commits ≡ [] =
-      ap (λ (t : Bool). if t then commits ++ commit ∷ []
-      else commits)
+      ap (λ (t : Bool). if t then commits ++ commit ∷ [] else commits)
       (not_below (installed_place new) commit.place (omega (arith, at, grows.places, place))) ∙ empty in
       let changes : new.changes ≡ [] =
       no_changes new.changes (λ block. grows.behind 0 (omega arith) block
@@ -302,8 +301,7 @@ module _ (base : Image) (old new : Log) (commits : List Footprint) (held kept : 
           ∙ ap (λ (t : Bool). if t then old.places + 1 else installed_place old) e in
           let le : installed_place old ≤ old.places = place_le old.changes old.places 0 lawful.rising in
           let same : with_commit new commit commits ≡ commits ++ commit ∷ [] =
-          ap (λ (t : Bool). if t then commits ++ commit ∷ []
-          else commits)
+          ap (λ (t : Bool). if t then commits ++ commit ∷ [] else commits)
           (below (installed_place new) commit.place (omega (arith, at, grows.places, place, le))) in
           subst (λ cs. IsWindowOver base new cs kept) (sym same)
           (more (subst (λ cs. All (ArePinned kept) cs) same pinned) place)

@@ -198,7 +198,6 @@ module _ (base : Image) (old : CoreState) (tx : ℕ) (plan : Planned) (group : L
       ≡ with_objects now plan.written block
   core_now block =
       sym (tail_is_now base log (with_commit log commit old.records)
-      (held_of (committed old tx plan log).present) block
-      core_committed)
+      (held_of (committed old tx plan log).present) block core_committed)
       ∙ all_new base old.log log old.records (held_of old.present) [] commit group lawful h.grown refl
       is_brought (All-nil (IsCurrent (with_objects now plan.written))) window block

@@ -86,8 +86,7 @@ core_fetched base core block content none is h =
     window_swept base core.log core.records core.holds (filled core.present block content)
     (other_memory base core.log core.records (held_of core.present) kept
     (all_filled (IsCurrent now) block content (is
-    ∙ home_is_current base core.log core.records (held_of core.present) block.0 none h) core.present
-    h.memory)
+    ∙ home_is_current base core.log core.records (held_of core.present) block.0 none h) core.present h.memory)
     (All-weaker (ArePinned (held_of core.present)) (ArePinned kept)
     (λ commit pins. All-weaker (IsPinned (held_of core.present)) (IsPinned kept)
     (λ object pin. (pin.0, in_filled object.addr.block.0 pin.0 block content core.present pin.1)) commit.read

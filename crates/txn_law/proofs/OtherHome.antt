@@ -154,8 +154,7 @@ module _ (base : Image) (log : Log) (commits : List Footprint) (held : List (ℕ
         (subst (λ (n : ℕ). Contains held (n, (h.pinned k d lt i o less).0)) found (h.pinned k d lt i o less).1),
     λ i o less found. not_written (get_or (get_or commits k d).written i o) found
         ((subst (λ (n : ℕ). All (AreInLog log.changes) (drop n commits)) first
-        (h.written 0 (at_first refl))) k d lt i o
-        less),
+        (h.written 0 (at_first refl))) k d lt i o less),
   )
 
   leads : (n : ℕ) (cs : List Footprint) → All (AreElsewhere at) cs

@@ -125,8 +125,7 @@ module _ (holds : List Hold) (kept : List Footprint) (present : List Present) wh
       → All (IsPinned (held_of (swept holds kept present))) objects
   pinned_objects [] within h = All-nil (IsPinned (held_of (swept holds kept present)))
   pinned_objects (o ∷ os) within h = All-cons (IsPinned (held_of (swept holds kept present))) o os
-      (pinned_one o
-      (within o.addr.block
+      (pinned_one o (within o.addr.block
       (ap (λ t. t || lies_in os o.addr.block) (eq-eqb o.addr.block.0 o.addr.block.0 refl)))
       (All-head (IsPinned (held_of present)) o os h))
       (pinned_objects os (λ block e. within block (ap (λ t. nat_eq o.addr.block.0 block.0 || t) e

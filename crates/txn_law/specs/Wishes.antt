@@ -64,8 +64,7 @@ pub record IsFetched (old : CoreState) (tx : ℕ) (addr : Addr) (mode : Mode) (i
 -- A block is taken for writing, alone.
 pub record IsTaken (old : CoreState) (tx : ℕ) (addr : Addr) (new : CoreState) : Type 0 where
   pub only : TakesOnly old new
-  pub leaves : Leaves new (with_taken (for_writing tx addr) (taken_by old)) (is_fetching old)
-      (in_memory old)
+  pub leaves : Leaves new (with_taken (for_writing tx addr) (taken_by old)) (is_fetching old) (in_memory old)
   pub written : IsWrittenBy new tx addr
 
 -- the address of a whole block

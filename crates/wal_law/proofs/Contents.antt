@@ -103,8 +103,8 @@ one_member one other (i, h, e) = let at : i ≡ 0 = omega (arith, h) in
     ap (λ n. get_or (one ∷ []) n other) (sym at) ∙ e
 
 -- a write leaves of its block what it left before, and what it wrote
-pub leaves_written : (old new : Device) (block : ℕ) (wrote : Content) (r : Result Unit Failed) (P : Content
-    → Type 0)
+pub leaves_written : (old new : Device) (block : ℕ) (wrote : Content) (r : Result Unit Failed)
+    (P : Content → Type 0)
     → HasWritten old block wrote r new
     → P wrote → LeavesOnly old block P → LeavesOnly new block P
 leaves_written old new block wrote r P h holds before content there = appended r h.written

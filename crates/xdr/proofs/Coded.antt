@@ -66,15 +66,15 @@ Takes-then a x b y c p q = record {
 }
 
 -- reading and spelling fit each other, for values that fit
-pub record Coded {A : Type 0} (spelled : A → List ℕ) (Fits : A → Type 0) (read : List ℕ
-    → Result (A × List ℕ) XdrFault) : Type 0 where
+pub record Coded {A : Type 0} (spelled : A → List ℕ) (Fits : A → Type 0)
+    (read : List ℕ → Result (A × List ℕ) XdrFault) : Type 0 where
   pub takes : (bytes : List ℕ) (x : A) (rest : List ℕ) → IsBytes bytes → read bytes ≡ Ok (x, rest)
       → Takes bytes (spelled x) rest × Fits x
   pub again : (x : A) (rest : List ℕ) → Fits x → read (spelled x ++ rest) ≡ Ok (x, rest)
 
 -- two values that are spelled alike are one, whatever follows them
-pub alike : {A : Type 0} (spelled : A → List ℕ) (Fits : A → Type 0) (read : List ℕ
-    → Result (A × List ℕ) XdrFault) → Coded spelled Fits read
+pub alike : {A : Type 0} (spelled : A → List ℕ) (Fits : A → Type 0)
+    (read : List ℕ → Result (A × List ℕ) XdrFault) → Coded spelled Fits read
     → (x y : A) (a b : List ℕ) → Fits x → Fits y → spelled x ++ a ≡ spelled y ++ b → (x ≡ y) × (a ≡ b)
 alike spelled Fits read coded x y a b p q e =
     let both : done (x, a) ≡ done (y, b) = sym (coded.again x a p) ∙ ap read e ∙ coded.again y b q in
@@ -264,8 +264,8 @@ strings bound small = record { takes = opaque_takes bound; again = opaque_again 
 
 -- ---- what may be absent
 
-by_flag : {A : Type 0} (spelled : A → List ℕ) (Fits : A → Type 0) (read : List ℕ
-    → Result (A × List ℕ) XdrFault) → Coded spelled Fits read
+by_flag : {A : Type 0} (spelled : A → List ℕ) (Fits : A → Type 0)
+    (read : List ℕ → Result (A × List ℕ) XdrFault) → Coded spelled Fits read
     → (bytes : List ℕ) (y : Option A × List ℕ) (b : Bool) (r : List ℕ) → Takes bytes (flag b) r
     → cond b (read r >>= λ x. Ok (Some x.0, x.1)) (Ok (None, r)) ≡ Ok y
     → Takes bytes (optional spelled y.0) y.1 × IfSome y.0 Fits
@@ -281,8 +281,8 @@ by_flag {A} spelled Fits read coded bytes y false r t h =
     subst (λ (z : Option A × List ℕ). Takes bytes (optional spelled z.0) z.1
     × IfSome z.0 Fits) (ok_is made y h) (t, tt)
 
-optional_takes : {A : Type 0} (spelled : A → List ℕ) (Fits : A → Type 0) (read : List ℕ
-    → Result (A × List ℕ) XdrFault) → Coded spelled Fits read
+optional_takes : {A : Type 0} (spelled : A → List ℕ) (Fits : A → Type 0)
+    (read : List ℕ → Result (A × List ℕ) XdrFault) → Coded spelled Fits read
     → (bytes : List ℕ) (o : Option A) (rest : List ℕ) → IsBytes bytes → optional_at read bytes ≡ Ok (o, rest)
     → Takes bytes (optional spelled o) rest × IfSome o Fits
 optional_takes spelled Fits read coded bytes o rest fits e =
@@ -290,8 +290,8 @@ optional_takes spelled Fits read coded bytes o rest fits e =
     let t = flags.takes bytes a.0.0 a.0.1 fits a.1 in
     by_flag spelled Fits read coded bytes (o, rest) a.0.0 a.0.1 t.0 a.2
 
-optional_again : {A : Type 0} (spelled : A → List ℕ) (Fits : A → Type 0) (read : List ℕ
-    → Result (A × List ℕ) XdrFault) → Coded spelled Fits read
+optional_again : {A : Type 0} (spelled : A → List ℕ) (Fits : A → Type 0)
+    (read : List ℕ → Result (A × List ℕ) XdrFault) → Coded spelled Fits read
     → (o : Option A) (rest : List ℕ) → IfSome o Fits
     → optional_at read (optional spelled o ++ rest) ≡ Ok (o, rest)
 optional_again spelled Fits read coded None rest h = rw (flags.again false rest tt) refl
@@ -299,8 +299,8 @@ optional_again spelled Fits read coded (Some x) rest h =
     ap (optional_at read) (append_assoc (flag true) (spelled x) rest)
     ∙ rw (flags.again true (spelled x ++ rest) tt, coded.again x rest h) refl
 
-pub optionals : {A : Type 0} (spelled : A → List ℕ) (Fits : A → Type 0) (read : List ℕ
-    → Result (A × List ℕ) XdrFault) → Coded spelled Fits read
+pub optionals : {A : Type 0} (spelled : A → List ℕ) (Fits : A → Type 0)
+    (read : List ℕ → Result (A × List ℕ) XdrFault) → Coded spelled Fits read
     → Coded (optional spelled) (λ o. IfSome o Fits) (optional_at read)
 optionals spelled Fits read coded = record {
   takes = optional_takes spelled Fits read coded;

@@ -31,8 +31,7 @@ returns-in_err-read_entry c =
 pub loop-entries-smaller : goal.loop-entries-smaller
 loop-entries-smaller c = omega (
   arith,
-  flag_shrinks c.loop-entries.reader c.in_ok-flag.field-0 c.flag.new.self
-      c.in_ok-flag.ensures,
+  flag_shrinks c.loop-entries.reader c.in_ok-flag.field-0 c.flag.new.self c.in_ok-flag.ensures,
   entry_is.shrinks c.flag.new.self c.in_ok-read_entry.field-0 c.read_entry.new.reader
       c.in_ok-read_entry.ensures,
 )

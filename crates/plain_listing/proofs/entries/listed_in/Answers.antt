@@ -19,8 +19,7 @@ returns-in_ok-name-in-Some c =
     (λ i. Some (record {
       number = entry.number;
       name = c.in_ok-name-in-Some.ensures i;
-      cookie = slot +
-          FIRST_SLOT_COOKIE;
+      cookie = slot + FIRST_SLOT_COOKIE;
     }))
     ∙ ap (option_map (put slot)) (sym (found_slot slot c.as_slice-entries.result.now c.in-Some.index entry
     (sym c.slot_position.ensures ∙ c.in-Some.is) c.index-entries-index.is))

@@ -11,11 +11,9 @@ pub with_linked-requires : goal.with_linked-requires
 with_linked-requires c =
     let entry : DirectoryEntry = record { number = c.args.file.now.number; slot = c.args.slot } in
     links_stay (tree_of c.args.tree.now) _ c.args.at c.args.file.now.number
-    (entered_with c.args.moment c.args.name.now entry 0) (λ d. omega arith)
-    (c.in_ok-named.ensures
+    (entered_with c.args.moment c.args.name.now entry 0) (λ d. omega arith) (c.in_ok-named.ensures
     ∙ ap (λ t. changed_at t c.args.at (entered_with c.args.moment c.args.name.now entry 0))
-    c.in_ok-old.ensures.cases)
-    c.requires.room
+    c.in_ok-old.ensures.cases) c.requires.room
 
 pub returns : goal.returns
 returns c =

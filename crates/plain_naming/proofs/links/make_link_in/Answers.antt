@@ -24,7 +24,6 @@ returns-in_ok-make-in-None c =
     let ctx = c.args.ctx.now in
     c.in_ok-make-in-None.ensures
     ∙ (λ i. make tree ctx (least_unused tree) directory.0 directory.1 c.args.name.now
-    (c.without_size-wanted.ensures i)
-    ((c.fresh-node.ensures
+    (c.without_size-wanted.ensures i) ((c.fresh-node.ensures
     ∙ ap (λ target. fresh ctx NEW_LINK_MODE None (Link target)) c.in_ok-copied-in-None.ensures) i))
     ∙ unless_none _ _ (sym c.link_refusal.ensures ∙ c.in-None.is)

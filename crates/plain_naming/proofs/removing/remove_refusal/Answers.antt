@@ -12,8 +12,7 @@ use Rattle.plain_naming.proofs.removing.remove_refusal.Goals as goal
 
 abbrev rest : List ℕ → Option (ℕ × Node) → List (Bool × Status)
 rest name found = (is_own_name name, status.IsDir) ∷ (is_none found, status.NoEnt) ∷ (
-  is_found_directory
-      found,
+  is_found_directory found,
   status.IsDir,
 ) ∷ []
 

@@ -15,5 +15,4 @@ returns-in_ok-unnamed-in-Some c =
     (departed_with c.args.moment c.args.name.now links))
     c.args.moment file.number (node_of file.node)) c.parent_links-links.ensures.is
     ∙ ap (λ f. without_name tree c.args.moment c.args.directory c.args.name.now
-    (option_map (λ g. numbered g.now) f))
-    (sym c.in-Some.is)
+    (option_map (λ g. numbered g.now) f)) (sym c.in-Some.is)

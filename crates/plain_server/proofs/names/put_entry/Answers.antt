@@ -8,8 +8,7 @@ pub returns-then-is_same-clause-ok : goal.returns-then-is_same-clause-ok
 returns-then-is_same-clause-ok c =
     put_placed c.args.entries.now.items c.in-Some.index c.args.entry c.index.result.now true
     ((λ i. position (λ e. is_le (order (sym c.as_slice.ensures i) e.name)) (sym c.deref.ensures.value i))
-    ∙ sym c.position_from.ensures ∙ c.in-Some.is)
-    c.index.ensures
+    ∙ sym c.position_from.ensures ∙ c.in-Some.is) c.index.ensures
     (sym c.if-is_same.true ∙ c.is_same.ensures
     ∙ (λ i. eq (c.as_slice-in-Some.ensures i) (c.as_slice-in-Some-2.ensures i)))
 
@@ -18,8 +17,7 @@ returns-in_ok-insert-in-Some-clause-ok c =
     ap (map entry_of) c.in_ok-insert-in-Some.ensures.items
     ∙ put_placed c.args.entries.now.items c.in-Some.index c.args.entry c.index.result.now false
     ((λ i. position (λ e. is_le (order (sym c.as_slice.ensures i) e.name)) (sym c.deref.ensures.value i))
-    ∙ sym c.position_from.ensures ∙ c.in-Some.is)
-    c.index.ensures
+    ∙ sym c.position_from.ensures ∙ c.in-Some.is) c.index.ensures
     (sym c.if-is_same.false ∙ c.is_same.ensures
     ∙ (λ i. eq (c.as_slice-in-Some.ensures i) (c.as_slice-in-Some-2.ensures i)))
 

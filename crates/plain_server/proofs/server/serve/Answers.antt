@@ -18,7 +18,6 @@ returns-in-Ok-clause-step c =
     let tree = tree_of c.args.tree.now in
     let next = tree_of c.set_found.new.tree in
     subst (λ asked. step tree c.args.ctx.now asked
-    (reply.SetAttr c.in-Ok.reply.outcome c.in-Ok.reply.object) next)
-    (sym c.in-SetAttr.is)
+    (reply.SetAttr c.in-Ok.reply.outcome c.in-Ok.reply.object) next) (sym c.in-SetAttr.is)
     (setattr_is_step tree next c.args.ctx.now c.in-SetAttr.object c.in-SetAttr.attributes c.in-SetAttr.guard
     c.in-Ok.reply.outcome c.in-Ok.reply.object c.in-Ok.ensures.step)

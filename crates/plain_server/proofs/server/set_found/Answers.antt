@@ -43,15 +43,13 @@ returns-clause-step c =
           let files = put_back tree c.in-Ok.index _ at file (ap (λ n. n.number) file_is)
           (ap (λ n. node_of n.node) file_is) in
           left_alone (tree_of tree) _ c.args.ctx.now c.args.object.now.bytes c.args.wanted.now
-          c.args.guard.now at.file.number (node_of at.file.node) _ _ at.is
-          w.in-Some.status
+          c.args.guard.now at.file.number (node_of at.file.node) _ _ at.is w.in-Some.status
           (tested ∙ w.in-Some.is)
           (record {
             refused = w.outcome-is;
             parts = λ i. record {
               before = Some (before i);
-              after = Some
-                  ((c.attributes.ensures
+              after = Some ((c.attributes.ensures
                   ∙ ap (λ (n : NumberedNode). attributes_of n.number (node_of n.node)) file_is) i);
             };
             unchanged = λ i. record {

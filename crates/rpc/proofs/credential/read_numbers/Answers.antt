@@ -14,8 +14,7 @@ returns-in_err-number c =
     let p = err_from_is_err_and c.from_residual-in_err-number.result c.from_residual-in_err-number.ensures.1 in
     rw (p.1, p.2)
     (inl (ends c.in_err-number.field-0.0 c.loop.numbers.items c.args.count c.loop.counter c.loop.reader
-    (numbers_at c.args.count c.args.reader.now) c.loop-test.true c.in_err-number.ensures
-    c.loop.invariant))
+    (numbers_at c.args.count c.args.reader.now) c.loop-test.true c.in_err-number.ensures c.loop.invariant))
 
 pub loop-preserved : goal.loop-preserved
 loop-preserved c =

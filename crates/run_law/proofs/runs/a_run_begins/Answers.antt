@@ -50,8 +50,7 @@ returns c = λ b base core position opens new.
     let since = c.an_opening_leaves_an_open_store.ensures b.before b.opened base core b.tree b.first
     position opens new in
     let has = c.what_is_held_is_what_the_files_are.ensures.stands base b.opened core _ _ (b.first + 1)
-    b.tree b.tree []
-    since in
+    b.tree b.tree [] since in
     let o : Setting = record {
       geometry = has.geometry;
       position = position;

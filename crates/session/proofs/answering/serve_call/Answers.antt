@@ -30,8 +30,7 @@ returns-in-Nfs-clause-serves g c =
         answered = c.procedure-verdict.ensures.answered;
       },
       subst (λ (body : ReplyBody). IsSpelled xid body reply) c.reply_to.ensures is,
-    ))
-    c.put-answered.ensures
+    )) c.put-answered.ensures
 
 pub returns-in-Mount-clause-serves : goal.returns-in-Mount-clause-serves
 returns-in-Mount-clause-serves g c =
@@ -44,5 +43,4 @@ returns-in-Mount-clause-serves g c =
     reply old) _ _ _
     (λ reply is. subst
     (λ (call : ProgramCall). IsCallAnswered keeps c.args.moment old xid c.args.credential call reply old)
-    (sym c.in-Mount.is) (refl, is))
-    c.serve_mount.ensures
+    (sym c.in-Mount.is) (refl, is)) c.serve_mount.ensures

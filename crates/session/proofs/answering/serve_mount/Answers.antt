@@ -12,5 +12,4 @@ returns-in-Ok g c =
     delivers_so (IsSpelled xid (bodies.Done (replies.Mount c.in-Ok.reply))) (IsMountReply xid c.args.call.now)
     _ _ _
     (λ reply is. inl (subst (λ (m : MountReply). IsSpelled xid (bodies.Done (replies.Mount m)) reply)
-    c.in-Ok.ensures is))
-    c.put-answered.ensures
+    c.in-Ok.ensures is)) c.put-answered.ensures

@@ -16,8 +16,7 @@ returns-in-Refused-clause-serves g c =
     inl (delivers_so (IsSpelled told.xid (bodies.Refused told.refusal))
     (λ (reply : List ℕ). IsAnswered keeps c.args.moment old (judged message) reply old) _ _ _
     (λ reply is. judged_refused keeps c.args.moment old (judged message) told.xid told.refusal reply
-    told.ensures is)
-    c.put.ensures)
+    told.ensures is) c.put.ensures)
 
 pub returns-in-Call-clause-serves : goal.returns-in-Call-clause-serves
 returns-in-Call-clause-serves g c =
@@ -32,6 +31,5 @@ returns-in-Call-clause-serves g c =
     (λ (reply : List ℕ). IsCallAnswered keeps c.args.moment old told.xid told.credential told.call reply new)
     (λ (reply : List ℕ). IsAnswered keeps c.args.moment old (judged message) reply new) _ _ _
     (λ reply is. judged_call keeps c.args.moment old new (judged message) told.xid told.credential
-    told.call reply
-    told.ensures is)
+    told.call reply told.ensures is)
     c.serve_call.ensures.serves)

@@ -55,8 +55,7 @@ returns-in-Err-serve_piece-clause-device g c = λ is.
     let now = c.serve_piece.new.store in
     let old = store_of (g.D.CrashDisk.device was.disk) was.core was.boot in
     let going = c.in-Err-serve_piece.ensures.going old (g.W.Write.contents c.args.writer.now)
-    c.reads.invariant.4.0
-    c.reads.invariant.4.2 in
+    c.reads.invariant.4.0 c.reads.invariant.4.2 in
     let same : c.in-Err-serve_piece.fault ≡ faults.Device = cc is in
     subst (λ (fault : SessionFault). StopsAt (g.D.CrashDisk.keeps_model now.disk) c.args.moment fault
     going.0 going.2

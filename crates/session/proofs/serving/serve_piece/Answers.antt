@@ -13,8 +13,7 @@ returns-in-Ok-clause-going g c = λ first unwritten read course.
     let piece = c.args.piece.now in
     c.serve_records.ensures.going first unwritten (read ++ piece)
     (subst (λ (l : List ℕ). IsCourse keeps c.args.moment first unwritten (read ++ piece) l
-    c.args.count old told)
-    (sym c.in-Ok.ensures.ok)
+    c.args.count old told) (sym c.in-Ok.ensures.ok)
     (feeds keeps c.args.moment first unwritten read c.args.records.now c.args.count old told piece course))
 
 pub returns-in-Err-clause-going : goal.returns-in-Err-clause-going

@@ -17,8 +17,7 @@ returns c = λ o now device worker new made calling reading contents read with.
     (was_read o now device worker calling read.io read.content read.answer read.failure
     c.an_open_store_keeps_its_files.ensures.call read.call.later
     (c.a_worker_tells_its_read.ensures.made o.store.boot entries worker ok read.io read.content
-    reading read.io_is
-    calling.stands)
+    reading read.io_is calling.stands)
     (c.a_read_leaves_the_run_going.ensures.core ok read.io read.content worker now.core reading read.io_is
     calling.at_work (subst (λ (w : State). GoesWith w now.core) read.worker with))
     (c.a_read_leaves_the_run_going.ensures.runs s calling.base (at_rest now.device now.core) device ok read.io

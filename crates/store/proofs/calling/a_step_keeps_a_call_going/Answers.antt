@@ -33,11 +33,9 @@ returns-clause-goes c = λ o now worker new made calling goes home reads lawful 
     calling.last entries runs tells_so runs.inodes files worker new made goes calling.at_work stands)
     (c.a_worker_tells_its_steps.ensures now.boot 0 entries old new made stands (sym since.counted) goes)
     (c.a_workers_step_is_told.ensures setting told 0 so_far tells_so worker new since.over.lawful
-    lawful runs.position
-    made goes)
+    lawful runs.position made goes)
     (c.a_core_at_work_stays_so.ensures old new made now.boot entries calling.at_work stands
-    since.over.tidy reads goes
-    with) goes
+    since.over.tidy reads goes with) goes
     (λ uncommitted. c.a_worker_leaves_the_run_going.ensures.beside setting calling.base so_far
     worker new now.boot
     o.first calling.last entries made runs goes home lawful tidy uncommitted)
@@ -66,5 +64,4 @@ returns-clause-served c = λ o now worker new made calling goes waits.
     (c.a_workers_step_may_be_made.ensures setting told 0 calling.base so_far (fetches_of worker)
     now.boot o.first
     calling.last entries runs (is_told setting now refl) runs.inodes files worker new made goes
-    calling.at_work stands)
-    waits
+    calling.at_work stands) waits

@@ -80,8 +80,7 @@ returns-clause-open g c =
     (side e mid idle made) =
     goes_on MayInstIo (side d mid idle (out io)) (side e mid idle made) (Some (step.InstIo ok))
     (calls.call d e (Some (step.InstIo ok)) answer refl (failed_is answer ok ok_is)
-    (made_later d io answer e c.perform.ensures.call) c.perform.ensures.failure)
-    (same_transactions mid)
+    (made_later d io answer e c.perform.ensures.call) c.perform.ensures.failure) (same_transactions mid)
     (inst_made d e mid.log idle io answer ok c.lawful-2.ensures.log c.perform.ensures.law ok_is)
     (λ base boot first last entries since.
     subst (λ (p : Pending). IsOpenSince base e mid idle p boot first entries last) (sym same)
@@ -123,17 +122,14 @@ returns-clause-open g c =
     inst_called old.log mid.log new.log d e io answer ok c.lawful.ensures.log c.in-Some.ensures.causes log_is
     c.lawful-2.ensures.log c.in-Some.ensures.call ok_is c.inst_done.ensures.log c.perform.ensures.failure in
     open_by MayInstall MayInstIo MayInstall d e old new (side d mid idle (out io))
-    (side e mid idle made) _ _ _ taken
-    performed given
+    (side e mid idle made) _ _ _ taken performed given
     (called_further old mid new d e (back_kept.begun ∙ out_kept.begun)
     (inst_places old.log mid.log new.log io ok log_is c.inst_done.ensures.log)
     (inst_end old.log mid.log new.log io ok c.lawful-2.ensures.log log_is c.inst_done.ensures.log)
     (subst (λ (l : Log). settled_place old.log ≤ settled_place l) (sym log_is)
     (stays old.log true true c.lawful.ensures.log).0)
     (subst (λ (l : Log). settled_place mid.log ≤ settled_place l) (sym c.inst_done.ensures.log)
-    (stays mid.log (is_inst_out mid.log io) ok c.lawful-2.ensures.log).1)
-    called)
-    called
+    (stays mid.log (is_inst_out mid.log io) ok c.lawful-2.ensures.log).1) called) called
 
 pub returns-in_default-clause-few : goal.returns-in_default-clause-few
 returns-in_default-clause-few g c =
@@ -173,8 +169,7 @@ returns-clause-stays g c = λ base boot first last entries since.
     let later = made_later d io answer e c.perform.ensures.call in
     let is : out ≡ record core { log = with_inst_out core.log } = c.in-Some.ensures.some refl in
     let taken = laws.taken base d core out io idle boot first last entries since
-    (sym c.in-Some.ensures.causes) is
-    c.in-Some.ensures.law
+    (sym c.in-Some.ensures.causes) is c.in-Some.ensures.law
     (record {
       lawful = c.lawful-2.ensures.log;
       tidy = c.lawful-2.ensures.tidy;
@@ -211,8 +206,7 @@ returns-clause-stays g c = λ base boot first last entries since.
             since = given;
             stops = λ image crash.
                 c.a_stop_leaves_a_beginning.ensures.files (home_after base out.log ok) e new idle idle boot
-                first last entries image given
-                crash;
+                first last entries image given crash;
           };
         },
         (refl, refl),

@@ -80,8 +80,7 @@ returns-clause-open g c =
     (side e mid made idle) =
     goes_on MayLogIo (side d mid (out io) idle) (side e mid made idle) (Some (step.LogIo ok))
     (calls.call d e (Some (step.LogIo ok)) answer refl (failed_is answer ok ok_is)
-    (made_later d io answer e c.perform.ensures.call) c.perform.ensures.failure)
-    (same_transactions mid)
+    (made_later d io answer e c.perform.ensures.call) c.perform.ensures.failure) (same_transactions mid)
     (log_made d e mid.log idle io answer ok c.lawful-2.ensures.log c.perform.ensures.law ok_is)
     (λ base boot first last entries since.
     subst (λ (p : Pending). IsOpenSince base e mid p idle boot first entries last) (sym same)
@@ -113,17 +112,14 @@ returns-clause-open g c =
     log_called old.log mid.log new.log d e io answer ok c.lawful.ensures.log c.in-Some.ensures.causes log_is
     c.lawful-2.ensures.log c.in-Some.ensures.call ok_is c.log_done.ensures.log c.perform.ensures.failure in
     open_by MayLog MayLogIo MayLog d e old new (side d mid (out io) idle) (side e mid made idle) _ _ _
-    taken performed
-    given
+    taken performed given
     (called_further old mid new d e (back_kept.begun ∙ out_kept.begun)
     (log_keeps_places old.log mid.log new.log io ok log_is c.log_done.ensures.log)
     (log_end old.log mid.log new.log io ok log_is c.log_done.ensures.log)
     (subst (λ (l : Log). settled_place old.log ≤ settled_place l) (sym log_is)
     (stays old.log true true c.lawful.ensures.log).0)
     (subst (λ (l : Log). settled_place mid.log ≤ settled_place l) (sym c.log_done.ensures.log)
-    (stays mid.log (is_log_out mid.log io) ok c.lawful-2.ensures.log).1)
-    called)
-    called
+    (stays mid.log (is_log_out mid.log io) ok c.lawful-2.ensures.log).1) called) called
 
 pub returns-in_default-clause-few : goal.returns-in_default-clause-few
 returns-in_default-clause-few g c =
@@ -199,8 +195,7 @@ returns-clause-stays g c = λ base boot first last entries since.
             since = given;
             stops = λ image crash.
                 c.a_stop_leaves_a_beginning.ensures.files (base) e new idle idle boot first last
-                entries image given
-                crash;
+                entries image given crash;
           };
         },
         (refl, refl),

@@ -13,5 +13,4 @@ returns c = λ before later tree first one reply.
       placed = refl;
       waits = refl;
       told = refl;
-    })
-    refl
+    }) refl

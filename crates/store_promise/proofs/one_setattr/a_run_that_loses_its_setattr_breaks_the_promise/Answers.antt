@@ -35,5 +35,4 @@ returns c = λ before later tree first one reply image crash alone changes kept.
     })
     (λ count boot left some led good. changes
     (subst (λ found. step tree (ctx_in (first + 1) one) (asked one) reply found) (alone left boot good)
-    (steps_to (first + 1) count tree left one reply some led)))
-    kept
+    (steps_to (first + 1) count tree left one reply some led))) kept

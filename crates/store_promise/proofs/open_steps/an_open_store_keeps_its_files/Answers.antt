@@ -87,8 +87,7 @@ pub returns-clause-now : goal.returns-clause-now
 returns-clause-now c = λ before d base core logging installing boot settled first last entries kept since low.
     by_clock before d boot settled (settled_place core.log) first entries kept
     (λ left at. c.a_stop_leaves_a_beginning.ensures.files base d core logging installing boot first last
-    entries left since
-    at) low
+    entries left since at) low
 
 pub returns-clause-longer : goal.returns-clause-longer
 returns-clause-longer c = λ before d boot settled fewer first entries more kept few clock image from to crash.

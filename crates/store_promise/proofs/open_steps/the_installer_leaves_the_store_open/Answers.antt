@@ -66,8 +66,7 @@ returns-clause-made c = λ base d later core io answer logging boot first last e
 
 pub returns-clause-given_back : goal.returns-clause-given_back
 returns-clause-given_back c =
-    λ base d old new io answer ok logging boot first last entries since answered is log_is back
-    sound.
+    λ base d old new io answer ok logging boot first last entries since answered is log_is back sound.
     let out = made_is_out d base old.log io answer since.over.agrees.installer in
     let is_back : new.log ≡ with_inst_back old.log ok =
     log_is ∙ ap (λ (t : Bool). if t then with_inst_back old.log ok else old.log) out in

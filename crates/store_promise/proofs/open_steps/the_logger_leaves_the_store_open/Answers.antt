@@ -41,8 +41,7 @@ returns-clause-made c = λ base d later core io answer installing boot first las
 
 pub returns-clause-given_back : goal.returns-clause-given_back
 returns-clause-given_back c =
-    λ base d old new io answer ok installing boot first last entries since answered is log_is
-    back sound.
+    λ base d old new io answer ok installing boot first last entries since answered is log_is back sound.
     still_open base old new (record {
       log = subst (HasSameChanges old.log) (sym log_is) (log_given_same old.log (is_log_out old.log io) ok);
       inodes = ap (λ (core : CoreState). core.inodes) is;

@@ -53,8 +53,7 @@ module _ (base : Image) (core : CoreState) (boot : ℕ) (tree last : Tree) (entr
       range = boundary.range;
       homes = boundary.homes;
       stands = subst (λ (blocks : Image). Stands files.super.geometry blocks found.0)
-          (sym (homes_after base core lawful files.home k (over image) there))
-          found.2;
+          (sym (homes_after base core lawful files.home k (over image) there)) found.2;
       stamps = files.stamps k found.0 found.1;
     }
 

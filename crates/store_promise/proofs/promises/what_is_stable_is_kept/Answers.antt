@@ -8,5 +8,4 @@ returns c = λ before later tree first workers clock place events t a image from
     kept.
     let found = (kept.stops clock image from to crash).prefix in
     none found.count found.boot found.left
-    (found.lasts place (by_answer a given (omega (arith, by, kept.calls)) stable))
-    found.prefix found.good
+    (found.lasts place (by_answer a given (omega (arith, by, kept.calls)) stable)) found.prefix found.good

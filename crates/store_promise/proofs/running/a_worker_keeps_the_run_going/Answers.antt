@@ -23,8 +23,7 @@ returns-clause-beside c =
             log = same_changes old.log new.log beside.log;
             inodes = beside.inodes;
             records = beside.records;
-          }))
-          run.placed;
+          })) run.placed;
     }
 
 pub returns-clause-read : goal.returns-clause-read

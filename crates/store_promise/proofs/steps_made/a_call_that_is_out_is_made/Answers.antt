@@ -51,8 +51,7 @@ by_installer call (Some (step.InstDone ok)) is other = is
 
 pub returns-clause-logging : goal.returns-clause-logging
 returns-clause-logging c =
-    λ before later tree first workers index events t call made is_event is_made is_out other
-    kept.
+    λ before later tree first workers index events t call made is_event is_made is_out other kept.
     by_log call made (subst (λ at. IsStepOfLogIo at made) is_out
     ((kept.taken.each index _ made is_event is_made).own tt)) other
 

@@ -18,8 +18,7 @@ works o told worker job (Waiting place) other none = none
 
 pub returns-clause-work : goal.returns-clause-work
 returns-clause-work c =
-    λ before later tree first workers index worker events t job stage is_event less is_made is
-    other kept.
+    λ before later tree first workers index worker events t job stage is_event less is_made is other kept.
     let told = told_before events t.steps index in
     works kept.setting told worker job stage other
     (subst (λ progress. IsStepOfWork kept.setting told worker progress None) is

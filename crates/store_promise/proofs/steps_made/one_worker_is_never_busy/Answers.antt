@@ -31,8 +31,7 @@ returns-clause-busy c = λ before later tree first index worker events t job beg
     is_step planning in
     takes_nothing (wish_of addr mode) _
     (idle_beyond kept.setting 1 events t.steps kept.taken step.1.other
-    (beyond worker step.1.other less step.1.differs) index)
-    step.1.so
+    (beyond worker step.1.other less step.1.differs) index) step.1.so
 
 pub returns-clause-loading : goal.returns-clause-loading
 returns-clause-loading c = λ before later tree first index worker events t job begun addr mode is_event is_step
@@ -43,5 +42,4 @@ returns-clause-loading c = λ before later tree first index worker events t job 
     is_step planning in
     fetches_nothing addr.block _
     (idle_beyond kept.setting 1 events t.steps kept.taken step.1.other
-    (beyond worker step.1.other less step.1.differs) index)
-    step.1.so
+    (beyond worker step.1.other less step.1.differs) index) step.1.so

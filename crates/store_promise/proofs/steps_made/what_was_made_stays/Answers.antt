@@ -55,8 +55,7 @@ module _ (o : Setting) (told : Told) (later : ℕ → Image)
     record {
       unclaimed = is.0.unclaimed;
       claims = subst (λ (blocks : Image). Claims o.geometry call
-          (objects_at blocks (addrs_of begun.held)) block) (sym same)
-          is.0.claims;
+          (objects_at blocks (addrs_of begun.held)) block) (sym same) is.0.claims;
     },
     is.1,
   )

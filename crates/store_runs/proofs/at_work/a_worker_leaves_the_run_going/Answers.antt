@@ -25,8 +25,7 @@ returns-clause-beside c =
 
 pub returns-clause-committed : goal.returns-clause-committed
 returns-clause-committed c =
-    λ o base store worker new boot number first last entries made run goes keeps lawful tidy
-    worker_at has.
+    λ o base store worker new boot number first last entries made run goes keeps lawful tidy worker_at has.
     let old = side worker store.core in
     let sound = sound_core base old new keeps run.fetched run.since.over.files.home lawful tidy in
     let taken = takes_place old new boot number entries made goes worker_at has in

@@ -36,8 +36,7 @@ returns-clause-promised c = λ sound timely.
     subst (λ n. IsLawful n g.inodes) (sym blocks_are)
     (subst (λ n. IsLawful c.args.blocks n) (sym left.2) lawful) in
     let may = c.a_made_image_may_run.ensures empty before g c.args.made c.args.events.items lawful_g
-    sound timely rest
-    left.3 in
+    sound timely rest left.3 in
     record {
       empty = empty;
       is_new = record { size = size; clock = clock; failures = failures; rest = rest };

@@ -46,8 +46,7 @@ events-init g c =
           let none = c.new-running.ensures.clock in
           subst (λ s. HasGone before tree first c.args.events.items
           (run_side (g.D.CrashDisk.device s.disk) s.core made.calls made.worker.state made.clock)
-          c.new-run.result)
-          (sym same)
+          c.new-run.result) (sym same)
           (record { opened = opened; at = record { going = going; clock = omega (arith, none) } }),
     )
 
@@ -77,8 +76,7 @@ events-preserved g c =
             good = may.good;
             alone = refl;
             timely = may.timely;
-          }))
-          c.take.ensures.goes,
+          })) c.take.ensures.goes,
     )
 
 pub returns-clause-promised : goal.returns-clause-promised
@@ -105,8 +103,7 @@ returns-clause-promised g c = λ tree first may.
           (sym w.running-is)
           (subst (λ t. HasGone before tree first events
           (run_side (g.D.CrashDisk.device old.store.disk) old.store.core old.calls
-          old.worker.state old.clock) t)
-          (sym w.run-is)
+          old.worker.state old.clock) t) (sym w.run-is)
           (so_far (subst (λ r. g.D.CrashDisk.keeps_model r.store.disk) w.running-is keeps)))
       | in-Some+then-not-take w ↦
           let new = w.take.new.self in
@@ -117,8 +114,7 @@ returns-clause-promised g c = λ tree first may.
           (sym w.running-is)
           (subst (λ t. HasGone before tree first events
           (run_side (g.D.CrashDisk.device new.store.disk) new.store.core new.calls
-          new.worker.state new.clock) t)
-          (sym w.run-is)
+          new.worker.state new.clock) t) (sym w.run-is)
           (gone_on before tree first events (g.D.CrashDisk.keeps_model new.store.disk) w.in-Some.event
           (run_side (g.D.CrashDisk.device old.store.disk) old.store.core old.calls old.worker.state old.clock)
           (run_side (g.D.CrashDisk.device new.store.disk) new.store.core new.calls new.worker.state new.clock)
@@ -128,10 +124,8 @@ returns-clause-promised g c = λ tree first may.
           (so_far (w.take.ensures.model kept)) w.take.ensures.goes))
     ] in
     subst (λ disk. KeepsPromise before (g.D.CrashDisk.device disk) tree first c.args.workers events
-    (transcript_of told))
-    (sym disk_is)
+    (transcript_of told)) (sym disk_is)
     (subst (λ n. KeepsPromise before (g.D.CrashDisk.device last.store.disk) tree first n events
-    (transcript_of told))
-    (sym may.alone)
+    (transcript_of told)) (sym may.alone)
     (promise_kept before tree first events side told (g.met.D.CrashDisk.whole last.store.disk keeps) gone
     c.a_run_keeps_its_promise.ensures))

@@ -13,5 +13,4 @@ invariant-events g l = RunsWell l.running.worker l.running.store.core l.running.
     × GoesOnWell (g.D.CrashDisk.keeps_model l.running.store.disk) (g.D.CrashDisk.device l.fn.disk)
     l.fn.events.items
     (run_side (g.D.CrashDisk.device l.running.store.disk) l.running.store.core l.running.calls
-    l.running.worker.state
-    l.running.clock) l.run
+    l.running.worker.state l.running.clock) l.run

@@ -24,8 +24,7 @@ returns-clause-call c =
           c.outcome-result.result d)
           new (blocks_of c.note.new.self) (past_of c.args.self.now
           ++ (now, record { call = Barrier c.args.side; result = c.outcome-result.result }) ∷ [])
-          (past_of c.note.new.self)
-          blocks past
+          (past_of c.note.new.self) blocks past
           (has_settled now new (past_of c.args.self.now) c.args.side c.outcome-result.result len
           (λ block. settles_if_ok c.args.side block (get_or now block []) (get_or new block [])
           c.outcome-result.result (sym c.is_ok.ensures.value

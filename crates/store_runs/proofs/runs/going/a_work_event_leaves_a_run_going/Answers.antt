@@ -47,8 +47,7 @@ returns-clause-goes c =
     let may = c.a_workers_step_may_be_made.ensures o (told_now b.events t) 0 going.base store
     (fetches_of worker) boot
     b.tree going.last entries run going.run.told run.inodes places_are worker step_to made
-    worked.goes going.at_work
-    going.stands in
+    worked.goes going.at_work going.stands in
     let told_then = c.a_workers_step_is_told.ensures o (told_now b.events t) 0 store going.run.told
     worker step_to
     run.since.over.lawful kept.lawful run.position made worked.goes in
@@ -60,12 +59,10 @@ returns-clause-goes c =
     let home : KeepsHomeOf old step_to = kept.home in
     let left =
     left_by b clock store worker new core made before mid after is_next going clock_is worked kept
-    last_note notes may
-    worked.taken
+    last_note notes may worked.taken
     (λ uncommitted. (c.a_worker_leaves_the_run_going.ensures.beside o going.base store worker
     step_to boot b.tree
-    going.last entries made run worked.goes home kept.lawful kept.tidy uncommitted).0)
-    (λ has.
+    going.last entries made run worked.goes home kept.lawful kept.tidy uncommitted).0) (λ has.
     let goes = c.a_worker_leaves_the_run_going.ensures.committed o going.base store worker step_to boot 0 b.tree
     going.last entries made run worked.goes home kept.lawful kept.tidy going.stands has in (
       goes,

@@ -10,5 +10,4 @@ returns-clause-law g c =
     c.self.view_is
     (subst (λ (log : Log). InstCallComesBack c.self.inside.log c.args.io c.args.ok log)
     (sym (ap (λ (core : CoreState). core.log) c.sweep.ensures
-    ∙ ap (λ (core : CoreState). core.log) c.forget.ensures))
-    c.inst_done.ensures.law)
+    ∙ ap (λ (core : CoreState). core.log) c.forget.ensures)) c.inst_done.ensures.law)

@@ -11,13 +11,11 @@ returns g c =
     let core = c.self.inside in
     let kept = c.sweep.ensures
     ∙ swept_of_map (λ kept. footprint kept.place.0 (g.C.Change.planned kept.change)) c.deref.result.now
-    core.records.items
-    core.present.items in
+    core.records.items core.present.items in
     let there = ap
     (λ holds. swept holds
     (map (λ kept. footprint kept.place.0 (g.C.Change.planned kept.change)) core.records.items)
-    core.present.items)
-    c.deref.ensures.value in
+    core.present.items) c.deref.ensures.value in
     ap (λ present. record {
       log = core.log;
       inodes = core.inodes;

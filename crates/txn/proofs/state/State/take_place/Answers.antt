@@ -31,8 +31,7 @@ returns-in-Appended g c =
       still = search rules;
       places = search rules;
       core = committed_is c.args.self.now c.close.new.self c.args.tx plan log c.refresh.new.present.items
-          records
-          (c.close.ensures
+          records (c.close.ensures
           ∙ ap (λ (old : CoreState). ended (record old {
             log = log;
             present = c.refresh.new.present.items;
@@ -47,6 +46,5 @@ returns-in-Appended g c =
           (kept ∙ ap (λ (old : CoreState). with_record log log.places plan old.records) c.self.view_is);
       law = subst (λ (l : Log). KeepsAgreement l c.close.new.self.log) seen
           (subst (λ (l : Log). KeepsAgreement core.log l) (sym (ap (λ (now : CoreState). now.log)
-          c.close.ensures))
-          c.append.ensures.law);
+          c.close.ensures)) c.append.ensures.law);
     }

@@ -20,5 +20,4 @@ pub returns-clause-stays : goal.returns-clause-stays
 returns-clause-stays g c = λ other.
     subst (λ (old : CoreState). KeepsReads old c.begin.new.self other) c.self.view_is
     (begun_reads c.self.inside.state c.begin.new.self c.begin.result c.begin.ensures.begun
-    c.begin.ensures.refused
-    other)
+    c.begin.ensures.refused other)

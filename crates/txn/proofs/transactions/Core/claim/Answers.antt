@@ -19,8 +19,7 @@ returns-clause-answer g c =
     let (addr, whole, done) = c.claim.ensures in (
       addr,
       whole,
-      subst (λ (old : CoreState). IsClaimed old c.args.tx addr c.claim.result c.claim.new.self)
-          c.self.view_is
+      subst (λ (old : CoreState). IsClaimed old c.args.tx addr c.claim.result c.claim.new.self) c.self.view_is
           (claimed_leaves c.self.inside.state c.claim.new.self c.args.tx addr c.claim.result done),
     )
 

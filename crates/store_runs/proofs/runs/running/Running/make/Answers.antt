@@ -50,8 +50,7 @@ returns-in-Log-clause-goes g c = λ b keeps next at.
       boot = notes.boot;
       history = ap (λ v. v.items) notes.history;
       answers = ap (λ v. v.items) notes.answers;
-    })
-    at.going))
+    }) at.going))
 
 pub returns-in-LogIo-clause-goes : goal.returns-in-LogIo-clause-goes
 returns-in-LogIo-clause-goes g c = λ b keeps next at.
@@ -77,8 +76,7 @@ returns-in-LogIo-clause-goes g c = λ b keeps next at.
       boot = notes.boot;
       history = ap (λ v. v.items) notes.history;
       answers = ap (λ v. v.items) notes.answers;
-    })
-    at.going))
+    }) at.going))
 
 pub returns-in-Install-clause-goes : goal.returns-in-Install-clause-goes
 returns-in-Install-clause-goes g c = λ b keeps next at.
@@ -104,8 +102,7 @@ returns-in-Install-clause-goes g c = λ b keeps next at.
       boot = notes.boot;
       history = ap (λ v. v.items) notes.history;
       answers = ap (λ v. v.items) notes.answers;
-    })
-    at.going))
+    }) at.going))
 
 pub returns-in-InstIo-clause-goes : goal.returns-in-InstIo-clause-goes
 returns-in-InstIo-clause-goes g c = λ b keeps next at.
@@ -131,8 +128,7 @@ returns-in-InstIo-clause-goes g c = λ b keeps next at.
       boot = notes.boot;
       history = ap (λ v. v.items) notes.history;
       answers = ap (λ v. v.items) notes.answers;
-    })
-    at.going))
+    }) at.going))
 
 pub returns-in-Read-clause-goes : goal.returns-in-Read-clause-goes
 returns-in-Read-clause-goes g c = λ b keeps next at.
@@ -193,8 +189,7 @@ returns-in-Work-clause-goes g c = λ b keeps next at.
     } in
     worked_on b old new before.worker.state after.worker.state before.clock after.clock told last at
     c.work-step.ensures.rest.1 same_device
-    (by_number b c.in-Work.worker old new before.worker.state after.worker.state made told mid last
-    (λ zero.
+    (by_number b c.in-Work.worker old new before.worker.state after.worker.state made told mid last (λ zero.
     subst (λ (s : StoreSide). IsGoing b s after.worker.state last) same
     (c.a_work_event_leaves_a_run_going.ensures.goes b before.clock old before.worker.state after.worker.state
     after.store.core made told mid last (subst (λ (n : ℕ). IsNextEvent b (event.Work n) told) zero
@@ -202,8 +197,7 @@ returns-in-Work-clause-goes g c = λ b keeps next at.
     (clock_told b old before.worker.state before.clock told at)
     (subst (λ (n : ℕ). HasWorked n before.clock (side before.worker.state before.store.core) made
     (side after.worker.state after.store.core) told mid) zero (c.work-step.ensures.step zero))
-    (c.work-step.ensures.core zero) noted))
-    (λ other.
+    (c.work-step.ensures.core zero) noted)) (λ other.
     let none = c.work-step.ensures.none other in
     let stays = c.a_work_event_leaves_a_run_going.ensures.absent b c.in-Work.worker old before.worker.state
     told last is_next
