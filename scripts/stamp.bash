@@ -43,8 +43,8 @@ add_crate() {
 }
 
 # Prints the files and folders, below the top, that the program is made from and that pass the given tests of find,
-# each ended by a zero byte.
-parts() {
+# each ended by a zero byte. It works in a shell of its own, so the caller stays in its folder.
+parts() (
     local name part rooms=(crates.txt)
     cd "$root"
     for name in "${order[@]}"; do
@@ -55,7 +55,7 @@ parts() {
         done
     done
     find "${rooms[@]}" \( -type d -o -name '*.rt' -o -name '*.antt' -o -name crates.txt \) "$@" -print0 | LC_ALL=C sort -z
-}
+)
 
 # Prints a sum of the names and bytes of what the program is made from, and of the program, which a call of rt may
 # have made from other files meanwhile.

@@ -145,6 +145,7 @@ def test_each_allocation_of_a_setattr_that_fails_is_told(place):
     old, arguments, asked = contents(image), ["once", image, "--time", str(NOW)], wire.setattr_call(1, CHANGED_MODE)
     count, ran = run_failing(place, shared, 0, arguments, asked)
     expect("with all of them", ran, 0, DONE, b"")
+    missed, system_errors = 0, 0
     for failed in range(1, count + 1):
         restore(image, old)
         _, ran = run_failing(place, shared, failed, arguments, asked)
@@ -154,3 +155,7 @@ def test_each_allocation_of_a_setattr_that_fails_is_told(place):
         found = wire.mode_and_change(place.once(image, wire.getattr_call(7)).output)
         left = [(CHANGED_MODE, NOW)] + ([(NEW_MODE, MADE)] if ran.output != DONE else [])
         is_so(f"{failed}: after {told} the root's mode and change are {found}", found in left)
+        missed += told == (0, DONE, b"")
+        system_errors += ran.output == SYSTEM_ERROR
+    assert_most_refused(count, count - missed)
+    is_so("no allocation that failed was told as a system error", system_errors > 0)

@@ -77,6 +77,15 @@ def test_any_folder_and_a_link_will_do(place):
         assert_silent(checkout, command, command=[command], cwd=os.path.join(place.folder, folder))
 
 
+def test_the_program_runs_in_the_callers_folder(place):
+    checkout, folder = Checkout(place), place.path("a folder")
+    checkout.put("program", "#!/bin/sh\npwd -P\n")
+    os.mkdir(folder)
+    for what in "the call that builds", "a later call":
+        same(what, checkout.run([], cwd=folder).output.decode(), os.path.realpath(folder) + "\n")
+    same("calls of rt", len(checkout.builds()), 1)
+
+
 def test_closed_streams_are_handed_on_closed(place):
     checkout = Checkout(place)
     checkout.put("program", '#!/bin/sh\nls /proc/$$/fd >"$1"\n')

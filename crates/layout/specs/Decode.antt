@@ -50,10 +50,11 @@ mapped_of numbers =
 abbrev pub span_of : Inode → ℕ
 span_of inode = inode.size / BLOCK_BYTES
 
--- the bytes of a slot, by its number in the directory
+-- how many bytes a slot has
 abbrev pub SLOT_SIZE : ℕ
 SLOT_SIZE = BLOCK_BYTES / SLOTS_PER_BLOCK
 
+-- the bytes of a slot, by its number in the directory
 unfoldable pub slot_bytes : Image → Inode → ℕ → List ℕ
 slot_bytes blocks inode slot =
     take SLOT_SIZE

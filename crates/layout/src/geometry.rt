@@ -65,13 +65,6 @@ impl Geometry {
         })
     }
 
-    /// The first block of the bitmap of blocks.
-    pub fn block_bitmap(&self) -> BlockNo
-        ensures { result.0 ≡ FIRST_HOME_BLOCK }
-    {
-        BlockNo(FIRST_HOME_BLOCK)
-    }
-
     /// The first block of the bitmap of inodes.
     pub fn inode_bitmap(&self) -> BlockNo
         ensures { result.0 ≡ inode_bitmap_at self.now.blocks }

@@ -62,8 +62,8 @@ is_invalid wanted node =
 abbrev pub needs_owner : NewAttributes → Bool
 needs_owner wanted = is_some wanted.mode || is_client wanted.atime || is_client wanted.mtime
 
--- only uid 0 gives a file away; its owner may give it to a group of the owner's; what stays as it is hurts
--- nobody
+-- only uid 0 gives a file away; its owner may give it to a group of the owner's; an owner or a group that is
+-- given as it is gives nothing away
 abbrev pub is_given_away : Credential → NewAttributes → Node → Bool
 is_given_away caller wanted node =
     not (is_superuser caller)

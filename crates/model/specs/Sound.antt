@@ -18,10 +18,11 @@ use Rattle.model.specs.Tree.{Geometry, Tree, node_at, used}
 use Rattle.model.specs.Names.{names_of, child_directories, is_directory, ancestor, entries_of, names_in}
 use Rattle.model.specs.Names.{parent_of}
 
--- the characters that no name has: the one that parts names, and the one that ends them
+-- the character that parts names, which no name has
 abbrev pub SLASH : ℕ
 SLASH = 47
 
+-- the character of `.` and `..`
 abbrev pub DOT : ℕ
 DOT = 46
 

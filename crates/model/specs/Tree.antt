@@ -5,7 +5,7 @@ use Rattle.std.specs.FinMap.{FinMap, get, insert, entries}
 use Rattle.model.specs.Node.{Node}
 use Rattle.model.specs.Cost.{cost}
 
--- how many blocks there are for what is in files, and above which number no file's number lies
+-- how many blocks there are for what is in files, and below which number each file's number lies
 pub record Geometry : Type 0 where
   pub data_blocks : ℕ
   pub inodes : ℕ

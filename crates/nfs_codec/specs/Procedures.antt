@@ -70,10 +70,6 @@ abbrev pub procedure_number : ProgramProcedure → ℕ
 procedure_number (procedures.Nfs procedure) = nfs_number procedure
 procedure_number (procedures.Mount procedure) = mount_number procedure
 
-abbrev pub program_with : ProgramProcedure → Program
-program_with (procedures.Nfs procedure) = Nfs
-program_with (procedures.Mount procedure) = Mount
-
 -- the procedure of a program and a number
 abbrev pub nfs_procedure : ℕ → Option Procedure
 nfs_procedure n = find (λ procedure. n == nfs_number procedure) nfs_procedures

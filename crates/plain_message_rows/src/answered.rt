@@ -34,7 +34,7 @@ pub fn is_answered_in_pieces(
     };
     let mut found = Vec::new(alloc);
     for byte in input.as_slice() {
-        if session.feed(alloc, &[*byte], &mut found).is_err() {
+        if session.feed(alloc, &[*byte], &mut found) != Ok(Progress::Open) {
             return Ok(false);
         }
     }

@@ -1,5 +1,5 @@
 //! The arguments of a worked call of each procedure, read as values; with a word behind them, and without
-//! their last word, they are refused.
+//! their last byte, they are refused.
 
 use nfs_types::{
     Call, CreateHow, DeviceNumber, DirectoryName, Handle, Moment, MountCall, NewAttributes,
@@ -62,7 +62,7 @@ fn is_new_name(name: &DirectoryName) -> bool {
     name.directory.bytes.as_slice() == OTHER.as_slice() && name.name.as_slice() == b"new".as_slice()
 }
 
-// Whether the call of procedures 0 to 10 is the worked one.
+// Whether the call of procedures 0 to 7 is the worked one.
 fn is_worked_file(call: &Call) -> bool {
     match call {
         Call::Null => true,

@@ -1,7 +1,7 @@
 //! Calls on the small tree. A helper whose name asks something answers false also where memory is wanted.
 
 use nfs_types::{
-    Call, DirectoryName, FileSystemSpace, Handle, NewAttributes, Octets, Stability, Status,
+    Call, DirectoryName, FileSystemSpace, Handle, NewAttributes, Octets, Reply, Stability, Status,
     Verifier,
 };
 use plain_procedures::{
@@ -107,8 +107,8 @@ fn a_hole_and_then_hello(rt: HostRuntime) -> Result<(), AllocError> {
     Ok(())
 }
 
-// Sets the size of the file as its owner.
-fn set_size(alloc: Global, tree: &mut PlainTree, size: u64) -> Result<(), AllocError> {
+// Whether a SETATTR of the size of the file, as its owner, is answered OK.
+fn is_sized(alloc: Global, tree: &mut PlainTree, size: u64) -> Result<bool, AllocError> {
     let ctx = called_by(alloc, 7);
     let call = Call::SetAttr {
         object: handle_of(alloc, 2, 1)?,
@@ -120,8 +120,15 @@ fn set_size(alloc: Global, tree: &mut PlainTree, size: u64) -> Result<(), AllocE
     };
     let reply = serve(tree, &ctx, &call);
     drop(call);
+    let is_done = matches!(
+        &reply,
+        Ok(Reply::SetAttr {
+            outcome: Ok(()),
+            ..
+        })
+    );
     drop(reply);
-    Ok(())
+    Ok(is_done)
 }
 
 #[test]
@@ -130,8 +137,8 @@ fn shrunk_and_then_grown(rt: HostRuntime) -> Result<(), AllocError> {
     let mut tree = tree(alloc, 64)?;
     let hello = (None, Some((5, 4096)));
     assert!(rt; is_written(alloc, &mut tree, 0, 5, b"hello", hello));
-    assert!(rt; set_size(alloc, &mut tree, 2).is_ok());
-    assert!(rt; set_size(alloc, &mut tree, 5).is_ok());
+    assert!(rt; is_sized(alloc, &mut tree, 2)?);
+    assert!(rt; is_sized(alloc, &mut tree, 5)?);
     assert!(rt; ends_with(alloc, &tree, 0, b"he\0\0\0"));
     Ok(())
 }

@@ -56,7 +56,7 @@ pub data AsksOfFile (g : Geometry) (handle : List ℕ) (objects : List ObjectByt
       → WasReadInode g objects number inode → inode.stamp ≡ names.stamp
       → block.0 ≡ inode.indirect → block.0 ≢ 0 → IsWhole block addr → AsksOfFile g handle objects addr
 
--- what a call may ask to read; one without rules asks for nothing
+-- what a call may ask to read; one of a procedure that isn't served asks for nothing
 abbrev pub Asks : Geometry → Call → List ObjectBytes → Addr → Type 0
 Asks g call.Null objects addr = ⊥
 Asks g (call.GetAttr object) objects addr = AsksOfFile g object.bytes objects addr

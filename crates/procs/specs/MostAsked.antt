@@ -3,7 +3,8 @@ use Rattle.std.specs.Prelude.{ℕ}
 use Rattle.nfs_types.specs.declared.call.Call.{Call}
 use Rattle.nfs_types.specs.declared.call.Call.TheVariants as call
 
--- the most that a call asks for, an inode and an indirect block for a file; one without rules asks for none
+-- the most that a call asks for, an inode and an indirect block for a file; one of a procedure that isn't
+-- served asks for none
 abbrev pub most_asked : Call → ℕ
 most_asked call.Null = 0
 most_asked (call.GetAttr object) = 2

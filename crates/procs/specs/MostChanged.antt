@@ -3,7 +3,7 @@ use Rattle.std.specs.Prelude.{ℕ}
 use Rattle.nfs_types.specs.declared.call.Call.{Call}
 use Rattle.nfs_types.specs.declared.call.Call.TheVariants as call
 
--- the most that a call changes; one without rules changes none
+-- the most that a call changes; one of a procedure that isn't served changes none
 abbrev pub most_changed : Call → ℕ
 most_changed call.Null = 0
 most_changed (call.GetAttr object) = 0

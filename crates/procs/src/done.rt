@@ -49,13 +49,6 @@ impl Done {
     {
         &self.draft.reply
     }
-
-    /// The reply, for good.
-    pub fn into_reply(self) -> Reply
-        ensures { result ≡ self.reply }
-    {
-        self.draft.reply
-    }
 }
 
 impl Change for Done {

@@ -1,5 +1,6 @@
 //! Laws on a run as it goes on, event by event: what is told of it grows, and each stop so far leaves a
-//! prefix of its procedures. They are contracts of functions that do nothing; `store`'s `run` stands on them.
+//! prefix of its procedures. They are contracts of functions that do nothing; `run` of `store_runs` stands on
+//! them.
 #![tactic(auto)]
 
 mod noting;

@@ -292,6 +292,11 @@ files_after stops longer K moment old files messages replies served device core 
       during = during_both longer old served device files done.later [] done.later.entries kept.past
           done.goes.further.settled done.boot done.first (sym (append-nil done.later.entries))
           done.during kept.stops;
+      behind = subst
+          (λ (b : ℕ). KeepsFiles served.device device b files.first done.later.entries
+          (settled_place served.core.log)) done.boot
+          (subst (λ (tree : Tree). KeepsFiles served.device device served.boot tree done.later.entries
+          (settled_place served.core.log)) done.first kept.stops);
       stops = λ image left.
           stops open_then.base device core idle idle boot done.later.first done.later.last
           done.later.entries image

@@ -107,15 +107,16 @@ NumbersRise least [] most = least ≤ most
 NumbersRise least (entry ∷ entries) most =
     (least < entry.ctx.transaction) × NumbersRise entry.ctx.transaction entries most
 
--- What a stream has made of the files: each message did what is said above, from the store at the call to the
--- one behind the last message, and none took back a failure, a number or a settled place. What they were
--- answered, each along the way that its procedure went and so all of them, is what the served stream admits:
--- so each cause lies in the device calls of its own message, in a store that was broken before it, or in what
--- the core had left then. The numbers of the transactions of its procedures rise, from above those that there
--- were. The store that is left is open for the files that there are then: those entries, and behind them the
--- stream's. Whatever a stop leaves, from the call on, is good, and has the tree after a beginning of them, in
--- which is each place that was settled at the call. Once the call has returned each place is in it that is
--- settled then, and so the place of each procedure that waits for its place and was answered its reply.
+-- What a stream has made of the files: each message did what is said above, from the store at the call to
+-- the one behind the last message, and none took back a failure, a number or a settled place. What they
+-- were answered, each along the way that its procedure went and so all of them, is what the served stream
+-- admits: so each cause lies in the device calls of its own message, in a store that was broken before it,
+-- or in what the core had left then. The numbers of the transactions of its procedures rise, from above
+-- those that there were. The store that is left is open for the files that there are then: those entries,
+-- and behind them the stream's. Whatever a stop leaves, from the call on, is good, and has the tree after a
+-- beginning of them, in which is each place that was settled at the call, and behind the last message each
+-- that was settled by then. Once the call has returned each place is in it that is settled then, and so the
+-- place of each procedure that waits for its place and was answered its reply.
 pub record HasFiled (moment : Moment) (old : Opened) (files : Files) (messages replies : List (List ℕ))
     (served new : Opened) : Type 0 where
   pub later : Files
@@ -133,6 +134,8 @@ pub record HasFiled (moment : Moment) (old : Opened) (files : Files) (messages r
   pub past : IsLater old.device new.device
   pub left : LeavesImages old.device new.device
   pub during : KeepsFiles old.device new.device old.boot files.first later.entries (settled_place old.core.log)
+  pub behind : KeepsFiles served.device new.device old.boot files.first later.entries
+      (settled_place served.core.log)
   pub stops : (image : Image) → IsCrashImage new.device new.device.clock image
       → LeavesBeginning new.device.size new.boot later.first later.entries (settled_place new.core.log) image
 

@@ -43,13 +43,6 @@ pub record IsServing (result : Result ℕ SessionFault) (store : Opened) (client
 pub HasServed : Opened → Client → Moment → Result ℕ SessionFault → Opened → Client → Type 0
 HasServed opened client moment result store later = IsServing result store later
 
--- what follows from it
-pub serving_is : (opened : Opened) (client : Client) (moment : Moment) (result : Result ℕ SessionFault)
-    (store : Opened) (later : Client)
-    → HasServed opened client moment result store later → IsServing result store later
-unfolding HasServed
-serving_is opened client moment result store later served = served
-
 -- for the proof of `serve` alone
 pub has_served : (opened : Opened) (client : Client) (moment : Moment) (result : Result ℕ SessionFault)
     (store : Opened) (later : Client)

@@ -43,7 +43,7 @@ pub fn called_by(alloc: Global, uid: u32) -> Ctx {
     }
 }
 
-/// The handle of the file 2 where its boot number is 1.
+/// The handle of a file of this number, of this boot and transaction 0.
 pub fn handle_of(alloc: Global, number: u32, boot: u64) -> Result<Handle, AllocError> {
     let stamp = Stamp {
         boot,

@@ -1,5 +1,6 @@
 //! One call to its answer, by one thread.
-ghost use Rattle.std.specs.Prelude.{◌≡◌};
+ghost use Rattle.std.specs.Prelude.{◌≡◌, ◌≤◌, ◌⊎◌, length, true};
+ghost use Rattle.limits.specs.declared.TheConstants.{MOST_KEPT_COMMITS};
 ghost use Rattle.store_workers.specs.Alone.{IsAlone, is_full};
 ghost use Rattle.store.specs.Calling.{Answers, HasAnswered, HasStepped, IsCalling, Outset, asked_of};
 ghost use Rattle.store.specs.Driving.{HasGoneOn, IsUnderWay, steps_left, waits_for_log};
@@ -24,10 +25,11 @@ use store_workers::Worker;
 
 /// Runs a call to its answer. Where the answer waits for its place everything is settled before; where the
 /// log is full, too, and so it is where more than MOST_KEPT_COMMITS commits are kept then, since that brings
-/// home what is logged. A call that isn't served is NOTSUPP and begins no transaction. A store that is open
-/// with some entries is open with the same then, or with the call's besides, whose reply is answered; else
-/// the answer says why there is none. Each stop on the way leaves the files after a beginning of these
-/// entries, in which is each place that was settled before.
+/// home what is logged. A call that isn't served is answered NOTSUPP, and NULL its reply; neither begins a
+/// transaction. Where the moment is sound and the device keeps its model, a store that is open with some
+/// entries is open with the same then, or with the call's besides, whose reply is answered; else the answer
+/// says why there is none. Each stop on the way leaves the files after a beginning of these entries, in which
+/// is each place that was settled before.
 #[tactic(auto, using(crate::proofs::Driven::starts, crate::proofs::DrivenAlone::starts_alone))]
 pub fn procedure<D: CrashDisk>(
     alloc: Global,
@@ -43,6 +45,7 @@ pub fn procedure<D: CrashDisk>(
         (store_of (D.device store.old.disk) store.old.core store.old.boot)
         (asked_of credential moment call) result
         (store_of (D.device store.new.disk) store.new.core store.new.boot) }
+    ensures kept { (length store.new.core.records ≤ MOST_KEPT_COMMITS) ⊎ (store.new.core.log.broken ≡ true) }
     ensures model { D.keeps_model store.new.disk → D.keeps_model store.old.disk }
 {
     a_call_begins();

@@ -57,11 +57,6 @@ Opens before (Err refused) tree first = IsRefused before refused.0 tree first re
 pub HasOpened : Device → Opening → Type 0
 HasOpened device answer = IsOpening answer
 
--- what follows from it
-pub opening_is : (device : Device) (answer : Opening) → HasOpened device answer → IsOpening answer
-unfolding HasOpened
-opening_is device answer opened = opened
-
 -- for the proof of `open` alone
 pub has_opened : (device : Device) (answer : Opening) → IsOpening answer → HasOpened device answer
 unfolding HasOpened

@@ -72,7 +72,7 @@ pub(crate) fn file(alloc: Global, mode: u32) -> Result<PlainNode, AllocError> {
     })
 }
 
-// The handle of the file 2 where its transaction is 0.
+// The handle of a file of this number and this transaction.
 pub(crate) fn handle_of(
     alloc: Global,
     number: u32,

@@ -109,8 +109,8 @@ impl<C: Change> Core<C> {
         self.state.begin()
     }
 
-    /// Takes an object for reading, alone, in a transaction that is out of this core. Outside: the block
-    /// isn't one that a change may write. Busy: another transaction has taken a byte of it, or this one by
+    /// Takes an object for reading, alone, in a transaction that this core began and that hasn't ended.
+    /// Outside: the block isn't one that a change may write. Busy: another transaction has taken a byte of it, or this one by
     /// another address. Loading: a fetch of the block is pending, and nothing is taken. Fetch: the block has
     /// to be read from home; the object is taken, and the same want after `fetched` answers Held or
     /// NoMemory. NoMemory: nothing has changed.
@@ -164,9 +164,9 @@ impl<C: Change> Core<C> {
     }
 
     /// Commits a change at the next place, and ends its transaction. Broken: a write or a barrier has failed.
-    /// Foreign: the change was planned for other counts than the core's, or writes what this transaction
-    /// doesn't hold or whose fetch is pending, or read what it doesn't hold for reading or what differs.
-    /// Spent: no place is left, or too few positions of the log. Full: the open group and this change pass
+    /// Foreign: the transaction isn't one that this core began; or the change was planned for other counts
+    /// than the core's, writes a block that no change may write, writes what this transaction doesn't hold or
+    /// whose fetch is pending, or read what it doesn't hold for reading or what differs. Spent: no place is left, or too few positions of the log. Full: the open group and this change pass
     /// the log. These and NoMemory change nothing.
     pub fn commit(&mut self, alloc: Global, tx: Tx, change: C) -> Commit<C>
         requires { length (blocks_of (C.planned change).written) ≤ CHANGED_BLOCKS }

@@ -33,7 +33,8 @@ pub fn a_read_brings_what_is_current()
         → newest_content (current d block) ≡ now_of base log commits block }
 {}
 
-/// A commit and a read keep what may be read.
+/// A commit, a read and a write beside the log that was made keep what may be read; a device call keeps that
+/// each block has a content.
 pub fn steps_keep_what_may_be_read()
     ensures append { (d : Device) (old new : Log) (group : List (BlockNo × Content)) (installing : Pending)
         → HasAppended old group new → IsReadable d old installing → IsReadable d new installing }

@@ -31,7 +31,7 @@ pub record GrowsBy (old : Log) (group : List (BlockNo × Content)) (new : Log) :
   pub opened : (count : ℕ) → count ≤ old.logged + old.taken
       → recovered (drop count new.changes) ≡ recovered (drop count old.changes)
 
--- Logger and installer stand where they stood, and the log is as sound as it was.
+-- Logger and installer stand where they stood, and the log is broken just where it was.
 pub record StandsStill (old new : Log) : Type 0 where
   pub blocks : new.blocks ≡ old.blocks
   pub start : new.start ≡ old.start

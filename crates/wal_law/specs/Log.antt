@@ -86,7 +86,7 @@ changes_of place group =
 abbrev pub log_end : Log → ℕ
 log_end log = log.start + log.logged
 
--- a log without changes, on a disk of so many blocks
+-- the log that an opening found on a disk of so many blocks: all of its changes are logged, none by a commit
 abbrev pub opened : ℕ → ℕ → List (BlockNo × Content) → Log
 opened blocks start logged =
     record {

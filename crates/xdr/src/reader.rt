@@ -8,7 +8,7 @@ use crate::XdrFault;
 use byteorder::{BigEndian, ByteOrder};
 use std::marker::Model;
 
-/// The bytes that aren't read yet. After a refusal it stands inside the item that was refused.
+/// The bytes that aren't read yet. After a refusal nothing is said of where it stands.
 #[derive(Drop)]
 pub struct Reader<'a> {
     rest: &'a [u8],

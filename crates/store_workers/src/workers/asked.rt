@@ -9,9 +9,9 @@ use objects::Addr;
 use std::marker::Model;
 use std::snapshot::Snapshot;
 
-// The object whose block was fetched last, the objects whose blocks were fetched for the transaction, and the
-// call whose procedure was committed and waits for its place. Only proofs read the last two, which take no
-// memory.
+// The object whose block is fetched or was fetched last, the objects whose blocks were fetched for the
+// transaction, and the call whose procedure was committed and waits for its place. They serve proofs alone, and
+// the last two take no memory.
 #[derive(Drop)]
 pub(crate) struct Asked {
     wish: Option<Addr>,

@@ -13,6 +13,10 @@ pub fn is_worked_setattr(call: &Call) -> bool {
         } => {
             object.bytes.as_slice().len() == 20
                 && attributes.mode == Some(448)
+                && attributes.uid.is_none()
+                && attributes.gid.is_none()
+                && attributes.size.is_none()
+                && attributes.atime == SetTime::Unchanged
                 && attributes.mtime == SetTime::Unchanged
                 && guard.is_none()
         }

@@ -1,13 +1,27 @@
 -- The call that was handed over is answered, and so the store is left, once everything is settled, too.
-use Rattle.std.proofs.Common.{◌∙◌, ◌<◌, ap, length, refl, subst, sym}
+use Rattle.std.proofs.Common.{◌≡◌, ◌∙◌, ◌<◌, ◌≤◌, ◌⊎◌, inl, inr, ap, length, refl, subst, sym, true, Result, Ok}
+use Rattle.std.proofs.Common.{Err, OnOk, OnErr}
 use Rattle.limits.specs.declared.TheConstants.{MOST_KEPT_COMMITS}
 use Rattle.store.specs.Calling.{HasAnswered, Outset, asked_of}
-use Rattle.store_images.specs.Opening.{store_of}
+use Rattle.disk.specs.declared.device.Failed.{Failed}
+use Rattle.txn_law.specs.Core.{CoreState}
+use Rattle.store_images.specs.Opening.{IsSettled, store_of}
 use Rattle.store_workers.specs.Worker.{ctx_of, with_call}
 use Rattle.store_workers.specs.declared.workers.parts.State.{State}
 use Rattle.store.proofs.CallEvents.{settled_answer}
 use Rattle.store_runs.proofs.RunTaken.{goes_with}
 use Rattle.store.proofs.one_call.procedure.Goals as goal
+
+-- a settling leaves few commits, or a broken log
+few_kept : (result : Result (Unit {0}) Failed) (core : CoreState) → OnOk result (IsSettled core)
+    → OnErr result (core.log.broken ≡ true)
+    → (length core.records ≤ MOST_KEPT_COMMITS) ⊎ (core.log.broken ≡ true)
+few_kept (Ok x) core settled broken = inl settled.kept
+few_kept (Err e) core settled broken = inr broken
+
+pub returns-then-keeps_too_many-clause-kept : goal.returns-then-keeps_too_many-clause-kept
+returns-then-keeps_too_many-clause-kept g c =
+    few_kept c.settle.result c.settle.new.store.core c.settle.ensures.settled c.settle.ensures.broken
 
 pub returns-then-keeps_too_many-clause-answered : goal.returns-then-keeps_too_many-clause-answered
 returns-then-keeps_too_many-clause-answered g c = λ first last entries keeps timely opened.
