@@ -110,10 +110,10 @@ impl<C: Change> Core<C> {
     }
 
     /// Takes an object for reading, alone, in a transaction that this core began and that hasn't ended.
-    /// Outside: the block isn't one that a change may write. Busy: another transaction has taken a byte of it, or this one by
-    /// another address. Loading: a fetch of the block is pending, and nothing is taken. Fetch: the block has
-    /// to be read from home; the object is taken, and the same want after `fetched` answers Held or
-    /// NoMemory. NoMemory: nothing has changed.
+    /// Outside: the block isn't one that a change may write. Busy: another transaction has taken a byte of
+    /// it, or this one by another address. Loading: a fetch of the block is pending, and nothing is taken.
+    /// Fetch: the block has to be read from home; the object is taken, and the same want after `fetched`
+    /// answers Held or NoMemory. NoMemory: nothing has changed.
     pub fn want(&mut self, alloc: Global, tx: Tx, addr: Addr) -> Want
         requires { IsOut self.old tx }
         ensures answer { IsWanted self.old tx addr modes.Exclusive result self.new }
@@ -166,8 +166,9 @@ impl<C: Change> Core<C> {
     /// Commits a change at the next place, and ends its transaction. Broken: a write or a barrier has failed.
     /// Foreign: the transaction isn't one that this core began; or the change was planned for other counts
     /// than the core's, writes a block that no change may write, writes what this transaction doesn't hold or
-    /// whose fetch is pending, or read what it doesn't hold for reading or what differs. Spent: no place is left, or too few positions of the log. Full: the open group and this change pass
-    /// the log. These and NoMemory change nothing.
+    /// whose fetch is pending, or read what it doesn't hold for reading or what differs. Spent: no place is
+    /// left, or too few positions of the log. Full: the open group and this change pass the log. These and
+    /// NoMemory change nothing.
     pub fn commit(&mut self, alloc: Global, tx: Tx, change: C) -> Commit<C>
         requires { length (blocks_of (C.planned change).written) ≤ CHANGED_BLOCKS }
         ensures answer { IsCommit self.old tx (C.planned change) change result self.new }

@@ -44,10 +44,7 @@ fn read_arguments<R: env::Env + AllocGlobal>(rt: &R) -> Result<Asked, AllocError
     let Ok(given) = env::args(rt) else {
         return Ok(Asked::Senseless);
     };
-    let line: Vec<String> = match given.collect(rt.alloc()) {
-        Ok(line) => line,
-        Err(_) => return Ok(Asked::Senseless),
-    };
+    let line: Vec<String> = given.collect(rt.alloc())?;
     Ok(parse(line.as_slice()))
 }
 
