@@ -5,8 +5,8 @@ ghost use Rattle.model.specs.Refused.{refused};
 
 use nfs_types::{Call, Reply, Status, WeakCacheData};
 
-// Nothing is told of a file.
-const UNTOLD: WeakCacheData = WeakCacheData {
+/// Nothing is told of a file.
+pub(crate) const UNTOLD: WeakCacheData = WeakCacheData {
     before: None,
     after: None,
 };

@@ -22,7 +22,7 @@ use crate::done::Done;
 use crate::draft::Draft;
 use crate::find::find;
 use crate::next::Plan;
-use crate::refused::refused_reply;
+use crate::refused::{UNTOLD, refused_reply};
 use crate::set_attr::{refusal, with_mode};
 use crate::snap::Snap;
 use crate::stop::Stop;
@@ -132,13 +132,7 @@ fn set_attr(
 {
     let found = match find(alloc, snap, object)? {
         Ok(found) => found,
-        Err(status) => {
-            let untold = WeakCacheData {
-                before: None,
-                after: None,
-            };
-            return Ok(left(alloc, snap, status, untold)?);
-        }
+        Err(status) => return Ok(left(alloc, snap, status, UNTOLD)?),
     };
     match refusal(ctx, wanted, guard, &found) {
         Some(status) => Ok(left(alloc, snap, status, found.change_to(&found))?),
