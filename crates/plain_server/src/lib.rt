@@ -19,5 +19,5 @@ pub use permissions::{
     acts_as_owner, class_of, has_right, has_write, is_own_group, is_superuser, may_write_file,
 };
 pub use refusals::refusal;
-pub use server::{PlainFault, SetReply, get_attributes, serve, set_found};
+pub use server::{PlainFault, SetReply, get_attributes, serve, set_found, untold};
 pub use tree::{NumberedNode, PlainTree};

@@ -97,10 +97,7 @@ impl PlainNames {
         ensures err { OnErr result (self.new ≡ self.old) }
     {
         let entry = PlainEntry { name, number, slot };
-        match put_entry(&mut self.entries, entry) {
-            Ok(()) => Ok(()),
-            Err(error) => Err(error),
-        }
+        put_entry(&mut self.entries, entry)
     }
 
     /// Takes a name away, if it is there.

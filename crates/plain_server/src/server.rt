@@ -1,5 +1,6 @@
 //! One call after another.
 ghost use Rattle.std.specs.Prelude.{◌≡◌, ◌↔◌, false, IfOk, OnErr, IsErrOf};
+ghost use Rattle.model.specs.Attributes.{untold};
 ghost use Rattle.model.specs.Find.{find_file};
 ghost use Rattle.model.specs.GetAttr.{attributes_found};
 ghost use Rattle.model.specs.SetAttr.{SetAttrStep};
@@ -85,6 +86,16 @@ pub fn get_attributes(tree: &PlainTree, object: &Handle) -> Result<Attributes, S
     Ok(file.node.attributes(file.number))
 }
 
+/// What is told of a file where a handle names none.
+pub fn untold() -> WeakCacheData
+    ensures { result ≡ untold }
+{
+    WeakCacheData {
+        before: None,
+        after: None,
+    }
+}
+
 /// Sets the attributes of the file that a handle names. An error leaves the tree as it was.
 pub fn set_found(
     tree: &mut PlainTree,
@@ -102,10 +113,7 @@ pub fn set_found(
         Err(status) => {
             return Ok(SetReply {
                 outcome: Err(status),
-                object: WeakCacheData {
-                    before: None,
-                    after: None,
-                },
+                object: untold(),
             });
         }
     };
