@@ -1,6 +1,6 @@
 -- Steps that may change the tree, of a file that was found; and tests in two parts.
 use Rattle.std.proofs.Common.{◌≡◌, ℕ, sym, ap, ◌∙◌, refl, Bool, true, false, cond, List, [], ◌∷◌, ◌++◌}
-use Rattle.std.proofs.Common.{Option, Some, None, Result, Ok, Err}
+use Rattle.std.proofs.Common.{Option, Some, None, Result, Ok, Err, IfOk}
 use Rattle.nfs_types.specs.declared.attributes.WeakCacheAttributes.{WeakCacheAttributes}
 use Rattle.nfs_types.specs.declared.attributes.WeakCacheData.{WeakCacheData}
 use Rattle.nfs_types.specs.declared.status.Status.{Status}
@@ -48,3 +48,8 @@ unless_some test status answer is = ap (λ t. unless t answer) (sym is)
 pub unless_none : {A : Type 0} (test : Option Status) (answer : Result A Status) → test ≡ None
     → answer ≡ unless test answer
 unless_none test answer is = ap (λ t. unless t answer) (sym is)
+
+-- what holds of what was given, where something was
+pub ok_then : {A E : Type 0} (r : Result A E) (P Q : A → Type 0) → IfOk r P → ((x : A) → P x → Q x) → IfOk r Q
+ok_then (Ok x) P Q holds then = then x holds
+ok_then (Err e) P Q holds then = tt

@@ -204,7 +204,7 @@ pub fn without_name(
         Some(file) => {
             let links = parent_links(&file.node.body);
             let left = with_departed(tree, directory, moment, name, links)?;
-            Ok(unnamed(left, moment, file)?)
+            unnamed(left, moment, file)
         }
     }
 }

@@ -5,8 +5,8 @@ ghost use Rattle.plain_server.specs.Plain.{node_of, tree_of};
 
 use crate::Changed;
 use crate::finding::{found, left_alone};
-use nfs_types::{Credential, Ctx, Handle, Status, Verifier, WeakCacheData};
-use plain_server::{PlainBody, PlainNode, PlainTree, may_write_file};
+use nfs_types::{Credential, Ctx, Handle, Status, Verifier};
+use plain_server::{PlainBody, PlainNode, PlainTree, may_write_file, untold};
 
 fn commit_refusal(caller: &Credential, node: &PlainNode) -> Option<Status>
     ensures { result ≡ commit_refusal caller.now (node_of node.now) }
@@ -28,10 +28,7 @@ pub fn commit(tree: &PlainTree, ctx: &Ctx, file: &Handle) -> Changed<Verifier>
     match found(tree, file) {
         Err(status) => Changed {
             outcome: Err(status),
-            file: WeakCacheData {
-                before: None,
-                after: None,
-            },
+            file: untold(),
         },
         Ok(file) => Changed {
             outcome: match commit_refusal(&ctx.credential, &file.node) {

@@ -7,7 +7,7 @@ ghost use Rattle.plain_procedures.specs.Effects.{effect_in, told_since};
 
 use crate::names::file_at;
 use nfs_types::{Attributes, Status, WeakCacheAttributes, WeakCacheData};
-use plain_server::PlainTree;
+use plain_server::{PlainTree, untold};
 
 /// What a call that isn't refused answers, and the tree that it leads to.
 #[derive(Drop)]
@@ -85,9 +85,6 @@ pub fn refused<A>(status: Status) -> Changed<A>
 {
     Changed {
         outcome: Err(status),
-        file: WeakCacheData {
-            before: None,
-            after: None,
-        },
+        file: untold(),
     }
 }

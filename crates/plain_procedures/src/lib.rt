@@ -35,7 +35,7 @@ pub use numbers::least_unused;
 pub use reading::read;
 pub use rights::access;
 pub use slots::least_free_slot;
-pub use space::{file_system_space, free_blocks};
+pub use space::file_system_space;
 pub use special::make_special;
 pub use targets::read_link;
 pub use writing::write;

@@ -65,7 +65,7 @@ fn blocks_of(files: &[NumberedNode]) -> u128
 }
 
 /// The data blocks that no file uses.
-pub fn free_blocks(tree: &PlainTree) -> u32
+pub(crate) fn free_blocks(tree: &PlainTree) -> u32
     ensures { result ≡ free (tree_of tree.now) }
 {
     let blocks = blocks_of(&tree.nodes);

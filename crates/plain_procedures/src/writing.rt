@@ -11,7 +11,7 @@ use crate::Changed;
 use crate::space::free_blocks;
 use limits::{BLOCK_BYTES, LARGEST_FILE, TRANSFER_BYTES};
 use nfs_types::{Credential, Ctx, Handle, Stability, Status, Verifier, WeakCacheData, Written};
-use plain_server::{MappedIndexes, PlainBody, PlainNode, PlainTree, may_write_file};
+use plain_server::{MappedIndexes, PlainBody, PlainNode, PlainTree, may_write_file, untold};
 use std::alloc::{AllocError, Global};
 
 fn is_wrong_count(count: u32, text: &[u8]) -> bool
@@ -183,10 +183,7 @@ pub fn write(
         Err(status) => {
             return Ok(Changed {
                 outcome: Err(status),
-                file: WeakCacheData {
-                    before: None,
-                    after: None,
-                },
+                file: untold(),
             });
         }
     };
