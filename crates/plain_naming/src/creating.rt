@@ -50,7 +50,7 @@ fn make_file(
         (fresh ctx.now mode verifier no_bytes)) }
 {
     let node = fresh(ctx, mode, verifier, no_bytes(alloc));
-    Ok(make(
+    make(
         alloc,
         tree,
         ctx,
@@ -59,7 +59,7 @@ fn make_file(
         name,
         wanted,
         node,
-    )?)
+    )
 }
 
 fn create_new(
@@ -75,43 +75,26 @@ fn create_new(
         how.now) }
 {
     match how {
-        CreateHow::Unchecked(wanted) => {
-            Ok(make_file(
-                alloc,
-                tree,
-                ctx,
-                directory,
-                name,
-                wanted,
-                NEW_FILE_MODE,
-                None,
-            )?)
-        }
-        CreateHow::Guarded(wanted) => {
-            Ok(make_file(
-                alloc,
-                tree,
-                ctx,
-                directory,
-                name,
-                wanted,
-                NEW_FILE_MODE,
-                None,
-            )?)
-        }
-        CreateHow::Exclusive(verifier) => {
-            let wanted = nothing_given();
-            Ok(make_file(
-                alloc,
-                tree,
-                ctx,
-                directory,
-                name,
-                &wanted,
-                EXCLUSIVE_MODE,
-                Some(*verifier),
-            )?)
-        }
+        CreateHow::Unchecked(wanted) | CreateHow::Guarded(wanted) => make_file(
+            alloc,
+            tree,
+            ctx,
+            directory,
+            name,
+            wanted,
+            NEW_FILE_MODE,
+            None,
+        ),
+        CreateHow::Exclusive(verifier) => make_file(
+            alloc,
+            tree,
+            ctx,
+            directory,
+            name,
+            &nothing_given(),
+            EXCLUSIVE_MODE,
+            Some(*verifier),
+        ),
     }
 }
 
@@ -171,7 +154,7 @@ fn resize(
         (numbered file.now).1) }
 {
     match size {
-        Some(size) => Ok(resize_to(alloc, tree, ctx, size, file)?),
+        Some(size) => resize_to(alloc, tree, ctx, size, file),
         None => {
             let answer = created(alloc, file.number, &file.node)?;
             let next = tree.clone()?;
@@ -209,7 +192,7 @@ fn create_over(
     match how {
         CreateHow::Unchecked(wanted) => {
             if matches!(&file.node.body, PlainBody::Regular { .. }) {
-                Ok(resize(alloc, tree, ctx, wanted.size, file)?)
+                resize(alloc, tree, ctx, wanted.size, file)
             } else {
                 Ok(Err(Status::Exist))
             }
@@ -217,7 +200,7 @@ fn create_over(
         CreateHow::Guarded(_) => Ok(Err(Status::Exist)),
         CreateHow::Exclusive(verifier) => {
             if is_made_with(verifier, &file.node) {
-                Ok(resize(alloc, tree, ctx, None, file)?)
+                resize(alloc, tree, ctx, None, file)
             } else {
                 Ok(Err(Status::Exist))
             }
@@ -250,8 +233,8 @@ fn create_at(
         (option_map (λ f. numbered f.now) file.entry)) }
 {
     match file {
-        None => Ok(create_new(alloc, tree, ctx, directory, name, how)?),
-        Some(file) => Ok(create_over(alloc, tree, ctx, how, file)?),
+        None => create_new(alloc, tree, ctx, directory, name, how),
+        Some(file) => create_over(alloc, tree, ctx, how, file),
     }
 }
 
@@ -272,7 +255,7 @@ fn create_in(
         Some(status) => Ok(Err(status)),
         None => {
             let file = named_file(tree, &directory.node, name);
-            Ok(create_at(alloc, tree, ctx, how, directory, name, file)?)
+            create_at(alloc, tree, ctx, how, directory, name, file)
         }
     }
 }

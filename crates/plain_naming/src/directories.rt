@@ -86,7 +86,7 @@ fn make_directory_in(
             };
             let node = fresh(ctx, NEW_DIRECTORY_MODE, None, body);
             let wanted = without_size(wanted);
-            Ok(make(
+            make(
                 alloc,
                 tree,
                 ctx,
@@ -95,7 +95,7 @@ fn make_directory_in(
                 name,
                 &wanted,
                 node,
-            )?)
+            )
         }
     }
 }

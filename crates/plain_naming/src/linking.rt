@@ -25,7 +25,7 @@ use plain_procedures::{
     least_free_slot, may_change, parent_links, place_refusal, take_effect, told_since,
     with_entered, with_node,
 };
-use plain_server::{NumberedNode, PlainBody, PlainNode, PlainTree};
+use plain_server::{NumberedNode, PlainBody, PlainNode, PlainTree, untold};
 use std::alloc::{AllocError, Global};
 
 /// What LINK answers, and what is told of the file and of the directory.
@@ -158,7 +158,7 @@ fn link_in(
         Some(status) => Ok(Err(status)),
         None => {
             let slot = least_free_slot(&directory.node.body);
-            Ok(add_link(alloc, tree, ctx.moment, name, file, directory.number, slot)?)
+            add_link(alloc, tree, ctx.moment, name, file, directory.number, slot)
         }
     }
 }
@@ -193,10 +193,7 @@ fn not_linked(status: Status, file: Option<Attributes>) -> LinkTold
     LinkTold {
         outcome: Err(status),
         file,
-        directory: WeakCacheData {
-            before: None,
-            after: None,
-        },
+        directory: untold(),
     }
 }
 

@@ -78,7 +78,7 @@ fn make_link_in(
             };
             let node = fresh(ctx, NEW_LINK_MODE, None, body);
             let wanted = without_size(wanted);
-            Ok(make(
+            make(
                 alloc,
                 tree,
                 ctx,
@@ -87,7 +87,7 @@ fn make_link_in(
                 name,
                 &wanted,
                 node,
-            )?)
+            )
         }
     }
 }

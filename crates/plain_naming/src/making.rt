@@ -145,7 +145,7 @@ pub(crate) fn make(
             set_attributes(&mut made, &ctx.moment, wanted)?;
             let number = least_unused(tree);
             let slot = least_free_slot(&directory.body);
-            Ok(add_made(alloc, tree, ctx, at, name, made, number, slot)?)
+            add_made(alloc, tree, ctx, at, name, made, number, slot)
         }
     }
 }

@@ -8,7 +8,7 @@ use Rattle.procedures.specs.Fresh.{fresh, make}
 use Rattle.procedures.specs.MkDir.{is_full, is_there}
 use Rattle.plain_server.specs.Plain.{node_of, numbered, tree_of}
 use Rattle.plain_procedures.specs.Listed.{least_unused}
-use Rattle.plain_procedures.proofs.Acted.{unless_none, unless_some}
+use Rattle.plain_procedures.proofs.Acted.{ok_then, unless_none, unless_some}
 use Rattle.plain_procedures.proofs.Linked.{has_room, last_passed}
 use Rattle.plain_naming.proofs.directories.make_directory_in.Goals as goal
 
@@ -25,14 +25,14 @@ make-requires c =
     ++ (is_there tree node name, status.Exist) ∷ []) (is_full node) status.MLink
     (sym c.directory_refusal.ensures ∙ c.in-None.is))
 
-pub returns-in_ok-make-in-None : goal.returns-in_ok-make-in-None
-returns-in_ok-make-in-None c =
+pub returns-in-None : goal.returns-in-None
+returns-in-None c =
     let tree = tree_of c.args.tree.now in
     let directory = numbered c.args.directory.now in
     let ctx = c.args.ctx.now in
     let body = λ (entries : Entries). Directory entries 0 directory.0 in
-    c.in_ok-make-in-None.ensures
+    ok_then c.make.result _ _ c.make.ensures (λ r is. is
     ∙ (λ i. make tree ctx (least_unused tree) directory.0 directory.1 c.args.name.now
     (c.without_size-wanted.ensures i)
     ((c.fresh-node.ensures ∙ ap (λ entries. fresh ctx NEW_DIRECTORY_MODE None (body entries)) c.new.ensures) i))
-    ∙ unless_none _ _ (sym c.directory_refusal.ensures ∙ c.in-None.is)
+    ∙ unless_none _ _ (sym c.directory_refusal.ensures ∙ c.in-None.is))

@@ -8,7 +8,7 @@ use Rattle.procedures.specs.Fresh.{new_entry}
 use Rattle.procedures.specs.Link.{with_link}
 use Rattle.procedures.specs.MkDir.{is_full, is_there}
 use Rattle.plain_server.specs.Plain.{node_of, numbered, tree_of}
-use Rattle.plain_procedures.proofs.Acted.{unless_none, unless_some}
+use Rattle.plain_procedures.proofs.Acted.{ok_then, unless_none, unless_some}
 use Rattle.plain_procedures.proofs.Linked.{has_room, last_passed, test_passed}
 use Rattle.plain_naming.proofs.linking.link_in.Goals as goal
 
@@ -34,12 +34,12 @@ add_link-requires c =
           ∷ (is_there tree directory name, status.Exist) ∷ []) (is_full node) status.MLink passed);
     }
 
-pub returns-in_ok-add_link-in-None : goal.returns-in_ok-add_link-in-None
-returns-in_ok-add_link-in-None c =
+pub returns-in-None : goal.returns-in-None
+returns-in-None c =
     let tree = tree_of c.args.tree.now in
     let file = numbered c.args.file.now in
-    c.in_ok-add_link-in-None.ensures
+    ok_then c.add_link.result _ _ c.add_link.ensures (λ r is. is
     ∙ ap (λ slot. if_entry tree (new_entry (Some file.0) slot)
     (with_link tree c.args.ctx.now.moment c.args.name.now file.0 file.1 c.args.directory.now.number))
     c.least_free_slot-slot.ensures
-    ∙ unless_none _ _ (sym c.link_refusal.ensures ∙ c.in-None.is)
+    ∙ unless_none _ _ (sym c.link_refusal.ensures ∙ c.in-None.is))
