@@ -15,7 +15,7 @@ use crate::moving::move_file;
 use crate::refusals::places_refusal;
 use nfs_types::{Ctx, DirectoryName, Status, WeakCacheAttributes, WeakCacheData};
 use plain_procedures::{PlainEffect, found, left_alone, named_file, take_effect, told_since};
-use plain_server::{NumberedNode, PlainTree};
+use plain_server::{NumberedNode, PlainTree, untold};
 use std::alloc::{AllocError, Global};
 
 /// What RENAME answers, and what is told of both directories.
@@ -58,9 +58,9 @@ fn rename_found(
         let next = tree.clone()?;
         Ok(Ok(PlainEffect { answer: (), next }))
     } else {
-        Ok(move_file(
+        move_file(
             alloc, tree, ctx, file, source, name, target, new_name, replaced,
-        )?)
+        )
     }
 }
 
@@ -81,9 +81,7 @@ fn rename_in(
     match places_refusal(tree, &ctx.credential, source, name, target, new_name) {
         Some(status) => Ok(Err(status)),
         None => match named_file(tree, &source.node, name) {
-            Some(file) => {
-                Ok(rename_found(alloc, tree, ctx, file, source, name, target, new_name)?)
-            }
+            Some(file) => rename_found(alloc, tree, ctx, file, source, name, target, new_name),
             None => Ok(Err(Status::NoEnt)),
         },
     }
@@ -120,16 +118,7 @@ fn not_renamed(status: Status, source: WeakCacheData) -> RenameTold
     RenameTold {
         outcome: Err(status),
         source,
-        target: nothing_told(),
-    }
-}
-
-fn nothing_told() -> WeakCacheData
-    ensures { result ≡ untold }
-{
-    WeakCacheData {
-        before: None,
-        after: None,
+        target: untold(),
     }
 }
 
@@ -147,7 +136,7 @@ pub fn rename(
     ensures err { OnErr result (tree_of tree.new ≡ tree_of tree.old) }
 {
     let (number, before, other, other_before, effect) = match found(tree, &source.directory) {
-        Err(status) => return Ok(not_renamed(status, nothing_told())),
+        Err(status) => return Ok(not_renamed(status, untold())),
         Ok(from) => match found(tree, &target.directory) {
             Err(status) => return Ok(not_renamed(status, left_alone(from))),
             Ok(to) => {

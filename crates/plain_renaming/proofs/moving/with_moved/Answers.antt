@@ -1,4 +1,4 @@
-use Rattle.std.proofs.Common.{ℕ, ◌<◌, ◌^◌, ap, subst, ◌∙◌}
+use Rattle.std.proofs.Common.{ℕ, ap, ◌∙◌, arith}
 use Rattle.std.specs.Option.{option_map}
 use Rattle.model.specs.Node.{DirectoryEntry}
 use Rattle.model.specs.Tree.{Tree}
@@ -24,7 +24,7 @@ with_entered-requires c =
           (tree_of c.in_ok-left.left) (tree_of c.in_ok-cleared.cleared)
           (option_map (λ f. numbered f.now) c.args.replaced) c.parent_links-links.ensures.is left_is
           c.in_ok-cleared.ensures c.requires.stands
-          (subst (λ n. n < 2 ^ 32) c.links_of-there.ensures c.links_of-there.type_inv) c.requires.sort
+          (omega arith) c.requires.sort
           c.requires.room;
     }
 
