@@ -22,7 +22,7 @@ fn slot_position(entries: &[PlainEntry], slot: u64) -> Option<usize>
 fn name_of(entry: &PlainEntry) -> Result<Octets, AllocError>
     ensures { IfOk result (λ name. name ≡ entry.now.name) }
 {
-    Ok(entry.name.clone()?)
+    entry.name.clone()
 }
 
 // What lies in a slot.

@@ -43,7 +43,7 @@ fn fitting_names(room: u32, left: &[ListedEntry]) -> &[ListedEntry]
 fn copied(alloc: Global, entries: &[ListedEntry]) -> Result<Vec<ListedEntry>, AllocError>
     ensures { IfOk result (λ copy. copy.items ≡ entries.now) }
 {
-    Ok(entries.to_vec(alloc)?)
+    entries.to_vec(alloc)
 }
 
 fn listed(alloc: Global, left: &[ListedEntry], given: &[ListedEntry]) -> Result<Listed, AllocError>
@@ -94,7 +94,7 @@ fn list(
 {
     let left = listed_behind(alloc, cookie, directory.number, &directory.node.body)?;
     let node = &directory.node;
-    Ok(list_left(
+    list_left(
         alloc,
         caller,
         cookie,
@@ -102,7 +102,7 @@ fn list(
         count,
         node,
         left.as_slice(),
-    )?)
+    )
 }
 
 /// The names of a directory behind a cookie, as many as fit.

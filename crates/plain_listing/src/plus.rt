@@ -51,7 +51,7 @@ fn attributes_at(tree: &PlainTree, number: u64) -> Option<Attributes>
 fn handle_of(alloc: Global, file: &NumberedNode) -> Result<Handle, AllocError>
     ensures { IfOk result (λ handle. handle ≡ handle_of (numbered file.now).0 (numbered file.now).1) }
 {
-    Ok(Handle::of(alloc, file.number, file.node.stamp)?)
+    Handle::of(alloc, file.number, file.node.stamp)
 }
 
 fn handle_at(alloc: Global, tree: &PlainTree, number: u64) -> Result<Option<Handle>, AllocError>
@@ -157,7 +157,7 @@ fn list_plus(
 {
     let left = listed_behind(alloc, cookie, directory.number, &directory.node.body)?;
     let node = &directory.node;
-    Ok(list_left(
+    list_left(
         alloc,
         tree,
         caller,
@@ -167,7 +167,7 @@ fn list_plus(
         count,
         node,
         left.as_slice(),
-    )?)
+    )
 }
 
 /// The names of a directory behind a cookie, as many as fit, with attributes and handles.
