@@ -11,8 +11,8 @@ use nfs_types::{Call, Ctx, Reply};
 use plain_server::PlainTree;
 use std::alloc::{AllocError, Global};
 
-/// What a call that only tells something is answered. The other calls and NULL have no answer here.
-pub fn answer_reading(
+// What a call that only tells something is answered. The other calls and NULL have no answer here.
+fn answer_reading(
     alloc: Global,
     tree: &PlainTree,
     ctx: &Ctx,
@@ -22,20 +22,18 @@ pub fn answer_reading(
         (least_unused (tree_of tree.now)) call.now reply (tree_of tree.now))) }
     ensures known { IfOk result (λ r. is_some r ≡ is_read call.now) }
 {
-    match tell_of_file(alloc, tree, ctx, call) {
-        Err(error) => Err(error),
-        Ok(Some(reply)) => Ok(Some(reply)),
-        Ok(None) => match tell_of_directory(alloc, tree, ctx, call) {
-            Err(error) => Err(error),
-            Ok(Some(reply)) => Ok(Some(reply)),
-            Ok(None) => Ok(tell_of_system(tree, call)),
-        },
+    if let Some(reply) = tell_of_file(alloc, tree, ctx, call)? {
+        return Ok(Some(reply));
     }
+    if let Some(reply) = tell_of_directory(alloc, tree, ctx, call)? {
+        return Ok(Some(reply));
+    }
+    Ok(tell_of_system(tree, call))
 }
 
-/// What a call that may change the tree is answered, and its change. The other calls have no answer here.
-/// An error leaves the tree as it was.
-pub fn answer_changing(
+// What a call that may change the tree is answered, and its change. The other calls have no answer here. An
+// error leaves the tree as it was.
+fn answer_changing(
     alloc: Global,
     tree: &mut PlainTree,
     ctx: &Ctx,
@@ -47,15 +45,13 @@ pub fn answer_changing(
     ensures unknown { IfOk result (λ r. IfNone r (tree_of tree.new ≡ tree_of tree.old)) }
     ensures err { OnErr result (tree_of tree.new ≡ tree_of tree.old) }
 {
-    match change_file(alloc, tree, ctx, call) {
-        Err(error) => Err(error),
-        Ok(Some(reply)) => Ok(Some(reply)),
-        Ok(None) => match make_file(alloc, tree, ctx, call) {
-            Err(error) => Err(error),
-            Ok(Some(reply)) => Ok(Some(reply)),
-            Ok(None) => change_name(alloc, tree, ctx, call),
-        },
+    if let Some(reply) = change_file(alloc, tree, ctx, call)? {
+        return Ok(Some(reply));
     }
+    if let Some(reply) = make_file(alloc, tree, ctx, call)? {
+        return Ok(Some(reply));
+    }
+    change_name(alloc, tree, ctx, call)
 }
 
 /// One step of the sequential server. A new file gets the least unused number. NULL has no answer here. An
@@ -72,13 +68,8 @@ pub fn answer(
     ensures unknown { IfOk result (λ r. IfNone r (tree_of tree.new ≡ tree_of tree.old)) }
     ensures err { OnErr result (tree_of tree.new ≡ tree_of tree.old) }
 {
-    match answer_changing(alloc, tree, ctx, call) {
-        Err(error) => Err(error),
-        Ok(Some(reply)) => Ok(Some(reply)),
-        Ok(None) => match answer_reading(alloc, tree, ctx, call) {
-            Err(error) => Err(error),
-            Ok(Some(reply)) => Ok(Some(reply)),
-            Ok(None) => Ok(None),
-        },
+    if let Some(reply) = answer_changing(alloc, tree, ctx, call)? {
+        return Ok(Some(reply));
     }
+    answer_reading(alloc, tree, ctx, call)
 }

@@ -6,4 +6,4 @@ mod answering;
 mod changing;
 mod telling;
 
-pub use answering::{answer, answer_changing, answer_reading};
+pub use answering::answer;
