@@ -13,7 +13,8 @@ use Rattle.layout.specs.declared.geometry.Geometry.{Geometry}
 use Rattle.layout.specs.declared.inode.Inode.{Inode}
 use Rattle.layout.specs.declared.inode.InodeKind.{InodeKind}
 use Rattle.layout.specs.declared.inode.InodeKind.TheVariants.{Regular, Directory, Link}
-use Rattle.layout.specs.Decode.{numbers_of, content_of, bytes_of, mapped_of, span_of, SLOT_SIZE, slot_bytes}
+use Rattle.layout.specs.Decode.{numbers_of, content_of, bytes_of, mapped_of, span_of, slot_bytes}
+use Rattle.layout.specs.declared.slot.TheConstants.{SLOT_BYTES}
 use Rattle.layout.specs.Decode.{slots_of, entry_in, named_in, node_with, body_of, file_of, IsMapped}
 use Rattle.layout.specs.Decode.{IsOfKind, IsFile, pointer_blocks}
 use Rattle.layout.specs.Fields.{numbers_at, is_zeros}
@@ -104,7 +105,7 @@ module _ (a b : Image) where
 
     slot : slot_bytes b inode ≡ slot_bytes a inode
     unfolding slot_bytes
-    slot = λ i index. take SLOT_SIZE (drop (SLOT_SIZE * index) (spanned (span_of inode) i))
+    slot = λ i index. take SLOT_BYTES (drop (SLOT_BYTES * index) (spanned (span_of inode) i))
 
     named : (inodes : ℕ) → named_in inodes b inode ≡ named_in inodes a inode
     unfolding named_in

@@ -16,6 +16,7 @@ use Rattle.layout.specs.declared.inode.Inode.{Inode}
 use Rattle.layout.specs.declared.inode.InodeKind.{InodeKind}
 use Rattle.layout.specs.declared.inode.InodeKind.TheVariants as kinds
 use Rattle.layout.specs.declared.slot.Slot.{Slot}
+use Rattle.layout.specs.declared.slot.TheConstants.{SLOT_BYTES}
 use Rattle.layout.specs.Fields.{numbers_at, is_zeros}
 use Rattle.layout.specs.InodeForm.{read_inode, is_data_block_or_none, names_first}
 use Rattle.layout.specs.Places.{inode_block, inode_offset}
@@ -50,15 +51,11 @@ mapped_of numbers =
 abbrev pub span_of : Inode → ℕ
 span_of inode = inode.size / BLOCK_BYTES
 
--- how many bytes a slot has
-abbrev pub SLOT_SIZE : ℕ
-SLOT_SIZE = BLOCK_BYTES / SLOTS_PER_BLOCK
-
 -- the bytes of a slot, by its number in the directory
 unfoldable pub slot_bytes : Image → Inode → ℕ → List ℕ
 slot_bytes blocks inode slot =
-    take SLOT_SIZE
-    (drop (SLOT_SIZE * slot) (bytes_of blocks (take (span_of inode) (numbers_of blocks inode))))
+    take SLOT_BYTES
+    (drop (SLOT_BYTES * slot) (bytes_of blocks (take (span_of inode) (numbers_of blocks inode))))
 
 -- the numbers of a directory's slots
 abbrev pub slots_of : Inode → List ℕ

@@ -12,7 +12,8 @@ use Rattle.model.specs.Node.{DirectoryEntry}
 use Rattle.model.specs.SetAttr.{resized}
 use Rattle.layout.specs.declared.inode.Inode.{Inode}
 use Rattle.layout.specs.Decode.{bytes_of, content_of, entry_in, named_in, numbers_of, slot_bytes}
-use Rattle.layout.specs.Decode.{span_of, SLOT_SIZE}
+use Rattle.layout.specs.Decode.{span_of}
+use Rattle.layout.specs.declared.slot.TheConstants.{SLOT_BYTES}
 use Rattle.layout.specs.SlotForm.{read_slot}
 use Rattle.layout.proofs.AllNumbers as all_numbers
 use Rattle.plain_image.specs.PlainFile.{AreWhole}
@@ -119,11 +120,11 @@ module _ (image : Image) (inode : Inode) (direct : length inode.direct ≡ DIREC
     unfolding named_in slot_bytes
     directory_names inodes small whole_blocks =
         let bytes = resized inode.size all in
-        let slots : SLOTS_PER_BLOCK * span_of inode ≡ length bytes / SLOT_SIZE =
+        let slots : SLOTS_PER_BLOCK * span_of inode ≡ length bytes / SLOT_BYTES =
         (let long = cut-length small in omega (arith, long, whole_blocks)) in
         (λ i. filter_map (λ index. entry_in index
-        (read_slot inodes (take SLOT_SIZE (drop (SLOT_SIZE * index) (spanned small whole_blocks i)))))
+        (read_slot inodes (take SLOT_BYTES (drop (SLOT_BYTES * index) (spanned small whole_blocks i)))))
         (range_with_len 0 (slots i)))
         ∙ sym (listed_all (λ index. entry_in index
-        (read_slot inodes (take SLOT_SIZE (drop (SLOT_SIZE * index) bytes))))
-        (range_with_len 0 (length bytes / SLOT_SIZE)))
+        (read_slot inodes (take SLOT_BYTES (drop (SLOT_BYTES * index) bytes))))
+        (range_with_len 0 (length bytes / SLOT_BYTES)))

@@ -14,7 +14,7 @@ use Rattle.layout.specs.Fields.{numbers_at}
 use Rattle.layout.specs.InodeForm.{read_inode}
 use Rattle.layout.specs.Places.{inode_block, inode_offset}
 use Rattle.model.specs.Node.{DirectoryEntry}
-use Rattle.layout.specs.Decode.{SLOT_SIZE}
+use Rattle.layout.specs.declared.slot.TheConstants.{SLOT_BYTES}
 use Rattle.plain_image.specs.PlainFile.{if_used, used_below}
 use Rattle.plain_image.specs.PlainName.{entries_below, one_entry}
 
@@ -93,12 +93,12 @@ no_entries inodes bytes = refl
 
 pub one_slot : (inodes : ℕ) (bytes : List ℕ) (count : ℕ)
     → entries_below inodes bytes (count + 1) ≡ entries_below inodes bytes count
-    ++ one_entry inodes count (take SLOT_SIZE (drop (SLOT_SIZE * count) bytes))
+    ++ one_entry inodes count (take SLOT_BYTES (drop (SLOT_BYTES * count) bytes))
 one_slot inodes bytes count =
     let next : count + 1 ≡ suc count = omega arith in
     let at : 0 + count ≡ count = omega arith in
     let slot : ℕ → List (List ℕ × DirectoryEntry) =
-    λ index. one_entry inodes index (take SLOT_SIZE (drop (SLOT_SIZE * index) bytes)) in
+    λ index. one_entry inodes index (take SLOT_BYTES (drop (SLOT_BYTES * index) bytes)) in
     ap (entries_below inodes bytes) next
     ∙ ap (flat_map slot) (more_range 0 count ∙ ap (λ k. range_with_len 0 count ++ k ∷ []) at)
     ∙ flat_map-append slot (range_with_len 0 count) (count ∷ [])

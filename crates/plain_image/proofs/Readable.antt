@@ -16,7 +16,8 @@ use Rattle.layout.specs.declared.inode.Inode.{Inode}
 use Rattle.layout.specs.declared.inode.InodeKind.{InodeKind}
 use Rattle.layout.specs.declared.inode.InodeKind.TheVariants as kind
 use Rattle.layout.specs.declared.super_block.Super.{Super}
-use Rattle.layout.specs.Decode.{SLOT_SIZE, bytes_of, numbers_of, slot_bytes, slots_of, span_of}
+use Rattle.layout.specs.Decode.{bytes_of, numbers_of, slot_bytes, slots_of, span_of}
+use Rattle.layout.specs.declared.slot.TheConstants.{SLOT_BYTES}
 use Rattle.layout.specs.Fields.{numbers_at}
 use Rattle.layout.specs.Geometry.{data_at}
 use Rattle.layout.specs.InodeForm.{SoundInode, is_data_block_or_none, is_sound_directory, is_sound_file}
@@ -144,16 +145,16 @@ module _ (g : Geometry) (image : Image) (inode : Inode) (sound : SoundInode g in
   bytes-length = let long = cut-length image inode sound.fits.count whole small in
       let few = small in omega (arith, long, few)
 
-  slots_are : SLOTS_PER_BLOCK * span_of inode ≡ length bytes / SLOT_SIZE
+  slots_are : SLOTS_PER_BLOCK * span_of inode ≡ length bytes / SLOT_BYTES
   slots_are = let long = cut-length image inode sound.fits.count whole small in
       let blocks = even in omega (arith, long, blocks)
 
-  slot_is : (index : ℕ) → slot_bytes image inode index ≡ take SLOT_SIZE (drop (SLOT_SIZE * index) bytes)
+  slot_is : (index : ℕ) → slot_bytes image inode index ≡ take SLOT_BYTES (drop (SLOT_BYTES * index) bytes)
   unfolding slot_bytes
-  slot_is index = ap (λ (all : List ℕ). take SLOT_SIZE (drop (SLOT_SIZE * index) all))
+  slot_is index = ap (λ (all : List ℕ). take SLOT_BYTES (drop (SLOT_BYTES * index) all))
       (spanned image inode sound.fits.count whole small even)
 
-  pub all_slots : AreSlots g.inodes bytes (length bytes / SLOT_SIZE)
+  pub all_slots : AreSlots g.inodes bytes (length bytes / SLOT_BYTES)
       → All (λ index. IsOk (read_slot g.inodes (slot_bytes image inode index))) (slots_of inode)
   all_slots are k default less =
       let count = length-range_with_len 0 (SLOTS_PER_BLOCK * span_of inode) in
@@ -165,7 +166,7 @@ module _ (g : Geometry) (image : Image) (inode : Inode) (sound : SoundInode g in
       (subst (λ part. IsOk (read_slot g.inodes part)) (sym (slot_is k)) (are k (omega (arith, slots, at))))
 
   pub are_slots : All (λ index. IsOk (read_slot g.inodes (slot_bytes image inode index))) (slots_of inode)
-      → AreSlots g.inodes bytes (length bytes / SLOT_SIZE)
+      → AreSlots g.inodes bytes (length bytes / SLOT_BYTES)
   are_slots all k less =
       let slots = slots_are in
       let at : k < SLOTS_PER_BLOCK * span_of inode = omega (arith, slots, less) in
@@ -177,5 +178,5 @@ module _ (g : Geometry) (image : Image) (inode : Inode) (sound : SoundInode g in
       (all k 0 (omega (arith, count, at))))
 
   pub not_readable : (inode.kind ≡ kind.Directory)
-      × (AreSlots g.inodes bytes (length bytes / SLOT_SIZE) → ⊥) → IsReadable g image inode → ⊥
+      × (AreSlots g.inodes bytes (length bytes / SLOT_BYTES) → ⊥) → IsReadable g image inode → ⊥
   not_readable why can = why.1 (are_slots (can.slots directory))

@@ -10,7 +10,8 @@ use Rattle.layout.specs.declared.geometry.Geometry.{Geometry}
 use Rattle.layout.specs.declared.inode.Inode.{Inode}
 use Rattle.layout.specs.declared.inode.InodeKind.TheVariants as kind
 use Rattle.layout.specs.declared.super_block.Super.{Super}
-use Rattle.layout.specs.Decode.{SLOT_SIZE, inode_at, numbers_of, slot_bytes, slots_of}
+use Rattle.layout.specs.Decode.{inode_at, numbers_of, slot_bytes, slots_of}
+use Rattle.layout.specs.declared.slot.TheConstants.{SLOT_BYTES}
 use Rattle.layout.specs.InodeForm.{is_data_block_or_none}
 use Rattle.layout.specs.SlotForm.{read_slot}
 use Rattle.layout.specs.SuperForm.{IsNoSuper, IsSuper}
@@ -36,7 +37,7 @@ AreReadable g blocks = (number : ℕ) → number < g.inodes → CanBeRead g bloc
 -- so many slots of a directory's bytes are slots
 abbrev pub AreSlots : ℕ → List ℕ → ℕ → Type 0
 AreSlots inodes bytes count = (index : ℕ) → index < count
-    → IsOk (read_slot inodes (take SLOT_SIZE (drop (SLOT_SIZE * index) bytes)))
+    → IsOk (read_slot inodes (take SLOT_BYTES (drop (SLOT_BYTES * index) bytes)))
 
 -- the fault is want of memory, or the layout's Range for this cause
 abbrev pub IsRangeFor : Type 0 → ImageFault → Type 0

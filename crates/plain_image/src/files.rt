@@ -3,7 +3,8 @@ ghost use Rattle.std.specs.Prelude.{◌≡◌, ◌≢◌, ◌<◌, ◌≤◌, �
 ghost use Rattle.std.specs.Prelude.{length, All};
 ghost use Rattle.limits.specs.declared.TheConstants.{LARGEST_DIRECTORY, SUPER_BLOCK};
 ghost use Rattle.disk.specs.Memory.{image_of, memory_device};
-ghost use Rattle.layout.specs.Decode.{SLOT_SIZE, inode_at};
+ghost use Rattle.layout.specs.Decode.{inode_at};
+ghost use Rattle.layout.specs.declared.slot.TheConstants.{SLOT_BYTES};
 ghost use Rattle.layout.specs.InodeForm.{SoundInode};
 ghost use Rattle.layout.specs.SuperForm.{IsSuper};
 ghost use Rattle.plain_image.specs.PlainFile.{IsContent, IsDecoded, IsFileOf, if_used, numbers_in, used_below};
@@ -69,9 +70,9 @@ fn content_of(
     requires { kind ≡ InodeKind.Directory → length bytes.items ≤ LARGEST_DIRECTORY }
     ensures content { IfOk result (λ content. IsContent inodes kind bytes.items content) }
     ensures slots { IfOk result
-        (λ _. kind ≡ InodeKind.Directory → AreSlots inodes bytes.items (length bytes.items / SLOT_SIZE)) }
+        (λ _. kind ≡ InodeKind.Directory → AreSlots inodes bytes.items (length bytes.items / SLOT_BYTES)) }
     ensures refused { IfErr result (IsRangeFor ((kind ≡ InodeKind.Directory)
-        × (AreSlots inodes bytes.items (length bytes.items / SLOT_SIZE) → ⊥))) }
+        × (AreSlots inodes bytes.items (length bytes.items / SLOT_BYTES) → ⊥))) }
 {
     Ok(match kind {
         InodeKind::Regular => PlainContent::Bytes(Octets::new(bytes)),

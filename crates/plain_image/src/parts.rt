@@ -11,7 +11,7 @@ ghost use Rattle.layout.specs.declared.slot.TheConstants.{SLOT_BYTES};
 ghost use Rattle.plain_image.specs.PlainFile.{AreNumbersOf, AreWhole};
 ghost use Rattle.plain_image.specs.PlainName.{entries_in, entries_of, one_entry};
 ghost use Rattle.plain_image.specs.Refusal.{AreSlots, CanBeRead, IsRangeFor};
-ghost use Rattle.layout.specs.Decode.{SLOT_SIZE, bytes_of, content_of, inode_at, numbers_of};
+ghost use Rattle.layout.specs.Decode.{bytes_of, content_of, inode_at, numbers_of};
 ghost use Rattle.layout.specs.SlotForm.{read_slot};
 
 use crate::ImageFault;
@@ -174,8 +174,8 @@ pub(crate) fn names_of(
 ) -> Result<Vec<PlainName>, ImageFault>
     requires { length bytes.now ≤ LARGEST_DIRECTORY }
     ensures names { IfOk result (λ names. entries_of names.items ≡ entries_in inodes bytes.now) }
-    ensures slots { IfOk result (λ _. AreSlots inodes bytes.now (length bytes.now / SLOT_SIZE)) }
-    ensures refused { IfErr result (IsRangeFor (AreSlots inodes bytes.now (length bytes.now / SLOT_SIZE) → ⊥)) }
+    ensures slots { IfOk result (λ _. AreSlots inodes bytes.now (length bytes.now / SLOT_BYTES)) }
+    ensures refused { IfErr result (IsRangeFor (AreSlots inodes bytes.now (length bytes.now / SLOT_BYTES) → ⊥)) }
 {
     let mut names = Vec::new(alloc);
     let slots = (bytes.len() / SLOT_BYTES) as u32;

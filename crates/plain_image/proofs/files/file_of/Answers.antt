@@ -4,7 +4,8 @@ use Rattle.limits.specs.declared.TheConstants.{LARGEST_DIRECTORY}
 use Rattle.disk.specs.Memory.{image_of}
 use Rattle.layout.specs.declared.inode.InodeKind.TheVariants as kind
 use Rattle.model.specs.SetAttr.{resized}
-use Rattle.layout.specs.Decode.{SLOT_SIZE, bytes_of, numbers_of}
+use Rattle.layout.specs.Decode.{bytes_of, numbers_of}
+use Rattle.layout.specs.declared.slot.TheConstants.{SLOT_BYTES}
 use Rattle.layout.specs.Fields.{count_of}
 use Rattle.layout.specs.InodeForm.{is_data_block_or_none}
 use Rattle.plain_image.specs.PlainFile.{AreWhole}
@@ -35,7 +36,7 @@ returns-clause-file c =
         places = ap (list_all (is_data_block_or_none g)) (sym c.in_ok-numbers.ensures.numbers.are)
             ∙ c.in_ok-numbers.ensures.numbers.places;
         slots = λ directory. all_slots g image inode c.requires.sound whole directory
-            (subst (λ (bytes : List ℕ). AreSlots g.inodes bytes (length bytes / SLOT_SIZE)) bytes_are
+            (subst (λ (bytes : List ℕ). AreSlots g.inodes bytes (length bytes / SLOT_BYTES)) bytes_are
             (c.in_ok-content.ensures.slots directory));
       };
     }
@@ -64,10 +65,10 @@ returns-in_err-content-clause-refused c =
     let bytes_are = c.in_ok-bytes.ensures.bytes
     ∙ ap (λ list. resized inode.size (bytes_of image list)) numbers in
     let Cause : Type 0 = (inode.kind ≡ kind.Directory)
-    × (AreSlots g.inodes c.in_ok-bytes.bytes.items (length c.in_ok-bytes.bytes.items / SLOT_SIZE) → ⊥) in
+    × (AreSlots g.inodes c.in_ok-bytes.bytes.items (length c.in_ok-bytes.bytes.items / SLOT_BYTES) → ⊥) in
     let refused : IfErr c.from_residual-in_err-content.result (IsRangeFor Cause) = search rules in
     err_for {A = Cause} {B = IsReadable g image inode → ⊥}
     (λ why. not_readable g image inode c.requires.sound whole why.0 (
       why.0,
-      subst (λ (bytes : List ℕ). AreSlots g.inodes bytes (length bytes / SLOT_SIZE) → ⊥) bytes_are why.1,
+      subst (λ (bytes : List ℕ). AreSlots g.inodes bytes (length bytes / SLOT_BYTES) → ⊥) bytes_are why.1,
     )) c.from_residual-in_err-content.result refused
