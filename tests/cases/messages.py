@@ -33,6 +33,13 @@ def test_each_example_is_answered(place):
         expect(name, place.once(place.image(), call), 0, reply, b"")
 
 
+def test_the_run_of_plain_once_is_an_example(place):
+    folder = os.path.join(place.top, "crates/plain_once")
+    call, reply = EXAMPLES["setattr"]
+    same("its standard input", contents(f"{folder}/stdin"), call)
+    same("its standard output", contents(f"{folder}/stdout"), reply)
+
+
 def test_the_commands_of_the_readme_do_what_it_says(place):
     # The lines of a block of code that begins with ./nfsd, on an image in the case's own folder.
     blocks = re.findall(r"(?:^ {4}\S.*\n)+", readme(place), re.M)
