@@ -43,13 +43,30 @@ pub fn recover<D: CrashDisk>(alloc: Global, disk: &mut D) -> Result<Recovered, L
     ensures found { D.keeps_model disk.new → IsUnspoiled (D.device disk.old)
         → IsRecovered (D.device disk.old).size (image_of (D.device disk.old)) result }
 {
-    let mut header = zeros(alloc)?;
-    read_block(disk, BlockNo(LOG_HEADER_BLOCK), &mut header)?;
-    let start = read_start(alloc, disk)?;
+    let (header, start) = read_ends(alloc, disk)?;
     let blocks = disk.blocks();
     let count = positions_told(&header, start, blocks)?;
     let logged = read_slots(alloc, disk, blocks, &header, start, count)?;
     Ok(Recovered { start, logged })
+}
+
+// Reads the header, and where the log begins.
+#[tactic(auto, using(wal_law::proofs::OnlyRead::reads_then))]
+fn read_ends<D: CrashDisk>(alloc: Global, disk: &mut D) -> Result<(Block, u64), LogFault>
+    requires { FIRST_HOME_BLOCK ≤ (D.device disk.old).size }
+    ensures reads { HasOnlyRead (D.device disk.old) (D.device disk.new) }
+    ensures failure { CountsFault (D.device disk.old) (D.device disk.new) result }
+    ensures model { D.keeps_model disk.new → D.keeps_model disk.old }
+    ensures header { D.keeps_model disk.new → IsUnspoiled (D.device disk.old)
+        → IfOk result (λ ends. ends.0 ≡ image_of (D.device disk.old) LOG_HEADER_BLOCK) }
+    ensures start { D.keeps_model disk.new → IsUnspoiled (D.device disk.old)
+        → IfOk result (λ ends. ends.1 ≡ start_in (image_of (D.device disk.old))) }
+    ensures other { OnErr result (IsErrOf result LogFault.Device ⊎ IsErrOf result LogFault.NoMemory) }
+{
+    let mut header = zeros(alloc)?;
+    read_block(disk, BlockNo(LOG_HEADER_BLOCK), &mut header)?;
+    let start = read_start(alloc, disk)?;
+    Ok((header, start))
 }
 
 // How many positions the header tells from the start on.
