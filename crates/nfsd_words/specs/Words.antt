@@ -49,9 +49,13 @@ bare_program = record (new_app (codes "nfsd")) {
   top = record (new_app (codes "nfsd")).top { subcommand_required = true };
 }
 
+-- the program with the first of its commands
+abbrev pub first_of_program : App
+first_of_program = with_subcommand bare_program format_command.top
+
 -- the program's commands, one of which must be there
 abbrev pub whole_program : App
-whole_program = with_subcommand (with_subcommand bare_program format_command.top) once_command.top
+whole_program = with_subcommand first_of_program once_command.top
 
 -- the option of this name has this number of 32 bits, given or by default
 abbrev pub IsNumber : List Row → Text → ℕ → Type 0

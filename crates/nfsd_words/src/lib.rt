@@ -7,8 +7,8 @@ ghost use Rattle.clap.specs.Words.{rule_of, subcommand_rows_of};
 ghost use Rattle.clap.specs.declared.Command.TheViews.{out-Command};
 ghost use Rattle.nfsd_words.specs.declared.Args.{Args as Asked};
 ghost use Rattle.nfsd_words.specs.Words.{Asks, HasMeaning, IsAsked, WordsAsk, default_rule, first_of_format};
-ghost use Rattle.nfsd_words.specs.Words.{format_command};
-ghost use Rattle.nfsd_words.specs.Words.{image_rule, number_rule, once_command, required_rule, whole_program};
+ghost use Rattle.nfsd_words.specs.Words.{first_of_program, format_command, image_rule, number_rule};
+ghost use Rattle.nfsd_words.specs.Words.{once_command, required_rule, whole_program};
 
 use clap::error::ErrorKind;
 use clap::{Arg, ArgMatches, Command, Error, value_parser};
@@ -99,11 +99,16 @@ fn asked_once<'a>(given: &ArgMatches<'a>) -> Option<Args<'a>>
 fn program<'a>(alloc: Global) -> Result<Command<'a>, AllocError>
     ensures { IfOk result (λ command. app_of command ≡ whole_program) }
 {
+    program_up_to_format(alloc)?.subcommand(once_words(alloc)?)
+}
+
+fn program_up_to_format<'a>(alloc: Global) -> Result<Command<'a>, AllocError>
+    ensures { IfOk result (λ command. app_of command ≡ first_of_program) }
+{
     Command::new(alloc, "nfsd")
         .about("Keeps files in an image of blocks, and serves them by NFS version 3")
         .subcommand_required(true)
-        .subcommand(format_words(alloc)?)?
-        .subcommand(once_words(alloc)?)
+        .subcommand(format_words(alloc)?)
 }
 
 fn format_words<'a>(alloc: Global) -> Result<Command<'a>, AllocError>
