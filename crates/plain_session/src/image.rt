@@ -1,4 +1,5 @@
 //! The counts of an image.
+ghost use Rattle.plain_session.specs.Counts.{HasData};
 
 use limits::{
     BITS_PER_BLOCK, FIRST_HOME_BLOCK, INODES_PER_BLOCK, LEAST_BLOCKS, LEAST_DATA_BLOCKS,
@@ -7,7 +8,9 @@ use limits::{
 
 /// The data blocks of an image with these counts: what the log, the two bitmaps and the inodes leave. There
 /// is none with other counts than an image may have.
-pub fn data_blocks(blocks: u32, inodes: u32) -> Option<u32> {
+pub fn data_blocks(blocks: u32, inodes: u32) -> Option<u32>
+    ensures { HasData blocks inodes result }
+{
     let has_blocks = blocks >= LEAST_BLOCKS && blocks <= MOST_BLOCKS;
     let has_inodes = inodes >= LEAST_INODES && inodes <= MOST_INODES;
     if !has_blocks || !has_inodes || inodes % INODES_PER_BLOCK != 0 {

@@ -1,4 +1,7 @@
 //! Cutting records out of a stream (RFC 5531, section 11).
+ghost use Rattle.std.specs.Prelude.{◌≡◌, ◌<◌, ◌^◌, IfOk};
+ghost use Rattle.plain_items.specs.Items.{spelled_word};
+ghost use Rattle.plain_session.specs.Records.{Cuts, mark as mark_of};
 
 use limits::RECORD_BYTES;
 use plain_items::ItemReader;
@@ -15,17 +18,21 @@ pub enum Cut {
     Record { record: Vec<u8>, taken: usize },
 }
 
-/// What stands at the beginning of a stream. A record's fragments stand each behind a mark, whose highest
-/// bit says that it is the last. The marks are looked at before the bytes behind them are there.
-pub fn first_record(alloc: Global, stream: &[u8]) -> Result<Cut, AllocError> {
+// The highest bit of a mark.
+const LAST_FRAGMENT: u32 = 0x8000_0000;
+
+/// What stands at the beginning of a stream. The marks are looked at before the bytes behind them are there.
+pub fn first_record(alloc: Global, stream: &[u8]) -> Result<Cut, AllocError>
+    ensures { IfOk result (λ cut. Cuts stream.now cut) }
+{
     let mut record: Vec<u8> = Vec::new(alloc);
     let mut reader = ItemReader::new(stream);
     // Each fragment takes four bytes at least.
-    for _ in 0..stream.len() {
+    for _taken in 0..stream.len() {
         let Ok(mark) = reader.word() else {
             return Ok(Cut::Begun);
         };
-        let length = (mark % 0x8000_0000) as usize;
+        let (is_last, length) = announced(mark);
         if record.len().saturating_add(length) > RECORD_BYTES {
             return Ok(Cut::TooLong);
         }
@@ -33,10 +40,22 @@ pub fn first_record(alloc: Global, stream: &[u8]) -> Result<Cut, AllocError> {
             return Ok(Cut::Begun);
         };
         record.extend_from_slice(fragment)?;
-        if mark >= 0x8000_0000 {
+        if is_last {
             let taken = stream.len().saturating_sub(reader.rest().len());
             return Ok(Cut::Record { record, taken });
         }
     }
     Ok(Cut::Begun)
+}
+
+// Whether a mark is that of a last fragment, and the length that it announces.
+fn announced(mark: u32) -> (bool, usize)
+    ensures is { spelled_word mark ≡ mark_of result.0 result.1 }
+    ensures bound { result.1 < 2 ^ 31 }
+{
+    if mark < LAST_FRAGMENT {
+        (false, mark as usize)
+    } else {
+        (true, (mark - LAST_FRAGMENT) as usize)
+    }
 }
