@@ -1,4 +1,6 @@
 //! Answering MOUNT (RFC 1813, section 5.2). The root alone is exported, under the path `/`.
+ghost use Rattle.std.specs.Prelude.{◌≡◌, ◌∷◌, [], IfOk};
+ghost use Rattle.model.specs.Mount.{mount_reply, mounted_at, root_mounted};
 
 use nfs_types::{Handle, MountCall, MountReply, Mounted, NumberList, Octets, Status};
 use std::alloc::{AllocError, Global};
@@ -10,35 +12,36 @@ const ROOT_HANDLE: [u8; 20] = [0, 0, 0, 1, 0, 0, 0, 0, 0, 0, 0, 0, 0, 0, 0, 0, 0
 const AUTH_SYS: u32 = 1;
 
 /// What a call of MOUNT is answered.
-pub fn mount(alloc: Global, call: &MountCall) -> Result<MountReply, AllocError> {
+pub fn mount(alloc: Global, call: &MountCall) -> Result<MountReply, AllocError>
+    ensures { IfOk result (λ reply. reply ≡ mount_reply call.now) }
+{
     match call {
         MountCall::Null => Ok(MountReply::Null),
         MountCall::Unmount { .. } => Ok(MountReply::Unmount),
-        MountCall::Mount { path } => match path.as_slice() {
-            [b'/'] => Ok(MountReply::Mount {
-                outcome: Ok(root(alloc)?),
-            }),
-            _ => Ok(MountReply::Mount {
-                outcome: Err(Status::NoEnt),
-            }),
-        },
+        MountCall::Mount { path } => Ok(MountReply::Mount {
+            outcome: mounted(alloc, path.as_slice())?,
+        }),
     }
 }
 
-fn root(alloc: Global) -> Result<Mounted, AllocError> {
-    mounted(alloc, &ROOT_HANDLE)
+// What there is under a path.
+fn mounted(alloc: Global, path: &[u8]) -> Result<Result<Mounted, Status>, AllocError>
+    ensures { IfOk result (λ outcome. outcome ≡ mounted_at path.now) }
+{
+    match path {
+        [b'/'] => Ok(Ok(root(alloc)?)),
+        _ => Ok(Err(Status::NoEnt)),
+    }
 }
 
-// A directory with this handle, for credentials of AUTH_SYS.
-fn mounted(alloc: Global, handle: &[u8]) -> Result<Mounted, AllocError> {
-    let bytes = Octets::copied(alloc, handle)?;
+// The root, for credentials of AUTH_SYS alone.
+fn root(alloc: Global) -> Result<Mounted, AllocError>
+    ensures { IfOk result (λ root. root ≡ root_mounted) }
+{
     Ok(Mounted {
-        root: Handle { bytes },
-        flavors: flavors(alloc, AUTH_SYS)?,
+        root: Handle {
+            bytes: Octets::copied(alloc, &ROOT_HANDLE)?,
+        },
+        flavors: NumberList::new([AUTH_SYS].to_vec(alloc)?),
     })
-}
-
-// The list of this flavor alone.
-fn flavors(alloc: Global, flavor: u32) -> Result<NumberList, AllocError> {
-    Ok(NumberList::new([flavor].to_vec(alloc)?))
 }
