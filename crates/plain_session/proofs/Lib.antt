@@ -1,1 +1,6 @@
+pub mod Answered
+pub mod Closing
 pub mod Fragments
+pub mod Lost
+pub mod Next
+pub mod Streams

@@ -1,2 +1,4 @@
+pub mod Answering
 pub mod Counts
 pub mod Records
+pub mod Serving

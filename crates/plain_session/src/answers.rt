@@ -1,9 +1,12 @@
 //! Answering one record.
+ghost use Rattle.std.specs.Prelude.{◌≡◌, ℕ, List, Ok, None, false, IfOk, IfSome, OnErr};
+ghost use Rattle.plain_session.specs.Answering.{Closes, IsAnswered, IsCallAnswered, IsNfsReply, IsReply, IsStep};
+ghost use Rattle.plain_session.specs.Answering.{IsTold, IsUndone, files_of, next_files, refusal_record};
+ghost use Rattle.plain_steps.specs.Computed.{is_null as is_null_call};
 
 use crate::mounted::mount;
 use nfs_types::{Call, Credential, Ctx, Moment, ProgramCall, ProgramReply, Reply};
 use plain_hearing::{Heard, hear};
-use plain_items::ItemFault;
 use plain_messages::{PlainRefusal, done, refused};
 use plain_server::PlainTree;
 use plain_steps::answer;
@@ -17,15 +20,23 @@ pub struct PlainFiles {
     pub transactions: u64,
 }
 
-/// The record of the reply to a record, or None where the connection closes.
+/// The record of the reply to the message of a record, or None where the connection closes. An error is an
+/// allocation that failed: the message has its answer, which is lost.
 pub fn answer_record(
     alloc: Global,
     files: &mut PlainFiles,
-    record: &[u8],
-) -> Result<Option<Vec<u8>>, ItemFault> {
-    match hear(alloc, record) {
+    message: &[u8],
+) -> Result<Option<Vec<u8>>, AllocError>
+    ensures closes { Closes message.now → result ≡ Ok None }
+    ensures closed { result ≡ Ok None → Closes message.now × (files_of files.new ≡ files_of files.old) }
+    ensures answered { IfOk result (λ told. IfSome told (λ reply. IsAnswered (files_of files.old) message.now
+        reply.items (files_of files.new))) }
+    ensures lost { OnErr result ((bytes : List ℕ) × IsAnswered (files_of files.old) message.now bytes
+        (files_of files.new)) }
+{
+    match hear(alloc, message) {
         Heard::Closed => Ok(None),
-        Heard::Refused { xid, refusal } => Ok(Some(refused(alloc, xid, refusal)?)),
+        Heard::Refused { xid, refusal } => Ok(Some(refuse(alloc, xid, refusal)?)),
         Heard::Call {
             xid,
             credential,
@@ -34,20 +45,39 @@ pub fn answer_record(
     }
 }
 
-// The record of the reply to a call. Where memory fails, or a reply fits no record, that is told.
+// The record that refuses a call.
+fn refuse(alloc: Global, xid: u32, refusal: PlainRefusal) -> Result<Vec<u8>, AllocError>
+    ensures { IfOk result (λ whole. whole.items ≡ refusal_record xid refusal) }
+{
+    refused(alloc, xid, refusal).or(Err(AllocError))
+}
+
+// The record of the reply to a call. Where memory fails before it is done, that is told.
 fn answer_call(
     alloc: Global,
     files: &mut PlainFiles,
     xid: u32,
     credential: Credential,
     call: &ProgramCall,
-) -> Result<Vec<u8>, ItemFault> {
-    let Ok(reply) = reply_to(alloc, files, credential, call) else {
-        return refused(alloc, xid, PlainRefusal::System);
-    };
-    match done(alloc, xid, &reply) {
+) -> Result<Vec<u8>, AllocError>
+    ensures ok { IfOk result (λ whole. IsCallAnswered (files_of files.old) xid credential call.now whole.items
+        (files_of files.new)) }
+    ensures lost { OnErr result ((bytes : List ℕ) × IsCallAnswered (files_of files.old) xid credential call.now
+        bytes (files_of files.new)) }
+{
+    match reply_to(alloc, files, credential, call) {
+        Ok(reply) => tell(alloc, xid, &reply),
+        Err(_) => refuse(alloc, xid, PlainRefusal::System),
+    }
+}
+
+// The record that tells a result. Where memory fails, or a result fits no record, that is told.
+fn tell(alloc: Global, xid: u32, reply: &ProgramReply) -> Result<Vec<u8>, AllocError>
+    ensures { IfOk result (λ whole. IsTold xid reply.now whole.items) }
+{
+    match done(alloc, xid, reply) {
         Ok(record) => Ok(record),
-        Err(_) => refused(alloc, xid, PlainRefusal::System),
+        Err(_) => refuse(alloc, xid, PlainRefusal::System),
     }
 }
 
@@ -57,12 +87,40 @@ fn reply_to(
     files: &mut PlainFiles,
     credential: Credential,
     call: &ProgramCall,
-) -> Result<ProgramReply, AllocError> {
+) -> Result<ProgramReply, AllocError>
+    ensures ok { IfOk result (λ reply. IsReply (files_of files.old) credential call.now reply
+        (files_of files.new)) }
+    ensures err { OnErr result (IsUndone (files_of files.old) call.now (files_of files.new)) }
+{
     match call {
         ProgramCall::Mount(call) => Ok(ProgramReply::Mount(mount(alloc, call)?)),
-        ProgramCall::Nfs(Call::Null) => Ok(ProgramReply::Nfs(Reply::Null)),
-        ProgramCall::Nfs(call) => Ok(ProgramReply::Nfs(step(alloc, files, credential, call)?)),
+        ProgramCall::Nfs(call) => Ok(ProgramReply::Nfs(nfs_reply(alloc, files, credential, call)?)),
     }
+}
+
+// The reply to a call of NFS.
+fn nfs_reply(
+    alloc: Global,
+    files: &mut PlainFiles,
+    credential: Credential,
+    call: &Call,
+) -> Result<Reply, AllocError>
+    ensures ok { IfOk result (λ reply. IsNfsReply (files_of files.old) credential call.now reply
+        (files_of files.new)) }
+    ensures err { OnErr result ((is_null_call call.now ≡ false)
+        × (files_of files.new ≡ next_files (files_of files.old) (files_of files.old).tree)) }
+{
+    if is_null(call) {
+        Ok(Reply::Null)
+    } else {
+        step(alloc, files, credential, call)
+    }
+}
+
+fn is_null(call: &Call) -> bool
+    ensures { result ≡ is_null_call call.now }
+{
+    matches!(call, Call::Null)
 }
 
 // One step of the plain server, with the next number, in the first boot.
@@ -71,7 +129,13 @@ fn step(
     files: &mut PlainFiles,
     credential: Credential,
     call: &Call,
-) -> Result<Reply, AllocError> {
+) -> Result<Reply, AllocError>
+    requires { is_null_call call.now ≡ false }
+    ensures ok { IfOk result (λ reply. IsStep (files_of files.old) credential call.now reply
+        (files_of files.new)) }
+    ensures err { OnErr result (files_of files.new
+        ≡ next_files (files_of files.old) (files_of files.old).tree) }
+{
     files.transactions = files.transactions.saturating_add(1);
     let ctx = Ctx {
         credential,
@@ -79,18 +143,8 @@ fn step(
         boot: 1,
         transaction: files.transactions,
     };
-    answered(alloc, &mut files.tree, &ctx, call)
-}
-
-// The reply to a call, which for NULL is nothing more.
-fn answered(
-    alloc: Global,
-    tree: &mut PlainTree,
-    ctx: &Ctx,
-    call: &Call,
-) -> Result<Reply, AllocError> {
-    match answer(alloc, tree, ctx, call)? {
+    match answer(alloc, &mut files.tree, &ctx, call)? {
         Some(reply) => Ok(reply),
-        None => Ok(Reply::Null),
+        None => unreachable!(),
     }
 }

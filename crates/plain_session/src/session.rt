@@ -1,12 +1,17 @@
 //! A session: the bytes of a client in any pieces, and the replies to them.
+ghost use Rattle.std.specs.Prelude.{◌≡◌, ◌++◌, ℕ, List, drop, true, false, Ok, Some, None, IfOk, IfSome, IfNone};
+ghost use Rattle.std.specs.Prelude.{OnErr};
+ghost use Rattle.plain_session.specs.Answering.{files_of};
+ghost use Rattle.plain_session.specs.Counts.{HasData};
+ghost use Rattle.plain_session.specs.Serving.{AreAnswered, BeginsAnswered, Ends, Fails, IsCutOff, IsFed, IsNew};
+ghost use Rattle.plain_session.specs.Serving.{IsStream, Stops, at_second as moment_at, fresh_files, session_of};
 
 use crate::answers::{PlainFiles, answer_record};
 use crate::image::data_blocks;
 use crate::records::{Cut, first_record};
 use nfs_types::Moment;
-use plain_items::ItemFault;
 use plain_server::PlainTree;
-use std::alloc::Global;
+use std::alloc::{AllocError, Global};
 
 /// How a session goes on.
 #[derive(Clone, Copy, Debug, PartialEq, Eq)]
@@ -16,11 +21,12 @@ pub enum Progress {
     Closed,
 }
 
-/// The files, and the bytes of the client that aren't a whole record yet.
+/// The files, the bytes of the client that aren't answered yet, and whether it has closed.
 #[derive(Drop)]
 pub struct PlainSession {
     files: PlainFiles,
     unread: Vec<u8>,
+    is_closed: bool,
 }
 
 impl PlainSession {
@@ -32,7 +38,9 @@ impl PlainSession {
         inodes: u32,
         made: u32,
         time: u32,
-    ) -> Result<Option<PlainSession>, ItemFault> {
+    ) -> Result<Option<PlainSession>, AllocError>
+        ensures { IfOk result (λ session. IsNew blocks inodes made time session) }
+    {
         let Some(data_blocks) = data_blocks(blocks, inodes) else {
             return Ok(None);
         };
@@ -44,55 +52,116 @@ impl PlainSession {
                 transactions: 0,
             },
             unread: Vec::new(alloc),
+            is_closed: false,
         }))
     }
 
-    /// Takes the next bytes, and writes the replies to the records that are whole by now.
+    /// Takes the next bytes, and writes the replies to the records that are whole by now. A session that has
+    /// closed takes nothing more. An error is an allocation that failed, and closes the session.
     pub fn feed(
         &mut self,
         alloc: Global,
         piece: &[u8],
         replies: &mut Vec<u8>,
-    ) -> Result<Progress, ItemFault> {
-        self.unread.extend_from_slice(piece)?;
-        // A record takes four bytes at least.
-        for _ in 0..self.unread.len() {
-            let (record, taken) = match first_record(alloc, self.unread.as_slice())? {
-                Cut::Begun => return Ok(Progress::Open),
-                Cut::TooLong => return Ok(Progress::Closed),
-                Cut::Record { record, taken } => (record, taken),
-            };
-            self.unread = rest_of(alloc, self.unread.as_slice(), taken)?;
-            match answer_record(alloc, &mut self.files, record.as_slice())? {
-                Some(reply) => replies.extend_from_slice(reply.as_slice())?,
-                None => return Ok(Progress::Closed),
-            }
+    ) -> Result<Progress, AllocError>
+        ensures closed { (session_of self.old).is_closed ≡ true → (result ≡ Ok Progress.Closed)
+            × (session_of self.new ≡ session_of self.old) × (replies.new.items ≡ replies.old.items) }
+        ensures ok { IfOk result (λ progress. (session_of self.old).is_closed ≡ false
+            → IsFed (session_of self.old) piece.now replies.old.items progress replies.new.items
+            (session_of self.new)) }
+        ensures err { OnErr result (((session_of self.new).is_closed ≡ true)
+            × Fails (session_of self.old).files ((session_of self.old).unread ++ piece.now) replies.old.items
+            replies.new.items (session_of self.new).files) }
+    {
+        if self.is_closed {
+            return Ok(Progress::Closed);
         }
-        Ok(Progress::Open)
+        self.is_closed = true;
+        self.unread.extend_from_slice(piece)?;
+        let progress = answer_all(alloc, &mut self.files, &mut self.unread, replies)?;
+        self.is_closed = matches!(progress, Progress::Closed);
+        Ok(progress)
     }
 
-    /// How it stands at the end of the input: closed, where that is inside a record.
-    pub fn end(&self) -> Progress {
-        if self.unread.is_empty() {
-            Progress::Open
-        } else {
+    /// How it stands at the end of the input: closed, where it has closed, or where that is inside a record.
+    pub fn end(&self) -> Progress
+        ensures { Ends (session_of self.now) result }
+    {
+        if self.is_closed || !self.unread.is_empty() {
             Progress::Closed
+        } else {
+            Progress::Open
         }
     }
 }
 
 // The moment at which a second begins.
-fn at_second(seconds: u32) -> Moment {
+fn at_second(seconds: u32) -> Moment
+    ensures { result ≡ moment_at seconds }
+{
     Moment {
         seconds,
         nanoseconds: 0,
     }
 }
 
+// Answers the records that are whole, one after another, and takes their bytes away.
+fn answer_all(
+    alloc: Global,
+    files: &mut PlainFiles,
+    unread: &mut Vec<u8>,
+    replies: &mut Vec<u8>,
+) -> Result<Progress, AllocError>
+    ensures ok { IfOk result (λ progress. AreAnswered (files_of files.old) unread.old.items replies.old.items
+        replies.new.items unread.new.items (files_of files.new) × Stops unread.new.items progress) }
+    ensures err { OnErr result (Fails (files_of files.old) unread.old.items replies.old.items replies.new.items
+        (files_of files.new)) }
+{
+    // A record takes four bytes at least.
+    for _answered in 0..unread.len() {
+        if let Some(progress) = answer_next(alloc, files, unread, replies)? {
+            return Ok(progress);
+        }
+    }
+    Ok(Progress::Open)
+}
+
+// Answers the next record, and takes its bytes away. Tells how the session goes on where none is answered.
+fn answer_next(
+    alloc: Global,
+    files: &mut PlainFiles,
+    unread: &mut Vec<u8>,
+    replies: &mut Vec<u8>,
+) -> Result<Option<Progress>, AllocError>
+    ensures stops { IfOk result (λ told. IfSome told (λ progress. Stops unread.old.items progress
+        × (unread.new.items ≡ unread.old.items) × (replies.new.items ≡ replies.old.items)
+        × (files_of files.new ≡ files_of files.old))) }
+    ensures answers { IfOk result (λ told. IfNone told ((reply : List ℕ)
+        × BeginsAnswered (files_of files.old) unread.old.items reply unread.new.items (files_of files.new)
+        × (replies.new.items ≡ replies.old.items ++ reply))) }
+    ensures err { OnErr result ((replies.new.items ≡ replies.old.items)
+        × IsCutOff (files_of files.old) unread.old.items (files_of files.new)) }
+{
+    let (record, taken) = match first_record(alloc, unread.as_slice())? {
+        Cut::Begun => return Ok(Some(Progress::Open)),
+        Cut::TooLong => return Ok(Some(Progress::Closed)),
+        Cut::Record { record, taken } => (record, taken),
+    };
+    let rest = rest_of(alloc, unread.as_slice(), taken)?;
+    let Some(reply) = answer_record(alloc, files, record.as_slice())? else {
+        return Ok(Some(Progress::Closed));
+    };
+    replies.extend_from_slice(reply.as_slice())?;
+    *unread = rest;
+    Ok(None)
+}
+
 // The bytes behind the first ones.
-fn rest_of(alloc: Global, bytes: &[u8], taken: usize) -> Result<Vec<u8>, ItemFault> {
+fn rest_of(alloc: Global, bytes: &[u8], taken: usize) -> Result<Vec<u8>, AllocError>
+    ensures { IfOk result (λ rest. rest.items ≡ drop taken bytes.now) }
+{
     if taken < bytes.len() {
-        Ok(bytes[taken..].to_vec(alloc)?)
+        bytes[taken..].to_vec(alloc)
     } else {
         Ok(Vec::new(alloc))
     }
@@ -107,15 +176,19 @@ pub fn answer_stream(
     made: u32,
     time: u32,
     input: &[u8],
-) -> Result<Option<(Vec<u8>, u8)>, ItemFault> {
+) -> Result<Option<(Vec<u8>, u8)>, AllocError>
+    ensures none { result ≡ Ok None → HasData blocks inodes None }
+    ensures answered { IfOk result (λ told. IfSome told (λ ended. (data_blocks : ℕ)
+        × HasData blocks inodes (Some data_blocks)
+        × IsStream (fresh_files data_blocks inodes made time) input.now ended.0.items ended.1)) }
+{
     let Some(mut session) = PlainSession::new(alloc, blocks, inodes, made, time)? else {
         return Ok(None);
     };
     let mut replies = Vec::new(alloc);
-    let progress = session.feed(alloc, input, &mut replies)?;
-    if progress == Progress::Open && session.end() == Progress::Open {
-        Ok(Some((replies, 0)))
-    } else {
-        Ok(Some((replies, 1)))
+    let _progress = session.feed(alloc, input, &mut replies)?;
+    match session.end() {
+        Progress::Open => Ok(Some((replies, 0))),
+        Progress::Closed => Ok(Some((replies, 1))),
     }
 }

@@ -1,0 +1,44 @@
+-- The record that the bytes begin with.
+use Rattle.std.proofs.Common.{◌≡◌, ℕ, List, drop, take, subst, sym, Option, Some, IfSome, Vec, Global}
+use Rattle.std.proofs.lemmas.List.{take-append-drop}
+use Rattle.plain_session.specs.Answering.{Closes, Files, IsAnswered}
+use Rattle.plain_session.specs.Records.{Cuts, IsRecord}
+use Rattle.plain_session.specs.Serving.{BeginsAnswered, BeginsClosing, IsFirst}
+use Rattle.plain_session.specs.declared.records.Cut.{Cut}
+use Rattle.plain_session.specs.declared.records.Cut.TheVariants.{Record}
+
+pub first_of : (bytes shown : List ℕ) (cut : Cut) (content : Vec ℕ Global) (taken : ℕ) → shown ≡ bytes
+    → Cuts shown cut → cut ≡ Record content taken → IsFirst bytes content.items (drop taken bytes)
+first_of bytes shown cut content taken same cuts is =
+    let here = subst (λ (c : Cut). Cuts shown c) is cuts in
+    let text = subst (λ (b : List ℕ). IsRecord (take taken b) content.items) same here.1 in
+    record { text = take taken bytes; cut = sym (take-append-drop taken bytes); is = text }
+
+-- it is answered
+pub begins_answered : (bytes message content reply behind : List ℕ) (before after : Files)
+    → IsFirst bytes content behind → message ≡ content → IsAnswered before message reply after
+    → BeginsAnswered before bytes reply behind after
+begins_answered bytes message content reply behind before after first same answered = record {
+  message = content;
+  first = first;
+  answered = subst (λ (m : List ℕ). IsAnswered before m reply after) same answered;
+}
+
+-- the connection closes on it
+pub begins_closing : (bytes message content behind : List ℕ) → IsFirst bytes content behind → message ≡ content
+    → Closes message → BeginsClosing bytes
+begins_closing bytes message content behind first same closes = record {
+  message = content;
+  behind = behind;
+  first = first;
+  closes = subst (λ (m : List ℕ). Closes m) same closes;
+}
+
+-- what was answered, where something was
+pub reply_of : (before after : Files) (message : List ℕ) (told : Option (Vec ℕ Global)) (reply : Vec ℕ Global)
+    → told ≡ Some reply → IfSome told (λ bytes. IsAnswered before message bytes.items after)
+    → IsAnswered before message reply.items after
+reply_of before after message told reply is answered =
+    let P : Option (Vec ℕ Global) → Type 0 =
+    λ o. IfSome o (λ bytes. IsAnswered before message bytes.items after) in
+    subst P is answered

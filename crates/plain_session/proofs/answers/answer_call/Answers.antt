@@ -1,0 +1,18 @@
+use Rattle.std.proofs.Common.{refl, inr}
+use Rattle.std.proofs.lemmas.Result.{IfOk-weaker}
+use Rattle.plain_messages.specs.declared.refusal.PlainRefusal.TheVariants.{System}
+use Rattle.plain_session.specs.Answering.{Done, Undone, refusal_record}
+use Rattle.plain_session.proofs.Lost.{on_err}
+use Rattle.plain_session.proofs.answers.answer_call.Goals as goal
+
+pub returns-in-Ok-clause-ok : goal.returns-in-Ok-clause-ok
+returns-in-Ok-clause-ok c =
+    IfOk-weaker c.tell.result _ _ (λ whole told. Done c.in-Ok.reply c.in-Ok.ensures.ok told) c.tell.ensures
+
+pub returns-in-Ok-clause-lost : goal.returns-in-Ok-clause-lost
+returns-in-Ok-clause-lost c =
+    on_err c.tell.result (refusal_record c.args.xid System, Done c.in-Ok.reply c.in-Ok.ensures.ok (inr refl))
+
+pub returns-in-Err-clause-lost : goal.returns-in-Err-clause-lost
+returns-in-Err-clause-lost c =
+    on_err c.refuse.result (refusal_record c.args.xid System, Undone c.in-Err.ensures.err refl)
