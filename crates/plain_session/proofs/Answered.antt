@@ -35,8 +35,10 @@ pub one_more : (before middle after : Files) (bytes first written left more behi
     → IfNone told (IsNext middle written left more behind after)
     → AreAnswered before bytes first more behind after × (length behind < length left)
 one_more before middle after bytes first written left more behind told is answered next =
-    let here = subst (λ (o : Option Progress). IfNone o (IsNext middle written left more behind after)) is next in (
-      subst (λ (m : List ℕ). AreAnswered before bytes first m behind after) (sym here.2) (More answered here.1),
+    let P : Option Progress → Type 0 = λ o. IfNone o (IsNext middle written left more behind after) in
+    let here = subst P is next in
+    let told = sym here.2 in (
+      subst (λ (m : List ℕ). AreAnswered before bytes first m behind after) told (More answered here.1),
       shorter left here.1.message behind here.1.first,
     )
 

@@ -1,6 +1,6 @@
 -- Fragments that are read one behind another.
-use Rattle.std.proofs.Common.{◌≡◌, ℕ, ◌-◌, ◌≤◌, Bool, true, false, List, [], ◌∷◌, ◌++◌, length, take, ap, sym}
-use Rattle.std.proofs.Common.{◌∙◌, append_assoc, arith}
+use Rattle.std.proofs.Common.{◌≡◌, ℕ, ◌-◌, ◌≤◌, Bool, true, false, List, [], ◌∷◌, ◌++◌, length, take}
+use Rattle.std.proofs.Common.{ap, sym, ◌∙◌, append_assoc, arith}
 use Rattle.std.proofs.lemmas.Grind.{common_steps}
 use Rattle.std.proofs.lemmas.List.{flat_map_more}
 use Rattle.limits.specs.declared.TheConstants.{RECORD_BYTES}
@@ -8,8 +8,8 @@ use Rattle.plain_items.specs.Items.{spelled_word}
 use Rattle.plain_session.specs.Records.{Begins, IsRecord, fragment, fragments, joined, mark}
 
 -- a mark, and the bytes that it announces, are a fragment
-pub one_fragment : (now rest new part : List ℕ) (last : Bool) (word count : ℕ) → now ≡ spelled_word word ++ rest
-    → spelled_word word ≡ mark last count → rest ≡ part ++ new → length part ≡ count
+pub one_fragment : (now rest new part : List ℕ) (last : Bool) (word count : ℕ)
+    → now ≡ spelled_word word ++ rest → spelled_word word ≡ mark last count → rest ≡ part ++ new → length part ≡ count
     → now ≡ fragment last part ++ new
 one_fragment now rest new part last word count marked is behind counted =
     marked ∙ ap (λ (l : List ℕ). l ++ rest) (is ∙ ap (λ n. mark last n) (sym counted))
@@ -17,11 +17,12 @@ one_fragment now rest new part last word count marked is behind counted =
     ∙ sym (append_assoc (mark last (length part)) part new)
 
 -- one part more
-pub joined_more : (parts : List (List ℕ)) (part : List ℕ) → joined parts ++ part ≡ joined (parts ++ part ∷ [])
+pub joined_more : (parts : List (List ℕ)) (part : List ℕ)
+    → joined parts ++ part ≡ joined (parts ++ part ∷ [])
 joined_more parts part = flat_map_more (λ (p : List ℕ). p) [] parts part
 
-pub begins_more : (stream now new part : List ℕ) (parts : List (List ℕ)) (last : Bool) → Begins stream parts now
-    → now ≡ fragment last part ++ new → last ≡ false → length (joined parts ++ part) ≤ RECORD_BYTES
+pub begins_more : (stream now new part : List ℕ) (parts : List (List ℕ)) (last : Bool)
+    → Begins stream parts now → now ≡ fragment last part ++ new → last ≡ false → length (joined parts ++ part) ≤ RECORD_BYTES
     → Begins stream (parts ++ part ∷ []) new
 begins_more stream now new part parts last begins is inner fits = record {
   cut = begins.cut
@@ -38,8 +39,8 @@ front_of whole front behind taken is counted = grind (arith, common_steps)
 
 -- the last fragment makes a record
 pub whole_record : (stream now new part content : List ℕ) (parts : List (List ℕ)) (last : Bool) (taken : ℕ)
-    → Begins stream parts now → now ≡ fragment last part ++ new → last ≡ true → content ≡ joined parts ++ part
-    → length content ≤ RECORD_BYTES → taken ≡ length stream - length new
+    → Begins stream parts now → now ≡ fragment last part ++ new → last ≡ true
+    → content ≡ joined parts ++ part → length content ≤ RECORD_BYTES → taken ≡ length stream - length new
     → (taken ≤ length stream) × IsRecord (take taken stream) content
 whole_record stream now new part content parts last taken begins is ends held fits counted =
     let front : stream ≡ (fragments parts ++ fragment true part) ++ new =

@@ -3,4 +3,5 @@ pub mod Closing
 pub mod Fragments
 pub mod Lost
 pub mod Next
+pub mod Pieces
 pub mod Streams

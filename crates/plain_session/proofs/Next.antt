@@ -25,8 +25,8 @@ begins_answered bytes message content reply behind before after first same answe
 }
 
 -- the connection closes on it
-pub begins_closing : (bytes message content behind : List ℕ) → IsFirst bytes content behind → message ≡ content
-    → Closes message → BeginsClosing bytes
+pub begins_closing : (bytes message content behind : List ℕ) → IsFirst bytes content behind
+    → message ≡ content → Closes message → BeginsClosing bytes
 begins_closing bytes message content behind first same closes = record {
   message = content;
   behind = behind;
@@ -34,11 +34,10 @@ begins_closing bytes message content behind first same closes = record {
   closes = subst (λ (m : List ℕ). Closes m) same closes;
 }
 
--- what was answered, where something was
+-- what it was answered
 pub reply_of : (before after : Files) (message : List ℕ) (told : Option (Vec ℕ Global)) (reply : Vec ℕ Global)
-    → told ≡ Some reply → IfSome told (λ bytes. IsAnswered before message bytes.items after)
+    → told ≡ Some reply → IfSome told (λ it. IsAnswered before message it.items after)
     → IsAnswered before message reply.items after
 reply_of before after message told reply is answered =
-    let P : Option (Vec ℕ Global) → Type 0 =
-    λ o. IfSome o (λ bytes. IsAnswered before message bytes.items after) in
-    subst P is answered
+    subst (λ (o : Option (Vec ℕ Global)). IfSome o (λ it. IsAnswered before message it.items after)) is
+    answered

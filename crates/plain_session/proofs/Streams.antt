@@ -1,9 +1,10 @@
 -- A whole input is one piece that is fed to a fresh session.
-use Rattle.std.proofs.Common.{◌≡◌, ◌≢◌, ℕ, ◌⊎◌, Bool, true, false, List, [], ◌++◌, subst, sym, refl, inl, inr, Option, Some}
+use Rattle.std.proofs.Common.{◌≡◌, ◌≢◌, ℕ, ◌⊎◌, Bool, true, false, List, [], ◌++◌, subst, sym, refl, inl, inr}
+use Rattle.std.proofs.Common.{Option, Some}
 use Rattle.plain_session.specs.Counts.{HasData}
 use Rattle.plain_session.specs.Records.{HasBegun, IsTooLong}
-use Rattle.plain_session.specs.Serving.{AreAnswered, BeginsClosing, Ends, EndsWith, IsFed, IsNew, IsStream, Session, Stops, fresh}
-use Rattle.plain_session.specs.Serving.{fresh_files, is_closed_by, session_of}
+use Rattle.plain_session.specs.Serving.{AreAnswered, BeginsClosing, Ends, EndsWith, IsFed, IsNew, IsStream}
+use Rattle.plain_session.specs.Serving.{Session, Stops, fresh, fresh_files, is_closed_by, session_of}
 use Rattle.plain_session.specs.declared.session.PlainSession.{PlainSession}
 use Rattle.plain_session.specs.declared.session.Progress.{Progress}
 use Rattle.plain_session.specs.declared.session.Progress.TheVariants.{Closed, Open}
@@ -14,13 +15,14 @@ IsFresh blocks inodes made time session = (data_blocks : ℕ) × HasData blocks 
     × (session ≡ fresh data_blocks inodes made time)
 
 pub fresh_of : (blocks inodes made time : ℕ) (told : Option PlainSession) (session : PlainSession)
-    → told ≡ Some session → IsNew blocks inodes made time told → IsFresh blocks inodes made time (session_of session)
+    → told ≡ Some session → IsNew blocks inodes made time told
+    → IsFresh blocks inodes made time (session_of session)
 fresh_of blocks inodes made time told session is new =
     subst (λ (o : Option PlainSession). IsNew blocks inodes made time o) is new
 
 -- what is left, where it has closed or something is left
-left_at_end : (left : List ℕ) (is_closed : Bool) (went : Progress) → Stops left went → is_closed ≡ is_closed_by went
-    → (is_closed ≡ true) ⊎ (left ≢ []) → IsTooLong left ⊎ BeginsClosing left ⊎ HasBegun left × (left ≢ [])
+left_at_end : (left : List ℕ) (is_closed : Bool) (went : Progress) → Stops left went
+    → is_closed ≡ is_closed_by went → (is_closed ≡ true) ⊎ (left ≢ []) → IsTooLong left ⊎ BeginsClosing left ⊎ HasBegun left × (left ≢ [])
 left_at_end left is_closed Open begun stays (inl closed) = cc
 left_at_end left is_closed Open begun stays (inr some) = inr (inr (begun, some))
 left_at_end left is_closed Closed (inl long) closed ends = inl long
@@ -35,26 +37,25 @@ ends_closed old new input first replies went fed ends =
     inr (refl, left_at_end new.unread new.is_closed went fed.stops fed.closed ends)
 
 -- what is fed to a fresh session
-pub fresh_is_open : (blocks inodes made time : ℕ) (session : Session) → IsFresh blocks inodes made time session
-    → session.is_closed ≡ false
-fresh_is_open blocks inodes made time session is = subst (λ (s : Session). s.is_closed ≡ false) (sym is.2) refl
+pub fresh_is_open : (blocks inodes made time : ℕ) (session : Session)
+    → IsFresh blocks inodes made time session → session.is_closed ≡ false
+fresh_is_open blocks inodes made time session is =
+    subst (λ (s : Session). s.is_closed ≡ false) (sym is.2) refl
 
-pub stream : (blocks inodes made time : ℕ) (old new : Session) (input first replies : List ℕ) (went : Progress)
-    (status : ℕ) → IsFresh blocks inodes made time old → first ≡ [] → IsFed old input first went replies new
-    → EndsWith new.unread status → (data_blocks : ℕ) × HasData blocks inodes (Some data_blocks)
+pub stream : (blocks inodes made time : ℕ) (old new : Session) (input first replies : List ℕ)
+    (went : Progress) (status : ℕ) → IsFresh blocks inodes made time old → first ≡ []
+    → IsFed old input first went replies new → EndsWith new.unread status → (data_blocks : ℕ) × HasData blocks inodes (Some data_blocks)
     × IsStream (fresh_files data_blocks inodes made time) input replies status
 stream blocks inodes made time old new input first replies went status is none fed ends =
-    let P : Session → Type 0 =
-    λ s. AreAnswered s.files (s.unread ++ input) [] replies new.unread new.files in
-    let answered : AreAnswered old.files (old.unread ++ input) [] replies new.unread new.files =
-    subst (λ (f : List ℕ). AreAnswered old.files (old.unread ++ input) f replies new.unread new.files) none
-    fed.answered in (
+    let P : List ℕ → Session → Type 0 =
+    λ f s. AreAnswered s.files (s.unread ++ input) f replies new.unread new.files in
+    let answered = subst (λ (f : List ℕ). P f old) none fed.answered in (
       is.0,
       is.1,
       record {
         left = new.unread;
         after = new.files;
-        answered = subst P is.2 answered;
+        answered = subst (P []) is.2 answered;
         ends = ends;
       },
     )

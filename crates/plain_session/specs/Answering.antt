@@ -41,7 +41,7 @@ files_of files = record {
 abbrev pub next_number : Files → ℕ
 next_number files = min (files.transactions + 1) (2 ^ 64 - 1)
 
--- whose call it is, and when and as which one it comes, in the first boot
+-- the context of the next call of this caller, in the first boot
 abbrev pub context : Files → Credential → Ctx
 context files caller = record {
   credential = caller;
@@ -55,7 +55,8 @@ abbrev pub next_files : Files → Tree → Files
 next_files files tree = record { tree = tree; moment = files.moment; transactions = next_number files }
 
 -- a call of NFS is a step of the sequential server
-pub record IsStep (before : Files) (caller : Credential) (call : Call) (told : Reply) (after : Files) : Type 0 where
+pub record IsStep (before : Files) (caller : Credential) (call : Call) (told : Reply) (after : Files)
+    : Type 0 where
   pub leads : step before.tree (context before caller) call told after.tree
   pub counted : after ≡ next_files before after.tree
 
@@ -90,8 +91,8 @@ abbrev pub IsTold : ℕ → ProgramReply → List ℕ → Type 0
 IsTold xid told bytes = (bytes ≡ result_record xid told) ⊎ (bytes ≡ refusal_record xid refusal.System)
 
 -- What a call is answered: its result; or, where memory fails before it is done, that the system failed.
-pub data IsCallAnswered (before : Files) (xid : ℕ) (caller : Credential) (call : ProgramCall) (bytes : List ℕ)
-    (after : Files) : Type 0 where
+pub data IsCallAnswered (before : Files) (xid : ℕ) (caller : Credential) (call : ProgramCall)
+    (bytes : List ℕ) (after : Files) : Type 0 where
   Done : (told : ProgramReply) → IsReply before caller call told after → IsTold xid told bytes
       → IsCallAnswered before xid caller call bytes after
   Undone : IsUndone before call after → bytes ≡ refusal_record xid refusal.System
@@ -100,7 +101,8 @@ pub data IsCallAnswered (before : Files) (xid : ℕ) (caller : Credential) (call
 -- what is answered, by what is heard
 abbrev pub IsHeardAnswered : Files → Heard → List ℕ → Files → Type 0
 IsHeardAnswered before heard.Closed bytes after = ⊥
-IsHeardAnswered before (heard.Refused xid why) bytes after = (bytes ≡ refusal_record xid why) × (after ≡ before)
+IsHeardAnswered before (heard.Refused xid why) bytes after =
+    (bytes ≡ refusal_record xid why) × (after ≡ before)
 IsHeardAnswered before (heard.Call xid caller call) bytes after =
     IsCallAnswered before xid caller call bytes after
 

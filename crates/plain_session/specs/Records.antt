@@ -1,5 +1,6 @@
 -- How a stream is cut into records (RFC 5531, section 11).
-use Rattle.std.specs.Prelude.{◌≡◌, ℕ, ◌+◌, ◌<◌, ◌≤◌, ◌^◌, ◌⊎◌, Bool, true, false, List, ◌++◌, length, flat_map, take}
+use Rattle.std.specs.Prelude.{◌≡◌, ℕ, ◌+◌, ◌<◌, ◌≤◌, ◌^◌, ◌⊎◌, Bool, true, false, List, ◌++◌, length, take}
+use Rattle.std.specs.Prelude.{flat_map}
 use Rattle.limits.specs.declared.TheConstants.{RECORD_BYTES}
 use Rattle.plain_items.specs.Items.{spelled_word}
 use Rattle.plain_session.specs.declared.records.Cut.{Cut}
@@ -77,4 +78,5 @@ HasBegun stream = EndsInMark stream ⊎ EndsInFragment stream
 abbrev pub Cuts : List ℕ → Cut → Type 0
 Cuts stream cuts.Begun = HasBegun stream
 Cuts stream cuts.TooLong = IsTooLong stream
-Cuts stream (cuts.Record content taken) = (taken ≤ length stream) × IsRecord (take taken stream) content.items
+Cuts stream (cuts.Record content taken) =
+    (taken ≤ length stream) × IsRecord (take taken stream) content.items

@@ -1,7 +1,8 @@
 //! Answering one record.
 ghost use Rattle.std.specs.Prelude.{◌≡◌, ℕ, List, Ok, None, false, IfOk, IfSome, OnErr};
-ghost use Rattle.plain_session.specs.Answering.{Closes, IsAnswered, IsCallAnswered, IsNfsReply, IsReply, IsStep};
-ghost use Rattle.plain_session.specs.Answering.{IsTold, IsUndone, files_of, next_files, refusal_record};
+ghost use Rattle.plain_session.specs.Answering.{Closes, IsAnswered, IsCallAnswered, IsNfsReply, IsReply};
+ghost use Rattle.plain_session.specs.Answering.{IsStep, IsTold, IsUndone, files_of, next_files};
+ghost use Rattle.plain_session.specs.Answering.{refusal_record};
 ghost use Rattle.plain_steps.specs.Computed.{is_null as is_null_call};
 
 use crate::mounted::mount;
@@ -60,10 +61,10 @@ fn answer_call(
     credential: Credential,
     call: &ProgramCall,
 ) -> Result<Vec<u8>, AllocError>
-    ensures ok { IfOk result (λ whole. IsCallAnswered (files_of files.old) xid credential call.now whole.items
-        (files_of files.new)) }
-    ensures lost { OnErr result ((bytes : List ℕ) × IsCallAnswered (files_of files.old) xid credential call.now
-        bytes (files_of files.new)) }
+    ensures ok { IfOk result (λ whole. IsCallAnswered (files_of files.old) xid credential call.now
+        whole.items (files_of files.new)) }
+    ensures lost { OnErr result ((bytes : List ℕ) × IsCallAnswered (files_of files.old) xid credential
+        call.now bytes (files_of files.new)) }
 {
     match reply_to(alloc, files, credential, call) {
         Ok(reply) => tell(alloc, xid, &reply),

@@ -4,10 +4,12 @@
 
 mod answers;
 mod image;
+mod laws;
 mod mounted;
 mod records;
 mod session;
 
 pub use image::data_blocks;
+pub use laws::pieces_come_to_one;
 pub use records::{Cut, first_record};
 pub use session::{PlainSession, Progress, answer_stream};

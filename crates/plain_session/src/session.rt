@@ -1,10 +1,11 @@
 //! A session: the bytes of a client in any pieces, and the replies to them.
-ghost use Rattle.std.specs.Prelude.{◌≡◌, ◌++◌, ℕ, List, drop, true, false, Ok, Some, None, IfOk, IfSome, IfNone};
-ghost use Rattle.std.specs.Prelude.{OnErr};
+ghost use Rattle.std.specs.Prelude.{◌≡◌, ◌++◌, ℕ, List, drop, true, false, Ok, Some, None, IfOk, IfSome};
+ghost use Rattle.std.specs.Prelude.{IfNone, OnErr};
 ghost use Rattle.plain_session.specs.Answering.{files_of};
 ghost use Rattle.plain_session.specs.Counts.{HasData};
-ghost use Rattle.plain_session.specs.Serving.{AreAnswered, BeginsAnswered, Ends, Fails, IsCutOff, IsFed, IsNew};
-ghost use Rattle.plain_session.specs.Serving.{IsStream, Stops, at_second as moment_at, fresh_files, session_of};
+ghost use Rattle.plain_session.specs.Serving.{AreAnswered, BeginsAnswered, Ends, Fails, IsCutOff, IsFed};
+ghost use Rattle.plain_session.specs.Serving.{IsNew, IsStream, Stops, at_second as moment_at, fresh_files};
+ghost use Rattle.plain_session.specs.Serving.{session_of};
 
 use crate::answers::{PlainFiles, answer_record};
 use crate::image::data_blocks;
@@ -114,8 +115,8 @@ fn answer_all(
 ) -> Result<Progress, AllocError>
     ensures ok { IfOk result (λ progress. AreAnswered (files_of files.old) unread.old.items replies.old.items
         replies.new.items unread.new.items (files_of files.new) × Stops unread.new.items progress) }
-    ensures err { OnErr result (Fails (files_of files.old) unread.old.items replies.old.items replies.new.items
-        (files_of files.new)) }
+    ensures err { OnErr result (Fails (files_of files.old) unread.old.items replies.old.items
+        replies.new.items (files_of files.new)) }
 {
     // A record takes four bytes at least.
     for _answered in 0..unread.len() {

@@ -11,7 +11,8 @@ returns-then-is_last c =
     (one_fragment _ _ _ _ _ _ _ c.in-Ok.ensures.spelled c.announced-is_last.ensures.is
     c.in-Ok-take.ensures.spelled c.in-Ok-take.ensures.taken)
     c.if-is_last.true
-    (c.in_ok-extend_from_slice.ensures.items ∙ ap (λ l. l ++ c.in-Ok-take.fragment.now) c.loop-taken.invariant.held)
+    (c.in_ok-extend_from_slice.ensures.items
+    ∙ ap (λ l. l ++ c.in-Ok-take.fragment.now) c.loop-taken.invariant.held)
     (grind (arith, common_steps))
     (c.saturating_sub-taken.ensures ∙ grind (arith, common_steps))
 
@@ -21,14 +22,13 @@ loop-taken-preserved c =
     ≡ joined c.loop-taken.invariant.parts ++ c.in-Ok-take.fragment.now =
     c.in_ok-extend_from_slice.ensures.items
     ∙ ap (λ l. l ++ c.in-Ok-take.fragment.now) c.loop-taken.invariant.held in
+    let fits : length c.extend_from_slice.new.self.items ≤ RECORD_BYTES = grind (arith, common_steps) in
     record {
       parts = c.loop-taken.invariant.parts ++ c.in-Ok-take.fragment.now ∷ [];
       begins = begins_more _ c.loop-taken.reader _ _ _ _ c.loop-taken.invariant.begins
           (one_fragment _ _ _ _ _ _ _ c.in-Ok.ensures.spelled c.announced-is_last.ensures.is
           c.in-Ok-take.ensures.spelled c.in-Ok-take.ensures.taken)
-          c.if-is_last.false
-          (let fits : length c.extend_from_slice.new.self.items ≤ RECORD_BYTES = grind (arith, common_steps) in
-          rw (← held) fits);
+          c.if-is_last.false (rw (← held) fits);
       held = held ∙ joined_more c.loop-taken.invariant.parts c.in-Ok-take.fragment.now;
       counted = grind (arith, common_steps);
     }

@@ -4,7 +4,8 @@ use Rattle.plain_session.specs.Answering.{Files, files_of}
 use Rattle.plain_session.specs.Serving.{AreAnswered}
 use Rattle.plain_session.proofs.session.answer_all.Given as goal
 
-pub record SoFar (before : Files) (bytes first written left : List ℕ) (after : Files) (count : ℕ) : Type 0 where
+pub record SoFar (before : Files) (bytes first written left : List ℕ) (after : Files) (count : ℕ)
+    : Type 0 where
   pub answered : AreAnswered before bytes first written left after
   pub counted : count + length left ≤ length bytes
 

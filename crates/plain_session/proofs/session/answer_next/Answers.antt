@@ -1,14 +1,13 @@
-use Rattle.std.proofs.Common.{ℕ, List, ap, drop, inr, refl, Ok}
+use Rattle.std.proofs.Common.{ℕ, List, ap, arith, drop, inr, refl, Ok}
 use Rattle.std.proofs.lemmas.Grind.{common_steps}
-use Rattle.std.proofs.Common.{arith}
 use Rattle.plain_session.proofs.Lost.{on_err}
 use Rattle.plain_session.proofs.Next.{begins_answered, begins_closing, first_of, reply_of}
 use Rattle.plain_session.proofs.session.answer_next.Goals as goal
 
 pub returns-in_err-reply-clause-err : goal.returns-in_err-reply-clause-err
 returns-in_err-reply-clause-err c =
-    let first = first_of c.args.unread.now.items c.as_slice.result.now c.in_ok-first_record.field-0
-    c.in-Record.record c.in-Record.taken c.as_slice.ensures.value c.in_ok-first_record.ensures c.in-Record.is in
+    let first = first_of c.args.unread.now.items _ _ c.in-Record.record c.in-Record.taken
+    c.as_slice.ensures.value c.in_ok-first_record.ensures c.in-Record.is in
     let lost = c.in_err-reply.ensures.lost in
     on_err c.from_residual-in_err-reply.result (
       refl {A = List ℕ},
@@ -21,21 +20,25 @@ returns-in_err-reply-clause-err c =
 
 pub returns-in_default-clause-stops : goal.returns-in_default-clause-stops
 returns-in_default-clause-stops c =
-    let first = first_of c.args.unread.now.items c.as_slice.result.now c.in_ok-first_record.field-0
-    c.in-Record.record c.in-Record.taken c.as_slice.ensures.value c.in_ok-first_record.ensures c.in-Record.is in
-    let closed = c.in_ok-reply.ensures.closed (ap Ok c.in_default.is) in
-    (inr (begins_closing _ _ _ _ first c.as_slice-3.ensures.value closed.0), refl {A = List ℕ}, refl {A = List ℕ}, closed.1)
+    let first = first_of c.args.unread.now.items _ _ c.in-Record.record c.in-Record.taken
+    c.as_slice.ensures.value c.in_ok-first_record.ensures c.in-Record.is in
+    let closed = c.in_ok-reply.ensures.closed (ap Ok c.in_default.is) in (
+      inr (begins_closing _ _ _ _ first c.as_slice-3.ensures.value closed.0),
+      refl {A = List ℕ},
+      refl {A = List ℕ},
+      closed.1,
+    )
 
 pub returns-in_err-extend_from_slice-clause-err : goal.returns-in_err-extend_from_slice-clause-err
 returns-in_err-extend_from_slice-clause-err c =
-    let first = first_of c.args.unread.now.items c.as_slice.result.now c.in_ok-first_record.field-0
-    c.in-Record.record c.in-Record.taken c.as_slice.ensures.value c.in_ok-first_record.ensures c.in-Record.is in
+    let first = first_of c.args.unread.now.items _ _ c.in-Record.record c.in-Record.taken
+    c.as_slice.ensures.value c.in_ok-first_record.ensures c.in-Record.is in
+    let answered = reply_of _ _ _ _ _ c.in-Some.is c.in_ok-reply.ensures.answered in
     on_err c.from_residual-in_err-extend_from_slice.result (
       grind (arith, common_steps),
       inr (
         c.in-Some.reply.items,
         drop c.in-Record.taken c.args.unread.now.items,
-        begins_answered _ _ _ _ _ _ _ first c.as_slice-3.ensures.value
-            (reply_of _ _ _ _ _ c.in-Some.is c.in_ok-reply.ensures.answered),
+        begins_answered _ _ _ _ _ _ _ first c.as_slice-3.ensures.value answered,
       ),
     )
