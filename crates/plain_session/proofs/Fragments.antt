@@ -9,8 +9,8 @@ use Rattle.plain_session.specs.Records.{Begins, IsRecord, fragment, fragments, j
 
 -- a mark, and the bytes that it announces, are a fragment
 pub one_fragment : (now rest new part : List ℕ) (last : Bool) (word count : ℕ)
-    → now ≡ spelled_word word ++ rest → spelled_word word ≡ mark last count → rest ≡ part ++ new → length part ≡ count
-    → now ≡ fragment last part ++ new
+    → now ≡ spelled_word word ++ rest → spelled_word word ≡ mark last count → rest ≡ part ++ new
+    → length part ≡ count → now ≡ fragment last part ++ new
 one_fragment now rest new part last word count marked is behind counted =
     marked ∙ ap (λ (l : List ℕ). l ++ rest) (is ∙ ap (λ n. mark last n) (sym counted))
     ∙ ap (λ (l : List ℕ). mark last (length part) ++ l) behind
@@ -22,8 +22,8 @@ pub joined_more : (parts : List (List ℕ)) (part : List ℕ)
 joined_more parts part = flat_map_more (λ (p : List ℕ). p) [] parts part
 
 pub begins_more : (stream now new part : List ℕ) (parts : List (List ℕ)) (last : Bool)
-    → Begins stream parts now → now ≡ fragment last part ++ new → last ≡ false → length (joined parts ++ part) ≤ RECORD_BYTES
-    → Begins stream (parts ++ part ∷ []) new
+    → Begins stream parts now → now ≡ fragment last part ++ new → last ≡ false
+    → length (joined parts ++ part) ≤ RECORD_BYTES → Begins stream (parts ++ part ∷ []) new
 begins_more stream now new part parts last begins is inner fits = record {
   cut = begins.cut
       ∙ ap (λ (l : List ℕ). fragments parts ++ l) (is ∙ ap (λ (b : Bool). fragment b part ++ new) inner)

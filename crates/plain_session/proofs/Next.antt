@@ -35,8 +35,9 @@ begins_closing bytes message content behind first same closes = record {
 }
 
 -- what it was answered
-pub reply_of : (before after : Files) (message : List ℕ) (told : Option (Vec ℕ Global)) (reply : Vec ℕ Global)
-    → told ≡ Some reply → IfSome told (λ it. IsAnswered before message it.items after)
+pub reply_of : (before after : Files) (message : List ℕ) (told : Option (Vec ℕ Global))
+    (reply : Vec ℕ Global) → told ≡ Some reply
+    → IfSome told (λ it. IsAnswered before message it.items after)
     → IsAnswered before message reply.items after
 reply_of before after message told reply is answered =
     subst (λ (o : Option (Vec ℕ Global)). IfSome o (λ it. IsAnswered before message it.items after)) is

@@ -24,8 +24,9 @@ wider piece None = None
 wider piece (More answered next) = More (wider piece answered) (longer piece next)
 
 -- and further ones behind it
-joined : {before : Files} {bytes first written left : List ℕ} {middle : Files} {told last : List ℕ} {after : Files}
-    → AreAnswered before bytes first written left middle → AreAnswered middle left written told last after
+joined : {before : Files} {bytes first written left : List ℕ} {middle : Files} {told last : List ℕ}
+    {after : Files} → AreAnswered before bytes first written left middle
+    → AreAnswered middle left written told last after
     → AreAnswered before bytes first told last after
 joined answered None = answered
 joined answered (More more next) = More (joined answered more) next

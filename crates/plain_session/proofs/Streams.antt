@@ -1,6 +1,6 @@
 -- A whole input is one piece that is fed to a fresh session.
-use Rattle.std.proofs.Common.{◌≡◌, ◌≢◌, ℕ, ◌⊎◌, Bool, true, false, List, [], ◌++◌, subst, sym, refl, inl, inr}
-use Rattle.std.proofs.Common.{Option, Some}
+use Rattle.std.proofs.Common.{◌≡◌, ◌≢◌, ℕ, ◌⊎◌, Bool, true, false, List, [], ◌++◌, Option, Some}
+use Rattle.std.proofs.Common.{subst, sym, refl, inl, inr}
 use Rattle.plain_session.specs.Counts.{HasData}
 use Rattle.plain_session.specs.Records.{HasBegun, IsTooLong}
 use Rattle.plain_session.specs.Serving.{AreAnswered, BeginsClosing, Ends, EndsWith, IsFed, IsNew, IsStream}
@@ -22,7 +22,8 @@ fresh_of blocks inodes made time told session is new =
 
 -- what is left, where it has closed or something is left
 left_at_end : (left : List ℕ) (is_closed : Bool) (went : Progress) → Stops left went
-    → is_closed ≡ is_closed_by went → (is_closed ≡ true) ⊎ (left ≢ []) → IsTooLong left ⊎ BeginsClosing left ⊎ HasBegun left × (left ≢ [])
+    → is_closed ≡ is_closed_by went → (is_closed ≡ true) ⊎ (left ≢ [])
+    → IsTooLong left ⊎ BeginsClosing left ⊎ HasBegun left × (left ≢ [])
 left_at_end left is_closed Open begun stays (inl closed) = cc
 left_at_end left is_closed Open begun stays (inr some) = inr (inr (begun, some))
 left_at_end left is_closed Closed (inl long) closed ends = inl long
@@ -44,7 +45,8 @@ fresh_is_open blocks inodes made time session is =
 
 pub stream : (blocks inodes made time : ℕ) (old new : Session) (input first replies : List ℕ)
     (went : Progress) (status : ℕ) → IsFresh blocks inodes made time old → first ≡ []
-    → IsFed old input first went replies new → EndsWith new.unread status → (data_blocks : ℕ) × HasData blocks inodes (Some data_blocks)
+    → IsFed old input first went replies new → EndsWith new.unread status
+    → (data_blocks : ℕ) × HasData blocks inodes (Some data_blocks)
     × IsStream (fresh_files data_blocks inodes made time) input replies status
 stream blocks inodes made time old new input first replies went status is none fed ends =
     let P : List ℕ → Session → Type 0 =
