@@ -13,7 +13,7 @@ ghost use Rattle.plain_hearing.specs.declared.hearing.Heard.TheVariants as heard
 
 use limits::{MACHINE_NAME_BYTES, MOST_AUTH_BYTES, MOST_GIDS, NOBODY};
 use nfs_types::{Call, Credential, MountCall, NumberList, ProgramCall};
-use plain_items::{ItemFault, ItemReader};
+use plain_items::{ItemReader, ReadFault, Unreadable};
 use plain_messages::{PlainRefusal, read_mount_call, read_nfs_call};
 use std::alloc::{AllocError, Global};
 
@@ -85,7 +85,7 @@ pub fn hear(alloc: Global, message: &[u8]) -> Heard
 }
 
 // The number of the message and the version of RPC. What isn't a call is unreadable.
-fn read_opening(reader: &mut ItemReader<'_>) -> Result<(u32, u32), ItemFault>
+fn read_opening(reader: &mut ItemReader<'_>) -> Result<(u32, u32), Unreadable>
     ensures is { IfOk result (λ opening. (opening.0 ≡ word_at reader.old)
         × (opening.1 ≡ word_at (drop 8 reader.old))) }
     ensures known { is_ok result ≡ is_call reader.old }
@@ -97,12 +97,12 @@ fn read_opening(reader: &mut ItemReader<'_>) -> Result<(u32, u32), ItemFault>
     if kind == 0 {
         Ok((xid, version))
     } else {
-        Err(ItemFault::Unreadable)
+        Err(Unreadable)
     }
 }
 
 // The words and the body, and what stands behind the verifier.
-fn read_header<'a>(reader: &mut ItemReader<'a>) -> Result<Header<'a>, ItemFault>
+fn read_header<'a>(reader: &mut ItemReader<'a>) -> Result<Header<'a>, Unreadable>
     ensures program { IfOk result (λ header. header.program ≡ program_at reader.old) }
     ensures version { IfOk result (λ header. header.version ≡ version_at reader.old) }
     ensures procedure { IfOk result (λ header. header.procedure ≡ procedure_at reader.old) }
@@ -123,7 +123,7 @@ fn read_header<'a>(reader: &mut ItemReader<'a>) -> Result<Header<'a>, ItemFault>
     })
 }
 
-fn read_numbers(reader: &mut ItemReader<'_>) -> Result<Numbers, ItemFault>
+fn read_numbers(reader: &mut ItemReader<'_>) -> Result<Numbers, Unreadable>
     ensures program { IfOk result (λ numbers. numbers.program ≡ program_at reader.old) }
     ensures version { IfOk result (λ numbers. numbers.version ≡ version_at reader.old) }
     ensures procedure { IfOk result (λ numbers. numbers.procedure ≡ procedure_at reader.old) }
@@ -144,7 +144,7 @@ fn read_numbers(reader: &mut ItemReader<'_>) -> Result<Numbers, ItemFault>
 }
 
 // A verifier of any flavor, which isn't looked at.
-fn read_verifier(reader: &mut ItemReader<'_>) -> Result<(), ItemFault>
+fn read_verifier(reader: &mut ItemReader<'_>) -> Result<(), Unreadable>
     ensures behind { OnOk result (reader.new ≡ behind_padding (drop 4 reader.old)) }
     ensures known { is_ok result ≡ (has 4 reader.old && has_string MOST_AUTH_BYTES (drop 4 reader.old)) }
 {
@@ -197,8 +197,8 @@ fn read_nfs(alloc: Global, header: &Header<'_>, arguments: &[u8]) -> Result<Call
     }
     match read_nfs_call(alloc, header.procedure, arguments) {
         Ok(call) => Ok(call),
-        Err(ItemFault::NoMemory) => Err(PlainRefusal::System),
-        Err(ItemFault::Unreadable | ItemFault::TooLong) => Err(PlainRefusal::Arguments),
+        Err(ReadFault::NoMemory) => Err(PlainRefusal::System),
+        Err(ReadFault::Unreadable) => Err(PlainRefusal::Arguments),
     }
 }
 
@@ -224,8 +224,8 @@ fn read_mount(
     }
     match read_mount_call(alloc, header.procedure, arguments) {
         Ok(call) => Ok(call),
-        Err(ItemFault::NoMemory) => Err(PlainRefusal::System),
-        Err(ItemFault::Unreadable | ItemFault::TooLong) => Err(PlainRefusal::Arguments),
+        Err(ReadFault::NoMemory) => Err(PlainRefusal::System),
+        Err(ReadFault::Unreadable) => Err(PlainRefusal::Arguments),
     }
 }
 
@@ -241,8 +241,8 @@ fn read_credential(alloc: Global, header: &Header<'_>) -> Result<Credential, Pla
     if header.flavor == 1 {
         return match read_named(alloc, header.body) {
             Ok(credential) => Ok(credential),
-            Err(ItemFault::NoMemory) => Err(PlainRefusal::System),
-            Err(ItemFault::Unreadable | ItemFault::TooLong) => Err(PlainRefusal::BadCredential),
+            Err(ReadFault::NoMemory) => Err(PlainRefusal::System),
+            Err(ReadFault::Unreadable) => Err(PlainRefusal::BadCredential),
         };
     }
     if header.body.is_empty() {
@@ -257,7 +257,7 @@ fn read_credential(alloc: Global, header: &Header<'_>) -> Result<Credential, Pla
 }
 
 // The caller that a body of AUTH_SYS names (`authsys_parms`), to its last byte.
-fn read_named(alloc: Global, body: &[u8]) -> Result<Credential, ItemFault>
+fn read_named(alloc: Global, body: &[u8]) -> Result<Credential, ReadFault>
     ensures { IfOk result (λ caller. behind_padding (drop 4 body.now)
         ≡ words (caller.uid ∷ caller.gid ∷ length caller.gids ∷ caller.gids)) }
 {
@@ -268,7 +268,7 @@ fn read_named(alloc: Global, body: &[u8]) -> Result<Credential, ItemFault>
 }
 
 // The user, the group and the further groups, to the last byte.
-fn read_caller(alloc: Global, reader: &mut ItemReader<'_>) -> Result<Credential, ItemFault>
+fn read_caller(alloc: Global, reader: &mut ItemReader<'_>) -> Result<Credential, ReadFault>
     ensures { IfOk result (λ caller. reader.old
         ≡ words (caller.uid ∷ caller.gid ∷ length caller.gids ∷ caller.gids)) }
 {
@@ -284,12 +284,12 @@ fn read_caller(alloc: Global, reader: &mut ItemReader<'_>) -> Result<Credential,
 }
 
 // The further groups, behind their count.
-fn read_gids(alloc: Global, reader: &mut ItemReader<'_>) -> Result<Vec<u32>, ItemFault>
+fn read_gids(alloc: Global, reader: &mut ItemReader<'_>) -> Result<Vec<u32>, ReadFault>
     ensures { IfOk result (λ gids. reader.old ≡ words (length gids.items ∷ gids.items) ++ reader.new) }
 {
     let count = reader.word()? as usize;
     if count > MOST_GIDS {
-        return Err(ItemFault::Unreadable);
+        return Err(ReadFault::Unreadable);
     }
     let mut gids = Vec::new(alloc);
     for _taken in 0..count {

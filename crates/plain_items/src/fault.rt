@@ -3,26 +3,60 @@
 use std::alloc::AllocError;
 use thiserror::Error;
 
-/// Why an item isn't read or written.
+/// The bytes spell no such item.
 #[derive(Clone, Copy, Debug, PartialEq, Eq, Error)]
-pub enum ItemFault {
-    /// The bytes spell none.
+#[error("unreadable")]
+pub struct Unreadable;
+
+/// Why what is read isn't there: by a reader that keeps what it reads.
+#[derive(Clone, Copy, Debug, PartialEq, Eq, Error)]
+pub enum ReadFault {
+    /// The bytes spell nothing of the kind.
     #[error("unreadable")]
     Unreadable,
-    /// It has no length of four bytes.
+    #[error("no memory")]
+    NoMemory,
+}
+
+impl From<Unreadable> for ReadFault {
+    ghost use Rattle.std.specs.Prelude.{◌≡◌};
+    ghost use Rattle.plain_items.specs.declared.fault.ReadFault.TheVariants as read;
+
+    ghost from_gives = { λ _ fault. fault ≡ read.Unreadable };
+
+    fn from(_: Unreadable) -> ReadFault {
+        ReadFault::Unreadable
+    }
+}
+
+impl From<AllocError> for ReadFault {
+    ghost use Rattle.std.specs.Prelude.{◌≡◌};
+    ghost use Rattle.plain_items.specs.declared.fault.ReadFault.TheVariants.{NoMemory};
+
+    ghost from_gives = { λ _ fault. fault ≡ NoMemory };
+
+    fn from(_: AllocError) -> ReadFault {
+        ReadFault::NoMemory
+    }
+}
+
+/// Why what has strings or lists in it isn't written.
+#[derive(Clone, Copy, Debug, PartialEq, Eq, Error)]
+pub enum PutFault {
+    /// A length has no four bytes.
     #[error("too long")]
     TooLong,
     #[error("no memory")]
     NoMemory,
 }
 
-impl From<AllocError> for ItemFault {
+impl From<AllocError> for PutFault {
     ghost use Rattle.std.specs.Prelude.{◌≡◌};
-    ghost use Rattle.plain_items.specs.declared.fault.ItemFault.TheVariants.{NoMemory};
+    ghost use Rattle.plain_items.specs.declared.fault.PutFault.TheVariants.{NoMemory};
 
     ghost from_gives = { λ _ fault. fault ≡ NoMemory };
 
-    fn from(_: AllocError) -> ItemFault {
-        ItemFault::NoMemory
+    fn from(_: AllocError) -> PutFault {
+        PutFault::NoMemory
     }
 }

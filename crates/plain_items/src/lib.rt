@@ -6,6 +6,6 @@ mod fault;
 mod reader;
 mod writer;
 
-pub use fault::ItemFault;
+pub use fault::{PutFault, ReadFault, Unreadable};
 pub use reader::ItemReader;
 pub use writer::{put_double, put_eight, put_flag, put_opaque, put_word};

@@ -8,7 +8,7 @@ ghost use Rattle.plain_items.specs.Items.{has_optional, has_string, optional_at,
 ghost use Rattle.plain_items.specs.Items.{spelled_double, spelled_flag, spelled_optional, spelled_string};
 ghost use Rattle.plain_items.specs.Items.{spelled_word};
 
-use crate::ItemFault;
+use crate::Unreadable;
 use std::marker::Model;
 
 /// The bytes that aren't read yet.
@@ -34,7 +34,7 @@ impl<'a> ItemReader<'a> {
     }
 
     /// The next bytes, so many of them.
-    pub fn take(&mut self, count: usize) -> Result<&'a [u8], ItemFault>
+    pub fn take(&mut self, count: usize) -> Result<&'a [u8], Unreadable>
         ensures taken { IfOk result (λ bytes. length bytes.now ≡ count) }
         ensures rest { IfOk result (λ _. length self.new + count ≡ length self.old) }
 
@@ -45,7 +45,7 @@ impl<'a> ItemReader<'a> {
         ensures kept { OnErr result (self.new ≡ self.old) }
     {
         if self.rest.len() < count {
-            return Err(ItemFault::Unreadable);
+            return Err(Unreadable);
         }
         let (bytes, rest) = self.rest.split_at(count);
         self.rest = rest;
@@ -53,7 +53,7 @@ impl<'a> ItemReader<'a> {
     }
 
     /// A number of four bytes.
-    pub fn word(&mut self) -> Result<u32, ItemFault>
+    pub fn word(&mut self) -> Result<u32, Unreadable>
         ensures rest { IfOk result (λ _. length self.new + 4 ≡ length self.old) }
 
         ensures is { IfOk result (λ word. word ≡ word_at self.old) }
@@ -65,7 +65,7 @@ impl<'a> ItemReader<'a> {
     }
 
     /// A number of eight bytes.
-    pub fn double(&mut self) -> Result<u64, ItemFault>
+    pub fn double(&mut self) -> Result<u64, Unreadable>
         ensures rest { IfOk result (λ _. length self.new + 8 ≡ length self.old) }
 
         ensures is { IfOk result (λ double. double ≡ double_at self.old) }
@@ -77,7 +77,7 @@ impl<'a> ItemReader<'a> {
     }
 
     /// Eight bytes as they stand there.
-    pub fn eight(&mut self) -> Result<[u8; 8], ItemFault>
+    pub fn eight(&mut self) -> Result<[u8; 8], Unreadable>
         ensures rest { IfOk result (λ _. length self.new + 8 ≡ length self.old) }
 
         ensures is { IfOk result (λ eight. eight ≡ take 8 self.old) }
@@ -92,7 +92,7 @@ impl<'a> ItemReader<'a> {
     }
 
     /// True or false: 1 or 0.
-    pub fn flag(&mut self) -> Result<bool, ItemFault>
+    pub fn flag(&mut self) -> Result<bool, Unreadable>
         ensures rest { IfOk result (λ _. length self.new + 4 ≡ length self.old) }
 
         ensures is { IfOk result (λ flag. flag ≡ flag_at self.old) }
@@ -103,12 +103,12 @@ impl<'a> ItemReader<'a> {
         match self.word()? {
             0 => Ok(false),
             1 => Ok(true),
-            _ => Err(ItemFault::Unreadable),
+            _ => Err(Unreadable),
         }
     }
 
     /// A string of at most `bound` bytes behind its length, with zeros up to a multiple of four.
-    pub fn opaque(&mut self, bound: usize) -> Result<&'a [u8], ItemFault>
+    pub fn opaque(&mut self, bound: usize) -> Result<&'a [u8], Unreadable>
         ensures bound { IfOk result (λ bytes. length bytes.now ≤ bound) }
 
         ensures is { IfOk result (λ bytes. bytes.now ≡ string_at self.old) }
@@ -118,19 +118,19 @@ impl<'a> ItemReader<'a> {
     {
         let length = self.word()? as usize;
         if length > bound {
-            return Err(ItemFault::Unreadable);
+            return Err(Unreadable);
         }
         let bytes = self.take(length)?;
         let zeros = self.take(padding(length))?;
         if are_zeros(zeros) {
             Ok(bytes)
         } else {
-            Err(ItemFault::Unreadable)
+            Err(Unreadable)
         }
     }
 
     /// A string of any length.
-    pub fn string(&mut self) -> Result<&'a [u8], ItemFault>
+    pub fn string(&mut self) -> Result<&'a [u8], Unreadable>
         ensures is { IfOk result (λ bytes. bytes.now ≡ string_at self.old) }
         ensures behind { OnOk result (self.new ≡ drop (padding (word_at self.old)) (behind_string self.old)) }
         ensures known { is_ok result ≡ has_string usize.MAX self.old }
@@ -140,7 +140,7 @@ impl<'a> ItemReader<'a> {
     }
 
     /// A number that may be left out.
-    pub fn optional_word(&mut self) -> Result<Option<u32>, ItemFault>
+    pub fn optional_word(&mut self) -> Result<Option<u32>, Unreadable>
         ensures is { IfOk result (λ word. word ≡ optional_at word_at self.old) }
         ensures behind { OnOk result (self.new ≡ behind_optional 4 self.old) }
         ensures known { is_ok result ≡ has_optional 4 self.old }
@@ -154,7 +154,7 @@ impl<'a> ItemReader<'a> {
     }
 
     /// A number of eight bytes that may be left out.
-    pub fn optional_double(&mut self) -> Result<Option<u64>, ItemFault>
+    pub fn optional_double(&mut self) -> Result<Option<u64>, Unreadable>
         ensures is { IfOk result (λ double. double ≡ optional_at double_at self.old) }
         ensures behind { OnOk result (self.new ≡ behind_optional 8 self.old) }
         ensures known { is_ok result ≡ has_optional 8 self.old }
@@ -176,14 +176,14 @@ impl<'a> ItemReader<'a> {
     }
 
     /// Nothing, where nothing is left.
-    pub fn end(&self) -> Result<(), ItemFault>
+    pub fn end(&self) -> Result<(), Unreadable>
         ensures known { is_ok result ≡ nat_eq (length self.now) 0 }
         ensures all { OnOk result (self.now ≡ []) }
     {
         if self.rest.is_empty() {
             Ok(())
         } else {
-            Err(ItemFault::Unreadable)
+            Err(Unreadable)
         }
     }
 }

@@ -1,9 +1,9 @@
 //! Writing items, each behind what is written.
-ghost use Rattle.std.specs.Prelude.{◌≡◌, ◌≤◌, ◌++◌, ◌^◌, length, OnOk, IfErr, Err};
+ghost use Rattle.std.specs.Prelude.{◌≡◌, ◌≤◌, ◌++◌, ◌^◌, length, OnOk, Err};
 ghost use Rattle.plain_items.specs.Items.{spelled_double, spelled_flag, spelled_string, spelled_word};
-ghost use Rattle.plain_items.specs.declared.fault.ItemFault.TheVariants as fault;
+ghost use Rattle.plain_items.specs.declared.fault.PutFault.TheVariants as fault;
 
-use crate::ItemFault;
+use crate::PutFault;
 use std::alloc::AllocError;
 
 /// A number of four bytes.
@@ -42,12 +42,11 @@ pub fn put_flag(out: &mut Vec<u8>, flag: bool) -> Result<(), AllocError>
 
 /// A string behind its length, with zeros up to a multiple of four.
 #[tactic(auto, unfolding(crate::specs::Items::spelled_string))]
-pub fn put_opaque(out: &mut Vec<u8>, bytes: &[u8]) -> Result<(), ItemFault>
+pub fn put_opaque(out: &mut Vec<u8>, bytes: &[u8]) -> Result<(), PutFault>
     ensures written { OnOk result (out.new.items ≡ out.old.items ++ spelled_string bytes.now) }
-    ensures unread { result ≡ Err fault.Unreadable → ⊥ }
     ensures long { result ≡ Err fault.TooLong → 2 ^ 32 ≤ length bytes.now }
 {
-    let length = u32::try_from(bytes.len()).or(Err(ItemFault::TooLong))?;
+    let length = u32::try_from(bytes.len()).or(Err(PutFault::TooLong))?;
     put_word(out, length)?;
     out.extend_from_slice(bytes)?;
     match length % 4 {

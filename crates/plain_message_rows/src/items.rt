@@ -1,9 +1,11 @@
 //! The items of XDR by the plain reader and the plain writer, spelled by hand (RFC 4506, section 4).
 
-use plain_items::{ItemFault, ItemReader, put_double, put_eight, put_flag, put_opaque, put_word};
+use plain_items::{
+    ItemReader, PutFault, Unreadable, put_double, put_eight, put_flag, put_opaque, put_word,
+};
 
 #[test]
-fn items_one_after_another(rt: HostRuntime) -> Result<(), ItemFault> {
+fn items_one_after_another(rt: HostRuntime) -> Result<(), Unreadable> {
     let mut reader = ItemReader::new(&[
         0, 0, 1, 2, 0, 0, 0, 0, 0, 0, 0, 3, 1, 2, 3, 4, 5, 6, 7, 8, 0, 0, 0, 1, 9, 9,
     ]);
@@ -11,14 +13,14 @@ fn items_one_after_another(rt: HostRuntime) -> Result<(), ItemFault> {
     assert_eq!(rt; reader.double()?, 3);
     assert_eq!(rt; reader.eight()?, [1, 2, 3, 4, 5, 6, 7, 8]);
     assert_eq!(rt; reader.flag()?, true);
-    assert_eq!(rt; reader.end(), Err(ItemFault::Unreadable));
+    assert_eq!(rt; reader.end(), Err(Unreadable));
     assert!(rt; reader.take(1)? == [9].as_slice() && reader.rest() == [9].as_slice());
-    assert_eq!(rt; reader.word(), Err(ItemFault::Unreadable));
+    assert_eq!(rt; reader.word(), Err(Unreadable));
     Ok(())
 }
 
 #[test]
-fn strings_of_three_bytes(rt: HostRuntime) -> Result<(), ItemFault> {
+fn strings_of_three_bytes(rt: HostRuntime) -> Result<(), Unreadable> {
     let spelled = [0, 0, 0, 3, b'a', b'b', b'c', 0];
     assert!(rt; ItemReader::new(&spelled).opaque(3)? == b"abc".as_slice());
     assert!(rt; ItemReader::new(&spelled).string()? == b"abc".as_slice());
@@ -30,7 +32,7 @@ fn strings_of_three_bytes(rt: HostRuntime) -> Result<(), ItemFault> {
 }
 
 #[test]
-fn items_that_may_be_left_out(rt: HostRuntime) -> Result<(), ItemFault> {
+fn items_that_may_be_left_out(rt: HostRuntime) -> Result<(), Unreadable> {
     let none = [0, 0, 0, 0];
     let word = [0, 0, 0, 1, 0, 0, 0, 5];
     let double = [0, 0, 0, 1, 0, 0, 0, 1, 0, 0, 0, 0];
@@ -45,7 +47,7 @@ fn items_that_may_be_left_out(rt: HostRuntime) -> Result<(), ItemFault> {
 }
 
 #[test]
-fn items_that_are_written(rt: HostRuntime) -> Result<(), ItemFault> {
+fn items_that_are_written(rt: HostRuntime) -> Result<(), PutFault> {
     let mut out = Vec::new(rt.alloc());
     put_word(&mut out, 258)?;
     put_double(&mut out, 3)?;

@@ -7,12 +7,12 @@ use crate::parts::{
     read_string, read_verifier,
 };
 use nfs_types::{Call, CreateHow, SpecialFile};
-use plain_items::{ItemFault, ItemReader};
+use plain_items::{ItemReader, ReadFault, Unreadable};
 use std::alloc::Global;
 
 /// The call of a procedure whose arguments these are, to the last byte. A number from 22 on has no
 /// procedure, and no arguments of it can be read.
-pub fn read_nfs_call(alloc: Global, procedure: u32, bytes: &[u8]) -> Result<Call, ItemFault>
+pub fn read_nfs_call(alloc: Global, procedure: u32, bytes: &[u8]) -> Result<Call, ReadFault>
     ensures spelled { IfOk result (λ call. bytes.now ≡ nfs_arguments call) }
     ensures number { IfOk result (λ call. nfs_procedure call ≡ procedure) }
 {
@@ -33,7 +33,7 @@ fn read_of_files(
     alloc: Global,
     procedure: u32,
     reader: &mut ItemReader<'_>,
-) -> Result<Call, ItemFault>
+) -> Result<Call, ReadFault>
     ensures spelled { IfOk result (λ call. reader.old ≡ nfs_arguments call ++ reader.new) }
     ensures number { IfOk result (λ call. nfs_procedure call ≡ procedure) }
 {
@@ -52,7 +52,7 @@ fn read_of_files(
         }),
         6 => read_read(alloc, reader),
         7 => read_write(alloc, reader),
-        _ => Err(ItemFault::Unreadable),
+        _ => Err(ReadFault::Unreadable),
     }
 }
 
@@ -61,7 +61,7 @@ fn read_of_names(
     alloc: Global,
     procedure: u32,
     reader: &mut ItemReader<'_>,
-) -> Result<Call, ItemFault>
+) -> Result<Call, ReadFault>
     ensures spelled { IfOk result (λ call. reader.old ≡ nfs_arguments call ++ reader.new) }
     ensures number { IfOk result (λ call. nfs_procedure call ≡ procedure) }
 {
@@ -78,7 +78,7 @@ fn read_of_names(
         }),
         14 => read_rename(alloc, reader),
         15 => read_link(alloc, reader),
-        _ => Err(ItemFault::Unreadable),
+        _ => Err(ReadFault::Unreadable),
     }
 }
 
@@ -87,7 +87,7 @@ fn read_of_systems(
     alloc: Global,
     procedure: u32,
     reader: &mut ItemReader<'_>,
-) -> Result<Call, ItemFault>
+) -> Result<Call, ReadFault>
     ensures spelled { IfOk result (λ call. reader.old ≡ nfs_arguments call ++ reader.new) }
     ensures number { IfOk result (λ call. nfs_procedure call ≡ procedure) }
 {
@@ -104,11 +104,11 @@ fn read_of_systems(
             object: read_handle(alloc, reader)?,
         }),
         21 => read_commit(alloc, reader),
-        _ => Err(ItemFault::Unreadable),
+        _ => Err(ReadFault::Unreadable),
     }
 }
 
-fn read_set_attributes(alloc: Global, reader: &mut ItemReader<'_>) -> Result<Call, ItemFault>
+fn read_set_attributes(alloc: Global, reader: &mut ItemReader<'_>) -> Result<Call, ReadFault>
     ensures spelled { IfOk result (λ call. reader.old ≡ nfs_arguments call ++ reader.new) }
     ensures number { IfOk result (λ call. nfs_procedure call ≡ 2) }
 {
@@ -122,7 +122,7 @@ fn read_set_attributes(alloc: Global, reader: &mut ItemReader<'_>) -> Result<Cal
     })
 }
 
-fn read_access(alloc: Global, reader: &mut ItemReader<'_>) -> Result<Call, ItemFault>
+fn read_access(alloc: Global, reader: &mut ItemReader<'_>) -> Result<Call, ReadFault>
     ensures spelled { IfOk result (λ call. reader.old ≡ nfs_arguments call ++ reader.new) }
     ensures number { IfOk result (λ call. nfs_procedure call ≡ 4) }
 {
@@ -131,7 +131,7 @@ fn read_access(alloc: Global, reader: &mut ItemReader<'_>) -> Result<Call, ItemF
     Ok(Call::Access { object, bits })
 }
 
-fn read_read(alloc: Global, reader: &mut ItemReader<'_>) -> Result<Call, ItemFault>
+fn read_read(alloc: Global, reader: &mut ItemReader<'_>) -> Result<Call, ReadFault>
     ensures spelled { IfOk result (λ call. reader.old ≡ nfs_arguments call ++ reader.new) }
     ensures number { IfOk result (λ call. nfs_procedure call ≡ 6) }
 {
@@ -145,7 +145,7 @@ fn read_read(alloc: Global, reader: &mut ItemReader<'_>) -> Result<Call, ItemFau
     })
 }
 
-fn read_write(alloc: Global, reader: &mut ItemReader<'_>) -> Result<Call, ItemFault>
+fn read_write(alloc: Global, reader: &mut ItemReader<'_>) -> Result<Call, ReadFault>
     ensures spelled { IfOk result (λ call. reader.old ≡ nfs_arguments call ++ reader.new) }
     ensures number { IfOk result (λ call. nfs_procedure call ≡ 7) }
 {
@@ -163,7 +163,7 @@ fn read_write(alloc: Global, reader: &mut ItemReader<'_>) -> Result<Call, ItemFa
     })
 }
 
-fn read_create(alloc: Global, reader: &mut ItemReader<'_>) -> Result<Call, ItemFault>
+fn read_create(alloc: Global, reader: &mut ItemReader<'_>) -> Result<Call, ReadFault>
     ensures spelled { IfOk result (λ call. reader.old ≡ nfs_arguments call ++ reader.new) }
     ensures number { IfOk result (λ call. nfs_procedure call ≡ 8) }
 {
@@ -172,12 +172,12 @@ fn read_create(alloc: Global, reader: &mut ItemReader<'_>) -> Result<Call, ItemF
         0 => CreateHow::Unchecked(read_new_attributes(reader)?),
         1 => CreateHow::Guarded(read_new_attributes(reader)?),
         2 => CreateHow::Exclusive(read_verifier(reader)?),
-        _ => return Err(ItemFault::Unreadable),
+        _ => return Err(ReadFault::Unreadable),
     };
     Ok(Call::Create { name, how })
 }
 
-fn read_make_directory(alloc: Global, reader: &mut ItemReader<'_>) -> Result<Call, ItemFault>
+fn read_make_directory(alloc: Global, reader: &mut ItemReader<'_>) -> Result<Call, ReadFault>
     ensures spelled { IfOk result (λ call. reader.old ≡ nfs_arguments call ++ reader.new) }
     ensures number { IfOk result (λ call. nfs_procedure call ≡ 9) }
 {
@@ -186,7 +186,7 @@ fn read_make_directory(alloc: Global, reader: &mut ItemReader<'_>) -> Result<Cal
     Ok(Call::MkDir { name, attributes })
 }
 
-fn read_make_link(alloc: Global, reader: &mut ItemReader<'_>) -> Result<Call, ItemFault>
+fn read_make_link(alloc: Global, reader: &mut ItemReader<'_>) -> Result<Call, ReadFault>
     ensures spelled { IfOk result (λ call. reader.old ≡ nfs_arguments call ++ reader.new) }
     ensures number { IfOk result (λ call. nfs_procedure call ≡ 10) }
 {
@@ -200,7 +200,7 @@ fn read_make_link(alloc: Global, reader: &mut ItemReader<'_>) -> Result<Call, It
     })
 }
 
-fn read_make_special(alloc: Global, reader: &mut ItemReader<'_>) -> Result<Call, ItemFault>
+fn read_make_special(alloc: Global, reader: &mut ItemReader<'_>) -> Result<Call, ReadFault>
     ensures spelled { IfOk result (λ call. reader.old ≡ nfs_arguments call ++ reader.new) }
     ensures number { IfOk result (λ call. nfs_procedure call ≡ 11) }
 {
@@ -210,7 +210,7 @@ fn read_make_special(alloc: Global, reader: &mut ItemReader<'_>) -> Result<Call,
 }
 
 // What MKNOD is to make (`mknoddata3`).
-fn read_special(reader: &mut ItemReader<'_>) -> Result<SpecialFile, ItemFault>
+fn read_special(reader: &mut ItemReader<'_>) -> Result<SpecialFile, Unreadable>
     ensures { IfOk result (λ kind. reader.old ≡ special kind ++ reader.new) }
 {
     match reader.word()? {
@@ -227,11 +227,11 @@ fn read_special(reader: &mut ItemReader<'_>) -> Result<SpecialFile, ItemFault>
         5 => Ok(SpecialFile::Link),
         6 => Ok(SpecialFile::Socket(read_new_attributes(reader)?)),
         7 => Ok(SpecialFile::Fifo(read_new_attributes(reader)?)),
-        _ => Err(ItemFault::Unreadable),
+        _ => Err(Unreadable),
     }
 }
 
-fn read_rename(alloc: Global, reader: &mut ItemReader<'_>) -> Result<Call, ItemFault>
+fn read_rename(alloc: Global, reader: &mut ItemReader<'_>) -> Result<Call, ReadFault>
     ensures spelled { IfOk result (λ call. reader.old ≡ nfs_arguments call ++ reader.new) }
     ensures number { IfOk result (λ call. nfs_procedure call ≡ 14) }
 {
@@ -240,7 +240,7 @@ fn read_rename(alloc: Global, reader: &mut ItemReader<'_>) -> Result<Call, ItemF
     Ok(Call::Rename { source, target })
 }
 
-fn read_link(alloc: Global, reader: &mut ItemReader<'_>) -> Result<Call, ItemFault>
+fn read_link(alloc: Global, reader: &mut ItemReader<'_>) -> Result<Call, ReadFault>
     ensures spelled { IfOk result (λ call. reader.old ≡ nfs_arguments call ++ reader.new) }
     ensures number { IfOk result (λ call. nfs_procedure call ≡ 15) }
 {
@@ -249,7 +249,7 @@ fn read_link(alloc: Global, reader: &mut ItemReader<'_>) -> Result<Call, ItemFau
     Ok(Call::Link { file, name })
 }
 
-fn read_listing(alloc: Global, reader: &mut ItemReader<'_>) -> Result<Call, ItemFault>
+fn read_listing(alloc: Global, reader: &mut ItemReader<'_>) -> Result<Call, ReadFault>
     ensures spelled { IfOk result (λ call. reader.old ≡ nfs_arguments call ++ reader.new) }
     ensures number { IfOk result (λ call. nfs_procedure call ≡ 16) }
 {
@@ -265,7 +265,7 @@ fn read_listing(alloc: Global, reader: &mut ItemReader<'_>) -> Result<Call, Item
     })
 }
 
-fn read_listing_plus(alloc: Global, reader: &mut ItemReader<'_>) -> Result<Call, ItemFault>
+fn read_listing_plus(alloc: Global, reader: &mut ItemReader<'_>) -> Result<Call, ReadFault>
     ensures spelled { IfOk result (λ call. reader.old ≡ nfs_arguments call ++ reader.new) }
     ensures number { IfOk result (λ call. nfs_procedure call ≡ 17) }
 {
@@ -283,7 +283,7 @@ fn read_listing_plus(alloc: Global, reader: &mut ItemReader<'_>) -> Result<Call,
     })
 }
 
-fn read_commit(alloc: Global, reader: &mut ItemReader<'_>) -> Result<Call, ItemFault>
+fn read_commit(alloc: Global, reader: &mut ItemReader<'_>) -> Result<Call, ReadFault>
     ensures spelled { IfOk result (λ call. reader.old ≡ nfs_arguments call ++ reader.new) }
     ensures number { IfOk result (λ call. nfs_procedure call ≡ 21) }
 {

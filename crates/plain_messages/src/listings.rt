@@ -6,14 +6,14 @@ ghost use Rattle.plain_messages.specs.Results.{listed, listed_plus, outcome as c
 
 use crate::told::{put_after, put_ok, put_optional_handle, put_refusal};
 use nfs_types::{Attributes, Listed, ListedEntry, ListedEntryPlus, ListedPlus, Status};
-use plain_items::{ItemFault, put_double, put_eight, put_flag, put_opaque};
+use plain_items::{PutFault, put_double, put_eight, put_flag, put_opaque};
 
 /// READDIR.
 pub fn put_listing(
     out: &mut Vec<u8>,
     outcome: &Result<Listed, Status>,
     directory: &Option<Attributes>,
-) -> Result<(), ItemFault>
+) -> Result<(), PutFault>
     ensures { OnOk result (out.new.items
         ≡ out.old.items ++ came (λ it. after directory.now ++ listed it) (after directory.now) outcome.now) }
 {
@@ -23,12 +23,12 @@ pub fn put_listing(
             put_after(out, directory)?;
             put_listed(out, listed)
         }
-        Err(status) => put_refusal(out, *status, directory),
+        Err(status) => Ok(put_refusal(out, *status, directory)?),
     }
 }
 
 // What is listed (`dirlist3`).
-fn put_listed(out: &mut Vec<u8>, listed: &Listed) -> Result<(), ItemFault>
+fn put_listed(out: &mut Vec<u8>, listed: &Listed) -> Result<(), PutFault>
     ensures { OnOk result (out.new.items ≡ out.old.items ++ spelled.listed listed.now) }
 {
     put_eight(out, &listed.verifier.bytes)?;
@@ -37,7 +37,7 @@ fn put_listed(out: &mut Vec<u8>, listed: &Listed) -> Result<(), ItemFault>
     Ok(put_flag(out, listed.eof)?)
 }
 
-fn put_entries(out: &mut Vec<u8>, entries: &[ListedEntry]) -> Result<(), ItemFault>
+fn put_entries(out: &mut Vec<u8>, entries: &[ListedEntry]) -> Result<(), PutFault>
     ensures { OnOk result (out.new.items ≡ out.old.items ++ spelled.entries entries.now) }
 {
     for entry in entries {
@@ -47,7 +47,7 @@ fn put_entries(out: &mut Vec<u8>, entries: &[ListedEntry]) -> Result<(), ItemFau
 }
 
 // An entry (`entry3`) behind the flag that says that it is there.
-fn put_entry(out: &mut Vec<u8>, entry: &ListedEntry) -> Result<(), ItemFault>
+fn put_entry(out: &mut Vec<u8>, entry: &ListedEntry) -> Result<(), PutFault>
     ensures { OnOk result (out.new.items ≡ out.old.items ++ spelled.entry entry.now) }
 {
     put_flag(out, true)?;
@@ -61,7 +61,7 @@ pub fn put_listing_plus(
     out: &mut Vec<u8>,
     outcome: &Result<ListedPlus, Status>,
     directory: &Option<Attributes>,
-) -> Result<(), ItemFault>
+) -> Result<(), PutFault>
     ensures { OnOk result (out.new.items
         ≡ out.old.items ++ came (λ it. after directory.now ++ listed_plus it) (after directory.now)
         outcome.now) }
@@ -72,12 +72,12 @@ pub fn put_listing_plus(
             put_after(out, directory)?;
             put_listed_plus(out, listed)
         }
-        Err(status) => put_refusal(out, *status, directory),
+        Err(status) => Ok(put_refusal(out, *status, directory)?),
     }
 }
 
 // What is listed (`dirlistplus3`).
-fn put_listed_plus(out: &mut Vec<u8>, listed: &ListedPlus) -> Result<(), ItemFault>
+fn put_listed_plus(out: &mut Vec<u8>, listed: &ListedPlus) -> Result<(), PutFault>
     ensures { OnOk result (out.new.items ≡ out.old.items ++ spelled.listed_plus listed.now) }
 {
     put_eight(out, &listed.verifier.bytes)?;
@@ -86,7 +86,7 @@ fn put_listed_plus(out: &mut Vec<u8>, listed: &ListedPlus) -> Result<(), ItemFau
     Ok(put_flag(out, listed.eof)?)
 }
 
-fn put_entries_plus(out: &mut Vec<u8>, entries: &[ListedEntryPlus]) -> Result<(), ItemFault>
+fn put_entries_plus(out: &mut Vec<u8>, entries: &[ListedEntryPlus]) -> Result<(), PutFault>
     ensures { OnOk result (out.new.items ≡ out.old.items ++ spelled.entries_plus entries.now) }
 {
     for entry in entries {
@@ -96,7 +96,7 @@ fn put_entries_plus(out: &mut Vec<u8>, entries: &[ListedEntryPlus]) -> Result<()
 }
 
 // An entry (`entryplus3`) behind the flag that says that it is there.
-fn put_entry_plus(out: &mut Vec<u8>, entry: &ListedEntryPlus) -> Result<(), ItemFault>
+fn put_entry_plus(out: &mut Vec<u8>, entry: &ListedEntryPlus) -> Result<(), PutFault>
     ensures { OnOk result (out.new.items ≡ out.old.items ++ spelled.entry_plus entry.now) }
 {
     put_flag(out, true)?;

@@ -8,12 +8,12 @@ use crate::replying::put_words;
 use crate::statuses::status_number;
 use crate::told::{put_handle, put_ok};
 use nfs_types::{MountCall, MountReply, Mounted, Octets, PATH_BYTES};
-use plain_items::{ItemFault, ItemReader, put_word};
+use plain_items::{ItemReader, PutFault, ReadFault, put_word};
 use std::alloc::Global;
 
 /// The call of a procedure whose arguments these are, to the last byte. Of no other number than 0, 1 and 3
 /// arguments can be read.
-pub fn read_mount_call(alloc: Global, procedure: u32, bytes: &[u8]) -> Result<MountCall, ItemFault>
+pub fn read_mount_call(alloc: Global, procedure: u32, bytes: &[u8]) -> Result<MountCall, ReadFault>
     ensures spelled { IfOk result (λ call. bytes.now ≡ mount_arguments call) }
     ensures number { IfOk result (λ call. mount_procedure call ≡ procedure) }
 {
@@ -26,14 +26,14 @@ pub fn read_mount_call(alloc: Global, procedure: u32, bytes: &[u8]) -> Result<Mo
         3 => MountCall::Unmount {
             path: read_path(alloc, &mut reader)?,
         },
-        _ => return Err(ItemFault::Unreadable),
+        _ => return Err(ReadFault::Unreadable),
     };
     reader.end()?;
     Ok(call)
 }
 
 // The path of a directory (`dirpath`).
-fn read_path(alloc: Global, reader: &mut ItemReader<'_>) -> Result<Octets, ItemFault>
+fn read_path(alloc: Global, reader: &mut ItemReader<'_>) -> Result<Octets, ReadFault>
     ensures { IfOk result (λ path. reader.old ≡ spelled_string path ++ reader.new) }
 {
     let path = reader.opaque(PATH_BYTES)?;
@@ -41,7 +41,7 @@ fn read_path(alloc: Global, reader: &mut ItemReader<'_>) -> Result<Octets, ItemF
 }
 
 /// Writes a result.
-pub fn put_mount_result(out: &mut Vec<u8>, reply: &MountReply) -> Result<(), ItemFault>
+pub fn put_mount_result(out: &mut Vec<u8>, reply: &MountReply) -> Result<(), PutFault>
     ensures { OnOk result (out.new.items ≡ out.old.items ++ mount_result reply.now) }
 {
     match reply {
@@ -59,12 +59,12 @@ pub fn put_mount_result(out: &mut Vec<u8>, reply: &MountReply) -> Result<(), Ite
 }
 
 // What MNT gives (`mountres3_ok`).
-fn put_mounted(out: &mut Vec<u8>, mounted: &Mounted) -> Result<(), ItemFault>
+fn put_mounted(out: &mut Vec<u8>, mounted: &Mounted) -> Result<(), PutFault>
     ensures { OnOk result (out.new.items ≡ out.old.items ++ given mounted.now) }
 {
     put_handle(out, &mounted.root)?;
     let flavors = mounted.flavors.as_slice();
-    let count = u32::try_from(flavors.len()).or(Err(ItemFault::TooLong))?;
+    let count = u32::try_from(flavors.len()).or(Err(PutFault::TooLong))?;
     put_word(out, count)?;
-    put_words(out, flavors)
+    Ok(put_words(out, flavors)?)
 }

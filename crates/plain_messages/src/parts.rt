@@ -9,11 +9,11 @@ use nfs_types::{
     DeviceNumber, DirectoryName, Handle, Moment, NewAttributes, Octets, SetTime, Stability,
     Verifier,
 };
-use plain_items::{ItemFault, ItemReader};
+use plain_items::{ItemReader, ReadFault, Unreadable};
 use std::alloc::Global;
 
 /// A handle (`nfs_fh3`).
-pub fn read_handle(alloc: Global, reader: &mut ItemReader<'_>) -> Result<Handle, ItemFault>
+pub fn read_handle(alloc: Global, reader: &mut ItemReader<'_>) -> Result<Handle, ReadFault>
     ensures { IfOk result (λ it. reader.old ≡ spelled.handle it ++ reader.new) }
 {
     let bytes = reader.opaque(MOST_HANDLE_BYTES)?;
@@ -23,7 +23,7 @@ pub fn read_handle(alloc: Global, reader: &mut ItemReader<'_>) -> Result<Handle,
 }
 
 /// A string of any length.
-pub fn read_string(alloc: Global, reader: &mut ItemReader<'_>) -> Result<Octets, ItemFault>
+pub fn read_string(alloc: Global, reader: &mut ItemReader<'_>) -> Result<Octets, ReadFault>
     ensures { IfOk result (λ it. reader.old ≡ spelled_string it ++ reader.new) }
 {
     let bytes = reader.string()?;
@@ -32,7 +32,7 @@ pub fn read_string(alloc: Global, reader: &mut ItemReader<'_>) -> Result<Octets,
 
 /// A directory's handle and a name (`diropargs3`).
 #[tactic(auto, unfolding(crate::specs::Arguments::name))]
-pub fn read_name(alloc: Global, reader: &mut ItemReader<'_>) -> Result<DirectoryName, ItemFault>
+pub fn read_name(alloc: Global, reader: &mut ItemReader<'_>) -> Result<DirectoryName, ReadFault>
     ensures { IfOk result (λ it. reader.old ≡ arguments.name it ++ reader.new) }
 {
     let directory = read_handle(alloc, reader)?;
@@ -41,7 +41,7 @@ pub fn read_name(alloc: Global, reader: &mut ItemReader<'_>) -> Result<Directory
 }
 
 /// A time (`nfstime3`).
-pub fn read_moment(reader: &mut ItemReader<'_>) -> Result<Moment, ItemFault>
+pub fn read_moment(reader: &mut ItemReader<'_>) -> Result<Moment, Unreadable>
     ensures { IfOk result (λ it. reader.old ≡ spelled.moment it ++ reader.new) }
 {
     let seconds = reader.word()?;
@@ -53,7 +53,7 @@ pub fn read_moment(reader: &mut ItemReader<'_>) -> Result<Moment, ItemFault>
 }
 
 /// A time that may be left out (`sattrguard3`).
-pub fn read_guard(reader: &mut ItemReader<'_>) -> Result<Option<Moment>, ItemFault>
+pub fn read_guard(reader: &mut ItemReader<'_>) -> Result<Option<Moment>, Unreadable>
     ensures { IfOk result (λ it. reader.old ≡ spelled_optional spelled.moment it ++ reader.new) }
 {
     if reader.flag()? {
@@ -64,20 +64,20 @@ pub fn read_guard(reader: &mut ItemReader<'_>) -> Result<Option<Moment>, ItemFau
 }
 
 // What is to become of a time (`set_atime`, `set_mtime`).
-fn read_set_time(reader: &mut ItemReader<'_>) -> Result<SetTime, ItemFault>
+fn read_set_time(reader: &mut ItemReader<'_>) -> Result<SetTime, Unreadable>
     ensures { IfOk result (λ it. reader.old ≡ arguments.set_time it ++ reader.new) }
 {
     match reader.word()? {
         0 => Ok(SetTime::Unchanged),
         1 => Ok(SetTime::Server),
         2 => Ok(SetTime::Client(read_moment(reader)?)),
-        _ => Err(ItemFault::Unreadable),
+        _ => Err(Unreadable),
     }
 }
 
 /// The attributes that are set (`sattr3`).
 #[tactic(auto, unfolding(crate::specs::Arguments::new_attributes))]
-pub fn read_new_attributes(reader: &mut ItemReader<'_>) -> Result<NewAttributes, ItemFault>
+pub fn read_new_attributes(reader: &mut ItemReader<'_>) -> Result<NewAttributes, Unreadable>
     ensures { IfOk result (λ it. reader.old ≡ arguments.new_attributes it ++ reader.new) }
 {
     let mode = reader.optional_word()?;
@@ -97,19 +97,19 @@ pub fn read_new_attributes(reader: &mut ItemReader<'_>) -> Result<NewAttributes,
 }
 
 /// How a WRITE is to be kept (`stable_how`).
-pub fn read_stability(reader: &mut ItemReader<'_>) -> Result<Stability, ItemFault>
+pub fn read_stability(reader: &mut ItemReader<'_>) -> Result<Stability, Unreadable>
     ensures { IfOk result (λ it. reader.old ≡ spelled_word (spelled.stability_number it) ++ reader.new) }
 {
     match reader.word()? {
         0 => Ok(Stability::Unstable),
         1 => Ok(Stability::DataSync),
         2 => Ok(Stability::FileSync),
-        _ => Err(ItemFault::Unreadable),
+        _ => Err(Unreadable),
     }
 }
 
 /// A verifier of eight bytes.
-pub fn read_verifier(reader: &mut ItemReader<'_>) -> Result<Verifier, ItemFault>
+pub fn read_verifier(reader: &mut ItemReader<'_>) -> Result<Verifier, Unreadable>
     ensures { IfOk result (λ it. reader.old ≡ it.bytes ++ reader.new) }
 {
     Ok(Verifier {
@@ -118,7 +118,7 @@ pub fn read_verifier(reader: &mut ItemReader<'_>) -> Result<Verifier, ItemFault>
 }
 
 /// The two numbers of a device (`specdata3`).
-pub fn read_device(reader: &mut ItemReader<'_>) -> Result<DeviceNumber, ItemFault>
+pub fn read_device(reader: &mut ItemReader<'_>) -> Result<DeviceNumber, Unreadable>
     ensures { IfOk result (λ it. reader.old ≡ arguments.device it ++ reader.new) }
 {
     let major = reader.word()?;

@@ -16,48 +16,49 @@ use crate::told::{
 use nfs_types::{
     Attributes, Created, Looked, Octets, ReadBytes, Reply, Status, Verifier, WeakCacheData, Written,
 };
-use plain_items::{ItemFault, put_eight, put_flag, put_opaque, put_word};
+use plain_items::{PutFault, put_eight, put_flag, put_opaque, put_word};
+use std::alloc::AllocError;
 
 /// Writes a result.
-pub fn put_nfs_result(out: &mut Vec<u8>, reply: &Reply) -> Result<(), ItemFault>
+pub fn put_nfs_result(out: &mut Vec<u8>, reply: &Reply) -> Result<(), PutFault>
     ensures { OnOk result (out.new.items ≡ out.old.items ++ nfs_result reply.now) }
 {
     match reply {
         Reply::Null => Ok(()),
-        Reply::GetAttr { outcome } => put_got(out, outcome),
-        Reply::SetAttr { outcome, object } => put_changed(out, outcome, object),
+        Reply::GetAttr { outcome } => Ok(put_got(out, outcome)?),
+        Reply::SetAttr { outcome, object } => Ok(put_changed(out, outcome, object)?),
         Reply::Lookup { outcome, directory } => put_looked(out, outcome, directory),
-        Reply::Access { outcome, object } => put_access(out, outcome, object),
+        Reply::Access { outcome, object } => Ok(put_access(out, outcome, object)?),
         Reply::ReadLink { outcome, link } => put_target(out, outcome, link),
         Reply::Read { outcome, file } => put_read(out, outcome, file),
-        Reply::Write { outcome, file } => put_written(out, outcome, file),
+        Reply::Write { outcome, file } => Ok(put_written(out, outcome, file)?),
         Reply::Create { outcome, directory } => put_created(out, outcome, directory),
         Reply::MkDir { outcome, directory } => put_created(out, outcome, directory),
         Reply::SymLink { outcome, directory } => put_created(out, outcome, directory),
         Reply::MkNod { outcome, directory } => put_created(out, outcome, directory),
-        Reply::Remove { outcome, directory } => put_changed(out, outcome, directory),
-        Reply::RmDir { outcome, directory } => put_changed(out, outcome, directory),
+        Reply::Remove { outcome, directory } => Ok(put_changed(out, outcome, directory)?),
+        Reply::RmDir { outcome, directory } => Ok(put_changed(out, outcome, directory)?),
         Reply::Rename {
             outcome,
             source,
             target,
-        } => put_renamed(out, outcome, source, target),
+        } => Ok(put_renamed(out, outcome, source, target)?),
         Reply::Link {
             outcome,
             file,
             directory,
-        } => put_linked(out, outcome, file, directory),
+        } => Ok(put_linked(out, outcome, file, directory)?),
         Reply::ReadDir { outcome, directory } => put_listing(out, outcome, directory),
         Reply::ReadDirPlus { outcome, directory } => put_listing_plus(out, outcome, directory),
-        Reply::FsStat { outcome, object } => put_space(out, outcome, object),
-        Reply::FsInfo { outcome, object } => put_info(out, outcome, object),
-        Reply::PathConf { outcome, object } => put_limits(out, outcome, object),
-        Reply::Commit { outcome, file } => put_committed(out, outcome, file),
+        Reply::FsStat { outcome, object } => Ok(put_space(out, outcome, object)?),
+        Reply::FsInfo { outcome, object } => Ok(put_info(out, outcome, object)?),
+        Reply::PathConf { outcome, object } => Ok(put_limits(out, outcome, object)?),
+        Reply::Commit { outcome, file } => Ok(put_committed(out, outcome, file)?),
     }
 }
 
 // GETATTR.
-fn put_got(out: &mut Vec<u8>, outcome: &Result<Attributes, Status>) -> Result<(), ItemFault>
+fn put_got(out: &mut Vec<u8>, outcome: &Result<Attributes, Status>) -> Result<(), AllocError>
     ensures { OnOk result (out.new.items
         ≡ out.old.items ++ came attributes [] outcome.now) }
 {
@@ -66,7 +67,7 @@ fn put_got(out: &mut Vec<u8>, outcome: &Result<Attributes, Status>) -> Result<()
             put_ok(out)?;
             put_attributes(out, attributes)
         }
-        Err(status) => Ok(put_word(out, status_number(*status))?),
+        Err(status) => put_word(out, status_number(*status)),
     }
 }
 
@@ -75,7 +76,7 @@ fn put_changed(
     out: &mut Vec<u8>,
     outcome: &Result<(), Status>,
     change: &WeakCacheData,
-) -> Result<(), ItemFault>
+) -> Result<(), AllocError>
     ensures { OnOk result (out.new.items ≡ out.old.items
         ++ (word (status_of outcome.now) ++ spelled.change change.now)) }
 {
@@ -88,7 +89,7 @@ fn put_looked(
     out: &mut Vec<u8>,
     outcome: &Result<Looked, Status>,
     directory: &Option<Attributes>,
-) -> Result<(), ItemFault>
+) -> Result<(), PutFault>
     ensures { OnOk result (out.new.items ≡ out.old.items
         ++ came (λ it. handle it.object ++ after it.attributes ++ after directory.now) (after directory.now)
         outcome.now) }
@@ -98,9 +99,9 @@ fn put_looked(
             put_ok(out)?;
             put_handle(out, &looked.object)?;
             put_after(out, &looked.attributes)?;
-            put_after(out, directory)
+            Ok(put_after(out, directory)?)
         }
-        Err(status) => put_refusal(out, *status, directory),
+        Err(status) => Ok(put_refusal(out, *status, directory)?),
     }
 }
 
@@ -109,7 +110,7 @@ fn put_access(
     out: &mut Vec<u8>,
     outcome: &Result<u32, Status>,
     object: &Option<Attributes>,
-) -> Result<(), ItemFault>
+) -> Result<(), AllocError>
     ensures { OnOk result (out.new.items
         ≡ out.old.items ++ came (λ bits. after object.now ++ word bits) (after object.now) outcome.now) }
 {
@@ -117,7 +118,7 @@ fn put_access(
         Ok(bits) => {
             put_ok(out)?;
             put_after(out, object)?;
-            Ok(put_word(out, *bits)?)
+            put_word(out, *bits)
         }
         Err(status) => put_refusal(out, *status, object),
     }
@@ -128,7 +129,7 @@ fn put_target(
     out: &mut Vec<u8>,
     outcome: &Result<Octets, Status>,
     link: &Option<Attributes>,
-) -> Result<(), ItemFault>
+) -> Result<(), PutFault>
     ensures { OnOk result (out.new.items
         ≡ out.old.items ++ came (λ target. after link.now ++ spelled_string target) (after link.now)
         outcome.now) }
@@ -139,7 +140,7 @@ fn put_target(
             put_after(out, link)?;
             put_opaque(out, target.as_slice())
         }
-        Err(status) => put_refusal(out, *status, link),
+        Err(status) => Ok(put_refusal(out, *status, link)?),
     }
 }
 
@@ -148,7 +149,7 @@ fn put_read(
     out: &mut Vec<u8>,
     outcome: &Result<ReadBytes, Status>,
     file: &Option<Attributes>,
-) -> Result<(), ItemFault>
+) -> Result<(), PutFault>
     ensures { OnOk result (out.new.items ≡ out.old.items
         ++ came (λ it. after file.now ++ word it.count ++ spelled_flag it.eof ++ spelled_string it.bytes)
         (after file.now) outcome.now) }
@@ -161,7 +162,7 @@ fn put_read(
             put_flag(out, read.eof)?;
             put_opaque(out, read.bytes.as_slice())
         }
-        Err(status) => put_refusal(out, *status, file),
+        Err(status) => Ok(put_refusal(out, *status, file)?),
     }
 }
 
@@ -170,7 +171,7 @@ fn put_written(
     out: &mut Vec<u8>,
     outcome: &Result<Written, Status>,
     file: &WeakCacheData,
-) -> Result<(), ItemFault>
+) -> Result<(), AllocError>
     ensures { OnOk result (out.new.items ≡ out.old.items
         ++ came (λ it. spelled.change file.now ++ word it.count ++ word (stability_number it.committed)
         ++ it.verifier.bytes) (spelled.change file.now) outcome.now) }
@@ -181,7 +182,7 @@ fn put_written(
             put_change(out, file)?;
             put_word(out, written.count)?;
             put_word(out, stability_number(written.committed))?;
-            Ok(put_eight(out, &written.verifier.bytes)?)
+            put_eight(out, &written.verifier.bytes)
         }
         Err(status) => put_refused_change(out, *status, file),
     }
@@ -192,7 +193,7 @@ fn put_created(
     out: &mut Vec<u8>,
     outcome: &Result<Created, Status>,
     directory: &WeakCacheData,
-) -> Result<(), ItemFault>
+) -> Result<(), PutFault>
     ensures { OnOk result (out.new.items
         ≡ out.old.items ++ came (λ it. created it ++ spelled.change directory.now)
         (spelled.change directory.now) outcome.now) }
@@ -202,9 +203,9 @@ fn put_created(
             put_ok(out)?;
             put_optional_handle(out, &created.object)?;
             put_after(out, &created.attributes)?;
-            put_change(out, directory)
+            Ok(put_change(out, directory)?)
         }
-        Err(status) => put_refused_change(out, *status, directory),
+        Err(status) => Ok(put_refused_change(out, *status, directory)?),
     }
 }
 
@@ -214,7 +215,7 @@ fn put_renamed(
     outcome: &Result<(), Status>,
     source: &WeakCacheData,
     target: &WeakCacheData,
-) -> Result<(), ItemFault>
+) -> Result<(), AllocError>
     ensures { OnOk result (out.new.items ≡ out.old.items
         ++ (word (status_of outcome.now) ++ spelled.change source.now ++ spelled.change target.now)) }
 {
@@ -229,7 +230,7 @@ fn put_linked(
     outcome: &Result<(), Status>,
     file: &Option<Attributes>,
     directory: &WeakCacheData,
-) -> Result<(), ItemFault>
+) -> Result<(), AllocError>
     ensures { OnOk result (out.new.items ≡ out.old.items
         ++ (word (status_of outcome.now) ++ after file.now ++ spelled.change directory.now)) }
 {
@@ -243,7 +244,7 @@ fn put_committed(
     out: &mut Vec<u8>,
     outcome: &Result<Verifier, Status>,
     file: &WeakCacheData,
-) -> Result<(), ItemFault>
+) -> Result<(), AllocError>
     ensures { OnOk result (out.new.items
         ≡ out.old.items ++ came (λ it. spelled.change file.now ++ it.bytes) (spelled.change file.now)
         outcome.now) }
@@ -252,7 +253,7 @@ fn put_committed(
         Ok(verifier) => {
             put_ok(out)?;
             put_change(out, file)?;
-            Ok(put_eight(out, &verifier.bytes)?)
+            put_eight(out, &verifier.bytes)
         }
         Err(status) => put_refused_change(out, *status, file),
     }

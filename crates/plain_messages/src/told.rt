@@ -6,27 +6,27 @@ ghost use Rattle.plain_messages.specs.Results.{status_of};
 
 use crate::statuses::{kind_number, status_number};
 use nfs_types::{Attributes, Handle, Moment, Status, WeakCacheAttributes, WeakCacheData};
-use plain_items::{ItemFault, put_double, put_flag, put_opaque, put_word};
+use plain_items::{PutFault, put_double, put_flag, put_opaque, put_word};
+use std::alloc::AllocError;
 
 /// The status OK.
-pub fn put_ok(out: &mut Vec<u8>) -> Result<(), ItemFault>
+pub fn put_ok(out: &mut Vec<u8>) -> Result<(), AllocError>
     ensures { OnOk result (out.new.items ≡ out.old.items ++ word 0) }
 {
-    Ok(put_word(out, 0)?)
+    put_word(out, 0)
 }
 
 /// A time (`nfstime3`).
-pub fn put_moment(out: &mut Vec<u8>, moment: &Moment) -> Result<(), ItemFault>
+pub fn put_moment(out: &mut Vec<u8>, moment: &Moment) -> Result<(), AllocError>
     ensures { OnOk result (out.new.items ≡ out.old.items ++ spelled.moment moment.now) }
 {
     put_word(out, moment.seconds)?;
-    put_word(out, moment.nanoseconds)?;
-    Ok(())
+    put_word(out, moment.nanoseconds)
 }
 
 /// The attributes of a file (`fattr3`).
 #[tactic(auto, unfolding(crate::specs::Parts::attributes))]
-pub fn put_attributes(out: &mut Vec<u8>, attributes: &Attributes) -> Result<(), ItemFault>
+pub fn put_attributes(out: &mut Vec<u8>, attributes: &Attributes) -> Result<(), AllocError>
     ensures { OnOk result (out.new.items ≡ out.old.items ++ spelled.attributes attributes.now) }
 {
     put_owner(out, attributes)?;
@@ -37,19 +37,18 @@ pub fn put_attributes(out: &mut Vec<u8>, attributes: &Attributes) -> Result<(), 
 }
 
 // The first five of them.
-fn put_owner(out: &mut Vec<u8>, attributes: &Attributes) -> Result<(), ItemFault>
+fn put_owner(out: &mut Vec<u8>, attributes: &Attributes) -> Result<(), AllocError>
     ensures { OnOk result (out.new.items ≡ out.old.items ++ spelled.owner attributes.now) }
 {
     put_word(out, kind_number(attributes.kind))?;
     put_word(out, attributes.mode)?;
     put_word(out, attributes.nlink)?;
     put_word(out, attributes.uid)?;
-    put_word(out, attributes.gid)?;
-    Ok(())
+    put_word(out, attributes.gid)
 }
 
 // What the file takes, and which it is.
-fn put_place(out: &mut Vec<u8>, attributes: &Attributes) -> Result<(), ItemFault>
+fn put_place(out: &mut Vec<u8>, attributes: &Attributes) -> Result<(), AllocError>
     ensures { OnOk result (out.new.items ≡ out.old.items ++ spelled.place attributes.now) }
 {
     put_double(out, attributes.size)?;
@@ -57,12 +56,11 @@ fn put_place(out: &mut Vec<u8>, attributes: &Attributes) -> Result<(), ItemFault
     put_word(out, attributes.device.major)?;
     put_word(out, attributes.device.minor)?;
     put_double(out, attributes.file_system)?;
-    put_double(out, attributes.number)?;
-    Ok(())
+    put_double(out, attributes.number)
 }
 
 /// The attributes of a file, or that there are none (`post_op_attr`).
-pub fn put_after(out: &mut Vec<u8>, attributes: &Option<Attributes>) -> Result<(), ItemFault>
+pub fn put_after(out: &mut Vec<u8>, attributes: &Option<Attributes>) -> Result<(), AllocError>
     ensures { OnOk result (out.new.items ≡ out.old.items ++ spelled.after attributes.now) }
 {
     match attributes {
@@ -70,12 +68,12 @@ pub fn put_after(out: &mut Vec<u8>, attributes: &Option<Attributes>) -> Result<(
             put_flag(out, true)?;
             put_attributes(out, attributes)
         }
-        None => Ok(put_flag(out, false)?),
+        None => put_flag(out, false),
     }
 }
 
 // A file before a change, or that nothing is told of it (`pre_op_attr`).
-fn put_before(out: &mut Vec<u8>, before: &Option<WeakCacheAttributes>) -> Result<(), ItemFault>
+fn put_before(out: &mut Vec<u8>, before: &Option<WeakCacheAttributes>) -> Result<(), AllocError>
     ensures { OnOk result (out.new.items ≡ out.old.items ++ spelled_optional spelled.before before.now) }
 {
     match before {
@@ -85,13 +83,13 @@ fn put_before(out: &mut Vec<u8>, before: &Option<WeakCacheAttributes>) -> Result
             put_moment(out, &before.mtime)?;
             put_moment(out, &before.ctime)
         }
-        None => Ok(put_flag(out, false)?),
+        None => put_flag(out, false),
     }
 }
 
 /// A file before and after a change (`wcc_data`).
 #[tactic(auto, unfolding(crate::specs::Parts::change))]
-pub fn put_change(out: &mut Vec<u8>, change: &WeakCacheData) -> Result<(), ItemFault>
+pub fn put_change(out: &mut Vec<u8>, change: &WeakCacheData) -> Result<(), AllocError>
     ensures { OnOk result (out.new.items ≡ out.old.items ++ spelled.change change.now) }
 {
     put_before(out, &change.before)?;
@@ -99,14 +97,14 @@ pub fn put_change(out: &mut Vec<u8>, change: &WeakCacheData) -> Result<(), ItemF
 }
 
 /// A handle (`nfs_fh3`).
-pub fn put_handle(out: &mut Vec<u8>, handle: &Handle) -> Result<(), ItemFault>
+pub fn put_handle(out: &mut Vec<u8>, handle: &Handle) -> Result<(), PutFault>
     ensures { OnOk result (out.new.items ≡ out.old.items ++ spelled.handle handle.now) }
 {
     put_opaque(out, handle.bytes.as_slice())
 }
 
 /// A handle, or that there is none (`post_op_fh3`).
-pub fn put_optional_handle(out: &mut Vec<u8>, handle: &Option<Handle>) -> Result<(), ItemFault>
+pub fn put_optional_handle(out: &mut Vec<u8>, handle: &Option<Handle>) -> Result<(), PutFault>
     ensures { OnOk result (out.new.items ≡ out.old.items ++ spelled_optional spelled.handle handle.now) }
 {
     match handle {
@@ -123,7 +121,7 @@ pub fn put_refusal(
     out: &mut Vec<u8>,
     status: Status,
     attributes: &Option<Attributes>,
-) -> Result<(), ItemFault>
+) -> Result<(), AllocError>
     ensures { OnOk result (out.new.items
         ≡ out.old.items ++ (word (spelled.status_number status) ++ spelled.after attributes.now)) }
 {
@@ -136,7 +134,7 @@ pub fn put_refused_change(
     out: &mut Vec<u8>,
     status: Status,
     change: &WeakCacheData,
-) -> Result<(), ItemFault>
+) -> Result<(), AllocError>
     ensures { OnOk result (out.new.items
         ≡ out.old.items ++ (word (spelled.status_number status) ++ spelled.change change.now)) }
 {
@@ -145,11 +143,11 @@ pub fn put_refused_change(
 }
 
 /// The status of what gives nothing.
-pub fn put_outcome(out: &mut Vec<u8>, outcome: &Result<(), Status>) -> Result<(), ItemFault>
+pub fn put_outcome(out: &mut Vec<u8>, outcome: &Result<(), Status>) -> Result<(), AllocError>
     ensures { OnOk result (out.new.items ≡ out.old.items ++ word (status_of outcome.now)) }
 {
     match outcome {
         Ok(()) => put_ok(out),
-        Err(status) => Ok(put_word(out, status_number(*status))?),
+        Err(status) => put_word(out, status_number(*status)),
     }
 }

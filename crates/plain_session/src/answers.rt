@@ -37,20 +37,13 @@ pub fn answer_record(
 {
     match hear(alloc, message) {
         Heard::Closed => Ok(None),
-        Heard::Refused { xid, refusal } => Ok(Some(refuse(alloc, xid, refusal)?)),
+        Heard::Refused { xid, refusal } => Ok(Some(refused(alloc, xid, refusal)?)),
         Heard::Call {
             xid,
             credential,
             call,
         } => Ok(Some(answer_call(alloc, files, xid, credential, &call)?)),
     }
-}
-
-// The record that refuses a call.
-fn refuse(alloc: Global, xid: u32, refusal: PlainRefusal) -> Result<Vec<u8>, AllocError>
-    ensures { IfOk result (λ whole. whole.items ≡ refusal_record xid refusal) }
-{
-    refused(alloc, xid, refusal).or(Err(AllocError))
 }
 
 // The record of the reply to a call. Where memory fails before it is done, that is told.
@@ -68,7 +61,7 @@ fn answer_call(
 {
     match reply_to(alloc, files, credential, call) {
         Ok(reply) => tell(alloc, xid, &reply),
-        Err(_) => refuse(alloc, xid, PlainRefusal::System),
+        Err(_) => refused(alloc, xid, PlainRefusal::System),
     }
 }
 
@@ -78,7 +71,7 @@ fn tell(alloc: Global, xid: u32, reply: &ProgramReply) -> Result<Vec<u8>, AllocE
 {
     match done(alloc, xid, reply) {
         Ok(record) => Ok(record),
-        Err(_) => refuse(alloc, xid, PlainRefusal::System),
+        Err(_) => refused(alloc, xid, PlainRefusal::System),
     }
 }
 

@@ -4,7 +4,7 @@ ghost use Rattle.std.specs.Prelude.{◌≡◌, ◌+◌, ◌*◌, IfOk, length};
 use crate::messages::{data, read_reply, record_of, write_record};
 use limits::PIECE_BYTES;
 use nfs_types::{Call, ProgramCall, Reply};
-use plain_items::ItemFault;
+use plain_items::PutFault;
 use rpc::{Records, RpcFault};
 use session_wire::{Judged, RpcReply, judge, reply_bytes};
 use std::alloc::{AllocError, Global};
@@ -33,11 +33,11 @@ impl From<io::Error> for Fault {
     }
 }
 
-impl From<ItemFault> for Fault {
-    fn from(fault: ItemFault) -> Fault {
+impl From<PutFault> for Fault {
+    fn from(fault: PutFault) -> Fault {
         match fault {
-            ItemFault::NoMemory => Fault::NoMemory,
-            ItemFault::TooLong | ItemFault::Unreadable => Fault::Message,
+            PutFault::NoMemory => Fault::NoMemory,
+            PutFault::TooLong => Fault::Message,
         }
     }
 }

@@ -2,7 +2,7 @@
 
 use limits::TRANSFER_BYTES;
 use nfs_types::{Attributes, DeviceNumber, FileKind, Moment, Octets, ReadBytes, Reply};
-use plain_items::{ItemFault, put_double, put_opaque, put_word};
+use plain_items::{PutFault, put_double, put_opaque, put_word};
 use std::alloc::{AllocError, Global};
 
 // The bit of a mark that says that its fragment is the last of its record.
@@ -25,7 +25,7 @@ fn differing(alloc: Global, count: u32) -> Result<Vec<u8>, AllocError> {
 }
 
 /// The record of a WRITE's call of this data (RFC 5531, sections 9 and 11; RFC 1813, section 3.3.7).
-pub fn write_record(alloc: Global, data: &[u8]) -> Result<Vec<u8>, ItemFault> {
+pub fn write_record(alloc: Global, data: &[u8]) -> Result<Vec<u8>, PutFault> {
     let mut message = Vec::new(alloc);
     // A call by RPC version 2 of NFS version 3, procedure 7, with neither credential nor verifier.
     for word in &[1, 0, 2, 100_003, 3, 7, 0, 0, 0, 0] {
@@ -40,16 +40,16 @@ pub fn write_record(alloc: Global, data: &[u8]) -> Result<Vec<u8>, ItemFault> {
 }
 
 /// A record of so many bytes.
-pub fn record_of(alloc: Global, length: u32) -> Result<Vec<u8>, ItemFault> {
+pub fn record_of(alloc: Global, length: u32) -> Result<Vec<u8>, PutFault> {
     let mut bytes = Vec::new(alloc);
     bytes.resize(length as usize, 7)?;
     marked(alloc, bytes.as_slice())
 }
 
 // The record of one fragment with these bytes.
-fn marked(alloc: Global, message: &[u8]) -> Result<Vec<u8>, ItemFault> {
-    let length = u32::try_from(message.len()).or(Err(ItemFault::TooLong))?;
-    let mark = length.checked_add(LAST).ok_or(ItemFault::TooLong)?;
+fn marked(alloc: Global, message: &[u8]) -> Result<Vec<u8>, PutFault> {
+    let length = u32::try_from(message.len()).or(Err(PutFault::TooLong))?;
+    let mark = length.checked_add(LAST).ok_or(PutFault::TooLong)?;
     let mut record = Vec::new(alloc);
     put_word(&mut record, mark)?;
     record.extend_from_slice(message)?;

@@ -3,7 +3,7 @@
 use crate::tests::damage::{DAMAGES, spoil};
 use crate::tests::tape::{NO_MEMORY, below, next};
 use nfs_types::{MountProcedure, Procedure, ProgramProcedure};
-use plain_items::{ItemFault, put_opaque, put_word};
+use plain_items::{PutFault, put_opaque, put_word};
 use std::alloc::Global;
 
 // One number in so many of the words that follow isn't what a lawful header has.
@@ -34,7 +34,7 @@ pub fn header(alloc: Global, procedure: ProgramProcedure, seed: u64) -> Result<V
 }
 
 // A credential and a verifier: mostly a caller, now and then nobody, another flavor, or a damaged caller.
-fn put_credential(alloc: Global, out: &mut Vec<u8>, seed: u64) -> Result<(), ItemFault> {
+fn put_credential(alloc: Global, out: &mut Vec<u8>, seed: u64) -> Result<(), PutFault> {
     match below(seed, 8) {
         0 | 1 => {
             put_word(out, 0)?;
@@ -54,7 +54,7 @@ fn put_credential(alloc: Global, out: &mut Vec<u8>, seed: u64) -> Result<(), Ite
 }
 
 // The body of a credential that names a caller with some groups, now and then more than there may be.
-fn caller(alloc: Global, seed: u64) -> Result<Vec<u8>, ItemFault> {
+fn caller(alloc: Global, seed: u64) -> Result<Vec<u8>, PutFault> {
     let mut body = Vec::new(alloc);
     put_word(&mut body, word_of(seed))?;
     put_opaque(&mut body, rest_of(b"machine", seed))?;
@@ -66,7 +66,7 @@ fn caller(alloc: Global, seed: u64) -> Result<Vec<u8>, ItemFault> {
         put_word(&mut body, group)?;
     }
     if let Some(how) = DAMAGES.get(below(seed, 12)) {
-        spoil(&mut body, *how, seed).or(Err(ItemFault::NoMemory))?;
+        spoil(&mut body, *how, seed).or(Err(PutFault::NoMemory))?;
     }
     Ok(body)
 }

@@ -15,4 +15,4 @@ returns-in-Ok-clause-lost c =
 
 pub returns-in-Err-clause-lost : goal.returns-in-Err-clause-lost
 returns-in-Err-clause-lost c =
-    on_err c.refuse.result (refusal_record c.args.xid System, Undone c.in-Err.ensures.err refl)
+    on_err c.refused.result (refusal_record c.args.xid System, Undone c.in-Err.ensures.err refl)

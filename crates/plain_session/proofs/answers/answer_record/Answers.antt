@@ -3,8 +3,8 @@ use Rattle.plain_session.proofs.Closing.{call_goes_on, is_answered, refused_goes
 use Rattle.plain_session.proofs.Lost.{on_err}
 use Rattle.plain_session.proofs.answers.answer_record.Goals as goal
 
-pub returns-in_err-refuse-in-Refused-clause-lost : goal.returns-in_err-refuse-in-Refused-clause-lost
-returns-in_err-refuse-in-Refused-clause-lost c =
+pub returns-in_err-refused-in-Refused-clause-lost : goal.returns-in_err-refused-in-Refused-clause-lost
+returns-in_err-refused-in-Refused-clause-lost c =
     let heard = c.in-Refused.ensures in
     on_err c.from_residual.result (
       _,
@@ -22,11 +22,11 @@ returns-in_err-answer_call-in-Call-clause-lost c =
           heard.number lost.1,
     )
 
-pub returns-in_ok-refuse-in-Refused-clause-answered : goal.returns-in_ok-refuse-in-Refused-clause-answered
-returns-in_ok-refuse-in-Refused-clause-answered c =
+pub returns-in_ok-refused-in-Refused-clause-answered : goal.returns-in_ok-refused-in-Refused-clause-answered
+returns-in_ok-refused-in-Refused-clause-answered c =
     let heard = c.in-Refused.ensures in
     is_answered _ c.args.message.now _ _ _ heard.closed heard.headless (refused_goes_on _ _) heard.hears
-    heard.number (c.in_ok-refuse-in-Refused.ensures, refl)
+    heard.number (c.in_ok-refused-in-Refused.ensures, refl)
 
 pub returns-in_ok-answer_call-in-Call-clause-answered : goal.returns-in_ok-answer_call-in-Call-clause-answered
 returns-in_ok-answer_call-in-Call-clause-answered c =

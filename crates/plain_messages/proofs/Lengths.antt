@@ -1,0 +1,32 @@
+-- How long what is written is, and that no refusal is too long for a record.
+use Rattle.std.proofs.Common.{◌≡◌, ℕ, ◌*◌, ◌<◌, ◌^◌, List, [], ◌∷◌, length, refl, arith, length-append}
+use Rattle.plain_items.specs.Items.{spelled_word}
+use Rattle.plain_messages.specs.Refused.{refusing, words}
+use Rattle.plain_messages.specs.declared.refusal.PlainRefusal.{PlainRefusal}
+use Rattle.plain_messages.specs.declared.refusal.PlainRefusal.TheVariants as refusal
+
+pub length_word : (number : ℕ) → length (spelled_word number) ≡ 4
+unfolding spelled_word
+length_word number = refl
+
+pub length_words : (numbers : List ℕ) → length (words numbers) ≡ 4 * length numbers
+length_words [] = refl
+length_words (number ∷ more) =
+    omega (arith, length-append (spelled_word number) (words more), length_word number, length_words more)
+
+-- a refusal has nine numbers at most
+pub short : (xid : ℕ) (why : PlainRefusal) → length (words (xid ∷ refusing why)) < 2 ^ 31
+short xid why =
+    let few : length (refusing why) < 9 =
+    elim why as (λ w. length (refusing w) < 9) [
+      | refusal.RpcVersion ↦ omega arith
+      | refusal.BadCredential ↦ omega arith
+      | refusal.RejectedCredential ↦ omega arith
+      | refusal.Program ↦ omega arith
+      | refusal.Version ↦ omega arith
+      | refusal.Procedure ↦ omega arith
+      | refusal.Arguments ↦ omega arith
+      | refusal.System ↦ omega arith
+    ]
+    in
+    omega (arith, length_words (xid ∷ refusing why))
