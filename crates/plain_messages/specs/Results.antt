@@ -1,11 +1,13 @@
 -- How the results of procedures are spelled (RFC 1813, sections 3.3 and 5.2). Each but NULL's begins with its
 -- status, which is 0 for OK.
-use Rattle.std.specs.Prelude.{ℕ, false, true, List, [], ◌++◌, length, Result, Ok, Err}
+use Rattle.std.specs.Prelude.{ℕ, false, true, List, [], ◌++◌, length, Option, Result, Ok, Err}
 use Rattle.plain_items.specs.Items.{spelled_double as double, spelled_flag, spelled_optional, spelled_string}
 use Rattle.plain_items.specs.Items.{spelled_word as word}
 use Rattle.plain_messages.specs.Refused.{words}
 use Rattle.plain_messages.specs.Parts.{chain, moment, handle, status_number, stability_number}
 use Rattle.plain_messages.specs.Parts.{attributes, after, change}
+use Rattle.nfs_types.specs.declared.attributes.Attributes.{Attributes}
+use Rattle.nfs_types.specs.declared.attributes.WeakCacheData.{WeakCacheData}
 use Rattle.nfs_types.specs.declared.entries.ListedEntry.{ListedEntry}
 use Rattle.nfs_types.specs.declared.entries.ListedEntryPlus.{ListedEntryPlus}
 use Rattle.nfs_types.specs.declared.mount.Mounted.{Mounted}
@@ -18,7 +20,9 @@ use Rattle.nfs_types.specs.declared.reply.FileSystemInfo.{FileSystemInfo}
 use Rattle.nfs_types.specs.declared.reply.FileSystemSpace.{FileSystemSpace}
 use Rattle.nfs_types.specs.declared.reply.Listed.{Listed}
 use Rattle.nfs_types.specs.declared.reply.ListedPlus.{ListedPlus}
+use Rattle.nfs_types.specs.declared.reply.Looked.{Looked}
 use Rattle.nfs_types.specs.declared.reply.PathLimits.{PathLimits}
+use Rattle.nfs_types.specs.declared.reply.ReadBytes.{ReadBytes}
 use Rattle.nfs_types.specs.declared.reply.Reply.{Reply}
 use Rattle.nfs_types.specs.declared.reply.Reply.TheVariants as replies
 use Rattle.nfs_types.specs.declared.status.Status.{Status}
@@ -33,7 +37,7 @@ abbrev pub outcome : {A : Type 0} → (A → List ℕ) → List ℕ → Result A
 outcome given refused (Ok it) = word 0 ++ given it
 outcome given refused (Err status) = word (status_number status) ++ refused
 
--- an entry, and all of them (`entry3`): each behind a flag that is true, and one behind the last that is false
+-- an entry, and all of them (`entry3`): each behind a flag that is true, and a false one behind the last
 abbrev pub entry : ListedEntry → List ℕ
 entry of = spelled_flag true ++ double of.number ++ spelled_string of.name ++ double of.cookie
 
@@ -76,38 +80,50 @@ limits of = word of.links ++ word of.name_bytes ++ spelled_flag of.no_truncation
 abbrev pub created : Created → List ℕ
 created of = spelled_optional handle of.object ++ after of.attributes
 
+-- the results of the procedures that tell of a file by its handle, of bytes or of names
+abbrev pub lookup_result : Result Looked Status → Option Attributes → List ℕ
+lookup_result came directory =
+    outcome (λ it. handle it.object ++ after it.attributes ++ after directory) (after directory) came
+
+abbrev pub link_result : Result (List ℕ) Status → Option Attributes → List ℕ
+link_result came link = outcome (λ target. after link ++ spelled_string target) (after link) came
+
+abbrev pub read_result : Result ReadBytes Status → Option Attributes → List ℕ
+read_result came file =
+    outcome (λ it. after file ++ word it.count ++ spelled_flag it.eof ++ spelled_string it.bytes)
+    (after file) came
+
+abbrev pub creation_result : Result Created Status → WeakCacheData → List ℕ
+creation_result came directory = outcome (λ it. created it ++ change directory) (change directory) came
+
+abbrev pub listing_result : Result Listed Status → Option Attributes → List ℕ
+listing_result came directory = outcome (λ it. after directory ++ listed it) (after directory) came
+
+abbrev pub listing_plus_result : Result ListedPlus Status → Option Attributes → List ℕ
+listing_plus_result came directory = outcome (λ it. after directory ++ listed_plus it) (after directory) came
+
 -- the result of each procedure of NFS
 abbrev pub nfs_result : Reply → List ℕ
 nfs_result replies.Null = []
 nfs_result (replies.GetAttr came) = outcome attributes [] came
 nfs_result (replies.SetAttr came object) = word (status_of came) ++ change object
-nfs_result (replies.Lookup came directory) =
-    outcome (λ it. handle it.object ++ after it.attributes ++ after directory) (after directory) came
+nfs_result (replies.Lookup came directory) = lookup_result came directory
 nfs_result (replies.Access came object) = outcome (λ bits. after object ++ word bits) (after object) came
-nfs_result (replies.ReadLink came link) =
-    outcome (λ target. after link ++ spelled_string target) (after link) came
-nfs_result (replies.Read came file) =
-    outcome (λ it. after file ++ word it.count ++ spelled_flag it.eof ++ spelled_string it.bytes)
-    (after file) came
+nfs_result (replies.ReadLink came link) = link_result came link
+nfs_result (replies.Read came file) = read_result came file
 nfs_result (replies.Write came file) =
     outcome (λ it. change file ++ word it.count ++ word (stability_number it.committed) ++ it.verifier.bytes)
     (change file) came
-nfs_result (replies.Create came directory) =
-    outcome (λ it. created it ++ change directory) (change directory) came
-nfs_result (replies.MkDir came directory) =
-    outcome (λ it. created it ++ change directory) (change directory) came
-nfs_result (replies.SymLink came directory) =
-    outcome (λ it. created it ++ change directory) (change directory) came
-nfs_result (replies.MkNod came directory) =
-    outcome (λ it. created it ++ change directory) (change directory) came
+nfs_result (replies.Create came directory) = creation_result came directory
+nfs_result (replies.MkDir came directory) = creation_result came directory
+nfs_result (replies.SymLink came directory) = creation_result came directory
+nfs_result (replies.MkNod came directory) = creation_result came directory
 nfs_result (replies.Remove came directory) = word (status_of came) ++ change directory
 nfs_result (replies.RmDir came directory) = word (status_of came) ++ change directory
 nfs_result (replies.Rename came source target) = word (status_of came) ++ change source ++ change target
 nfs_result (replies.Link came file directory) = word (status_of came) ++ after file ++ change directory
-nfs_result (replies.ReadDir came directory) =
-    outcome (λ it. after directory ++ listed it) (after directory) came
-nfs_result (replies.ReadDirPlus came directory) =
-    outcome (λ it. after directory ++ listed_plus it) (after directory) came
+nfs_result (replies.ReadDir came directory) = listing_result came directory
+nfs_result (replies.ReadDirPlus came directory) = listing_plus_result came directory
 nfs_result (replies.FsStat came object) = outcome (λ it. after object ++ space it) (after object) came
 nfs_result (replies.FsInfo came object) = outcome (λ it. after object ++ info it) (after object) came
 nfs_result (replies.PathConf came object) = outcome (λ it. after object ++ limits it) (after object) came

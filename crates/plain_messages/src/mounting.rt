@@ -1,6 +1,7 @@
 //! The arguments and the results of MOUNT version 3 (RFC 1813, section 5.2), of NULL, MNT and UMNT.
-ghost use Rattle.std.specs.Prelude.{◌≡◌, ◌++◌, IfOk, OnOk};
+ghost use Rattle.std.specs.Prelude.{◌≡◌, ◌≤◌, ◌++◌, ◌^◌, length, Err, IfOk, OnOk};
 ghost use Rattle.plain_items.specs.Items.{spelled_string};
+ghost use Rattle.plain_items.specs.declared.fault.PutFault.TheVariants as fault;
 ghost use Rattle.plain_messages.specs.Arguments.{mount_arguments, mount_procedure};
 ghost use Rattle.plain_messages.specs.Results.{mount_result, mounted as given};
 
@@ -42,7 +43,8 @@ fn read_path(alloc: Global, reader: &mut ItemReader<'_>) -> Result<Octets, ReadF
 
 /// Writes a result.
 pub fn put_mount_result(out: &mut Vec<u8>, reply: &MountReply) -> Result<(), PutFault>
-    ensures { OnOk result (out.new.items ≡ out.old.items ++ mount_result reply.now) }
+    ensures written { OnOk result (out.new.items ≡ out.old.items ++ mount_result reply.now) }
+    ensures long { result ≡ Err fault.TooLong → 2 ^ 32 ≤ length (mount_result reply.now) }
 {
     match reply {
         MountReply::Null | MountReply::Unmount => Ok(()),
@@ -60,7 +62,8 @@ pub fn put_mount_result(out: &mut Vec<u8>, reply: &MountReply) -> Result<(), Put
 
 // What MNT gives (`mountres3_ok`).
 fn put_mounted(out: &mut Vec<u8>, mounted: &Mounted) -> Result<(), PutFault>
-    ensures { OnOk result (out.new.items ≡ out.old.items ++ given mounted.now) }
+    ensures written { OnOk result (out.new.items ≡ out.old.items ++ given mounted.now) }
+    ensures long { result ≡ Err fault.TooLong → 2 ^ 32 ≤ length (given mounted.now) }
 {
     put_handle(out, &mounted.root)?;
     let flavors = mounted.flavors.as_slice();

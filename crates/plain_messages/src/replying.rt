@@ -1,5 +1,7 @@
 //! Writing a reply message behind its mark (RFC 5531, sections 9 and 11).
-ghost use Rattle.std.specs.Prelude.{◌≡◌, ◌<◌, ◌∷◌, ◌++◌, ◌^◌, [], length, IfOk, OnOk};
+ghost use Rattle.std.specs.Prelude.{◌≡◌, ◌<◌, ◌≤◌, ◌∷◌, ◌++◌, ◌^◌, [], length, Err, IfOk};
+ghost use Rattle.std.specs.Prelude.{OnOk};
+ghost use Rattle.plain_items.specs.declared.fault.PutFault.TheVariants as fault;
 ghost use Rattle.plain_messages.specs.Refused.{accepted, denied, recorded, refusing, words};
 ghost use Rattle.plain_messages.specs.Results.{result_of};
 
@@ -15,8 +17,10 @@ const LAST: u32 = 0x8000_0000;
 
 /// The record that answers a call with its result.
 pub fn done(alloc: Global, xid: u32, reply: &ProgramReply) -> Result<Vec<u8>, PutFault>
-    ensures { IfOk result (λ whole. whole.items
+    ensures written { IfOk result (λ whole. whole.items
         ≡ recorded (words (xid ∷ accepted (0 ∷ [])) ++ result_of reply.now)) }
+    ensures long { result ≡ Err fault.TooLong
+        → 2 ^ 31 ≤ length (words (xid ∷ accepted (0 ∷ [])) ++ result_of reply.now) }
 {
     let mut message = Vec::new(alloc);
     put_accepted(&mut message, xid, 0)?;
@@ -29,7 +33,8 @@ pub fn done(alloc: Global, xid: u32, reply: &ProgramReply) -> Result<Vec<u8>, Pu
 
 // The result of a call of either program.
 fn put_result(message: &mut Vec<u8>, reply: &ProgramReply) -> Result<(), PutFault>
-    ensures { OnOk result (message.new.items ≡ message.old.items ++ result_of reply.now) }
+    ensures written { OnOk result (message.new.items ≡ message.old.items ++ result_of reply.now) }
+    ensures long { result ≡ Err fault.TooLong → 2 ^ 32 ≤ length (result_of reply.now) }
 {
     match reply {
         ProgramReply::Nfs(reply) => put_nfs_result(message, reply),

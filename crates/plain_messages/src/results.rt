@@ -1,27 +1,30 @@
 //! Writing the results of the procedures of NFS version 3 (RFC 1813, section 3.3). Each but NULL's begins
 //! with its status.
-ghost use Rattle.std.specs.Prelude.{◌≡◌, ◌++◌, [], OnOk};
-ghost use Rattle.plain_items.specs.Items.{spelled_flag, spelled_string, spelled_word as word};
-ghost use Rattle.plain_messages.specs.Parts.{after, attributes, handle, stability_number};
+ghost use Rattle.std.specs.Prelude.{◌≡◌, ◌≤◌, ◌++◌, ◌^◌, [], length, Err, OnOk};
+ghost use Rattle.plain_items.specs.Items.{spelled_word as word};
+ghost use Rattle.plain_items.specs.declared.fault.PutFault.TheVariants as fault;
+ghost use Rattle.plain_messages.specs.Parts.{after, attributes, stability_number};
 ghost use Rattle.plain_messages.specs.Parts as spelled;
-ghost use Rattle.plain_messages.specs.Results.{created, nfs_result, outcome as came, status_of};
+ghost use Rattle.plain_messages.specs.Results.{creation_result, link_result, lookup_result, nfs_result};
+ghost use Rattle.plain_messages.specs.Results.{outcome as came, read_result, status_of};
 
 use crate::listings::{put_listing, put_listing_plus};
 use crate::statuses::{stability_number, status_number};
 use crate::systems::{put_info, put_limits, put_space};
 use crate::told::{
     put_after, put_attributes, put_change, put_handle, put_ok, put_optional_handle, put_outcome,
-    put_refusal, put_refused_change,
+    put_refusal, put_refused_change, put_string,
 };
 use nfs_types::{
     Attributes, Created, Looked, Octets, ReadBytes, Reply, Status, Verifier, WeakCacheData, Written,
 };
-use plain_items::{PutFault, put_eight, put_flag, put_opaque, put_word};
+use plain_items::{PutFault, put_eight, put_flag, put_word};
 use std::alloc::AllocError;
 
 /// Writes a result.
 pub fn put_nfs_result(out: &mut Vec<u8>, reply: &Reply) -> Result<(), PutFault>
-    ensures { OnOk result (out.new.items ≡ out.old.items ++ nfs_result reply.now) }
+    ensures written { OnOk result (out.new.items ≡ out.old.items ++ nfs_result reply.now) }
+    ensures long { result ≡ Err fault.TooLong → 2 ^ 32 ≤ length (nfs_result reply.now) }
 {
     match reply {
         Reply::Null => Ok(()),
@@ -90,9 +93,9 @@ fn put_looked(
     outcome: &Result<Looked, Status>,
     directory: &Option<Attributes>,
 ) -> Result<(), PutFault>
-    ensures { OnOk result (out.new.items ≡ out.old.items
-        ++ came (λ it. handle it.object ++ after it.attributes ++ after directory.now) (after directory.now)
-        outcome.now) }
+    ensures written { OnOk result (out.new.items
+        ≡ out.old.items ++ lookup_result outcome.now directory.now) }
+    ensures long { result ≡ Err fault.TooLong → 2 ^ 32 ≤ length (lookup_result outcome.now directory.now) }
 {
     match outcome {
         Ok(looked) => {
@@ -130,15 +133,14 @@ fn put_target(
     outcome: &Result<Octets, Status>,
     link: &Option<Attributes>,
 ) -> Result<(), PutFault>
-    ensures { OnOk result (out.new.items
-        ≡ out.old.items ++ came (λ target. after link.now ++ spelled_string target) (after link.now)
-        outcome.now) }
+    ensures written { OnOk result (out.new.items ≡ out.old.items ++ link_result outcome.now link.now) }
+    ensures long { result ≡ Err fault.TooLong → 2 ^ 32 ≤ length (link_result outcome.now link.now) }
 {
     match outcome {
         Ok(target) => {
             put_ok(out)?;
             put_after(out, link)?;
-            put_opaque(out, target.as_slice())
+            put_string(out, target)
         }
         Err(status) => Ok(put_refusal(out, *status, link)?),
     }
@@ -150,9 +152,8 @@ fn put_read(
     outcome: &Result<ReadBytes, Status>,
     file: &Option<Attributes>,
 ) -> Result<(), PutFault>
-    ensures { OnOk result (out.new.items ≡ out.old.items
-        ++ came (λ it. after file.now ++ word it.count ++ spelled_flag it.eof ++ spelled_string it.bytes)
-        (after file.now) outcome.now) }
+    ensures written { OnOk result (out.new.items ≡ out.old.items ++ read_result outcome.now file.now) }
+    ensures long { result ≡ Err fault.TooLong → 2 ^ 32 ≤ length (read_result outcome.now file.now) }
 {
     match outcome {
         Ok(read) => {
@@ -160,7 +161,7 @@ fn put_read(
             put_after(out, file)?;
             put_word(out, read.count)?;
             put_flag(out, read.eof)?;
-            put_opaque(out, read.bytes.as_slice())
+            put_string(out, &read.bytes)
         }
         Err(status) => Ok(put_refusal(out, *status, file)?),
     }
@@ -194,9 +195,9 @@ fn put_created(
     outcome: &Result<Created, Status>,
     directory: &WeakCacheData,
 ) -> Result<(), PutFault>
-    ensures { OnOk result (out.new.items
-        ≡ out.old.items ++ came (λ it. created it ++ spelled.change directory.now)
-        (spelled.change directory.now) outcome.now) }
+    ensures written { OnOk result (out.new.items
+        ≡ out.old.items ++ creation_result outcome.now directory.now) }
+    ensures long { result ≡ Err fault.TooLong → 2 ^ 32 ≤ length (creation_result outcome.now directory.now) }
 {
     match outcome {
         Ok(created) => {

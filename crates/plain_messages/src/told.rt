@@ -1,11 +1,12 @@
 //! Writing what replies tell of files (RFC 1813, section 2.6).
-ghost use Rattle.std.specs.Prelude.{◌≡◌, ◌++◌, OnOk};
-ghost use Rattle.plain_items.specs.Items.{spelled_optional, spelled_word as word};
+ghost use Rattle.std.specs.Prelude.{◌≡◌, ◌≤◌, ◌++◌, ◌^◌, length, Err, OnOk};
+ghost use Rattle.plain_items.specs.Items.{spelled_optional, spelled_string, spelled_word as word};
+ghost use Rattle.plain_items.specs.declared.fault.PutFault.TheVariants as fault;
 ghost use Rattle.plain_messages.specs.Parts as spelled;
 ghost use Rattle.plain_messages.specs.Results.{status_of};
 
 use crate::statuses::{kind_number, status_number};
-use nfs_types::{Attributes, Handle, Moment, Status, WeakCacheAttributes, WeakCacheData};
+use nfs_types::{Attributes, Handle, Moment, Octets, Status, WeakCacheAttributes, WeakCacheData};
 use plain_items::{PutFault, put_double, put_flag, put_opaque, put_word};
 use std::alloc::AllocError;
 
@@ -96,16 +97,28 @@ pub fn put_change(out: &mut Vec<u8>, change: &WeakCacheData) -> Result<(), Alloc
     put_after(out, &change.after)
 }
 
+/// A string.
+#[tactic(auto, using(crate::proofs::Lengths::length_string))]
+pub fn put_string(out: &mut Vec<u8>, string: &Octets) -> Result<(), PutFault>
+    ensures written { OnOk result (out.new.items ≡ out.old.items ++ spelled_string string.now) }
+    ensures long { result ≡ Err fault.TooLong → 2 ^ 32 ≤ length (spelled_string string.now) }
+{
+    put_opaque(out, string.as_slice())
+}
+
 /// A handle (`nfs_fh3`).
 pub fn put_handle(out: &mut Vec<u8>, handle: &Handle) -> Result<(), PutFault>
-    ensures { OnOk result (out.new.items ≡ out.old.items ++ spelled.handle handle.now) }
+    ensures written { OnOk result (out.new.items ≡ out.old.items ++ spelled.handle handle.now) }
+    ensures long { result ≡ Err fault.TooLong → 2 ^ 32 ≤ length (spelled.handle handle.now) }
 {
-    put_opaque(out, handle.bytes.as_slice())
+    put_string(out, &handle.bytes)
 }
 
 /// A handle, or that there is none (`post_op_fh3`).
 pub fn put_optional_handle(out: &mut Vec<u8>, handle: &Option<Handle>) -> Result<(), PutFault>
-    ensures { OnOk result (out.new.items ≡ out.old.items ++ spelled_optional spelled.handle handle.now) }
+    ensures written { OnOk result (out.new.items
+        ≡ out.old.items ++ spelled_optional spelled.handle handle.now) }
+    ensures long { result ≡ Err fault.TooLong → 2 ^ 32 ≤ length (spelled_optional spelled.handle handle.now) }
 {
     match handle {
         Some(handle) => {
