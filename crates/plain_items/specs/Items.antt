@@ -34,8 +34,12 @@ string_at bytes = take (word_at bytes) (drop 4 bytes)
 abbrev pub behind_string : List ℕ → List ℕ
 behind_string bytes = drop (word_at bytes) (drop 4 bytes)
 
+-- and behind its zeros
+unfoldable pub behind_padding : List ℕ → List ℕ
+behind_padding bytes = drop (padding (word_at bytes)) (behind_string bytes)
+
 -- a length of no more than the bound, so many bytes, and the zeros
-abbrev pub has_string : ℕ → List ℕ → Bool
+unfoldable pub has_string : ℕ → List ℕ → Bool
 has_string bound bytes =
     has 4 bytes && nat_le (word_at bytes) bound && has (word_at bytes) (drop 4 bytes)
     && has (padding (word_at bytes)) (behind_string bytes)
@@ -46,10 +50,10 @@ abbrev pub optional_at : (List ℕ → ℕ) → List ℕ → Option ℕ
 optional_at item bytes = cond (flag_at bytes) (Some (item (drop 4 bytes))) None
 
 -- so many bytes are there behind a flag that is true
-abbrev pub has_optional : ℕ → List ℕ → Bool
+unfoldable pub has_optional : ℕ → List ℕ → Bool
 has_optional count bytes = has_flag bytes && cond (flag_at bytes) (has count (drop 4 bytes)) true
 
-abbrev pub behind_optional : ℕ → List ℕ → List ℕ
+unfoldable pub behind_optional : ℕ → List ℕ → List ℕ
 behind_optional count bytes = cond (flag_at bytes) (drop count (drop 4 bytes)) (drop 4 bytes)
 
 -- how numbers of four and of eight bytes are spelled

@@ -3,7 +3,7 @@ ghost use Rattle.std.specs.Int.{w32, w64, from_be_bytes};
 ghost use Rattle.std.specs.Prelude.{◌≡◌, ◌≤◌, ◌+◌, ◌++◌, [], drop, is_ok, length, nat_eq, take, IfOk, OnErr};
 ghost use Rattle.std.specs.Prelude.{OnOk};
 ghost use Rattle.std.specs.List.{list_all};
-ghost use Rattle.plain_items.specs.Items.{behind_optional, behind_string, double_at, flag_at, has, has_flag};
+ghost use Rattle.plain_items.specs.Items.{behind_optional, behind_padding, double_at, flag_at, has, has_flag};
 ghost use Rattle.plain_items.specs.Items.{has_optional, has_string, optional_at, padding, string_at, word_at};
 ghost use Rattle.plain_items.specs.Items.{spelled_double, spelled_flag, spelled_optional, spelled_string};
 ghost use Rattle.plain_items.specs.Items.{spelled_word};
@@ -108,11 +108,12 @@ impl<'a> ItemReader<'a> {
     }
 
     /// A string of at most `bound` bytes behind its length, with zeros up to a multiple of four.
+    #[tactic(auto, unfolding(crate::specs::Items::has_string, crate::specs::Items::behind_padding))]
     pub fn opaque(&mut self, bound: usize) -> Result<&'a [u8], Unreadable>
         ensures bound { IfOk result (λ bytes. length bytes.now ≤ bound) }
 
         ensures is { IfOk result (λ bytes. bytes.now ≡ string_at self.old) }
-        ensures behind { OnOk result (self.new ≡ drop (padding (word_at self.old)) (behind_string self.old)) }
+        ensures behind { OnOk result (self.new ≡ behind_padding self.old) }
         ensures known { is_ok result ≡ has_string bound self.old }
         ensures spelled { IfOk result (λ bytes. self.old ≡ spelled_string bytes.now ++ self.new) }
     {
@@ -132,7 +133,7 @@ impl<'a> ItemReader<'a> {
     /// A string of any length.
     pub fn string(&mut self) -> Result<&'a [u8], Unreadable>
         ensures is { IfOk result (λ bytes. bytes.now ≡ string_at self.old) }
-        ensures behind { OnOk result (self.new ≡ drop (padding (word_at self.old)) (behind_string self.old)) }
+        ensures behind { OnOk result (self.new ≡ behind_padding self.old) }
         ensures known { is_ok result ≡ has_string usize.MAX self.old }
         ensures spelled { IfOk result (λ bytes. self.old ≡ spelled_string bytes.now ++ self.new) }
     {
@@ -140,6 +141,7 @@ impl<'a> ItemReader<'a> {
     }
 
     /// A number that may be left out.
+    #[tactic(auto, unfolding(crate::specs::Items::has_optional, crate::specs::Items::behind_optional))]
     pub fn optional_word(&mut self) -> Result<Option<u32>, Unreadable>
         ensures is { IfOk result (λ word. word ≡ optional_at word_at self.old) }
         ensures behind { OnOk result (self.new ≡ behind_optional 4 self.old) }
@@ -154,6 +156,7 @@ impl<'a> ItemReader<'a> {
     }
 
     /// A number of eight bytes that may be left out.
+    #[tactic(auto, unfolding(crate::specs::Items::has_optional, crate::specs::Items::behind_optional))]
     pub fn optional_double(&mut self) -> Result<Option<u64>, Unreadable>
         ensures is { IfOk result (λ double. double ≡ optional_at double_at self.old) }
         ensures behind { OnOk result (self.new ≡ behind_optional 8 self.old) }

@@ -1,4 +1,5 @@
 pub mod Arguments
 pub mod Parts
+pub mod Readable
 pub mod Refused
 pub mod Results
