@@ -1,8 +1,10 @@
 //! The arguments and the results of MOUNT version 3 (RFC 1813, section 5.2), of NULL, MNT and UMNT.
-ghost use Rattle.std.specs.Prelude.{◌≡◌, ◌≤◌, ◌++◌, ◌^◌, length, Err, IfOk, OnOk};
-ghost use Rattle.plain_items.specs.Items.{spelled_string};
+ghost use Rattle.std.specs.Prelude.{◌≡◌, ◌≤◌, ◌++◌, ◌^◌, false, length, true, Err, IfOk, OnOk};
+ghost use Rattle.plain_items.specs.Items.{behind_padding, has_string, spelled_string};
 ghost use Rattle.plain_items.specs.declared.fault.PutFault.TheVariants as fault;
+ghost use Rattle.plain_items.specs.declared.fault.ReadFault.TheVariants as read;
 ghost use Rattle.plain_messages.specs.Arguments.{mount_arguments, mount_procedure};
+ghost use Rattle.plain_messages.specs.Readable.{has_mount_arguments};
 ghost use Rattle.plain_messages.specs.Results.{mount_result, mounted as given};
 
 use crate::replying::put_words;
@@ -16,6 +18,8 @@ use std::alloc::Global;
 /// arguments can be read.
 pub fn read_mount_call(alloc: Global, procedure: u32, bytes: &[u8]) -> Result<MountCall, ReadFault>
     ensures spelled { IfOk result (λ call. bytes.now ≡ mount_arguments call) }
+    ensures known { OnOk result (has_mount_arguments procedure bytes.now ≡ true) }
+    ensures unreadable { result ≡ Err read.Unreadable → has_mount_arguments procedure bytes.now ≡ false }
     ensures number { IfOk result (λ call. mount_procedure call ≡ procedure) }
 {
     let mut reader = ItemReader::new(bytes);
@@ -35,7 +39,10 @@ pub fn read_mount_call(alloc: Global, procedure: u32, bytes: &[u8]) -> Result<Mo
 
 // The path of a directory (`dirpath`).
 fn read_path(alloc: Global, reader: &mut ItemReader<'_>) -> Result<Octets, ReadFault>
-    ensures { IfOk result (λ path. reader.old ≡ spelled_string path ++ reader.new) }
+    ensures spelled { IfOk result (λ path. reader.old ≡ spelled_string path ++ reader.new) }
+    ensures behind { OnOk result (reader.new ≡ behind_padding reader.old) }
+    ensures known { OnOk result (has_string PATH_BYTES reader.old ≡ true) }
+    ensures unreadable { result ≡ Err read.Unreadable → has_string PATH_BYTES reader.old ≡ false }
 {
     let path = reader.opaque(PATH_BYTES)?;
     Ok(Octets::copied(alloc, path)?)
