@@ -1,13 +1,14 @@
 -- What stands in the header of a call (RFC 5531, section 9), where a record has one, and what it is refused
 -- for.
-use Rattle.std.specs.Prelude.{⊤, ◌≡◌, ◌≢◌, ◌⊎◌, ℕ, ◌<◌, ◌≤◌, ◌&&◌, ◌||◌, nat_eq, nat_lt, Bool, true, false}
-use Rattle.std.specs.Prelude.{List, [], ◌∷◌, drop, length}
-use Rattle.limits.specs.declared.TheConstants.{MOST_AUTH_BYTES, NOBODY}
+use Rattle.std.specs.Prelude.{⊤, ◌≡◌, ◌≢◌, ◌⊎◌, ℕ, ◌+◌, ◌*◌, ◌<◌, ◌≤◌, ◌&&◌, ◌||◌, nat_eq, nat_le, nat_lt, Bool}
+use Rattle.std.specs.Prelude.{true, false, cond, List, [], ◌∷◌, drop, length}
+use Rattle.limits.specs.declared.TheConstants.{MACHINE_NAME_BYTES, MOST_AUTH_BYTES, MOST_GIDS, NOBODY}
 use Rattle.nfs_types.specs.declared.ctx.Credential.{Credential}
 use Rattle.nfs_types.specs.declared.program.ProgramCall.{ProgramCall}
 use Rattle.nfs_types.specs.declared.program.ProgramCall.TheVariants as programs
-use Rattle.plain_items.specs.Items.{behind_string, has, has_string, padding, string_at, word_at}
+use Rattle.plain_items.specs.Items.{behind_padding, has, has_string, string_at, word_at}
 use Rattle.plain_messages.specs.Arguments.{mount_arguments, mount_procedure, nfs_arguments, nfs_procedure}
+use Rattle.plain_messages.specs.Readable.{has_mount_arguments, has_nfs_arguments}
 use Rattle.plain_messages.specs.Refused.{words}
 use Rattle.plain_messages.specs.declared.refusal.PlainRefusal.{PlainRefusal}
 use Rattle.plain_messages.specs.declared.refusal.PlainRefusal.TheVariants as refusal
@@ -23,10 +24,6 @@ abbrev pub IsNumbered : List ℕ → Heard → Type 0
 IsNumbered bytes heard.Closed = ⊤
 IsNumbered bytes (heard.Refused xid refusal) = xid ≡ word_at bytes
 IsNumbered bytes (heard.Call xid credential call) = xid ≡ word_at bytes
-
--- what stands behind a string and its zeros
-abbrev pub behind_padding : List ℕ → List ℕ
-behind_padding bytes = drop (padding (word_at bytes)) (behind_string bytes)
 
 -- Behind the version of RPC stand four words, the body of the credential, and the verifier: its flavor and
 -- body.
@@ -65,6 +62,23 @@ pub record Names (flavor : ℕ) (body : List ℕ) (caller : Credential) : Type 0
   pub user : flavor ≡ 1 → behind_padding (drop 4 body)
       ≡ words (caller.uid ∷ caller.gid ∷ length caller.gids ∷ caller.gids)
 
+-- Which bodies name a caller: for nobody an empty one. For AUTH_SYS one with a stamp, a machine's name, the user,
+-- the group, and groups behind their count, to the last byte.
+abbrev pub has_gids : List ℕ → Bool
+has_gids bytes = has 4 bytes && nat_le (word_at bytes) MOST_GIDS && has (4 * word_at bytes) (drop 4 bytes)
+
+unfoldable pub has_user : List ℕ → Bool
+has_user bytes =
+    has 8 bytes && has_gids (drop 8 bytes) && nat_eq (length bytes) (12 + 4 * word_at (drop 8 bytes))
+
+unfoldable pub has_named : List ℕ → Bool
+has_named body =
+    has 4 body && has_string MACHINE_NAME_BYTES (drop 4 body) && has_user (behind_padding (drop 4 body))
+
+abbrev pub has_caller : ℕ → List ℕ → Bool
+has_caller flavor body =
+    nat_eq flavor 0 && nat_eq (length body) 0 || nat_eq flavor 1 && has_named body
+
 -- a program of these, and a procedure that it has
 abbrev pub is_program : ℕ → Bool
 is_program program = nat_eq program 100003 || nat_eq program 100005
@@ -81,24 +95,36 @@ Asks program version procedure arguments (programs.Nfs call) =
 Asks program version procedure arguments (programs.Mount call) =
     (program ≡ 100005) × (version ≡ 3) × (mount_procedure call ≡ procedure) × (arguments ≡ mount_arguments call)
 
+-- arguments that the procedure has, to the last byte
+abbrev pub has_arguments : ℕ → ℕ → List ℕ → Bool
+has_arguments program procedure arguments =
+    cond (nat_eq program 100003) (has_nfs_arguments procedure arguments)
+    (has_mount_arguments procedure arguments)
+
 -- A refusal is that of the first of these tests that fails: the credential, the program, its version, the
--- procedure, the arguments. An allocation may fail at any of them.
-abbrev pub Refuses : ℕ → ℕ → ℕ → ℕ → PlainRefusal → Type 0
-Refuses flavor program version procedure refusal.RpcVersion = ⊥
-Refuses flavor program version procedure refusal.BadCredential = flavor < 2
-Refuses flavor program version procedure refusal.RejectedCredential = 2 ≤ flavor
-Refuses flavor program version procedure refusal.Program = (flavor < 2) × (is_program program ≡ false)
-Refuses flavor program version procedure refusal.Version =
-    (flavor < 2) × (is_program program ≡ true) × (version ≢ 3)
-Refuses flavor program version procedure refusal.Procedure =
-    (flavor < 2) × (is_program program ≡ true) × (version ≡ 3) × (has_procedure program procedure ≡ false)
-Refuses flavor program version procedure refusal.Arguments =
-    (flavor < 2) × (version ≡ 3) × (has_procedure program procedure ≡ true)
-Refuses flavor program version procedure refusal.System = flavor < 2
+-- procedure, the arguments. An allocation may fail at the credential or at the arguments.
+abbrev pub Refuses : ℕ → List ℕ → ℕ → ℕ → ℕ → List ℕ → PlainRefusal → Type 0
+Refuses flavor body program version procedure arguments refusal.RpcVersion = ⊥
+Refuses flavor body program version procedure arguments refusal.BadCredential =
+    (flavor < 2) × (has_caller flavor body ≡ false)
+Refuses flavor body program version procedure arguments refusal.RejectedCredential = 2 ≤ flavor
+Refuses flavor body program version procedure arguments refusal.Program =
+    (has_caller flavor body ≡ true) × (is_program program ≡ false)
+Refuses flavor body program version procedure arguments refusal.Version =
+    (has_caller flavor body ≡ true) × (is_program program ≡ true) × (version ≢ 3)
+Refuses flavor body program version procedure arguments refusal.Procedure =
+    (has_caller flavor body ≡ true) × (is_program program ≡ true) × (version ≡ 3)
+    × (has_procedure program procedure ≡ false)
+Refuses flavor body program version procedure arguments refusal.Arguments =
+    (has_caller flavor body ≡ true) × (version ≡ 3) × (has_procedure program procedure ≡ true)
+    × (has_arguments program procedure arguments ≡ false)
+Refuses flavor body program version procedure arguments refusal.System = flavor < 2
 
 -- the same of a header
 abbrev pub RefusesHeader : List ℕ → PlainRefusal → Type 0
-RefusesHeader rest why = Refuses (flavor_at rest) (program_at rest) (version_at rest) (procedure_at rest) why
+RefusesHeader rest why =
+    Refuses (flavor_at rest) (body_at rest) (program_at rest) (version_at rest) (procedure_at rest)
+    (arguments_at rest) why
 
 -- a record that is refused, and one that calls for something
 abbrev pub RefusesRecord : List ℕ → PlainRefusal → Type 0

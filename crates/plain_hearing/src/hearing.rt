@@ -1,13 +1,15 @@
 //! Reading a record as a call message (RFC 5531, section 9), with the tests of its header in their order.
-ghost use Rattle.std.specs.Prelude.{◌≡◌, ◌<◌, ◌∷◌, ◌++◌, ◌&&◌, [], IfErr, IfOk, OnOk, drop, false, is_ok};
-ghost use Rattle.std.specs.Prelude.{length, true};
-ghost use Rattle.plain_items.specs.Items.{has, has_string, word_at};
+ghost use Rattle.std.specs.Prelude.{◌≡◌, ℕ, ◌+◌, ◌*◌, ◌∷◌, ◌++◌, ◌&&◌, List, [], Err, IfErr, IfOk, OnOk, drop};
+ghost use Rattle.std.specs.Prelude.{false, is_ok, length, true};
+ghost use Rattle.plain_items.specs.Items.{behind_padding, has, has_string, word_at};
+ghost use Rattle.plain_items.specs.declared.fault.ReadFault.TheVariants as fault;
 ghost use Rattle.plain_messages.specs.Arguments.{mount_arguments, mount_procedure, nfs_arguments};
 ghost use Rattle.plain_messages.specs.Arguments.{nfs_procedure};
 ghost use Rattle.plain_messages.specs.Refused.{words};
 ghost use Rattle.plain_messages.specs.declared.refusal.PlainRefusal.TheVariants as refusal;
 ghost use Rattle.plain_hearing.specs.Headers.{Asks, Hears, IsNumbered, Names, Refuses, arguments_at};
-ghost use Rattle.plain_hearing.specs.Headers.{behind_padding, body_at, flavor_at, has_header, is_call};
+ghost use Rattle.plain_hearing.specs.Headers.{body_at, flavor_at, has_caller, has_gids, has_header, has_named};
+ghost use Rattle.plain_hearing.specs.Headers.{has_user, is_call};
 ghost use Rattle.plain_hearing.specs.Headers.{procedure_at, program_at, version_at};
 ghost use Rattle.plain_hearing.specs.declared.hearing.Heard.TheVariants as heard;
 
@@ -162,8 +164,8 @@ fn read_call(
     ensures names { IfOk result (λ told. Names header.now.flavor header.now.body.now told.0) }
     ensures asks { IfOk result (λ told. Asks header.now.program header.now.version
         header.now.procedure arguments.now told.1) }
-    ensures refuses { IfErr result (λ why. Refuses header.now.flavor header.now.program header.now.version
-        header.now.procedure why) }
+    ensures refuses { IfErr result (λ why. Refuses header.now.flavor header.now.body.now header.now.program
+        header.now.version header.now.procedure arguments.now why) }
 {
     let credential = read_credential(alloc, header)?;
     match header.program {
@@ -181,13 +183,13 @@ fn read_call(
 
 // A call of NFS: its version, its procedure, and its arguments.
 fn read_nfs(alloc: Global, header: &Header<'_>, arguments: &[u8]) -> Result<Call, PlainRefusal>
-    requires flavor { header.now.flavor < 2 }
+    requires caller { has_caller header.now.flavor header.now.body.now ≡ true }
     requires program { header.now.program ≡ 100003 }
     ensures version { OnOk result (header.now.version ≡ 3) }
     ensures number { IfOk result (λ call. nfs_procedure call ≡ header.now.procedure) }
     ensures spelled { IfOk result (λ call. arguments.now ≡ nfs_arguments call) }
-    ensures refuses { IfErr result (λ why. Refuses header.now.flavor header.now.program header.now.version
-        header.now.procedure why) }
+    ensures refuses { IfErr result (λ why. Refuses header.now.flavor header.now.body.now header.now.program
+        header.now.version header.now.procedure arguments.now why) }
 {
     if header.version != 3 {
         return Err(PlainRefusal::Version);
@@ -208,13 +210,13 @@ fn read_mount(
     header: &Header<'_>,
     arguments: &[u8],
 ) -> Result<MountCall, PlainRefusal>
-    requires flavor { header.now.flavor < 2 }
+    requires caller { has_caller header.now.flavor header.now.body.now ≡ true }
     requires program { header.now.program ≡ 100005 }
     ensures version { OnOk result (header.now.version ≡ 3) }
     ensures number { IfOk result (λ call. mount_procedure call ≡ header.now.procedure) }
     ensures spelled { IfOk result (λ call. arguments.now ≡ mount_arguments call) }
-    ensures refuses { IfErr result (λ why. Refuses header.now.flavor header.now.program header.now.version
-        header.now.procedure why) }
+    ensures refuses { IfErr result (λ why. Refuses header.now.flavor header.now.body.now header.now.program
+        header.now.version header.now.procedure arguments.now why) }
 {
     if header.version != 3 {
         return Err(PlainRefusal::Version);
@@ -232,8 +234,9 @@ fn read_mount(
 // The caller that a credential names: nobody in particular, or by AUTH_SYS.
 fn read_credential(alloc: Global, header: &Header<'_>) -> Result<Credential, PlainRefusal>
     ensures names { IfOk result (λ caller. Names header.now.flavor header.now.body.now caller) }
-    ensures refuses { IfErr result (λ why. Refuses header.now.flavor header.now.program header.now.version
-        header.now.procedure why) }
+    ensures known { OnOk result (has_caller header.now.flavor header.now.body.now ≡ true) }
+    ensures refuses { IfErr result (λ why. (arguments : List ℕ) → Refuses header.now.flavor header.now.body.now
+        header.now.program header.now.version header.now.procedure arguments why) }
 {
     if header.flavor > 1 {
         return Err(PlainRefusal::RejectedCredential);
@@ -257,9 +260,12 @@ fn read_credential(alloc: Global, header: &Header<'_>) -> Result<Credential, Pla
 }
 
 // The caller that a body of AUTH_SYS names (`authsys_parms`), to its last byte.
+#[tactic(auto, unfolding(crate::specs::Headers::has_named))]
 fn read_named(alloc: Global, body: &[u8]) -> Result<Credential, ReadFault>
-    ensures { IfOk result (λ caller. behind_padding (drop 4 body.now)
+    ensures spelled { IfOk result (λ caller. behind_padding (drop 4 body.now)
         ≡ words (caller.uid ∷ caller.gid ∷ length caller.gids ∷ caller.gids)) }
+    ensures known { OnOk result (has_named body.now ≡ true) }
+    ensures unreadable { result ≡ Err fault.Unreadable → has_named body.now ≡ false }
 {
     let mut reader = ItemReader::new(body);
     let _stamp = reader.word()?;
@@ -268,9 +274,12 @@ fn read_named(alloc: Global, body: &[u8]) -> Result<Credential, ReadFault>
 }
 
 // The user, the group and the further groups, to the last byte.
+#[tactic(auto, unfolding(crate::specs::Headers::has_user))]
 fn read_caller(alloc: Global, reader: &mut ItemReader<'_>) -> Result<Credential, ReadFault>
-    ensures { IfOk result (λ caller. reader.old
+    ensures spelled { IfOk result (λ caller. reader.old
         ≡ words (caller.uid ∷ caller.gid ∷ length caller.gids ∷ caller.gids)) }
+    ensures known { OnOk result (has_user reader.old ≡ true) }
+    ensures unreadable { result ≡ Err fault.Unreadable → has_user reader.old ≡ false }
 {
     let uid = reader.word()?;
     let gid = reader.word()?;
@@ -285,7 +294,10 @@ fn read_caller(alloc: Global, reader: &mut ItemReader<'_>) -> Result<Credential,
 
 // The further groups, behind their count.
 fn read_gids(alloc: Global, reader: &mut ItemReader<'_>) -> Result<Vec<u32>, ReadFault>
-    ensures { IfOk result (λ gids. reader.old ≡ words (length gids.items ∷ gids.items) ++ reader.new) }
+    ensures spelled { IfOk result (λ gids. reader.old ≡ words (length gids.items ∷ gids.items) ++ reader.new) }
+    ensures rest { OnOk result (length reader.new + 4 * word_at reader.old + 4 ≡ length reader.old) }
+    ensures known { OnOk result (has_gids reader.old ≡ true) }
+    ensures unreadable { result ≡ Err fault.Unreadable → has_gids reader.old ≡ false }
 {
     let count = reader.word()? as usize;
     if count > MOST_GIDS {

@@ -9,4 +9,5 @@ loop-taken-preserved c = record {
   stands = one_number (spelled_word c.in_ok-count.field-0) _ _ _ _ _ _ c.loop-taken.invariant.stands
       c.in_ok-gid.ensures.spelled c.in_ok-push_number.ensures;
   counted = grind (arith, common_steps);
+  left = grind (arith, common_steps);
 }
