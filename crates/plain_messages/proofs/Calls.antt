@@ -4,7 +4,8 @@ use Rattle.std.proofs.lemmas.Bool.Decides.{nat_tests}
 use Rattle.std.proofs.lemmas.List.{get_or_past}
 use Rattle.limits.specs.declared.TheConstants.{MOST_HANDLE_BYTES}
 use Rattle.plain_items.specs.Items.{behind_padding, has_string}
-use Rattle.plain_messages.specs.Readable.{Form, nfs_forms, none, handle, name, has_call, behind_call, has_name, behind_name}
+use Rattle.plain_messages.specs.Readable.{Form, behind_call, behind_name, handle, has_call, has_name, name}
+use Rattle.plain_messages.specs.Readable.{nfs_forms, none}
 
 abbrev pub takes_handle : ℕ → Bool
 takes_handle procedure =
@@ -60,3 +61,13 @@ pub has_none : (procedure : ℕ) (bytes : List ℕ) → 22 ≤ procedure → has
 unfolding has_call
 has_none procedure bytes over =
     ap (λ (f : Form). f.begins bytes) (get_or_past nfs_forms procedure none over)
+
+pub ruleset alone = (
+  has_handle_alone,
+  behind_handle_alone,
+  has_name_alone,
+  behind_name_alone,
+  has_nothing,
+  behind_nothing,
+  has_none,
+)

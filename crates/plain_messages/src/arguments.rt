@@ -34,7 +34,7 @@ pub fn read_nfs_call(alloc: Global, procedure: u32, bytes: &[u8]) -> Result<Call
 }
 
 // Procedures 0 to 7.
-#[tactic(auto, using(crate::proofs::Calls::has_handle_alone, crate::proofs::Calls::behind_handle_alone, crate::proofs::Calls::has_name_alone, crate::proofs::Calls::behind_name_alone, crate::proofs::Calls::has_nothing, crate::proofs::Calls::behind_nothing))]
+#[tactic(auto, using(crate::proofs::Calls::alone))]
 fn read_of_files(
     alloc: Global,
     procedure: u32,
@@ -67,7 +67,7 @@ fn read_of_files(
 }
 
 // Procedures 8 to 15.
-#[tactic(auto, using(crate::proofs::Calls::has_name_alone, crate::proofs::Calls::behind_name_alone))]
+#[tactic(auto, using(crate::proofs::Calls::alone))]
 fn read_of_names(
     alloc: Global,
     procedure: u32,
@@ -99,7 +99,7 @@ fn read_of_names(
 }
 
 // Procedures 16 to 21.
-#[tactic(auto, using(crate::proofs::Calls::has_handle_alone, crate::proofs::Calls::behind_handle_alone, crate::proofs::Calls::has_none))]
+#[tactic(auto, using(crate::proofs::Calls::alone))]
 fn read_of_systems(
     alloc: Global,
     procedure: u32,
