@@ -1,3 +1,4 @@
 pub mod Calls
+pub mod Forms
 pub mod Lengths
 pub mod Words
