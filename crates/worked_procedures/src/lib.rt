@@ -1,11 +1,13 @@
 //! The arguments of a worked call and the result of a worked reply of each procedure of NFS version 3 and of
-//! MOUNT version 3, spelled by hand from RFC 1813 (sections 2.5, 2.6, 3.3 and 5.2). A spelling is parts in
-//! their order, each in words of four bytes. Only tests use this crate.
+//! MOUNT version 3, spelled by hand from RFC 1813 (sections 2.5, 2.6, 3.3 and 5.2), and the calls as values. A
+//! spelling is parts in their order, each in words of four bytes. Only tests use this crate.
 #![tactic(auto)]
 
 mod arguments;
+mod calls;
 mod parts;
 mod results;
+mod values;
 
 pub use arguments::{
     ACCESS_ARGUMENTS, COMMIT_ARGUMENTS, CREATE_ARGUMENTS, HANDLE_ARGUMENTS, LINK_ARGUMENTS,
@@ -13,9 +15,16 @@ pub use arguments::{
     READ_ARGUMENTS, READ_DIR_ARGUMENTS, READ_DIR_PLUS_ARGUMENTS, RENAME_ARGUMENTS,
     SET_ATTR_ARGUMENTS, SYM_LINK_ARGUMENTS, UNMOUNT_ARGUMENTS, WRITE_ARGUMENTS,
 };
+pub use calls::{
+    access_call, commit_call, create_call, fs_info_call, fs_stat_call, get_attr_call, link_call,
+    lookup_call, mk_dir_call, mk_nod_call, mount_call, path_conf_call, read_call, read_dir_call,
+    read_dir_plus_call, read_link_call, remove_call, rename_call, rm_dir_call, set_attr_call,
+    sym_link_call, unmount_call, write_call,
+};
 pub use results::{
     ACCESS_RESULT, COMMIT_RESULT, CREATE_RESULT, FS_INFO_RESULT, FS_STAT_RESULT, GET_ATTR_RESULT,
     LINK_RESULT, LOOKUP_RESULT, MK_DIR_RESULT, MK_NOD_RESULT, MOUNT_RESULT, NO_RESULT,
     PATH_CONF_RESULT, READ_DIR_PLUS_RESULT, READ_DIR_RESULT, READ_LINK_RESULT, READ_RESULT,
     REMOVE_RESULT, RENAME_RESULT, RM_DIR_RESULT, SET_ATTR_RESULT, SYM_LINK_RESULT, WRITE_RESULT,
 };
+pub use values::{DEVICE, SET, UNSET, VERIFIER, handle, name, new_name, other_handle};
