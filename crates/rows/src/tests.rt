@@ -14,7 +14,6 @@ mod images;
 mod left;
 mod openings;
 mod plain;
-mod plain_calls;
 mod records;
 mod runs;
 mod served;

@@ -1,27 +1,9 @@
 //! What the tests ask about: a file of user 7 and group 100, callers, and a tree with this file as number 2.
 
-use nfs_types::{Credential, Ctx, Handle, Moment, NewAttributes, NumberList, SetTime, Stamp};
+use nfs_types::{Credential, Ctx, Handle, NumberList, Stamp};
 use plain_server::{MappedIndexes, NumberedNode, PlainBody, PlainNode, PlainTree};
 use std::alloc::{AllocError, Global};
-
-pub(crate) const MADE: Moment = Moment {
-    seconds: 1000,
-    nanoseconds: 0,
-};
-
-pub(crate) const NOW: Moment = Moment {
-    seconds: 2000,
-    nanoseconds: 5,
-};
-
-pub(crate) const NOTHING_WANTED: NewAttributes = NewAttributes {
-    mode: None,
-    uid: None,
-    gid: None,
-    size: None,
-    atime: SetTime::Unchanged,
-    mtime: SetTime::Unchanged,
-};
+use worked_messages::{MADE, NOW};
 
 // A caller with one further group.
 pub(crate) fn caller(
@@ -72,17 +54,14 @@ pub(crate) fn file(alloc: Global, mode: u32) -> Result<PlainNode, AllocError> {
     })
 }
 
-// The handle of a file of this number and this transaction.
+// The handle of a file of this number and this stamp. The file 2 has boot 1 and transaction 0.
 pub(crate) fn handle_of(
     alloc: Global,
     number: u32,
+    boot: u64,
     transaction: u64,
 ) -> Result<Handle, AllocError> {
-    let stamp = Stamp {
-        boot: 1,
-        transaction,
-    };
-    Handle::of(alloc, number, stamp)
+    Handle::of(alloc, number, Stamp { boot, transaction })
 }
 
 pub(crate) fn tree(alloc: Global) -> Result<PlainTree, AllocError> {

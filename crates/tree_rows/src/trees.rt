@@ -1,9 +1,10 @@
 //! Blocks that a file uses, entries by their names, and files by their numbers and handles.
 
-use crate::given::{MADE, handle_of, tree};
+use crate::given::{handle_of, tree};
 use nfs_types::{Attributes, DeviceNumber, FileKind, Octets, Status};
 use plain_server::{MappedIndexes, PlainBody, PlainEntry, PlainNames, get_attributes};
 use std::alloc::{AllocError, Global};
+use worked_messages::MADE;
 
 // A block has 4,096 bytes. The eight first indexes are direct; from index 8 on there is an indirect block.
 #[test]
@@ -112,14 +113,19 @@ fn what_a_handle_is_told(rt: HostRuntime) -> Result<(), AllocError> {
         mtime: MADE,
         ctime: MADE,
     };
-    assert_eq!(rt; get_attributes(&tree, &handle_of(alloc, 2, 0)?), Ok(told));
     assert_eq!(rt;
-        get_attributes(&tree, &handle_of(alloc, 2, 1)?),
-        Err(Status::Stale)
+        get_attributes(&tree, &handle_of(alloc, 2, 1, 0)?),
+        Ok(told)
     );
-    assert_eq!(rt;
-        get_attributes(&tree, &handle_of(alloc, 32, 0)?),
-        Err(Status::BadHandle)
-    );
+    // another boot, another transaction, an inode that isn't used, and one past the last
+    for (number, boot, transaction, status) in [
+        (2, 0, 0, Status::Stale),
+        (2, 1, 1, Status::Stale),
+        (3, 0, 0, Status::Stale),
+        (32, 1, 0, Status::BadHandle),
+    ] {
+        let other = handle_of(alloc, number, boot, transaction)?;
+        assert_eq!(rt; get_attributes(&tree, &other), Err(status));
+    }
     Ok(())
 }
