@@ -1,21 +1,16 @@
 //! The worked reply to each procedure.
 
 use crate::tests::compared::is_reply;
-use crate::tests::values::{ATTRIBUTES, BECAME, CHANGED, UNTOLD, VERIFIER, WAS, handle, octets};
+use crate::tests::values::{ATTRIBUTES, BECAME, CHANGED, UNTOLD, WAS};
 use nfs_types::{
     Created, FileSystemInfo, FileSystemSpace, Listed, ListedEntries, ListedEntriesPlus,
     ListedEntry, ListedEntryPlus, ListedPlus, Looked, Moment, MountProcedure, MountReply, Mounted,
-    NumberList, PathLimits, Procedure, ProgramProcedure, ProgramReply, ReadBytes, Reply, Stability,
-    Status, Written,
+    NumberList, Octets, PathLimits, Procedure, ProgramProcedure, ProgramReply, ReadBytes, Reply,
+    Stability, Status, Written,
 };
 use std::alloc::{AllocError, Global};
 use std::test::Fail;
-use worked_procedures::{
-    ACCESS_RESULT, COMMIT_RESULT, CREATE_RESULT, FS_INFO_RESULT, FS_STAT_RESULT, GET_ATTR_RESULT,
-    LINK_RESULT, LOOKUP_RESULT, MK_DIR_RESULT, MK_NOD_RESULT, MOUNT_RESULT, NO_RESULT,
-    PATH_CONF_RESULT, READ_DIR_PLUS_RESULT, READ_DIR_RESULT, READ_LINK_RESULT, READ_RESULT,
-    REMOVE_RESULT, RENAME_RESULT, RM_DIR_RESULT, SET_ATTR_RESULT, SYM_LINK_RESULT, WRITE_RESULT,
-};
+use worked_procedures::*;
 
 const WRITTEN: Written = Written {
     count: 5,
@@ -62,12 +57,12 @@ fn entries(alloc: Global) -> Result<ListedEntries, AllocError> {
     let mut entries = Vec::new(alloc);
     entries.push(ListedEntry {
         number: 9,
-        name: octets(alloc, b"file")?,
+        name: Octets::copied(alloc, b"file")?,
         cookie: 4,
     })?;
     entries.push(ListedEntry {
         number: 10,
-        name: octets(alloc, b"new")?,
+        name: Octets::copied(alloc, b"new")?,
         cookie: 5,
     })?;
     Ok(ListedEntries::new(entries))
@@ -77,7 +72,7 @@ fn full_entry(alloc: Global) -> Result<ListedEntryPlus, AllocError> {
     let handle = handle(alloc)?;
     Ok(ListedEntryPlus {
         number: 9,
-        name: octets(alloc, b"file")?,
+        name: Octets::copied(alloc, b"file")?,
         cookie: 4,
         attributes: Some(ATTRIBUTES),
         handle: Some(handle),
@@ -87,7 +82,7 @@ fn full_entry(alloc: Global) -> Result<ListedEntryPlus, AllocError> {
 fn bare_entry(alloc: Global) -> Result<ListedEntryPlus, AllocError> {
     Ok(ListedEntryPlus {
         number: 10,
-        name: octets(alloc, b"new")?,
+        name: Octets::copied(alloc, b"new")?,
         cookie: 5,
         attributes: None,
         handle: None,
@@ -183,7 +178,7 @@ fn result_of_access(rt: HostRuntime) -> Result<(), Fail> {
 }
 
 fn read_link(alloc: Global) -> Result<Reply, AllocError> {
-    let target = octets(alloc, b"a/b")?;
+    let target = Octets::copied(alloc, b"a/b")?;
     Ok(Reply::ReadLink {
         outcome: Ok(target),
         link: None,
@@ -201,7 +196,7 @@ fn read(alloc: Global) -> Result<Reply, AllocError> {
     let read = ReadBytes {
         count: 5,
         eof: true,
-        bytes: octets(alloc, b"hello")?,
+        bytes: Octets::copied(alloc, b"hello")?,
     };
     Ok(Reply::Read {
         outcome: Ok(read),
