@@ -3,6 +3,7 @@ use Rattle.std.proofs.Common.{arith, ◌≡◌, ◌∙◌, refl, sym, ap, subst,
 use Rattle.std.proofs.Common.{Result, List}
 use Rattle.std.specs.Prelude.{IfErr}
 use Rattle.limits.specs.declared.TheConstants.{SUPER_BLOCK}
+use Rattle.disk.specs.Crash.{Image}
 use Rattle.disk.specs.Device.{Content, Device}
 use Rattle.layout.specs.declared.super_block.Super.{Super}
 use Rattle.layout.specs.SuperForm.{IsSuper}
@@ -15,7 +16,8 @@ use Rattle.store_promise.specs.declared.fault.OpenFault.{OpenFault}
 use Rattle.store_promise.specs.declared.fault.OpenFault.TheVariants as fault
 use Rattle.store_promise.specs.Openings.{IsRefusedFor, ShowsNoCause}
 use Rattle.store_promise.proofs.Shown.{has_blocks, not_another, not_magic, not_range, not_version}
-use Rattle.store_images.specs.BringingHome.{HasNoSuper, IsFound}
+use Rattle.store_promise.proofs.Later.{read_later}
+use Rattle.store_images.specs.BringingHome.{CountsCause, HasNoLog, HasNoSuper, IsFound, IsFoundLog}
 
 -- the block that was read has no super block
 pub no_super : (keeps_model : Type 0) (cause : OpenFault) (before later : Device) (size : ℕ) (content : Content)
@@ -61,41 +63,43 @@ module _ (keeps_model : Type 0) (before middle later : Device) (found : Super)
   image_is : image_of middle ≡ image_of before
   image_is = λ i block. image_then before middle first block i
 
-  -- the log that was read is none
-  pub no_log : later.failures ≡ before.failures
-      → (keeps_model → IsUnspoiled middle
-      → (IsInRange (image_of middle) × HasHomes middle.size (image_of middle)) → ⊥)
-      → IsRefusedFor keeps_model fault.Log before later
-  no_log same none = (
-    record { only = reads_then before middle later first second; failures = same },
+  -- no log was found
+  pub no_log : (cause : OpenFault)
+      → HasNoLog (keeps_model × IsUnspoiled middle) cause found.geometry.blocks (image_of middle)
+      → CountsCause cause middle later → middle.failures ≡ before.failures
+      → IsRefusedFor keeps_model cause before later
+  no_log fault.Log none counted same = (
+    record { only = reads_then before middle later first second; failures = counted ∙ same },
     λ kept clean. (
       (found, is_super kept clean, blocks, left),
-      λ is. none kept (unspoiled_then before middle first clean) (
-        subst IsInRange (sym image_is) is.0,
-        subst (λ (size : ℕ). HasHomes size (image_of middle)) (sym first.size)
-            (subst (HasHomes before.size) (sym image_is) is.1),
-      ),
+      λ is. none (kept, unspoiled_then before middle first clean) (subst IsInRange (sym image_is) is.0)
+          (subst (λ (size : ℕ). HasHomes size (image_of middle)) (sym blocks)
+          (subst (HasHomes before.size) (sym image_is) is.1)),
     ),
   )
+  no_log fault.Device none counted same = (
+    read_later before later (reads_then before middle later first second),
+    subst (λ (failures : ℕ). failures < later.failures) same counted,
+  )
+  no_log fault.NoMemory none counted same = read_later before later (reads_then before middle later first second)
+  no_log fault.Magic none counted same = absurd none
+  no_log fault.Version none counted same = absurd none
+  no_log fault.Range none counted same = absurd none
 
-  -- the log was read
-  pub is_found : (start : ℕ) (logged : List (BlockNo × Content)) (log : Log)
-      → log ≡ opened found.geometry.blocks start logged
-      → (keeps_model → IsUnspoiled middle → (start ≡ start_in (image_of middle))
-      × (logged ≡ logged_in (image_of middle)) × IsInRange (image_of middle)
-      × HasHomes middle.size (image_of middle))
+  -- the log was found
+  pub is_found : (log : Log)
+      → IsFoundLog (keeps_model × IsUnspoiled middle) found.geometry.blocks (image_of middle) log
       → keeps_model → IsUnspoiled before → IsFound before found log
-  is_found start logged log is read kept clean =
-      let all = read kept (unspoiled_then before middle first clean) in
+  is_found log is kept clean =
+      let was_read : keeps_model × IsUnspoiled middle = (kept, unspoiled_then before middle first clean) in
       record {
         is_super = is_super kept clean;
-        range = subst IsInRange image_is all.2;
-        homes = subst (HasHomes before.size) image_is
-            (subst (λ (size : ℕ). HasHomes size (image_of middle)) first.size all.3);
-        log_is = is
-            ∙ ap (λ (size : ℕ). opened size start logged) blocks
-            ∙ ap (λ (n : ℕ). opened before.size n logged) (all.0 ∙ ap start_in image_is)
-            ∙ ap (opened before.size (start_in (image_of before))) (all.1 ∙ ap logged_in image_is);
+        range = subst IsInRange image_is (is.range was_read);
+        homes = subst (λ (size : ℕ). HasHomes size (image_of before)) blocks
+            (subst (HasHomes found.geometry.blocks) image_is (is.homes was_read));
+        log_is = is.log_is was_read
+            ∙ ap (λ (size : ℕ). opened size (start_in (image_of middle)) (logged_in (image_of middle))) blocks
+            ∙ ap (λ (image : Image). opened before.size (start_in image) (logged_in image)) image_is;
       }
 
   -- and then the image shows no cause

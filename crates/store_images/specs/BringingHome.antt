@@ -1,5 +1,5 @@
 -- What an opening does to an image: what the log has comes home, and then the boot number rises.
-use Rattle.std.specs.Prelude.{◌≡◌, ◌≢◌, ℕ, ◌<◌, ◌⊎◌, Ok, length}
+use Rattle.std.specs.Prelude.{⊤, ◌≡◌, ◌≢◌, ℕ, ◌<◌, ◌⊎◌, Ok, length}
 use Rattle.limits.specs.declared.TheConstants.{SUPER_BLOCK}
 use Rattle.disk.specs.Crash.{Image}
 use Rattle.disk.specs.Device.{Content, Device, HasSettled, HasWritten}
@@ -55,6 +55,12 @@ pub record IsFound (before : Device) (found : Super) (log : Log) : Type 0 where
   pub homes : HasHomes before.size (image_of before)
   pub log_is : log ≡ opened before.size (start_in (image_of before)) (logged_in (image_of before))
 
+-- The log that was found in an image of so many blocks, if only it could be read.
+pub record IsFoundLog (was_read : Type 0) (size : ℕ) (image : Image) (log : Log) : Type 0 where
+  pub range : was_read → IsInRange image
+  pub homes : was_read → HasHomes size image
+  pub log_is : was_read → log ≡ opened size (start_in image) (logged_in image)
+
 -- What comes home, and what each stop so far has left.
 pub record BringsHome (before : Device) (raised : Content) (now : Device) (log : Log) : Type 0 where
   pub coming : IsComingHome (image_of before) now log
@@ -85,3 +91,12 @@ HasNoSuper fault.Range size content = IsNoSuper content layout_fault.Range ⊎ I
 HasNoSuper fault.Log size content = ⊥
 HasNoSuper fault.Device size content = ⊥
 HasNoSuper fault.NoMemory size content = ⊥
+
+-- an image of so many blocks has no log, if only it could be read, or a call failed
+abbrev pub HasNoLog : Type 0 → OpenFault → ℕ → Image → Type 0
+HasNoLog was_read fault.Log size image = was_read → IsInRange image → HasHomes size image → ⊥
+HasNoLog was_read fault.Device size image = ⊤
+HasNoLog was_read fault.NoMemory size image = ⊤
+HasNoLog was_read fault.Magic size image = ⊥
+HasNoLog was_read fault.Version size image = ⊥
+HasNoLog was_read fault.Range size image = ⊥

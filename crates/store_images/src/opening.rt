@@ -1,8 +1,8 @@
 //! Opening a store: what a crash left in the log is brought home, and the boot number rises.
 ghost use Rattle.std.specs.Prelude.{◌≡◌, ◌+◌, ◌^◌, ◌<◌, IfErr, IfOk, IsFalse, IsTrue, MatchResult, OnOk, []};
-ghost use Rattle.std.specs.Prelude.{ℕ, length};
+ghost use Rattle.std.specs.Prelude.{ℕ, ◌≤◌, length};
 ghost use Rattle.std.specs.Prelude.{◌⊎◌, Ok, Err, Some, None, true, false};
-ghost use Rattle.limits.specs.declared.TheConstants.{BLOCK_BYTES, SUPER_BLOCK};
+ghost use Rattle.limits.specs.declared.TheConstants.{BLOCK_BYTES, FIRST_HOME_BLOCK, SUPER_BLOCK};
 ghost use Rattle.disk.specs.Device.{Content, Device};
 ghost use Rattle.layout.specs.Geometry.{IsLawful};
 ghost use Rattle.layout.specs.SuperForm.{IsSuper, super_bytes};
@@ -13,7 +13,7 @@ ghost use Rattle.wal_law.specs.Log.{IsLawful as IsLawfulLog, Log};
 ghost use Rattle.wal_law.specs.Recovery.{HasOnlyRead, IsUnspoiled, image_of};
 ghost use Rattle.store_promise.specs.Openings.{IsAnsweredFor, IsLater, IsRefusedFor, ShowsNoCause};
 ghost use Rattle.store_images.specs.BringingHome.{BringsHome, CountsCause, HasNoSuper, HasRaised};
-ghost use Rattle.store_images.specs.BringingHome.{IsFound, KeepsBlocks};
+ghost use Rattle.store_images.specs.BringingHome.{HasNoLog, IsFound, IsFoundLog, KeepsBlocks};
 ghost use Rattle.store_images.specs.Opening.{HasOpened, HoldsTree, Opens, store_of};
 ghost use Rattle.store_images.specs.Settling.{HasCalled, IsIdle, IsQuiet};
 
@@ -103,7 +103,7 @@ fn recover<D: CrashDisk>(alloc: Global, disk: &mut D) -> Result<(Core<Done>, u64
 }
 
 // The super block and the log of an image that may be opened. It only reads.
-#[tactic(auto, using(store_promise::proofs::Later::read_later, wal_law::proofs::OnlyRead::reads_then))]
+#[tactic(auto, using(wal_law::proofs::OnlyRead::reads_then))]
 fn find<D: CrashDisk>(
     alloc: Global,
     disk: &mut D,
@@ -127,13 +127,33 @@ fn find<D: CrashDisk>(
     ensures model { D.keeps_model disk.new → D.keeps_model disk.old }
 {
     let found = read_super(disk, block)?;
+    let wal = find_log(alloc, disk, found.geometry.blocks)?;
+    Ok((found, wal))
+}
+
+// The log of an image of so many blocks. It only reads.
+fn find_log<D: CrashDisk>(alloc: Global, disk: &mut D, blocks: u32) -> Result<Wal, OpenFault>
+    requires size { blocks ≡ (D.device disk.old).size }
+    requires homes { FIRST_HOME_BLOCK ≤ blocks }
+    ensures reads { HasOnlyRead (D.device disk.old) (D.device disk.new) }
+    ensures failure { MatchResult result (λ _. (D.device disk.new).failures ≡ (D.device disk.old).failures)
+        (λ cause. CountsCause cause (D.device disk.old) (D.device disk.new)) }
+    ensures blocks { IfOk result (λ log. log.blocks ≡ blocks) }
+    ensures fresh { IfOk result IsFresh }
+    ensures quiet { IfOk result IsQuiet }
+    ensures sound { IfOk result (λ log. log.broken ≡ false) }
+    ensures found { IfOk result (IsFoundLog (D.keeps_model disk.new × IsUnspoiled (D.device disk.old))
+        blocks (image_of (D.device disk.old))) }
+    ensures refused { IfErr result (λ cause. HasNoLog (D.keeps_model disk.new × IsUnspoiled (D.device disk.old))
+        cause blocks (image_of (D.device disk.old))) }
+    ensures model { D.keeps_model disk.new → D.keeps_model disk.old }
+{
     match circ::recover(alloc, disk) {
-        Ok(log) => match Wal::new(alloc, found.geometry.blocks, log) {
-            Ok(wal) => Ok((found, wal)),
+        Ok(log) => match Wal::new(alloc, blocks, log) {
+            Ok(wal) => Ok(wal),
             Err(AllocError) => Err(OpenFault::NoMemory),
         },
-        Err(LogFault::Range) => Err(OpenFault::Log),
-        Err(LogFault::Address) => Err(OpenFault::Log),
+        Err(LogFault::Range | LogFault::Address) => Err(OpenFault::Log),
         Err(LogFault::Device) => Err(OpenFault::Device),
         Err(LogFault::NoMemory) => Err(OpenFault::NoMemory),
     }

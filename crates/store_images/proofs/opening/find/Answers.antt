@@ -1,31 +1,32 @@
--- The image has no log.
-use Rattle.std.proofs.Common.{◌∙◌, ap, subst, Err}
-use Rattle.wal_law.specs.Recovery.{CountsFault, IsRecovered, image_of}
-use Rattle.store_images.proofs.Refusing.{no_log}
+-- What was found in the log, or that there is none.
+use Rattle.std.proofs.Common.{◌≡◌, rules, Err}
+use Rattle.store_images.proofs.Refusing.{is_found, no_log, shows_none}
 use Rattle.store_images.proofs.opening.find.Goals as goal
 
-pub returns-in-Err-Range-clause-refused : goal.returns-in-Err-Range-clause-refused
-returns-in-Err-Range-clause-refused g c =
-    let middle = g.D.CrashDisk.device c.read_super.new.disk in
-    let later = g.D.CrashDisk.device c.recover.new.disk in
-    let is = c.in-Err-Range.is ∙ ap Err c.in-Err-Range.field-0-is in
-    no_log (g.D.CrashDisk.keeps_model c.recover.new.disk) (g.D.CrashDisk.device c.args.disk.now) middle later
-    c.in_ok-found.found c.in_ok-found.ensures.reads c.recover.ensures.reads c.in_ok-found.ensures.blocks
-    c.in_ok-found.ensures.boot
-    (λ kept clean. c.in_ok-found.ensures.found (c.recover.ensures.model kept) clean)
-    (subst (CountsFault middle later) is c.recover.ensures.failure ∙ c.in_ok-found.ensures.failure)
-    (λ kept clean log. subst (IsRecovered middle.size (image_of middle))
-    is (c.recover.ensures.found kept clean) log.0)
+pub returns-in_err-wal-clause-refused : goal.returns-in_err-wal-clause-refused
+returns-in_err-wal-clause-refused g c =
+    let super = c.in_ok-found.ensures in
+    let same : c.from_residual-in_err-wal.result ≡ Err c.in_err-wal.field-0.0 = search rules in
+    rw same (no_log (g.D.CrashDisk.keeps_model c.find_log.new.disk) (g.D.CrashDisk.device c.args.disk.now)
+    (g.D.CrashDisk.device c.read_super.new.disk) (g.D.CrashDisk.device c.find_log.new.disk)
+    c.in_ok-found.found super.reads c.find_log.ensures.reads super.blocks super.boot
+    (λ kept clean. super.found (c.find_log.ensures.model kept) clean)
+    c.in_err-wal.field-0.0 c.in_err-wal.ensures.refused c.in_err-wal.ensures.failure super.failure)
 
-pub returns-in-Err-Address-clause-refused : goal.returns-in-Err-Address-clause-refused
-returns-in-Err-Address-clause-refused g c =
-    let middle = g.D.CrashDisk.device c.read_super.new.disk in
-    let later = g.D.CrashDisk.device c.recover.new.disk in
-    let is = c.in-Err-Address.is ∙ ap Err c.in-Err-Address.field-0-is in
-    no_log (g.D.CrashDisk.keeps_model c.recover.new.disk) (g.D.CrashDisk.device c.args.disk.now) middle later
-    c.in_ok-found.found c.in_ok-found.ensures.reads c.recover.ensures.reads c.in_ok-found.ensures.blocks
-    c.in_ok-found.ensures.boot
-    (λ kept clean. c.in_ok-found.ensures.found (c.recover.ensures.model kept) clean)
-    (subst (CountsFault middle later) is c.recover.ensures.failure ∙ c.in_ok-found.ensures.failure)
-    (λ kept clean log.
-    (subst (IsRecovered middle.size (image_of middle)) is (c.recover.ensures.found kept clean)).1 log.1)
+pub returns-clause-found : goal.returns-clause-found
+returns-clause-found g c =
+    let super = c.in_ok-found.ensures in
+    is_found (g.D.CrashDisk.keeps_model c.find_log.new.disk) (g.D.CrashDisk.device c.args.disk.now)
+    (g.D.CrashDisk.device c.read_super.new.disk) (g.D.CrashDisk.device c.find_log.new.disk)
+    c.in_ok-found.found super.reads c.find_log.ensures.reads super.blocks super.boot
+    (λ kept clean. super.found (c.find_log.ensures.model kept) clean)
+    c.in_ok-wal.wal c.in_ok-wal.ensures.found
+
+pub returns-clause-none : goal.returns-clause-none
+returns-clause-none g c = λ kept clean.
+    let super = c.in_ok-found.ensures in
+    shows_none (g.D.CrashDisk.keeps_model c.find_log.new.disk) (g.D.CrashDisk.device c.args.disk.now)
+    (g.D.CrashDisk.device c.read_super.new.disk) (g.D.CrashDisk.device c.find_log.new.disk)
+    c.in_ok-found.found super.reads c.find_log.ensures.reads super.blocks super.boot
+    (λ kept clean. super.found (c.find_log.ensures.model kept) clean)
+    c.in_ok-wal.wal (returns-clause-found g c kept clean)

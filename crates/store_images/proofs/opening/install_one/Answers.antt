@@ -1,7 +1,7 @@
 -- What comes home comes nearer, and a stop leaves what it left.
 use Rattle.std.proofs.Common.{◌∙◌, refl}
 use Rattle.wal_law.specs.Installer.{is_inst_out, with_inst_back}
-use Rattle.store_images.proofs.CallsLeft.{given_back}
+use Rattle.store_images.proofs.CallsLeft.{given_back, inst_called}
 use Rattle.store_images.proofs.OutCalls.{inst_is_out}
 use Rattle.store_images.proofs.ComingHome.{called_home, home_stops}
 use Rattle.store_images.proofs.Made.{made_later}
@@ -28,3 +28,11 @@ returns-clause-home g c = λ before raised brings.
       keeps = home_stops before now next new raised c.lawful-3.ensures
           (made_later now c.in-Some.io c.perform.result next c.perform.ensures.call) coming brings.keeps;
     }
+
+pub returns-clause-called : goal.returns-clause-called
+returns-clause-called g c = λ _.
+    inst_called c.args.wal.now c.inst_next.new.self c.inst_done.new.self
+    (g.D.CrashDisk.device c.args.disk.now) (g.D.CrashDisk.device c.perform.new.disk) c.in-Some.io
+    c.perform.result c.is_ok-ok.result c.lawful.ensures c.in-Some.ensures.causes (c.in-Some.ensures.some refl)
+    c.lawful-2.ensures c.in-Some.ensures.call c.is_ok-ok.ensures.value c.inst_done.ensures.log
+    c.perform.ensures.failure
