@@ -2,11 +2,9 @@
 ghost use Rattle.std.specs.Prelude.{◌≡◌, ◌∷◌, [], IfOk};
 ghost use Rattle.model.specs.Mount.{mount_reply, mounted_at, root_mounted};
 
-use nfs_types::{Handle, MountCall, MountReply, Mounted, NumberList, Octets, Status};
+use limits::ROOT;
+use nfs_types::{Handle, MountCall, MountReply, Mounted, NumberList, Stamp, Status};
 use std::alloc::{AllocError, Global};
-
-// The handle of the root: number 1, made at no boot by no transaction.
-const ROOT_HANDLE: [u8; 20] = [0, 0, 0, 1, 0, 0, 0, 0, 0, 0, 0, 0, 0, 0, 0, 0, 0, 0, 0, 0];
 
 // The flavor of credentials that the server takes (RFC 5531, section 8.2).
 const AUTH_SYS: u32 = 1;
@@ -34,14 +32,18 @@ fn mounted(alloc: Global, path: &[u8]) -> Result<Result<Mounted, Status>, AllocE
     }
 }
 
-// The root, for credentials of AUTH_SYS alone.
+// The root, which no transaction made, for credentials of AUTH_SYS alone.
 fn root(alloc: Global) -> Result<Mounted, AllocError>
     ensures { IfOk result (λ root. root ≡ root_mounted) }
 {
+    let stamp = Stamp {
+        boot: 0,
+        transaction: 0,
+    };
+    let mut flavors = Vec::new(alloc);
+    flavors.push(AUTH_SYS)?;
     Ok(Mounted {
-        root: Handle {
-            bytes: Octets::copied(alloc, &ROOT_HANDLE)?,
-        },
-        flavors: NumberList::new([AUTH_SYS].to_vec(alloc)?),
+        root: Handle::of(alloc, ROOT, stamp)?,
+        flavors: NumberList::new(flavors),
     })
 }
