@@ -9,7 +9,7 @@ use Rattle.plain_session.specs.Serving.{AreAnswered, BeginsAnswered, Fails, IsCu
 use Rattle.plain_session.specs.declared.session.Progress.{Progress}
 
 -- a record takes bytes
-word-length : (number : ℕ) → length (spelled_word number) ≡ 4
+pub word-length : (number : ℕ) → length (spelled_word number) ≡ 4
 unfolding spelled_word
 word-length number = refl
 
