@@ -91,11 +91,12 @@ string_stands bound all bytes zeros rest short at four behind filled are =
     let long : length (drop 4 all) ≡ length bytes + (length zeros + length rest) =
     ap length behind ∙ simp length-append
     in
-    let long_after : length (behind_string all) ≡ length zeros + length rest = ap length after ∙ simp length-append in
-    (five _ _ _ _ _ four (grind (arith, nat_tests)) (grind (arith, nat_tests)) (grind (arith, nat_tests))
-    (ap (list_all (λ byte. nat_eq byte 0)) taken ∙ are),
-    ap (λ n. drop n (behind_string all)) count ∙ ap (λ (l : List ℕ). drop (length zeros) l) after
-    ∙ drop-append_seam zeros rest)
+    let long_after : length (behind_string all) ≡ length zeros + length rest = ap length after ∙ simp length-append in (
+      five _ _ _ _ _ four (grind (arith, nat_tests)) (grind (arith, nat_tests)) (grind (arith, nat_tests))
+          (ap (list_all (λ byte. nat_eq byte 0)) taken ∙ are),
+      ap (λ n. drop n (behind_string all)) count ∙ ap (λ (l : List ℕ). drop (length zeros) l) after
+          ∙ drop-append_seam zeros rest,
+    )
 
 string_all : (bound : ℕ) (bytes rest : List ℕ) → length bytes ≤ bound → length bytes < 2 ^ 32
     → (has_string bound (spelled_string bytes ++ rest) ≡ true)

@@ -1,4 +1,5 @@
 pub mod Calls
 pub mod Forms
 pub mod Lengths
+pub mod Spelled
 pub mod Words

@@ -6,6 +6,30 @@ use Rattle.limits.specs.declared.TheConstants.{MOST_HANDLE_BYTES}
 use Rattle.nfs_types.specs.declared.mount.TheConstants.{PATH_BYTES}
 use Rattle.plain_items.specs.Items.{behind_optional, behind_padding, has, has_optional, has_string, word_at}
 
+-- which bytes begin with something, and what stands behind it
+pub record Form : Type 0 where
+  pub begins : List ℕ → Bool
+  pub behind : List ℕ → List ℕ
+
+abbrev pub form : (List ℕ → Bool) → (List ℕ → List ℕ) → Form
+form begins behind = record { begins = begins; behind = behind }
+
+-- nothing, and what no bytes begin with
+abbrev pub nothing : Form
+nothing = form (λ bytes. true) (λ bytes. bytes)
+
+abbrev pub none : Form
+none = form (λ bytes. false) (λ bytes. bytes)
+
+-- one behind another
+abbrev pub both : Form → Form → Form
+both first second =
+    form (λ bytes. first.begins bytes && second.begins (first.behind bytes))
+    (λ bytes. second.behind (first.behind bytes))
+
+abbrev pub sized : ℕ → Form
+sized count = form (has count) (drop count)
+
 -- a string without a bound, but that of its length
 abbrev pub has_text : List ℕ → Bool
 has_text bytes = has_string (2 ^ 64 - 1) bytes
@@ -25,23 +49,23 @@ has_set_time bytes =
 unfoldable pub behind_set_time : List ℕ → List ℕ
 behind_set_time bytes = cond (nat_eq (word_at bytes) 2) (drop 8 (drop 4 bytes)) (drop 4 bytes)
 
--- the mode, the user, the group and the size that are set, each of which may be left out (`sattr3`)
-abbrev pub behind_owner : List ℕ → List ℕ
-behind_owner bytes = behind_optional 4 (behind_optional 4 (behind_optional 4 bytes))
+abbrev pub optional : ℕ → Form
+optional count = form (has_optional count) (behind_optional count)
 
-abbrev pub has_owner : List ℕ → Bool
-has_owner bytes =
-    has_optional 4 bytes && has_optional 4 (behind_optional 4 bytes)
-    && has_optional 4 (behind_optional 4 (behind_optional 4 bytes)) && has_optional 8 (behind_owner bytes)
+abbrev pub set_time : Form
+set_time = form has_set_time behind_set_time
 
--- and what is to become of two times
+-- the mode, the user, the group and the size that are set, each of which may be left out, and what is to become
+-- of two times (`sattr3`)
+abbrev pub settings : Form
+settings =
+    both (optional 4) (both (optional 4) (both (optional 4) (both (optional 8) (both set_time set_time))))
+
 unfoldable pub has_new_attributes : List ℕ → Bool
-has_new_attributes bytes =
-    has_owner bytes && has_set_time (behind_optional 8 (behind_owner bytes))
-    && has_set_time (behind_set_time (behind_optional 8 (behind_owner bytes)))
+has_new_attributes bytes = settings.begins bytes
 
 unfoldable pub behind_new_attributes : List ℕ → List ℕ
-behind_new_attributes bytes = behind_set_time (behind_set_time (behind_optional 8 (behind_owner bytes)))
+behind_new_attributes bytes = settings.behind bytes
 
 -- how a file is made: 0 or 1 and attributes, or 2 and a verifier (`createhow3`)
 unfoldable pub has_made : List ℕ → Bool
@@ -84,30 +108,6 @@ behind_special bytes = behind_special_of (word_at bytes) (drop 4 bytes)
 abbrev pub has_stability : List ℕ → Bool
 has_stability bytes = has 4 bytes && nat_lt (word_at bytes) 3
 
--- which bytes begin with something, and what stands behind it
-pub record Form : Type 0 where
-  pub begins : List ℕ → Bool
-  pub behind : List ℕ → List ℕ
-
-abbrev pub form : (List ℕ → Bool) → (List ℕ → List ℕ) → Form
-form begins behind = record { begins = begins; behind = behind }
-
--- nothing, and what no bytes begin with
-abbrev pub nothing : Form
-nothing = form (λ bytes. true) (λ bytes. bytes)
-
-abbrev pub none : Form
-none = form (λ bytes. false) (λ bytes. bytes)
-
--- one behind another
-abbrev pub both : Form → Form → Form
-both first second =
-    form (λ bytes. first.begins bytes && second.begins (first.behind bytes))
-    (λ bytes. second.behind (first.behind bytes))
-
-abbrev pub sized : ℕ → Form
-sized count = form (has count) (drop count)
-
 abbrev pub handle : Form
 handle = form (has_string MOST_HANDLE_BYTES) behind_padding
 
@@ -120,20 +120,23 @@ name = form has_name behind_name
 abbrev pub attributes : Form
 attributes = form has_new_attributes behind_new_attributes
 
-abbrev pub guard : Form
-guard = form (has_optional 8) (behind_optional 8)
-
 abbrev pub stability : Form
 stability = form has_stability (drop 4)
+
+abbrev pub made : Form
+made = form has_made behind_made
+
+abbrev pub special : Form
+special = form has_special behind_special
 
 -- the arguments of the procedures of NFS, from NULL on
 abbrev pub nfs_forms : List Form
 nfs_forms =
-    nothing ∷ handle ∷ both handle (both attributes guard) ∷ name ∷ both handle (sized 4) ∷ handle
+    nothing ∷ handle ∷ both handle (both attributes (optional 8)) ∷ name ∷ both handle (sized 4) ∷ handle
     ∷ both handle (both (sized 8) (sized 4))
     ∷ both handle (both (sized 8) (both (sized 4) (both stability text)))
-    ∷ both name (form has_made behind_made) ∷ both name attributes ∷ both name (both attributes text)
-    ∷ both name (form has_special behind_special) ∷ name ∷ name ∷ both name name ∷ both handle name
+    ∷ both name made ∷ both name attributes ∷ both name (both attributes text)
+    ∷ both name special ∷ name ∷ name ∷ both name name ∷ both handle name
     ∷ both handle (both (sized 8) (both (sized 8) (sized 4)))
     ∷ both handle (both (sized 8) (both (sized 8) (both (sized 4) (sized 4))))
     ∷ handle ∷ handle ∷ handle ∷ both handle (both (sized 8) (sized 4)) ∷ []
