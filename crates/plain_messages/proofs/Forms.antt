@@ -40,6 +40,20 @@ joined_three f g h a b c first second third =
     same_bytes (both f (both g h)) (a ++ (b ++ c)) ((a ++ b) ++ c) (sym (append_assoc a b c))
     (joined f (both g h) a (b ++ c) first (joined g h b c second third))
 
+pub joined_four : (f g h i : Form) (a b c d : List ℕ) → Begins f a → Begins g b → Begins h c → Begins i d
+    → Begins (both f (both g (both h i))) (((a ++ b) ++ c) ++ d)
+joined_four f g h i a b c d one two three four =
+    same_bytes (both f (both g (both h i))) (a ++ ((b ++ c) ++ d)) (((a ++ b) ++ c) ++ d) (simp append_assoc)
+    (joined f (both g (both h i)) a ((b ++ c) ++ d) one (joined_three g h i b c d two three four))
+
+pub joined_five : (f g h i j : Form) (a b c d e : List ℕ) → Begins f a → Begins g b → Begins h c → Begins i d
+    → Begins j e → Begins (both f (both g (both h (both i j)))) ((((a ++ b) ++ c) ++ d) ++ e)
+joined_five f g h i j a b c d e one two three four five =
+    same_bytes (both f (both g (both h (both i j)))) (a ++ (((b ++ c) ++ d) ++ e)) ((((a ++ b) ++ c) ++ d) ++ e)
+    (simp append_assoc)
+    (joined f (both g (both h (both i j))) a (((b ++ c) ++ d) ++ e) one
+    (joined_four g h i j b c d e two three four five))
+
 pub nothing_begins : Begins nothing []
 nothing_begins = record { found = λ rest. refl; left = λ rest. refl }
 
@@ -52,7 +66,7 @@ sized_begins count spelled long = record {
 pub word_begins : (number : ℕ) → Begins (sized 4) (spelled_word number)
 word_begins number = sized_begins 4 (spelled_word number) (length_word number)
 
-length_double : (number : ℕ) → length (spelled_double number) ≡ 8
+pub length_double : (number : ℕ) → length (spelled_double number) ≡ 8
 unfolding spelled_double
 length_double number = refl
 

@@ -1,6 +1,7 @@
 -- What is spelled can be read, part by part.
 use Rattle.std.proofs.Common.{◌≡◌, ℕ, ◌^◌, ◌<◌, ◌≤◌, ◌&&◌, Bool, List, [], ◌++◌, Option, Some, None, true, cond, ap, arith}
-use Rattle.std.proofs.Common.{append_assoc, drop, length, length-append, lit<, nat_eq, nat_lt, sym, ◌-◌, ◌∙◌}
+use Rattle.std.proofs.Common.{append_assoc, drop, length, length-append, lit<, nat_eq, nat_lt, refl, sym, ◌-◌, ◌∙◌}
+use Rattle.std.proofs.lemmas.Bool.Decides.{nat_tests}
 use Rattle.limits.specs.declared.TheConstants.{MOST_HANDLE_BYTES, RECORD_BYTES}
 use Rattle.nfs_types.specs.Fits.{CreateHowFits, DirectoryNameFits, HandleFits, SetTimeFits, TextFits, VerifierFits}
 use Rattle.nfs_types.specs.declared.attributes.DeviceNumber.{DeviceNumber}
@@ -23,7 +24,9 @@ use Rattle.plain_messages.specs.Arguments as spelled
 use Rattle.plain_messages.specs.Parts as parts
 use Rattle.plain_messages.specs.Readable as can
 use Rattle.plain_messages.specs.Readable.{both, sized}
-use Rattle.plain_messages.proofs.Forms.{Begins, joined, same_bytes, sized_begins, string_begins, word_begins, word_stands}
+use Rattle.plain_messages.proofs.Forms.{Begins, double_begins, joined, joined_five, joined_four}
+use Rattle.plain_messages.proofs.Forms.{joined_three, length_double, nothing_begins, same_bytes, sized_begins}
+use Rattle.plain_messages.proofs.Forms.{string_begins, word_begins, word_stands}
 use Rattle.plain_messages.proofs.Lengths.{length_word}
 
 -- what begins with a number can be read by the number and what stands behind it
@@ -95,3 +98,124 @@ set_time_begins (times.Client time) = record {
       led_by (λ h w d. cond (nat_eq w 2) (drop 8 d) d) 2 (parts.moment time) rest (lit< tt)
       ∙ (moment_begins time).left rest;
 }
+
+pub attributes_begin : (it : NewAttributes) → Begins can.attributes (spelled.new_attributes it)
+unfolding spelled.new_attributes can.has_new_attributes can.behind_new_attributes
+attributes_begin it =
+    let mode : List ℕ = spelled_optional spelled_word it.mode in
+    let uid : List ℕ = spelled_optional spelled_word it.uid in
+    let gid : List ℕ = spelled_optional spelled_word it.gid in
+    let size : List ℕ = spelled_optional spelled_double it.size in
+    let atime : List ℕ = spelled.set_time it.atime in
+    let mtime : List ℕ = spelled.set_time it.mtime in
+    let more : Begins (both (can.optional 4) (both (can.optional 4) (both (can.optional 8) (both can.set_time
+        can.set_time)))) ((((uid ++ gid) ++ size) ++ atime) ++ mtime) =
+    joined_five (can.optional 4) (can.optional 4) (can.optional 8) can.set_time can.set_time uid gid size atime
+        mtime
+    (optional_begins 4 spelled_word it.uid length_word) (optional_begins 4 spelled_word it.gid length_word)
+    (optional_begins 8 spelled_double it.size length_double) (set_time_begins it.atime) (set_time_begins it.mtime)
+    in
+    same_bytes can.settings (mode ++ ((((uid ++ gid) ++ size) ++ atime) ++ mtime))
+    (((((mode ++ uid) ++ gid) ++ size) ++ atime) ++ mtime) (simp append_assoc)
+    (joined (can.optional 4) (both (can.optional 4) (both (can.optional 4) (both (can.optional 8)
+        (both can.set_time can.set_time)))) mode ((((uid ++ gid) ++ size) ++ atime) ++ mtime)
+    (optional_begins 4 spelled_word it.mode length_word) more)
+
+pub verifier_begins : (it : Verifier) → VerifierFits it → Begins (sized 8) it.bytes
+verifier_begins it fits = sized_begins 8 it.bytes fits.count
+
+pub stability_begins : (it : Stability) → Begins can.stability (spelled_word (parts.stability_number it))
+stability_begins it =
+    let small : parts.stability_number it < 3 =
+    elim it as (λ s. parts.stability_number s < 3) [
+        stabilities.Unstable ↦ omega arith | stabilities.DataSync ↦ omega arith
+        | stabilities.FileSync ↦ omega arith ]
+    in
+    let number : ℕ = parts.stability_number it in
+    record {
+  found = λ rest.
+      led (λ h w d. h && nat_lt w 3) number rest (omega arith) ∙ (let is : nat_lt number 3 ≡ true = grind (arith, nat_tests) in is);
+  left = λ rest. (word_begins number).left rest;
+}
+
+made_begins : (it : CreateHow) → CreateHowFits it → Begins can.made (spelled.made it)
+unfolding can.has_made can.behind_made
+made_begins (hows.Unchecked wanted) fits = record {
+  found = λ rest.
+      led_by (λ h w d. h && nat_lt w 3 && cond (nat_eq w 2) (has 8 d) (can.has_new_attributes d)) 0
+      (spelled.new_attributes wanted) rest (lit< tt) ∙ (attributes_begin wanted).found rest;
+  left = λ rest.
+      led_by (λ h w d. cond (nat_eq w 2) (drop 8 d) (can.behind_new_attributes d)) 0
+      (spelled.new_attributes wanted) rest (lit< tt) ∙ (attributes_begin wanted).left rest;
+}
+made_begins (hows.Guarded wanted) fits = record {
+  found = λ rest.
+      led_by (λ h w d. h && nat_lt w 3 && cond (nat_eq w 2) (has 8 d) (can.has_new_attributes d)) 1
+      (spelled.new_attributes wanted) rest (lit< tt) ∙ (attributes_begin wanted).found rest;
+  left = λ rest.
+      led_by (λ h w d. cond (nat_eq w 2) (drop 8 d) (can.behind_new_attributes d)) 1
+      (spelled.new_attributes wanted) rest (lit< tt) ∙ (attributes_begin wanted).left rest;
+}
+made_begins (hows.Exclusive verifier) fits = record {
+  found = λ rest.
+      led_by (λ h w d. h && nat_lt w 3 && cond (nat_eq w 2) (has 8 d) (can.has_new_attributes d)) 2
+      verifier.bytes rest (lit< tt) ∙ (verifier_begins verifier fits).found rest;
+  left = λ rest.
+      led_by (λ h w d. cond (nat_eq w 2) (drop 8 d) (can.behind_new_attributes d)) 2
+      verifier.bytes rest (lit< tt) ∙ (verifier_begins verifier fits).left rest;
+}
+
+-- what stands behind the number of what MKNOD is to make
+special_led : (number : ℕ) (f : can.Form) (x : List ℕ) → number < 2 ^ 32
+    → ((rest : List ℕ) → can.has_special_of number rest ≡ f.begins rest)
+    → ((rest : List ℕ) → can.behind_special_of number rest ≡ f.behind rest)
+    → Begins f x → Begins can.special (spelled_word number ++ x)
+unfolding can.has_special can.behind_special
+special_led number f x fits has_same behind_same begins = record {
+  found = λ rest.
+      led_by (λ h w d. h && can.has_special_of w d) number x rest fits ∙ has_same (x ++ rest) ∙ begins.found rest;
+  left = λ rest.
+      led_by (λ h w d. can.behind_special_of w d) number x rest fits ∙ behind_same (x ++ rest) ∙ begins.left rest;
+}
+
+special_bare : (number : ℕ) → number < 2 ^ 32 → ((rest : List ℕ) → can.has_special_of number rest ≡ true)
+    → ((rest : List ℕ) → can.behind_special_of number rest ≡ rest)
+    → Begins can.special (spelled_word number)
+unfolding can.has_special can.behind_special
+special_bare number fits has_same behind_same = record {
+  found = λ rest. led (λ h w d. h && can.has_special_of w d) number rest fits ∙ has_same rest;
+  left = λ rest. led (λ h w d. can.behind_special_of w d) number rest fits ∙ behind_same rest;
+}
+
+device_begins : (it : DeviceNumber) → Begins (sized 8) (spelled.device it)
+device_begins it = sized_begins 8 (spelled.device it) (length_two it.major it.minor)
+
+device_led : (number : ℕ) (wanted : NewAttributes) (numbers : DeviceNumber) → number < 2 ^ 32
+    → ((rest : List ℕ) → can.has_special_of number rest ≡ (both can.attributes (sized 8)).begins rest)
+    → ((rest : List ℕ) → can.behind_special_of number rest ≡ (both can.attributes (sized 8)).behind rest)
+    → Begins can.special ((spelled_word number ++ spelled.new_attributes wanted) ++ spelled.device numbers)
+device_led number wanted numbers fits has_same behind_same =
+    let set : List ℕ = spelled.new_attributes wanted in
+    let both_begin : Begins (both can.attributes (sized 8)) (set ++ spelled.device numbers) =
+    joined can.attributes (sized 8) set (spelled.device numbers) (attributes_begin wanted) (device_begins numbers)
+    in
+    same_bytes can.special (spelled_word number ++ (set ++ spelled.device numbers))
+    ((spelled_word number ++ set) ++ spelled.device numbers)
+    (sym (append_assoc (spelled_word number) set (spelled.device numbers)))
+    (special_led number (both can.attributes (sized 8)) (set ++ spelled.device numbers) fits has_same behind_same
+    both_begin)
+
+special_begins : (it : SpecialFile) → Begins can.special (spelled.special it)
+special_begins specials.Regular = special_bare 1 (lit< tt) (λ rest. refl) (λ rest. refl)
+special_begins specials.Directory = special_bare 2 (lit< tt) (λ rest. refl) (λ rest. refl)
+special_begins (specials.BlockDevice wanted numbers) =
+    device_led 3 wanted numbers (lit< tt) (λ rest. refl) (λ rest. refl)
+special_begins (specials.CharacterDevice wanted numbers) =
+    device_led 4 wanted numbers (lit< tt) (λ rest. refl) (λ rest. refl)
+special_begins specials.Link = special_bare 5 (lit< tt) (λ rest. refl) (λ rest. refl)
+special_begins (specials.Socket wanted) =
+    special_led 6 can.attributes (spelled.new_attributes wanted) (lit< tt) (λ rest. refl) (λ rest. refl)
+    (attributes_begin wanted)
+special_begins (specials.Fifo wanted) =
+    special_led 7 can.attributes (spelled.new_attributes wanted) (lit< tt) (λ rest. refl) (λ rest. refl)
+    (attributes_begin wanted)
