@@ -1,13 +1,12 @@
 -- What is spelled is found at the beginning of bytes, and what stands behind it is left.
-use Rattle.std.proofs.Common.{◌≡◌, ℕ, ◌+◌, ◌^◌, ◌<◌, ◌≤◌, ◌&&◌, Bool, zero, suc, List, [], ◌∷◌, ◌++◌, Option, Some, None, true, ap, arith}
-use Rattle.std.proofs.Common.{append_assoc, drop, length, length-append, nat_eq, nat_le, refl, replicate, subst, sym}
+use Rattle.std.proofs.Common.{◌≡◌, ℕ, ◌+◌, ◌^◌, ◌<◌, ◌≤◌, ◌&&◌, Bool, zero, suc, List, [], ◌++◌, true, ap, arith}
+use Rattle.std.proofs.Common.{append_assoc, drop, length, length-append, nat_eq, refl, replicate, subst, sym}
 use Rattle.std.proofs.Common.{take, ◌∙◌}
 use Rattle.std.proofs.Math.Seq.{drop-append_seam, take-append_seam}
 use Rattle.std.proofs.lemmas.Bool.Decides.{nat_tests}
-use Rattle.std.proofs.lemmas.Grind.{common_steps}
 use Rattle.std.proofs.lemmas.List.{length-replicate}
 use Rattle.std.proofs.lemmas.Nat.{from_be_bytes-to_be_bytes_4}
-use Rattle.std.specs.Int.{w32, w64, from_be_bytes}
+use Rattle.std.specs.Int.{w32, from_be_bytes}
 use Rattle.std.specs.List.{list_all}
 use Rattle.plain_items.specs.Items.{behind_padding, behind_string, has, has_string, padding, word_at}
 use Rattle.plain_items.specs.Items.{spelled_double, spelled_string, spelled_word}

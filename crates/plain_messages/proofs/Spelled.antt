@@ -1,9 +1,9 @@
 -- What is spelled can be read, part by part.
-use Rattle.std.proofs.Common.{◌≡◌, ℕ, ◌^◌, ◌<◌, ◌≤◌, ◌&&◌, Bool, List, [], ◌++◌, Option, Some, None, true, cond, ap, arith}
+use Rattle.std.proofs.Common.{◌≡◌, ℕ, ◌^◌, ◌<◌, ◌&&◌, Bool, List, ◌++◌, Option, Some, None, true, cond, ap, arith}
 use Rattle.std.proofs.Common.{append_assoc, drop, length, length-append, lit<, nat_eq, nat_lt, refl, sym, ◌-◌, ◌∙◌}
 use Rattle.std.proofs.lemmas.Bool.Decides.{nat_tests}
-use Rattle.limits.specs.declared.TheConstants.{MOST_HANDLE_BYTES, RECORD_BYTES}
-use Rattle.nfs_types.specs.Fits.{CreateHowFits, DirectoryNameFits, HandleFits, SetTimeFits, TextFits, VerifierFits}
+use Rattle.limits.specs.declared.TheConstants.{MOST_HANDLE_BYTES}
+use Rattle.nfs_types.specs.Fits.{CreateHowFits, DirectoryNameFits, HandleFits, TextFits, VerifierFits}
 use Rattle.nfs_types.specs.declared.attributes.DeviceNumber.{DeviceNumber}
 use Rattle.nfs_types.specs.declared.attributes.NewAttributes.{NewAttributes}
 use Rattle.nfs_types.specs.declared.attributes.SetTime.{SetTime}
@@ -24,8 +24,8 @@ use Rattle.plain_messages.specs.Arguments as spelled
 use Rattle.plain_messages.specs.Parts as parts
 use Rattle.plain_messages.specs.Readable as can
 use Rattle.plain_messages.specs.Readable.{both, sized}
-use Rattle.plain_messages.proofs.Forms.{Begins, double_begins, joined, joined_five, joined_four}
-use Rattle.plain_messages.proofs.Forms.{joined_three, length_double, nothing_begins, same_bytes, sized_begins}
+use Rattle.plain_messages.proofs.Forms.{Begins, joined, joined_five}
+use Rattle.plain_messages.proofs.Forms.{length_double, same_bytes, sized_begins}
 use Rattle.plain_messages.proofs.Forms.{string_begins, word_begins, word_stands}
 use Rattle.plain_messages.proofs.Lengths.{length_word}
 
@@ -61,8 +61,11 @@ name_begins it fits =
 length_two : (a b : ℕ) → length (spelled_word a ++ spelled_word b) ≡ 8
 length_two a b = omega (arith, length-append (spelled_word a) (spelled_word b), length_word a, length_word b)
 
+pub length_moment : (it : Moment) → length (parts.moment it) ≡ 8
+length_moment it = length_two it.seconds it.nanoseconds
+
 pub moment_begins : (it : Moment) → Begins (sized 8) (parts.moment it)
-moment_begins it = sized_begins 8 (parts.moment it) (length_two it.seconds it.nanoseconds)
+moment_begins it = sized_begins 8 (parts.moment it) (length_moment it)
 
 pub optional_begins : {A : Type 0} (count : ℕ) (of : A → List ℕ) (it : Option A)
     → ((x : A) → length (of x) ≡ count) → Begins (can.optional count) (spelled_optional of it)
@@ -74,11 +77,11 @@ optional_begins count of None long = record {
 optional_begins count of (Some x) long =
     let item : Begins (sized count) (of x) = sized_begins count (of x) (long x) in
     record {
-  found = λ rest.
-      led_by (λ h w d. (h && nat_lt w 2) && cond (nat_eq w 1) (has count d) true) 1 (of x) rest (lit< tt)
-      ∙ item.found rest;
-  left = λ rest. led_by (λ h w d. cond (nat_eq w 1) (drop count d) d) 1 (of x) rest (lit< tt) ∙ item.left rest;
-}
+      found = λ rest.
+          led_by (λ h w d. (h && nat_lt w 2) && cond (nat_eq w 1) (has count d) true) 1 (of x) rest (lit< tt)
+          ∙ item.found rest;
+      left = λ rest. led_by (λ h w d. cond (nat_eq w 1) (drop count d) d) 1 (of x) rest (lit< tt) ∙ item.left rest;
+    }
 
 set_time_begins : (it : SetTime) → Begins can.set_time (spelled.set_time it)
 unfolding can.has_set_time can.behind_set_time
@@ -109,16 +112,16 @@ attributes_begin it =
     let atime : List ℕ = spelled.set_time it.atime in
     let mtime : List ℕ = spelled.set_time it.mtime in
     let more : Begins (both (can.optional 4) (both (can.optional 4) (both (can.optional 8) (both can.set_time
-        can.set_time)))) ((((uid ++ gid) ++ size) ++ atime) ++ mtime) =
+    can.set_time)))) ((((uid ++ gid) ++ size) ++ atime) ++ mtime) =
     joined_five (can.optional 4) (can.optional 4) (can.optional 8) can.set_time can.set_time uid gid size atime
-        mtime
+    mtime
     (optional_begins 4 spelled_word it.uid length_word) (optional_begins 4 spelled_word it.gid length_word)
     (optional_begins 8 spelled_double it.size length_double) (set_time_begins it.atime) (set_time_begins it.mtime)
     in
     same_bytes can.settings (mode ++ ((((uid ++ gid) ++ size) ++ atime) ++ mtime))
     (((((mode ++ uid) ++ gid) ++ size) ++ atime) ++ mtime) (simp append_assoc)
     (joined (can.optional 4) (both (can.optional 4) (both (can.optional 4) (both (can.optional 8)
-        (both can.set_time can.set_time)))) mode ((((uid ++ gid) ++ size) ++ atime) ++ mtime)
+    (both can.set_time can.set_time)))) mode ((((uid ++ gid) ++ size) ++ atime) ++ mtime)
     (optional_begins 4 spelled_word it.mode length_word) more)
 
 pub verifier_begins : (it : Verifier) → VerifierFits it → Begins (sized 8) it.bytes
@@ -128,17 +131,19 @@ pub stability_begins : (it : Stability) → Begins can.stability (spelled_word (
 stability_begins it =
     let small : parts.stability_number it < 3 =
     elim it as (λ s. parts.stability_number s < 3) [
-        stabilities.Unstable ↦ omega arith | stabilities.DataSync ↦ omega arith
-        | stabilities.FileSync ↦ omega arith ]
+      | stabilities.Unstable ↦ omega arith
+      | stabilities.DataSync ↦ omega arith
+      | stabilities.FileSync ↦ omega arith
+    ]
     in
     let number : ℕ = parts.stability_number it in
     record {
-  found = λ rest.
-      led (λ h w d. h && nat_lt w 3) number rest (omega arith) ∙ (let is : nat_lt number 3 ≡ true = grind (arith, nat_tests) in is);
-  left = λ rest. (word_begins number).left rest;
-}
+      found = λ rest.
+          led (λ h w d. h && nat_lt w 3) number rest (omega arith) ∙ (let is : nat_lt number 3 ≡ true = grind (arith, nat_tests) in is);
+      left = λ rest. (word_begins number).left rest;
+    }
 
-made_begins : (it : CreateHow) → CreateHowFits it → Begins can.made (spelled.made it)
+pub made_begins : (it : CreateHow) → CreateHowFits it → Begins can.made (spelled.made it)
 unfolding can.has_made can.behind_made
 made_begins (hows.Unchecked wanted) fits = record {
   found = λ rest.
@@ -205,7 +210,7 @@ device_led number wanted numbers fits has_same behind_same =
     (special_led number (both can.attributes (sized 8)) (set ++ spelled.device numbers) fits has_same behind_same
     both_begin)
 
-special_begins : (it : SpecialFile) → Begins can.special (spelled.special it)
+pub special_begins : (it : SpecialFile) → Begins can.special (spelled.special it)
 special_begins specials.Regular = special_bare 1 (lit< tt) (λ rest. refl) (λ rest. refl)
 special_begins specials.Directory = special_bare 2 (lit< tt) (λ rest. refl) (λ rest. refl)
 special_begins (specials.BlockDevice wanted numbers) =

@@ -1,9 +1,13 @@
 -- Which bytes begin with the arguments of a procedure, and what stands behind them (RFC 1813, sections 2.3 to
 -- 2.6, 3.3 and 5.2).
-use Rattle.std.specs.Prelude.{ℕ, ◌^◌, ◌-◌, ◌&&◌, ◌||◌, nat_eq, nat_lt, Bool, true, false, cond, List, [], ◌∷◌}
+use Rattle.std.specs.Prelude.{◌≡◌, ℕ, ◌^◌, ◌-◌, ◌&&◌, ◌||◌, nat_eq, nat_lt, Bool, true, false, cond, List, [], ◌∷◌}
 use Rattle.std.specs.Prelude.{drop, get_or, length}
 use Rattle.limits.specs.declared.TheConstants.{MOST_HANDLE_BYTES}
+use Rattle.nfs_types.specs.Fits.{CallFits, MountCallFits}
+use Rattle.nfs_types.specs.declared.call.Call.{Call}
+use Rattle.nfs_types.specs.declared.mount.MountCall.{MountCall}
 use Rattle.nfs_types.specs.declared.mount.TheConstants.{PATH_BYTES}
+use Rattle.plain_messages.specs.Arguments.{mount_arguments, mount_procedure, nfs_arguments, nfs_procedure}
 use Rattle.plain_items.specs.Items.{behind_optional, behind_padding, has, has_optional, has_string, word_at}
 
 -- which bytes begin with something, and what stands behind it
@@ -160,3 +164,13 @@ abbrev pub has_mount_arguments : ℕ → List ℕ → Bool
 has_mount_arguments procedure bytes =
     cond (nat_eq procedure 0) (nat_eq (length bytes) 0)
     ((nat_eq procedure 1 || nat_eq procedure 3) && has_path bytes)
+
+-- no call of this number is spelled so
+abbrev pub SpellsNoCall : ℕ → List ℕ → Type 0
+SpellsNoCall procedure bytes =
+    (call : Call) → CallFits call → nfs_procedure call ≡ procedure → bytes ≡ nfs_arguments call → ⊥
+
+abbrev pub SpellsNoMountCall : ℕ → List ℕ → Type 0
+SpellsNoMountCall procedure bytes =
+    (call : MountCall) → MountCallFits call → mount_procedure call ≡ procedure → bytes ≡ mount_arguments call
+    → ⊥
