@@ -3,7 +3,7 @@ ghost use Rattle.std.specs.Prelude.{◌≡◌, ◌<◌, ◌≤◌, ◌++◌, fal
 ghost use Rattle.plain_items.specs.declared.fault.ReadFault.TheVariants as fault;
 ghost use Rattle.plain_messages.specs.Arguments.{made, nfs_arguments, nfs_procedure, special};
 ghost use Rattle.plain_messages.specs.Readable.{behind_call, behind_made, behind_special, has_call, has_made};
-ghost use Rattle.plain_messages.specs.Readable.{has_nfs_arguments, has_special};
+ghost use Rattle.plain_messages.specs.Readable.{SpellsNoCall, has_nfs_arguments, has_special};
 
 use crate::parts::{
     read_device, read_guard, read_handle, read_name, read_new_attributes, read_stability,
@@ -16,6 +16,17 @@ use std::alloc::Global;
 /// The call of a procedure whose arguments these are, to the last byte. A number from 22 on has no
 /// procedure, and no arguments of it can be read.
 pub fn read_nfs_call(alloc: Global, procedure: u32, bytes: &[u8]) -> Result<Call, ReadFault>
+    ensures spelled { IfOk result (λ call. bytes.now ≡ nfs_arguments call) }
+    ensures known { OnOk result (has_nfs_arguments procedure bytes.now ≡ true) }
+    ensures unreadable { result ≡ Err fault.Unreadable → has_nfs_arguments procedure bytes.now ≡ false }
+    ensures unspelled { result ≡ Err fault.Unreadable → SpellsNoCall procedure bytes.now }
+    ensures number { IfOk result (λ call. nfs_procedure call ≡ procedure) }
+{
+    read_whole(alloc, procedure, bytes)
+}
+
+// The same, by what can be read alone.
+fn read_whole(alloc: Global, procedure: u32, bytes: &[u8]) -> Result<Call, ReadFault>
     ensures spelled { IfOk result (λ call. bytes.now ≡ nfs_arguments call) }
     ensures known { OnOk result (has_nfs_arguments procedure bytes.now ≡ true) }
     ensures unreadable { result ≡ Err fault.Unreadable → has_nfs_arguments procedure bytes.now ≡ false }

@@ -4,7 +4,7 @@ ghost use Rattle.plain_items.specs.Items.{behind_padding, has_string, spelled_st
 ghost use Rattle.plain_items.specs.declared.fault.PutFault.TheVariants as fault;
 ghost use Rattle.plain_items.specs.declared.fault.ReadFault.TheVariants as read;
 ghost use Rattle.plain_messages.specs.Arguments.{mount_arguments, mount_procedure};
-ghost use Rattle.plain_messages.specs.Readable.{has_mount_arguments};
+ghost use Rattle.plain_messages.specs.Readable.{SpellsNoMountCall, has_mount_arguments};
 ghost use Rattle.plain_messages.specs.Results.{mount_result, mounted as given};
 
 use crate::replying::put_words;
@@ -17,6 +17,17 @@ use std::alloc::Global;
 /// The call of a procedure whose arguments these are, to the last byte. Of no other number than 0, 1 and 3
 /// arguments can be read.
 pub fn read_mount_call(alloc: Global, procedure: u32, bytes: &[u8]) -> Result<MountCall, ReadFault>
+    ensures spelled { IfOk result (λ call. bytes.now ≡ mount_arguments call) }
+    ensures known { OnOk result (has_mount_arguments procedure bytes.now ≡ true) }
+    ensures unreadable { result ≡ Err read.Unreadable → has_mount_arguments procedure bytes.now ≡ false }
+    ensures unspelled { result ≡ Err read.Unreadable → SpellsNoMountCall procedure bytes.now }
+    ensures number { IfOk result (λ call. mount_procedure call ≡ procedure) }
+{
+    read_whole(alloc, procedure, bytes)
+}
+
+// The same, by what can be read alone.
+fn read_whole(alloc: Global, procedure: u32, bytes: &[u8]) -> Result<MountCall, ReadFault>
     ensures spelled { IfOk result (λ call. bytes.now ≡ mount_arguments call) }
     ensures known { OnOk result (has_mount_arguments procedure bytes.now ≡ true) }
     ensures unreadable { result ≡ Err read.Unreadable → has_mount_arguments procedure bytes.now ≡ false }
