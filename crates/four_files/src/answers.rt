@@ -1,10 +1,11 @@
 //! With which status a call on the tree is answered.
 
 use crate::files::tree;
-use nfs_types::{Call, Credential, Ctx, Moment, NumberList, Reply, Status};
+use nfs_types::{Call, Credential, Ctx, NumberList, Reply, Status};
 use plain_server::PlainTree;
 use plain_steps::answer;
 use std::alloc::{AllocError, Global};
+use worked_messages::NOW;
 
 fn refused<A>(outcome: &Result<A, Status>) -> Option<Status> {
     match outcome {
@@ -41,18 +42,19 @@ fn status_of(reply: &Reply) -> Option<Status> {
     }
 }
 
-// A call of a user with group 200.
+/// A user of group 200.
+pub fn caller(alloc: Global, uid: u32) -> Credential {
+    Credential {
+        uid,
+        gid: 200,
+        gids: NumberList::new(Vec::new(alloc)),
+    }
+}
+
 fn called_by(alloc: Global, uid: u32) -> Ctx {
     Ctx {
-        credential: Credential {
-            uid,
-            gid: 200,
-            gids: NumberList::new(Vec::new(alloc)),
-        },
-        moment: Moment {
-            seconds: 2000,
-            nanoseconds: 5,
-        },
+        credential: caller(alloc, uid),
+        moment: NOW,
         boot: 1,
         transaction: 9,
     }

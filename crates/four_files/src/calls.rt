@@ -1,10 +1,10 @@
 //! Calls of each procedure. A file or a directory is given by its number, and its stamp is all zeros.
 
-use crate::files::STAMP;
 use nfs_types::{
     Call, CreateHow, DirectoryName, Handle, Moment, NewAttributes, Octets, SetTime, SpecialFile,
     Stability, Verifier,
 };
+use small_tree::handle_of;
 use std::alloc::{AllocError, Global};
 
 /// A time with a second of nanoseconds.
@@ -13,33 +13,14 @@ pub const NO_TIME: SetTime = SetTime::Client(Moment {
     nanoseconds: 1_000_000_000,
 });
 
-/// Attributes that set nothing.
-pub const NOTHING: NewAttributes = NewAttributes {
-    mode: None,
-    uid: None,
-    gid: None,
-    size: None,
-    atime: SetTime::Unchanged,
-    mtime: SetTime::Unchanged,
-};
-
-/// The verifier of a listing that begins.
-pub const ZEROS: Verifier = Verifier { bytes: [0; 8] };
-
-/// Another verifier.
-pub const ONES: Verifier = Verifier { bytes: [1; 8] };
-
 /// The handle of the file of a number.
 pub fn handle(alloc: Global, number: u32) -> Result<Handle, AllocError> {
-    Handle::of(alloc, number, STAMP)
+    handle_of(alloc, number, 0)
 }
 
-// A name in a directory.
+// A name in the directory of a number.
 fn place(alloc: Global, number: u32, name: &[u8]) -> Result<DirectoryName, AllocError> {
-    Ok(DirectoryName {
-        directory: handle(alloc, number)?,
-        name: Octets::copied(alloc, name)?,
-    })
+    small_tree::place(alloc, number, 0, name)
 }
 
 /// A GETATTR.

@@ -1,17 +1,13 @@
 //! The tree of four files.
 
-use nfs_types::{Moment, Octets, Stamp};
+use nfs_types::{Octets, Stamp};
 use plain_server::{MappedIndexes, NumberedNode, PlainBody, PlainNames, PlainNode, PlainTree};
+use small_tree::{set_links, set_root};
 use std::alloc::{AllocError, Global};
+use worked_messages::MADE;
 
-/// When the files were made.
-pub const MADE: Moment = Moment {
-    seconds: 1000,
-    nanoseconds: 0,
-};
-
-/// The stamp of each file.
-pub const STAMP: Stamp = Stamp {
+// The stamp of each file.
+const STAMP: Stamp = Stamp {
     boot: 0,
     transaction: 0,
 };
@@ -83,33 +79,13 @@ fn target(alloc: Global) -> Result<PlainBody, AllocError> {
     })
 }
 
-fn fill_root(tree: &mut PlainTree, body: PlainBody) {
-    if let Some(root) = tree.nodes.first_mut() {
-        root.node.nlink = 3;
-        root.node.body = body;
-    }
-}
-
 /// The tree of so many data blocks, of which the root and the link have one each.
 pub fn tree(alloc: Global, data_blocks: u32) -> Result<PlainTree, AllocError> {
     let mut tree = PlainTree::formatted(alloc, data_blocks, 64, MADE)?;
-    fill_root(&mut tree, names(alloc)?);
+    set_root(&mut tree, names(alloc)?);
+    set_links(&mut tree, 1, 3);
     tree.nodes.push(file(2, 7, 0o640, 1, no_bytes(alloc)))?;
     tree.nodes.push(file(3, 0, 0o755, 2, no_names(alloc)))?;
     tree.nodes.push(file(4, 7, 0o777, 1, target(alloc)?))?;
     Ok(tree)
-}
-
-/// Gives the root a mode.
-pub fn set_mode(tree: &mut PlainTree, mode: u32) {
-    if let Some(root) = tree.nodes.first_mut() {
-        root.node.mode = mode;
-    }
-}
-
-/// Gives the file of a number so many links.
-pub fn set_links(tree: &mut PlainTree, number: u32, links: u32) {
-    if let Some(file) = tree.nodes.iter_mut().find(|file| file.number == number) {
-        file.node.nlink = links;
-    }
 }

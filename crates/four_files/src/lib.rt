@@ -7,10 +7,10 @@ mod answers;
 mod calls;
 mod files;
 
-pub use answers::{is_answered, is_answered_once};
+pub use answers::{caller, is_answered, is_answered_once};
 pub use calls::{
-    NO_TIME, NOTHING, ONES, ZEROS, access, attributes, commit, create, guarded, handle, info,
-    limits, link, list, list_plus, look_up, make_directory, make_link, make_special, read,
-    read_link, remove, remove_directory, rename, set, space, write,
+    NO_TIME, access, attributes, commit, create, guarded, handle, info, limits, link, list,
+    list_plus, look_up, make_directory, make_link, make_special, read, read_link, remove,
+    remove_directory, rename, set, space, write,
 };
-pub use files::{MADE, set_links, set_mode, tree};
+pub use files::tree;

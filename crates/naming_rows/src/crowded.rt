@@ -87,7 +87,7 @@ fn the_33rd_and_the_257th_name(rt: HostRuntime) {
 // Whether the names of the slots below this one are removed.
 fn are_cleared(alloc: Global, tree: &mut PlainTree, end: u32) -> bool {
     for slot in 0..end {
-        if !is_removed(alloc, tree, 0, &digits(slot), Ok(())) {
+        if !is_removed(alloc, tree, &digits(slot), Ok(())) {
             return false;
         }
     }

@@ -1,35 +1,7 @@
 //! LINK on the small tree, up to 257 names in a directory.
 
-use nfs_types::Status;
-use plain_server::PlainTree;
-use small_tree::{
-    Done, are_linked, are_removed, handle_of, is_linked, is_removal_told, linked, set_links, tree,
-};
-use std::alloc::{AllocError, Global};
-
-// Whether a LINK of the file 2 with another stamp is answered so.
-fn is_stale_linked(alloc: Global, tree: &mut PlainTree, name: &[u8], wanted: Done) -> bool {
-    match handle_of(alloc, 2, 0) {
-        Ok(file) => match linked(alloc, tree, &file, name) {
-            Ok((answer, _)) => answer == wanted,
-            Err(_) => false,
-        },
-        Err(_) => false,
-    }
-}
-
-#[test]
-fn why_no_name_is_linked(rt: HostRuntime) -> Result<(), AllocError> {
-    let alloc = rt.alloc();
-    let mut tree = tree(alloc, 64)?;
-    assert!(rt; is_linked(alloc, &mut tree, 2, b"a", Err(Status::Exist)));
-    assert!(rt; is_linked(alloc, &mut tree, 1, b"a", Err(Status::Inval)));
-    assert!(rt; is_stale_linked(alloc, &mut tree, b"b", Err(Status::Stale)));
-    assert!(rt; is_linked(alloc, &mut tree, 2, b"b", Ok(())));
-    set_links(&mut tree, 2, 32_000);
-    assert!(rt; is_linked(alloc, &mut tree, 2, b"c", Err(Status::MLink)));
-    Ok(())
-}
+use small_tree::{are_linked, are_removed, is_removal_told, tree};
+use std::alloc::AllocError;
 
 #[test]
 fn a_directory_grows_by_blocks_of_32_names(rt: HostRuntime) -> Result<(), AllocError> {

@@ -4,14 +4,10 @@ use nfs_types::{ListedEntry, ListedEntryPlus, Status, Verifier};
 use plain_listing::{read_directory, read_directory_plus};
 use plain_server::PlainTree;
 use small_tree::{
-    are_linked, are_removed, called_by, handle_of, handle_of_new, is_directory_made, is_removed,
-    root, tree,
+    ONES, ZEROS, are_linked, are_removed, called_by, handle_of, handle_of_new, is_directory_made,
+    is_removed, root, tree,
 };
 use std::alloc::{AllocError, Global};
-
-const ZEROS: Verifier = Verifier { bytes: [0; 8] };
-
-const ONES: Verifier = Verifier { bytes: [1; 8] };
 
 // How many entries user 8 gets of the root, the cookie of the last, and whether none is left; or why none
 // is given.
@@ -164,19 +160,10 @@ fn is_stale(alloc: Global, tree: &PlainTree) -> bool {
 #[test]
 fn why_a_directory_is_not_listed(rt: HostRuntime) -> Result<(), AllocError> {
     let alloc = rt.alloc();
-    let mut tree = tree(alloc, 64)?;
+    let tree = tree(alloc, 64)?;
     assert!(rt; is_no_directory(alloc, &tree));
     assert!(rt; is_stale(alloc, &tree));
-    // mode 711: others may search the root, and not read it
-    set_root_mode(&mut tree, 0o711);
-    assert!(rt; is_listed_from(alloc, &tree, 3, ONES, 0, Err(Status::Acces)));
     Ok(())
-}
-
-fn set_root_mode(tree: &mut PlainTree, mode: u32) {
-    if let Some(root) = tree.nodes.first_mut() {
-        root.node.mode = mode;
-    }
 }
 
 // Whether the entry leads to the file of this number, and tells its attributes.
@@ -223,7 +210,7 @@ fn a_directory_that_lost_its_names_lists_two(rt: HostRuntime) -> Result<(), Allo
     // 33 names of two bytes or one, and the two dots
     assert!(rt; is_listed(alloc, &tree, 8192, Ok((35, 35, true))));
     assert!(rt; are_removed(alloc, &mut tree, 100, 132));
-    assert!(rt; is_removed(alloc, &mut tree, 0, b"a", Ok(())));
+    assert!(rt; is_removed(alloc, &mut tree, b"a", Ok(())));
     assert!(rt; is_listed(alloc, &tree, 160, Ok((2, 2, true))));
     Ok(())
 }

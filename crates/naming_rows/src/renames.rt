@@ -1,28 +1,27 @@
 //! RENAME on the small tree: the root of user 0 has mode 755 and the one name `a`, in its first
 //! slot, of the file 2.
 
-use nfs_types::{Ctx, DirectoryName, ListedEntry, Moment, Octets, Status, Verifier, WeakCacheData};
+use nfs_types::{Ctx, DirectoryName, ListedEntry, Moment, Status, WeakCacheData};
 use plain_listing::read_directory;
-use plain_procedures::{found, look_up};
+use plain_procedures::found;
 use plain_renaming::rename;
 use plain_server::PlainTree;
 use small_tree::{
-    Done, called_by, handle_of, handle_of_new, has_links, is_directory_made, is_linked, name_in,
-    root, set_links, tree,
+    Done, ZEROS, called_by, handle_of_new, has_links, is_directory_made, is_linked, leads_to,
+    name_in, place, root, set_links, tree,
 };
 use std::alloc::{AllocError, Global};
 
-// What a RENAME is answered from one directory to another, which are given by their numbers.
+// What a RENAME by user 0 is answered from one directory to another, which are given by their numbers.
 fn moved(
     alloc: Global,
     tree: &mut PlainTree,
-    uid: u32,
     from: u32,
     name: &[u8],
     to: u32,
     new_name: &[u8],
 ) -> Result<Done, AllocError> {
-    let ctx = called_by(alloc, uid);
+    let ctx = called_by(alloc, 0);
     let source = name_in(alloc, from, name)?;
     let target = name_in(alloc, to, new_name)?;
     Ok(rename(alloc, tree, &ctx, &source, &target)?.outcome)
@@ -38,7 +37,7 @@ fn is_moved(
     new_name: &[u8],
     wanted: Done,
 ) -> bool {
-    moved(alloc, tree, 0, from, name, to, new_name) == Ok(wanted)
+    moved(alloc, tree, from, name, to, new_name) == Ok(wanted)
 }
 
 // Whether a RENAME by user 0 within the root is answered so.
@@ -49,27 +48,7 @@ fn is_renamed(
     new_name: &[u8],
     wanted: Done,
 ) -> bool {
-    moved(alloc, tree, 0, 1, name, 1, new_name) == Ok(wanted)
-}
-
-// The number that a name in the directory of a number leads to.
-fn number_of(
-    alloc: Global,
-    tree: &PlainTree,
-    directory: u32,
-    name: &[u8],
-) -> Result<Option<u64>, AllocError> {
-    let ctx = called_by(alloc, 0);
-    let place = name_in(alloc, directory, name)?;
-    let answer = look_up(alloc, tree, &ctx, &place)?;
-    match &answer.outcome {
-        Ok(looked) => Ok(looked.attributes.map(|attributes| attributes.number)),
-        Err(_) => Ok(None),
-    }
-}
-
-fn leads_to(alloc: Global, tree: &PlainTree, directory: u32, name: &[u8], wanted: u64) -> bool {
-    number_of(alloc, tree, directory, name) == Ok(Some(wanted))
+    moved(alloc, tree, 1, name, 1, new_name) == Ok(wanted)
 }
 
 // The cookie of a name.
@@ -85,62 +64,16 @@ fn cookie_in(entries: &[ListedEntry], name: &[u8]) -> Option<u64> {
 // Whether the root lists a name with this cookie, or where none is given not at all.
 fn has_cookie(alloc: Global, tree: &PlainTree, name: &[u8], wanted: Option<u64>) -> bool {
     let ctx = called_by(alloc, 0);
-    let zeros = Verifier { bytes: [0; 8] };
     let Ok(root) = root(alloc) else {
         return false;
     };
-    match read_directory(alloc, tree, &ctx, &root, 0, &zeros, 4096) {
+    match read_directory(alloc, tree, &ctx, &root, 0, &ZEROS, 4096) {
         Ok(answer) => match &answer.outcome {
             Ok(listed) => cookie_in(listed.entries.as_slice(), name) == wanted,
             Err(_) => false,
         },
         Err(_) => false,
     }
-}
-
-#[test]
-fn why_no_name_is_changed(rt: HostRuntime) -> Result<(), AllocError> {
-    let alloc = rt.alloc();
-    let mut tree = tree(alloc, 64)?;
-    assert!(rt; is_renamed(alloc, &mut tree, b"", b"b", Err(Status::Acces)));
-    assert!(rt; is_renamed(alloc, &mut tree, b"x/y", b"b", Err(Status::Acces)));
-    assert!(rt; is_renamed(alloc, &mut tree, b"a", b"", Err(Status::Acces)));
-    assert!(rt; is_renamed(alloc, &mut tree, b".", b"b", Err(Status::Inval)));
-    assert!(rt; is_renamed(alloc, &mut tree, b"a", b"..", Err(Status::Inval)));
-    assert!(rt; is_renamed(alloc, &mut tree, b"b", b"..", Err(Status::Inval)));
-    assert!(rt; is_renamed(alloc, &mut tree, b"b", b"c", Err(Status::NoEnt)));
-    assert!(rt; is_renamed(alloc, &mut tree, b"a", b"b", Ok(())));
-    assert!(rt; is_renamed(alloc, &mut tree, b"a", b"c", Err(Status::NoEnt)));
-    Ok(())
-}
-
-#[test]
-fn why_no_long_name_is_changed(rt: HostRuntime) -> Result<(), AllocError> {
-    let alloc = rt.alloc();
-    let long = vec![in alloc; b'n'; 113]?;
-    let mut tree = tree(alloc, 64)?;
-    let long = long.as_slice();
-    assert!(rt; is_renamed(alloc, &mut tree, long, b"", Err(Status::NameTooLong)));
-    assert!(rt; is_renamed(alloc, &mut tree, b"a", long, Err(Status::NameTooLong)));
-    Ok(())
-}
-
-#[test]
-fn others_change_no_name(rt: HostRuntime) -> Result<(), AllocError> {
-    let alloc = rt.alloc();
-    let mut tree = tree(alloc, 64)?;
-    // others may not write in the root, whatever the names lead to
-    let refused = moved(alloc, &mut tree, 8, 1, b"b", 1, b".");
-    assert!(rt; refused == Ok(Err(Status::Acces)));
-    Ok(())
-}
-
-// A name in the directory of a handle.
-fn place(alloc: Global, number: u32, boot: u64, name: &[u8]) -> Result<DirectoryName, AllocError> {
-    Ok(DirectoryName {
-        directory: handle_of(alloc, number, boot)?,
-        name: Octets::copied(alloc, name)?,
-    })
 }
 
 // What a RENAME is answered, and whether each directory's attributes before and after it are told.

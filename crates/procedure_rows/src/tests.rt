@@ -1,16 +1,11 @@
 //! Calls on the small tree. A helper whose name asks something answers false also where memory is wanted.
 
-use nfs_types::{
-    Call, DirectoryName, FileSystemSpace, Handle, NewAttributes, Octets, Reply, Stability, Status,
-    Verifier,
-};
-use plain_procedures::{
-    Told, access, commit, file_system_info, file_system_space, look_up, path_limits, read,
-    read_link, write,
-};
+use nfs_types::{Call, NewAttributes, Reply, Stability, Status, Verifier};
+use plain_procedures::{Told, access, commit, read, write};
 use plain_server::{PlainTree, serve};
-use small_tree::{MADE, NOTHING_WANTED, called_by, handle_of, sizes, tree};
+use small_tree::{called_by, handle_of, leads_to, sizes, tree};
 use std::alloc::{AllocError, Global};
+use worked_procedures::UNSET;
 
 // What a WRITE is answered, and the size and the used bytes that are told with it.
 type Wrote = (Option<Status>, Option<(u64, u64)>);
@@ -114,7 +109,7 @@ fn is_sized(alloc: Global, tree: &mut PlainTree, size: u64) -> Result<bool, Allo
         object: handle_of(alloc, 2, 1)?,
         attributes: NewAttributes {
             size: Some(size),
-            ..NOTHING_WANTED
+            ..UNSET
         },
         guard: None,
     };
@@ -168,79 +163,13 @@ fn over_the_indirect_border(rt: HostRuntime) -> Result<(), AllocError> {
     Ok(())
 }
 
-// The number of the file that is found, or why none is.
-type Found = Result<Option<u64>, Status>;
-
-// What user 8 finds under a name in the file of a number.
-fn looked_up(
-    alloc: Global,
-    tree: &PlainTree,
-    number: u32,
-    boot: u64,
-    name: &[u8],
-) -> Result<Found, AllocError> {
-    let ctx = called_by(alloc, 8);
-    let place = DirectoryName {
-        directory: handle_of(alloc, number, boot)?,
-        name: Octets::copied(alloc, name)?,
-    };
-    let answer = look_up(alloc, tree, &ctx, &place)?;
-    match answer.outcome {
-        Ok(found) => Ok(Ok(found.attributes.map(|attributes| attributes.number))),
-        Err(status) => Ok(Err(status)),
-    }
-}
-
-fn is_found(
-    alloc: Global,
-    tree: &PlainTree,
-    number: u32,
-    boot: u64,
-    name: &[u8],
-    wanted: Found,
-) -> bool {
-    looked_up(alloc, tree, number, boot, name) == Ok(wanted)
-}
-
 #[test]
 fn names_that_are_looked_up(rt: HostRuntime) -> Result<(), AllocError> {
     let alloc = rt.alloc();
     let tree = tree(alloc, 64)?;
-    assert!(rt; is_found(alloc, &tree, 1, 0, b"a", Ok(Some(2))));
-    assert!(rt; is_found(alloc, &tree, 1, 0, b".", Ok(Some(1))));
-    assert!(rt; is_found(alloc, &tree, 1, 0, b"..", Ok(Some(1))));
-    assert!(rt; is_found(alloc, &tree, 1, 0, b"b", Err(Status::NoEnt)));
-    assert!(rt; is_found(alloc, &tree, 1, 0, b"", Err(Status::Acces)));
-    assert!(rt; is_found(alloc, &tree, 1, 0, b"x/y", Err(Status::Acces)));
-    Ok(())
-}
-
-// Whether a name of so many bytes is looked up so in the root.
-fn is_long_name_found(alloc: Global, tree: &PlainTree, bytes: usize, wanted: Found) -> bool {
-    match vec![in alloc; b'n'; bytes] {
-        Ok(name) => is_found(alloc, tree, 1, 0, name.as_slice(), wanted),
-        Err(_) => false,
-    }
-}
-
-#[test]
-fn long_names_that_are_looked_up(rt: HostRuntime) -> Result<(), AllocError> {
-    let alloc = rt.alloc();
-    let tree = tree(alloc, 64)?;
-    assert!(rt; is_long_name_found(alloc, &tree, 113, Err(Status::NameTooLong)));
-    assert!(rt; is_long_name_found(alloc, &tree, 112, Err(Status::NoEnt)));
-    Ok(())
-}
-
-#[test]
-fn handles_of_no_directory(rt: HostRuntime) -> Result<(), AllocError> {
-    let alloc = rt.alloc();
-    let tree = tree(alloc, 64)?;
-    assert!(rt; is_found(alloc, &tree, 2, 1, b"", Err(Status::NotDir)));
-    assert!(rt; is_found(alloc, &tree, 2, 0, b"a", Err(Status::Stale)));
-    assert!(rt; is_found(alloc, &tree, 3, 0, b"a", Err(Status::Stale)));
-    assert!(rt; is_found(alloc, &tree, 64, 0, b"a", Err(Status::BadHandle)));
-    assert!(rt; is_found(alloc, &tree, 0, 0, b"a", Err(Status::BadHandle)));
+    assert!(rt; leads_to(alloc, &tree, 1, b"a", 2));
+    assert!(rt; leads_to(alloc, &tree, 1, b".", 1));
+    assert!(rt; leads_to(alloc, &tree, 1, b"..", 1));
     Ok(())
 }
 
@@ -274,69 +203,11 @@ fn what_users_may_do(rt: HostRuntime) -> Result<(), AllocError> {
     Ok(())
 }
 
-fn is_info_told(tree: &PlainTree, root: &Handle) -> bool {
-    match file_system_info(tree, root).outcome {
-        Ok(info) => {
-            info.read_max == 32_768
-                && info.write_multiple == 4096
-                && info.directory_preferred == 8192
-                && info.largest_file == 4_227_072
-                && info.properties == 27
-        }
-        Err(_) => false,
-    }
-}
-
-fn are_limits_told(tree: &PlainTree, root: &Handle) -> bool {
-    match path_limits(tree, root).outcome {
-        Ok(limits) => limits.links == 32_000 && limits.name_bytes == 112,
-        Err(_) => false,
-    }
-}
-
-#[test]
-fn what_is_told_of_the_file_system(rt: HostRuntime) -> Result<(), AllocError> {
-    let alloc = rt.alloc();
-    let root = handle_of(alloc, 1, 0)?;
-    let tree = tree(alloc, 64)?;
-    assert!(rt; is_info_told(&tree, &root));
-    assert!(rt; are_limits_told(&tree, &root));
-    Ok(())
-}
-
-fn is_space(tree: &PlainTree, root: &Handle, wanted: FileSystemSpace) -> bool {
-    file_system_space(tree, root).outcome == Ok(wanted)
-}
-
-#[test]
-fn the_space_of_a_fresh_tree(rt: HostRuntime) -> Result<(), AllocError> {
-    let alloc = rt.alloc();
-    let root = handle_of(alloc, 1, 0)?;
-    let tree = PlainTree::formatted(alloc, 506, 64, MADE)?;
-    // 506 blocks of 4,096 bytes, all free; 63 numbers, of which the root has one
-    let wanted = FileSystemSpace {
-        total_bytes: 2_072_576,
-        free_bytes: 2_072_576,
-        available_bytes: 2_072_576,
-        total_files: 63,
-        free_files: 62,
-        available_files: 62,
-        unchanged_seconds: 0,
-    };
-    assert!(rt; is_space(&tree, &root, wanted));
-    Ok(())
-}
-
-// Whether a COMMIT of the file by a user is answered so.
-fn is_committed(
-    alloc: Global,
-    tree: &PlainTree,
-    uid: u32,
-    wanted: Result<Verifier, Status>,
-) -> bool {
-    let ctx = called_by(alloc, uid);
+// Whether a COMMIT of the file by its owner is answered so.
+fn is_committed(alloc: Global, tree: &PlainTree, wanted: Verifier) -> bool {
+    let ctx = called_by(alloc, 7);
     match handle_of(alloc, 2, 1) {
-        Ok(file) => commit(tree, &ctx, &file).outcome == wanted,
+        Ok(file) => commit(tree, &ctx, &file).outcome == Ok(wanted),
         Err(_) => false,
     }
 }
@@ -348,24 +219,6 @@ fn a_commit_tells_the_boot(rt: HostRuntime) -> Result<(), AllocError> {
     let boot = Verifier {
         bytes: [0, 0, 0, 0, 0, 0, 0, 1],
     };
-    assert!(rt; is_committed(alloc, &tree, 7, Ok(boot)));
-    assert!(rt; is_committed(alloc, &tree, 8, Err(Status::Acces)));
-    Ok(())
-}
-
-// Whether a READLINK is refused with INVAL.
-fn is_no_link(tree: &PlainTree, file: &Handle) -> bool {
-    match read_link(tree, file) {
-        Ok(answer) => matches!(&answer.outcome, Err(Status::Inval)),
-        Err(_) => false,
-    }
-}
-
-#[test]
-fn a_file_has_no_target(rt: HostRuntime) -> Result<(), AllocError> {
-    let alloc = rt.alloc();
-    let file = handle_of(alloc, 2, 1)?;
-    let tree = tree(alloc, 64)?;
-    assert!(rt; is_no_link(&tree, &file));
+    assert!(rt; is_committed(alloc, &tree, boot));
     Ok(())
 }

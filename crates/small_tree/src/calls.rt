@@ -1,11 +1,12 @@
 //! Calls that make, link and remove names on the small tree.
 
-use crate::trees::{NOTHING_WANTED, called_by, handle_of, sizes};
+use crate::trees::{called_by, handle_of, sizes};
 use nfs_types::{Created, DirectoryName, Handle, Octets, Stamp, Status};
 use plain_naming::{link, make_directory, remove};
-use plain_procedures::Changed;
+use plain_procedures::{Changed, look_up};
 use plain_server::PlainTree;
 use std::alloc::{AllocError, Global};
+use worked_procedures::UNSET;
 
 /// The number and the mode of what was made, or why nothing was.
 pub type Made = Result<(u64, u32), Status>;
@@ -41,6 +42,27 @@ pub fn name_in(alloc: Global, number: u32, name: &[u8]) -> Result<DirectoryName,
     })
 }
 
+// The number that a name in the directory of a number leads to, by user 8.
+fn number_of(
+    alloc: Global,
+    tree: &PlainTree,
+    directory: u32,
+    name: &[u8],
+) -> Result<Option<u64>, AllocError> {
+    let ctx = called_by(alloc, 8);
+    let place = name_in(alloc, directory, name)?;
+    let answer = look_up(alloc, tree, &ctx, &place)?;
+    match &answer.outcome {
+        Ok(looked) => Ok(looked.attributes.map(|attributes| attributes.number)),
+        Err(_) => Ok(None),
+    }
+}
+
+/// Whether user 8 finds a file under a name in the directory of a number.
+pub fn leads_to(alloc: Global, tree: &PlainTree, directory: u32, name: &[u8], wanted: u64) -> bool {
+    number_of(alloc, tree, directory, name) == Ok(Some(wanted))
+}
+
 /// The number and the mode that an answer tells.
 pub fn made(answer: Changed<Created>) -> Made {
     match answer.outcome {
@@ -55,22 +77,16 @@ pub fn made(answer: Changed<Created>) -> Made {
 /// What a call without a result is answered.
 pub type Done = Result<(), Status>;
 
-// What a removal of a name in the root is answered.
-fn removed(alloc: Global, tree: &mut PlainTree, uid: u32, name: &[u8]) -> Result<Done, AllocError> {
-    let ctx = called_by(alloc, uid);
+// What a removal by user 0 of a name in the root is answered.
+fn removed(alloc: Global, tree: &mut PlainTree, name: &[u8]) -> Result<Done, AllocError> {
+    let ctx = called_by(alloc, 0);
     let place = name_in(alloc, 1, name)?;
     Ok(remove(tree, &ctx, &place)?.outcome)
 }
 
-/// Whether a removal of a name in the root is answered so.
-pub fn is_removed(
-    alloc: Global,
-    tree: &mut PlainTree,
-    uid: u32,
-    name: &[u8],
-    wanted: Done,
-) -> bool {
-    removed(alloc, tree, uid, name) == Ok(wanted)
+/// Whether a removal by user 0 of a name in the root is answered so.
+pub fn is_removed(alloc: Global, tree: &mut PlainTree, name: &[u8], wanted: Done) -> bool {
+    removed(alloc, tree, name) == Ok(wanted)
 }
 
 /// Whether a removal by user 0 tells this size and these used bytes of the root.
@@ -99,7 +115,7 @@ fn directory_made(
 ) -> Result<Made, AllocError> {
     let ctx = called_by(alloc, 0);
     let place = name_in(alloc, number, name)?;
-    Ok(made(make_directory(alloc, tree, &ctx, &place, &NOTHING_WANTED)?))
+    Ok(made(make_directory(alloc, tree, &ctx, &place, &UNSET)?))
 }
 
 /// Whether a MKDIR by user 0 in the directory of a number is answered so.
@@ -119,18 +135,11 @@ pub fn has_links(tree: &PlainTree, number: u32, links: u32) -> bool {
     file.map(|file| file.node.nlink) == Some(links)
 }
 
-/// Gives the file of a number so many links.
-pub fn set_links(tree: &mut PlainTree, number: u32, links: u32) {
-    if let Some(file) = tree.nodes.iter_mut().find(|file| file.number == number) {
-        file.node.nlink = links;
-    }
-}
+// What a LINK by user 0 is answered, and the size and the used bytes of its directory.
+type Linked = (Done, Option<(u64, u64)>);
 
-/// What a LINK by user 0 is answered, and the size and the used bytes of its directory.
-pub type Linked = (Done, Option<(u64, u64)>);
-
-/// A LINK of a file to a name in the root.
-pub fn linked(
+// A LINK of a file to a name in the root.
+fn linked(
     alloc: Global,
     tree: &mut PlainTree,
     file: &Handle,
@@ -198,7 +207,7 @@ pub fn are_linked(
 /// Whether the names `x` with a byte of this range are removed.
 pub fn are_removed(alloc: Global, tree: &mut PlainTree, from: u8, end: u8) -> bool {
     for second in from..end {
-        if !is_removed(alloc, tree, 0, &[b'x', second], Ok(())) {
+        if !is_removed(alloc, tree, &[b'x', second], Ok(())) {
             return false;
         }
     }

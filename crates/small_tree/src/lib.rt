@@ -7,8 +7,9 @@ mod calls;
 mod trees;
 
 pub use calls::{
-    Done, Linked, Made, are_linked, are_removed, handle_at, handle_of_new, has_links,
-    is_directory_made, is_link_told, is_linked, is_removal_told, is_removed, linked, made, name_in,
-    root, set_links,
+    Done, Made, are_linked, are_removed, handle_at, handle_of_new, has_links, is_directory_made,
+    is_link_told, is_linked, is_removal_told, is_removed, leads_to, made, name_in, root,
 };
-pub use trees::{MADE, NOTHING_WANTED, add_file, called_by, handle_of, set_root, sizes, tree};
+pub use trees::{
+    ONES, ZEROS, add_file, called_by, handle_of, place, set_links, set_mode, set_root, sizes, tree,
+};

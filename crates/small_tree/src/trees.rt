@@ -1,33 +1,17 @@
 //! The small tree, and its handles.
 
 use nfs_types::{
-    Credential, Ctx, Handle, Moment, NewAttributes, NumberList, Octets, SetTime, Stamp,
-    WeakCacheData,
+    Credential, Ctx, DirectoryName, Handle, NumberList, Octets, Stamp, Verifier, WeakCacheData,
 };
 use plain_server::{MappedIndexes, NumberedNode, PlainBody, PlainNames, PlainNode, PlainTree};
 use std::alloc::{AllocError, Global};
+use worked_messages::{MADE, NOW};
 
-/// When the root and the file 2 were made.
-pub const MADE: Moment = Moment {
-    seconds: 1000,
-    nanoseconds: 0,
-};
+/// The verifier of a listing that begins.
+pub const ZEROS: Verifier = Verifier { bytes: [0; 8] };
 
-// When calls come.
-const NOW: Moment = Moment {
-    seconds: 2000,
-    nanoseconds: 5,
-};
-
-/// Attributes that set nothing.
-pub const NOTHING_WANTED: NewAttributes = NewAttributes {
-    mode: None,
-    uid: None,
-    gid: None,
-    size: None,
-    atime: SetTime::Unchanged,
-    mtime: SetTime::Unchanged,
-};
+/// Another verifier.
+pub const ONES: Verifier = Verifier { bytes: [1; 8] };
 
 /// Whose call it is, and when it comes.
 pub fn called_by(alloc: Global, uid: u32) -> Ctx {
@@ -50,6 +34,19 @@ pub fn handle_of(alloc: Global, number: u32, boot: u64) -> Result<Handle, AllocE
         transaction: 0,
     };
     Handle::of(alloc, number, stamp)
+}
+
+/// A name in the directory of such a handle.
+pub fn place(
+    alloc: Global,
+    number: u32,
+    boot: u64,
+    name: &[u8],
+) -> Result<DirectoryName, AllocError> {
+    Ok(DirectoryName {
+        directory: handle_of(alloc, number, boot)?,
+        name: Octets::copied(alloc, name)?,
+    })
 }
 
 // An empty file that its owner may read and write, its group read, and others nothing.
@@ -107,6 +104,20 @@ pub fn tree(alloc: Global, data_blocks: u32) -> Result<PlainTree, AllocError> {
     set_root(&mut tree, names(alloc)?);
     add_file(alloc, &mut tree, 2)?;
     Ok(tree)
+}
+
+/// Gives the root a mode.
+pub fn set_mode(tree: &mut PlainTree, mode: u32) {
+    if let Some(root) = tree.nodes.first_mut() {
+        root.node.mode = mode;
+    }
+}
+
+/// Gives the file of a number so many links.
+pub fn set_links(tree: &mut PlainTree, number: u32, links: u32) {
+    if let Some(file) = tree.nodes.iter_mut().find(|file| file.number == number) {
+        file.node.nlink = links;
+    }
 }
 
 /// The size and the used bytes that are told after a change.

@@ -1,11 +1,13 @@
 //! The statuses of the procedures on one file.
 
 use four_files::{
-    MADE, NO_TIME, NOTHING, access, attributes, commit, info, is_answered, is_answered_once,
-    limits, read, read_link, set, space, tree, write,
+    NO_TIME, access, attributes, commit, info, is_answered, is_answered_once, limits, read,
+    read_link, set, space, tree, write,
 };
 use nfs_types::{Moment, NewAttributes, SetTime, Status};
 use std::alloc::{AllocError, Global};
+use worked_messages::MADE;
+use worked_procedures::UNSET;
 
 // Whether a SETATTR of the file of a number is answered so.
 fn is_set(
@@ -21,12 +23,12 @@ fn is_set(
 fn sized(size: u64) -> NewAttributes {
     NewAttributes {
         size: Some(size),
-        ..NOTHING
+        ..UNSET
     }
 }
 
 fn timed(mtime: SetTime) -> NewAttributes {
-    NewAttributes { mtime, ..NOTHING }
+    NewAttributes { mtime, ..UNSET }
 }
 
 #[test]
@@ -38,7 +40,7 @@ fn what_a_guard_says(rt: HostRuntime) {
     };
     let refused = set(alloc, 2, timed(NO_TIME), Some(other));
     assert!(rt; is_answered_once(alloc, 8, refused, Some(Status::NotSync)));
-    let kept = set(alloc, 2, NOTHING, Some(MADE));
+    let kept = set(alloc, 2, UNSET, Some(MADE));
     assert!(rt; is_answered_once(alloc, 8, kept, None));
 }
 
@@ -47,11 +49,11 @@ fn why_no_attribute_is_set(rt: HostRuntime) {
     let alloc = rt.alloc();
     let mode = NewAttributes {
         mode: Some(0),
-        ..NOTHING
+        ..UNSET
     };
     let given = NewAttributes {
         uid: Some(8),
-        ..NOTHING
+        ..UNSET
     };
     assert!(rt; is_set(alloc, 8, 2, timed(NO_TIME), Some(Status::Inval)));
     assert!(rt; is_set(alloc, 8, 2, mode, Some(Status::Perm)));

@@ -1,18 +1,20 @@
 //! Each procedure on a handle that names no file, and those on directories on a file.
 
 use four_files::{
-    NOTHING, ZEROS, access, attributes, commit, guarded, info, is_answered_once, limits, link,
-    list, list_plus, look_up, make_directory, make_link, make_special, read, read_link, remove,
-    remove_directory, rename, set, space, write,
+    access, attributes, commit, guarded, info, is_answered_once, limits, link, list, list_plus,
+    look_up, make_directory, make_link, make_special, read, read_link, remove, remove_directory,
+    rename, set, space, write,
 };
-use nfs_types::{SpecialFile, Status};
-use std::alloc::Global;
+use nfs_types::{Call, SpecialFile, Status};
+use small_tree::{ZEROS, handle_of, place};
+use std::alloc::{AllocError, Global};
+use worked_procedures::UNSET;
 
 // Whether the procedures on one file answer so to user 0.
 fn files_answer(alloc: Global, number: u32, status: Status) -> bool {
     let wanted = Some(status);
     is_answered_once(alloc, 0, attributes(alloc, number), wanted)
-        && is_answered_once(alloc, 0, set(alloc, number, NOTHING, None), wanted)
+        && is_answered_once(alloc, 0, set(alloc, number, UNSET, None), wanted)
         && is_answered_once(alloc, 0, access(alloc, number, 63), wanted)
         && is_answered_once(alloc, 0, read_link(alloc, number), wanted)
         && is_answered_once(alloc, 0, read(alloc, number), wanted)
@@ -32,19 +34,9 @@ fn systems_answer(alloc: Global, number: u32, status: Status) -> bool {
 fn names_answer(alloc: Global, number: u32, status: Status) -> bool {
     let wanted = Some(status);
     is_answered_once(alloc, 0, look_up(alloc, number, b""), wanted)
-        && is_answered_once(alloc, 0, guarded(alloc, number, b"", NOTHING), wanted)
-        && is_answered_once(
-            alloc,
-            0,
-            make_directory(alloc, number, b"", NOTHING),
-            wanted,
-        )
-        && is_answered_once(
-            alloc,
-            0,
-            make_link(alloc, number, b"", NOTHING, b"t"),
-            wanted,
-        )
+        && is_answered_once(alloc, 0, guarded(alloc, number, b"", UNSET), wanted)
+        && is_answered_once(alloc, 0, make_directory(alloc, number, b"", UNSET), wanted)
+        && is_answered_once(alloc, 0, make_link(alloc, number, b"", UNSET, b"t"), wanted)
         && is_answered_once(alloc, 0, remove(alloc, number, b""), wanted)
         && is_answered_once(alloc, 0, remove_directory(alloc, number, b""), wanted)
 }
@@ -75,6 +67,29 @@ fn a_free_number_is_stale(rt: HostRuntime) {
     assert!(rt; names_answer(alloc, 5, Status::Stale));
     assert!(rt; directories_answer(alloc, 5, Status::Stale));
     assert!(rt; others_answer(alloc, 5, Status::Stale));
+}
+
+// A LOOKUP in the file 2 with another stamp.
+fn look_up_with_another_stamp(alloc: Global) -> Result<Call, AllocError> {
+    Ok(Call::Lookup {
+        name: place(alloc, 2, 1, b"a")?,
+    })
+}
+
+// A LINK of the file 2 with another stamp.
+fn link_with_another_stamp(alloc: Global) -> Result<Call, AllocError> {
+    Ok(Call::Link {
+        file: handle_of(alloc, 2, 1)?,
+        name: place(alloc, 1, 0, b"b")?,
+    })
+}
+
+#[test]
+fn another_stamp_is_stale(rt: HostRuntime) {
+    let alloc = rt.alloc();
+    let stale = Some(Status::Stale);
+    assert!(rt; is_answered_once(alloc, 0, look_up_with_another_stamp(alloc), stale));
+    assert!(rt; is_answered_once(alloc, 0, link_with_another_stamp(alloc), stale));
 }
 
 #[test]

@@ -1,8 +1,9 @@
 //! The statuses of READDIR and READDIRPLUS.
 
-use four_files::{ONES, ZEROS, is_answered, list, list_plus, set_mode, tree};
+use four_files::{is_answered, list, list_plus, tree};
 use nfs_types::{Status, Verifier};
 use plain_server::PlainTree;
+use small_tree::{ONES, ZEROS, set_mode};
 use std::alloc::{AllocError, Global};
 
 // Whether a READDIR of the root by user 8 is answered so.
