@@ -8,7 +8,7 @@ use Rattle.nfs_types.specs.declared.program.ProgramCall.{ProgramCall}
 use Rattle.nfs_types.specs.declared.program.ProgramCall.TheVariants as programs
 use Rattle.plain_items.specs.Items.{behind_padding, has, has_string, string_at, word_at}
 use Rattle.plain_messages.specs.Arguments.{mount_arguments, mount_procedure, nfs_arguments, nfs_procedure}
-use Rattle.plain_messages.specs.Readable.{has_mount_arguments, has_nfs_arguments}
+use Rattle.plain_messages.specs.Readable.{SpellsNoCall, SpellsNoMountCall, has_mount_arguments, has_nfs_arguments}
 use Rattle.plain_messages.specs.Refused.{words}
 use Rattle.plain_messages.specs.declared.refusal.PlainRefusal.{PlainRefusal}
 use Rattle.plain_messages.specs.declared.refusal.PlainRefusal.TheVariants as refusal
@@ -101,6 +101,12 @@ has_arguments program procedure arguments =
     cond (nat_eq program 100003) (has_nfs_arguments procedure arguments)
     (has_mount_arguments procedure arguments)
 
+-- no call of the procedure is spelled so
+abbrev pub SpellsNone : ℕ → ℕ → List ℕ → Type 0
+SpellsNone program procedure arguments =
+    (program ≡ 100003 → SpellsNoCall procedure arguments)
+    × (program ≡ 100005 → SpellsNoMountCall procedure arguments)
+
 -- A refusal is that of the first of these tests that fails: the credential, the program, its version, the
 -- procedure, the arguments. An allocation may fail at the credential or at the arguments.
 abbrev pub Refuses : ℕ → List ℕ → ℕ → ℕ → ℕ → List ℕ → PlainRefusal → Type 0
@@ -117,7 +123,7 @@ Refuses flavor body program version procedure arguments refusal.Procedure =
     × (has_procedure program procedure ≡ false)
 Refuses flavor body program version procedure arguments refusal.Arguments =
     (has_caller flavor body ≡ true) × (version ≡ 3) × (has_procedure program procedure ≡ true)
-    × (has_arguments program procedure arguments ≡ false)
+    × (has_arguments program procedure arguments ≡ false) × SpellsNone program procedure arguments
 Refuses flavor body program version procedure arguments refusal.System = flavor < 2
 
 -- the same of a header
