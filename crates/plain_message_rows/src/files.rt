@@ -3,254 +3,64 @@
 //! 3.3.20.
 
 use crate::answered::is_answered;
+use std::alloc::{AllocError, Global};
 use std::test::Fail;
 use worked_messages::LOOKUP;
 
-// A name that isn't there: NOENT, and the attributes of the directory.
-const MISSING: [u32; 30] = [
-    0x8000_0074,
-    1,
-    1,
-    0,
-    0,
-    0,
-    0,
-    2,
-    1,
-    2,
-    493,
-    2,
-    0,
-    0,
-    0,
-    0,
-    0,
-    0,
-    0,
-    0,
-    0,
-    1,
-    0,
-    1,
-    1000,
-    0,
-    1000,
-    0,
-    1000,
-    0,
+// What a reply begins with behind its mark and its number: it is one that was accepted.
+const ACCEPTED: [u32; 5] = [1, 0, 0, 0, 0];
+
+// The attributes of the root, which are there.
+const ROOT: [u32; 22] = [
+    1, 2, 493, 2, 0, 0, 0, 0, 0, 0, 0, 0, 0, 1, 0, 1, 1000, 0, 1000, 0, 1000, 0,
 ];
 
+// A name that isn't there: NOENT, and the attributes of the directory.
 #[test]
 fn lookup_of_a_missing_name(rt: HostRuntime) -> Result<(), Fail> {
-    assert!(rt; is_answered(rt.alloc(), &[&LOOKUP], &[&MISSING], 0)?);
+    let missing: [&[u32]; 4] = [&[0x8000_0074, 1], &ACCEPTED, &[2], &ROOT];
+    assert!(rt; is_answered(rt.alloc(), &[&LOOKUP], &missing, 0)?);
     Ok(())
 }
 
-const FSSTAT: [u32; 17] = [
-    0x8000_0040,
-    3,
-    0,
-    2,
-    100_003,
-    3,
-    18,
-    0,
-    0,
-    0,
-    0,
-    20,
-    1,
-    0,
-    0,
-    0,
-    0,
-];
+// A call behind its mark, as far as its procedure: its number is 3.
+const CALL: [u32; 6] = [0x8000_0040, 3, 0, 2, 100_003, 3];
+
+// Nobody's credential, no verifier, and the handle of the root.
+const OF_ROOT: [u32; 10] = [0, 0, 0, 0, 20, 1, 0, 0, 0, 0];
+
+// Whether a procedure that tells of the file system is answered OK, with the attributes of the root and this.
+fn is_told(alloc: Global, procedure: u32, mark: u32, told: &[u32]) -> Result<bool, AllocError> {
+    let call: [&[u32]; 3] = [&CALL, &[procedure], &OF_ROOT];
+    let reply: [&[u32]; 5] = [&[mark, 3], &ACCEPTED, &[0], &ROOT, told];
+    is_answered(alloc, &call, &reply, 0)
+}
 
 // 506 blocks, all free; 63 files, of which 62 are free.
-const SPACE: [u32; 43] = [
-    0x8000_00a8,
-    3,
-    1,
-    0,
-    0,
-    0,
-    0,
-    0,
-    1,
-    2,
-    493,
-    2,
-    0,
-    0,
-    0,
-    0,
-    0,
-    0,
-    0,
-    0,
-    0,
-    1,
-    0,
-    1,
-    1000,
-    0,
-    1000,
-    0,
-    1000,
-    0,
-    0,
-    2_072_576,
-    0,
-    2_072_576,
-    0,
-    2_072_576,
-    0,
-    63,
-    0,
-    62,
-    0,
-    62,
-    0,
+const SPACE: [u32; 13] = [
+    0, 2_072_576, 0, 2_072_576, 0, 2_072_576, 0, 63, 0, 62, 0, 62, 0,
 ];
 
 #[test]
 fn space_of_a_fresh_image(rt: HostRuntime) -> Result<(), Fail> {
-    assert!(rt; is_answered(rt.alloc(), &[&FSSTAT], &[&SPACE], 0)?);
+    assert!(rt; is_told(rt.alloc(), 18, 0x8000_00a8, &SPACE)?);
     Ok(())
 }
 
-const FSINFO: [u32; 17] = [
-    0x8000_0040,
-    3,
-    0,
-    2,
-    100_003,
-    3,
-    19,
-    0,
-    0,
-    0,
-    0,
-    20,
-    1,
-    0,
-    0,
-    0,
-    0,
-];
-
-const INFO: [u32; 42] = [
-    0x8000_00a4,
-    3,
-    1,
-    0,
-    0,
-    0,
-    0,
-    0,
-    1,
-    2,
-    493,
-    2,
-    0,
-    0,
-    0,
-    0,
-    0,
-    0,
-    0,
-    0,
-    0,
-    1,
-    0,
-    1,
-    1000,
-    0,
-    1000,
-    0,
-    1000,
-    0,
-    32768,
-    32768,
-    4096,
-    32768,
-    32768,
-    4096,
-    8192,
-    0,
-    4_227_072,
-    0,
-    1,
-    27,
+const INFO: [u32; 12] = [
+    32768, 32768, 4096, 32768, 32768, 4096, 8192, 0, 4_227_072, 0, 1, 27,
 ];
 
 #[test]
 fn limits_of_transfers(rt: HostRuntime) -> Result<(), Fail> {
-    assert!(rt; is_answered(rt.alloc(), &[&FSINFO], &[&INFO], 0)?);
+    assert!(rt; is_told(rt.alloc(), 19, 0x8000_00a4, &INFO)?);
     Ok(())
 }
 
-const PATHCONF: [u32; 17] = [
-    0x8000_0040,
-    3,
-    0,
-    2,
-    100_003,
-    3,
-    20,
-    0,
-    0,
-    0,
-    0,
-    20,
-    1,
-    0,
-    0,
-    0,
-    0,
-];
-
-const LIMITS: [u32; 36] = [
-    0x8000_008c,
-    3,
-    1,
-    0,
-    0,
-    0,
-    0,
-    0,
-    1,
-    2,
-    493,
-    2,
-    0,
-    0,
-    0,
-    0,
-    0,
-    0,
-    0,
-    0,
-    0,
-    1,
-    0,
-    1,
-    1000,
-    0,
-    1000,
-    0,
-    1000,
-    0,
-    32000,
-    112,
-    1,
-    0,
-    0,
-    1,
-];
+const LIMITS: [u32; 6] = [32000, 112, 1, 0, 0, 1];
 
 #[test]
 fn limits_of_names(rt: HostRuntime) -> Result<(), Fail> {
-    assert!(rt; is_answered(rt.alloc(), &[&PATHCONF], &[&LIMITS], 0)?);
+    assert!(rt; is_told(rt.alloc(), 20, 0x8000_008c, &LIMITS)?);
     Ok(())
 }

@@ -11,4 +11,6 @@ mod files;
 #[cfg(test)]
 mod items;
 #[cfg(test)]
+mod same;
+#[cfg(test)]
 mod streams;
