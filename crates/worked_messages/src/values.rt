@@ -31,8 +31,8 @@ pub const FRESH_ROOT: Attributes = Attributes {
     ctime: MADE,
 };
 
-/// The root once its mode was set.
-pub const CHANGED_ROOT: Attributes = Attributes {
+// The root once its mode was set.
+const CHANGED_ROOT: Attributes = Attributes {
     mode: 448,
     ctime: NOW,
     ..FRESH_ROOT
