@@ -2,6 +2,12 @@
 //! tree in memory, by plain code, to compare another server with.
 #![tactic(auto)]
 
+ghost use Rattle.std.specs.Prelude.{◌≡◌, ◌<◌, ℕ, List, [], Option, Some, true, false, length, IfNone};
+ghost use Rattle.std.specs.Io.KnownBytes.{Appends};
+ghost use Rattle.plain_session.specs.Serving.{Ends, IsFed, Session, session_of};
+ghost use Rattle.plain_session.specs.declared.session.Progress.TheVariants as progress;
+ghost use Rattle.plain_once.specs.Attending.{IsAttended, IsDone};
+
 mod words;
 
 use crate::words::{Asked, parse};
@@ -59,7 +65,8 @@ fn read_arguments<R: Env + AllocGlobal>(rt: &R) -> Result<Option<Asked>, AllocEr
     Ok(parse(line.as_slice()))
 }
 
-// Answers the records of an input as they come, over at most so many reads, and gives the exit status.
+// Answers the records of an input as they come, over at most so many reads, and gives the exit status. It is
+// 0 only where the whole input is answered, and its replies are written.
 fn answer_input<R: Read, W: Write>(
     alloc: Global,
     session: &mut PlainSession,
@@ -67,8 +74,13 @@ fn answer_input<R: Read, W: Write>(
     writer: &mut W,
     piece: &mut [u8],
     most_reads: u64,
-) -> u8 {
-    for _ in 0..most_reads {
+) -> u8
+    requires { 0 < length piece.old }
+    ensures { (session_of session.old).is_closed ≡ false → result ≡ ENDED
+        → IsDone (session_of session.old) (session_of session.new) (R.remaining reader.old)
+        (R.remaining reader.new) (W.contents writer.old) (W.contents writer.new) }
+{
+    for _reads in 0..most_reads {
         if let Some(status) = answer_read(alloc, session, reader, writer, piece) {
             return status;
         }
@@ -83,7 +95,17 @@ fn answer_read<R: Read, W: Write>(
     reader: &mut R,
     writer: &mut W,
     piece: &mut [u8],
-) -> Option<u8> {
+) -> Option<u8>
+    requires { 0 < length piece.old }
+    ensures goes_on { (start : Session) (unread first : Option (List ℕ)) → IsAttended start
+        (session_of session.old) unread (R.remaining reader.old) first (W.contents writer.old)
+        → IfNone result (IsAttended start (session_of session.new) unread (R.remaining reader.new) first
+        (W.contents writer.new)) }
+    ensures ends { (start : Session) (unread first : Option (List ℕ)) → IsAttended start
+        (session_of session.old) unread (R.remaining reader.old) first (W.contents writer.old)
+        → result ≡ Some ENDED → IsDone start (session_of session.new) unread (R.remaining reader.new) first
+        (W.contents writer.new) }
+{
     match reader.read(piece) {
         Ok(0) => Some(status_at_the_end(session)),
         Ok(count) => {
@@ -98,7 +120,9 @@ fn answer_read<R: Read, W: Write>(
     }
 }
 
-fn status_at_the_end(session: &PlainSession) -> u8 {
+fn status_at_the_end(session: &PlainSession) -> u8
+    ensures { result ≡ ENDED → Ends (session_of session.now) progress.Open }
+{
     match session.end() {
         Progress::Open => ENDED,
         Progress::Closed => CLOSED,
@@ -111,7 +135,11 @@ fn answer_piece<W: Write>(
     session: &mut PlainSession,
     piece: &[u8],
     writer: &mut W,
-) -> bool {
+) -> bool
+    ensures { (session_of session.old).is_closed ≡ false → result ≡ true → (told : List ℕ)
+        × IsFed (session_of session.old) piece.now [] progress.Open told (session_of session.new)
+        × Appends (W.contents writer.old) (W.contents writer.new) told }
+{
     let mut replies = Vec::new(alloc);
     let is_open = feed(alloc, session, piece, &mut replies);
     let is_written = write_out(writer, replies.as_slice());
@@ -119,7 +147,11 @@ fn answer_piece<W: Write>(
 }
 
 // Takes the next bytes, and tells whether no fault came of it and the session is open.
-fn feed(alloc: Global, session: &mut PlainSession, piece: &[u8], replies: &mut Vec<u8>) -> bool {
+fn feed(alloc: Global, session: &mut PlainSession, piece: &[u8], replies: &mut Vec<u8>) -> bool
+    ensures { (session_of session.old).is_closed ≡ false → result ≡ true
+        → IsFed (session_of session.old) piece.now replies.old.items progress.Open replies.new.items
+        (session_of session.new) }
+{
     match session.feed(alloc, piece, replies) {
         Ok(Progress::Open) => true,
         Ok(Progress::Closed) | Err(_) => false,
@@ -127,7 +159,9 @@ fn feed(alloc: Global, session: &mut PlainSession, piece: &[u8], replies: &mut V
 }
 
 // Writes bytes to the last one, and tells whether no fault came of it.
-fn write_out<W: Write>(writer: &mut W, bytes: &[u8]) -> bool {
+fn write_out<W: Write>(writer: &mut W, bytes: &[u8]) -> bool
+    ensures { result ≡ true → Appends (W.contents writer.old) (W.contents writer.new) bytes.now }
+{
     match writer.write_all(bytes) {
         Ok(()) => writer.flush().is_ok(),
         Err(_) => false,

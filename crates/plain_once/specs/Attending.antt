@@ -1,0 +1,20 @@
+-- What is known while the records of an input are answered.
+use Rattle.std.specs.Prelude.{◌≡◌, ℕ, false, List, [], ◌++◌, Option}
+use Rattle.std.specs.Io.KnownBytes.{Appends, Consumes, IsAtEnd}
+use Rattle.plain_session.specs.Serving.{AreAnswered, Session}
+
+-- The records that are whole in what was read are answered, and their replies are written. Told are what is
+-- left of the input and what the output holds, before and now, where they are known.
+pub record IsAttended (start now : Session) (unread rest first written : Option (List ℕ)) : Type 0 where
+  pub read : List ℕ
+  pub replies : List ℕ
+  pub consumed : Consumes unread rest read
+  pub answered : AreAnswered start.files (start.unread ++ read) [] replies now.unread now.files
+  pub told : Appends first written replies
+  pub goes_on : now.is_closed ≡ false
+
+-- that is the whole input
+pub record IsDone (start now : Session) (unread rest first written : Option (List ℕ)) : Type 0 where
+  pub attended : IsAttended start now unread rest first written
+  pub all : now.unread ≡ []
+  pub at_end : IsAtEnd rest
