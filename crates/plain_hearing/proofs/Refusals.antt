@@ -1,7 +1,8 @@
 -- A refusal by the parts of a header is one of the bytes in which they stand.
 use Rattle.std.proofs.Common.{◌≡◌, ℕ, List, subst}
 use Rattle.plain_messages.specs.declared.refusal.PlainRefusal.{PlainRefusal}
-use Rattle.plain_hearing.specs.Headers.{Refuses, RefusesHeader, arguments_at, body_at, flavor_at, procedure_at}
+use Rattle.plain_hearing.specs.Headers.{Refuses, RefusesHeader, arguments_at, body_at, flavor_at}
+use Rattle.plain_hearing.specs.Headers.{procedure_at}
 use Rattle.plain_hearing.specs.Headers.{program_at, version_at}
 
 pub refuses_header : (rest : List ℕ) (why : PlainRefusal) (flavor : ℕ) (body : List ℕ)

@@ -1,6 +1,7 @@
 -- What stands in the header of a call (RFC 5531, section 9), where a record has one, and what it is refused
 -- for.
-use Rattle.std.specs.Prelude.{⊤, ◌≡◌, ◌≢◌, ◌⊎◌, ℕ, ◌+◌, ◌*◌, ◌<◌, ◌≤◌, ◌&&◌, ◌||◌, nat_eq, nat_le, nat_lt, Bool}
+use Rattle.std.specs.Prelude.{⊤, ◌≡◌, ◌≢◌, ◌⊎◌, ℕ, ◌+◌, ◌*◌, ◌<◌, ◌≤◌, ◌&&◌, ◌||◌, nat_eq, nat_le, nat_lt}
+use Rattle.std.specs.Prelude.{Bool}
 use Rattle.std.specs.Prelude.{true, false, cond, List, [], ◌∷◌, drop, length}
 use Rattle.limits.specs.declared.TheConstants.{MACHINE_NAME_BYTES, MOST_AUTH_BYTES, MOST_GIDS, NOBODY}
 use Rattle.nfs_types.specs.declared.ctx.Credential.{Credential}
@@ -8,7 +9,8 @@ use Rattle.nfs_types.specs.declared.program.ProgramCall.{ProgramCall}
 use Rattle.nfs_types.specs.declared.program.ProgramCall.TheVariants as programs
 use Rattle.plain_items.specs.Items.{behind_padding, has, has_string, string_at, word_at}
 use Rattle.plain_messages.specs.Arguments.{mount_arguments, mount_procedure, nfs_arguments, nfs_procedure}
-use Rattle.plain_messages.specs.Readable.{SpellsNoCall, SpellsNoMountCall, has_mount_arguments, has_nfs_arguments}
+use Rattle.plain_messages.specs.Readable.{SpellsNoCall, SpellsNoMountCall, has_mount_arguments}
+use Rattle.plain_messages.specs.Readable.{has_nfs_arguments}
 use Rattle.plain_messages.specs.Refused.{words}
 use Rattle.plain_messages.specs.declared.refusal.PlainRefusal.{PlainRefusal}
 use Rattle.plain_messages.specs.declared.refusal.PlainRefusal.TheVariants as refusal
@@ -62,8 +64,8 @@ pub record Names (flavor : ℕ) (body : List ℕ) (caller : Credential) : Type 0
   pub user : flavor ≡ 1 → behind_padding (drop 4 body)
       ≡ words (caller.uid ∷ caller.gid ∷ length caller.gids ∷ caller.gids)
 
--- Which bodies name a caller: for nobody an empty one. For AUTH_SYS one with a stamp, a machine's name, the user,
--- the group, and groups behind their count, to the last byte.
+-- Which bodies name a caller: for nobody an empty one. For AUTH_SYS one with a stamp, a machine's name, the
+-- user, the group, and groups behind their count, to the last byte.
 abbrev pub has_gids : List ℕ → Bool
 has_gids bytes = has 4 bytes && nat_le (word_at bytes) MOST_GIDS && has (4 * word_at bytes) (drop 4 bytes)
 

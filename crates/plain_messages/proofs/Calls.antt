@@ -9,21 +9,24 @@ use Rattle.plain_messages.specs.Readable.{nfs_forms, none}
 
 abbrev pub takes_handle : ℕ → Bool
 takes_handle procedure =
-    nat_eq procedure 1 || nat_eq procedure 5 || nat_eq procedure 18 || nat_eq procedure 19 || nat_eq procedure 20
+    nat_eq procedure 1 || nat_eq procedure 5 || nat_eq procedure 18 || nat_eq procedure 19
+    || nat_eq procedure 20
 
 abbrev pub takes_name : ℕ → Bool
 takes_name procedure = nat_eq procedure 3 || nat_eq procedure 12 || nat_eq procedure 13
 
 handle_form : (procedure : ℕ) → takes_handle procedure ≡ true → get_or nfs_forms procedure none ≡ handle
 handle_form procedure is =
-    let at : (number : ℕ) → procedure ≡ number → get_or nfs_forms procedure none ≡ get_or nfs_forms number none =
+    let at : (number : ℕ) → procedure ≡ number
+    → get_or nfs_forms procedure none ≡ get_or nfs_forms number none =
     λ number same. ap (λ n. get_or nfs_forms n none) same
     in
     grind (arith, nat_tests, at 1, at 5, at 18, at 19, at 20)
 
 name_form : (procedure : ℕ) → takes_name procedure ≡ true → get_or nfs_forms procedure none ≡ name
 name_form procedure is =
-    let at : (number : ℕ) → procedure ≡ number → get_or nfs_forms procedure none ≡ get_or nfs_forms number none =
+    let at : (number : ℕ) → procedure ≡ number
+    → get_or nfs_forms procedure none ≡ get_or nfs_forms number none =
     λ number same. ap (λ n. get_or nfs_forms n none) same
     in
     grind (arith, nat_tests, at 3, at 12, at 13)

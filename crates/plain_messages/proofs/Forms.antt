@@ -1,5 +1,6 @@
 -- What is spelled is found at the beginning of bytes, and what stands behind it is left.
-use Rattle.std.proofs.Common.{◌≡◌, ℕ, ◌+◌, ◌^◌, ◌<◌, ◌≤◌, ◌&&◌, Bool, zero, suc, List, [], ◌++◌, true, ap, arith}
+use Rattle.std.proofs.Common.{◌≡◌, ℕ, ◌+◌, ◌^◌, ◌<◌, ◌≤◌, ◌&&◌, Bool, zero, suc, List, [], ◌++◌, true, ap}
+use Rattle.std.proofs.Common.{arith}
 use Rattle.std.proofs.Common.{append_assoc, drop, length, length-append, nat_eq, refl, replicate, subst, sym}
 use Rattle.std.proofs.Common.{take, ◌∙◌}
 use Rattle.std.proofs.Math.Seq.{drop-append_seam, take-append_seam}
@@ -48,7 +49,8 @@ joined_four f g h i a b c d one two three four =
 pub joined_five : (f g h i j : Form) (a b c d e : List ℕ) → Begins f a → Begins g b → Begins h c → Begins i d
     → Begins j e → Begins (both f (both g (both h (both i j)))) ((((a ++ b) ++ c) ++ d) ++ e)
 joined_five f g h i j a b c d e one two three four five =
-    same_bytes (both f (both g (both h (both i j)))) (a ++ (((b ++ c) ++ d) ++ e)) ((((a ++ b) ++ c) ++ d) ++ e)
+    same_bytes (both f (both g (both h (both i j)))) (a ++ (((b ++ c) ++ d) ++ e))
+    ((((a ++ b) ++ c) ++ d) ++ e)
     (simp append_assoc)
     (joined f (both g (both h (both i j))) a (((b ++ c) ++ d) ++ e) one
     (joined_four g h i j b c d e two three four five))
@@ -72,10 +74,12 @@ length_double number = refl
 pub double_begins : (number : ℕ) → Begins (sized 8) (spelled_double number)
 double_begins number = sized_begins 8 (spelled_double number) (length_double number)
 
-pub word_stands : (number : ℕ) (rest : List ℕ) → number < 2 ^ 32 → word_at (spelled_word number ++ rest) ≡ number
+pub word_stands : (number : ℕ) (rest : List ℕ) → number < 2 ^ 32
+    → word_at (spelled_word number ++ rest) ≡ number
 unfolding spelled_word
 word_stands number rest fits =
-    ap (from_be_bytes w32) (take-append_seam (spelled_word number) rest) ∙ from_be_bytes-to_be_bytes_4 number fits
+    ap (from_be_bytes w32) (take-append_seam (spelled_word number) rest)
+    ∙ from_be_bytes-to_be_bytes_4 number fits
 
 are_zeros : (count : ℕ) → list_all (λ byte. nat_eq byte 0) (replicate count 0) ≡ true
 are_zeros zero = refl
@@ -104,7 +108,8 @@ string_stands bound all bytes zeros rest short at four behind filled are =
     let long : length (drop 4 all) ≡ length bytes + (length zeros + length rest) =
     ap length behind ∙ simp length-append
     in
-    let long_after : length (behind_string all) ≡ length zeros + length rest = ap length after ∙ simp length-append in (
+    let long_after : length (behind_string all) ≡ length zeros + length rest =
+    ap length after ∙ simp length-append in (
       five _ _ _ _ _ four (grind (arith, nat_tests)) (grind (arith, nat_tests)) (grind (arith, nat_tests))
           (ap (list_all (λ byte. nat_eq byte 0)) taken ∙ are),
       ap (λ n. drop n (behind_string all)) count ∙ ap (λ (l : List ℕ). drop (length zeros) l) after

@@ -1,6 +1,8 @@
 -- What is spelled can be read, part by part.
-use Rattle.std.proofs.Common.{◌≡◌, ℕ, ◌^◌, ◌<◌, ◌&&◌, Bool, List, ◌++◌, Option, Some, None, true, cond, ap, arith}
-use Rattle.std.proofs.Common.{append_assoc, drop, length, length-append, lit<, nat_eq, nat_lt, refl, sym, ◌-◌, ◌∙◌}
+use Rattle.std.proofs.Common.{◌≡◌, ℕ, ◌^◌, ◌<◌, ◌&&◌, Bool, List, ◌++◌, Option, Some, None, true, cond, ap}
+use Rattle.std.proofs.Common.{arith}
+use Rattle.std.proofs.Common.{append_assoc, drop, length, length-append, lit<, nat_eq, nat_lt, refl, sym}
+use Rattle.std.proofs.Common.{◌-◌, ◌∙◌}
 use Rattle.std.proofs.lemmas.Bool.Decides.{nat_tests}
 use Rattle.limits.specs.declared.TheConstants.{MOST_HANDLE_BYTES}
 use Rattle.nfs_types.specs.Fits.{CreateHowFits, DirectoryNameFits, HandleFits, TextFits, VerifierFits}
@@ -18,7 +20,8 @@ use Rattle.nfs_types.specs.declared.call.Stability.TheVariants as stabilities
 use Rattle.nfs_types.specs.declared.ctx.Moment.{Moment}
 use Rattle.nfs_types.specs.declared.handle.Handle.{Handle}
 use Rattle.nfs_types.specs.declared.verifier.Verifier.{Verifier}
-use Rattle.plain_items.specs.Items.{behind_optional, has, has_optional, spelled_double, spelled_optional, spelled_string}
+use Rattle.plain_items.specs.Items.{behind_optional, has, has_optional, spelled_double, spelled_optional}
+use Rattle.plain_items.specs.Items.{spelled_string}
 use Rattle.plain_items.specs.Items.{spelled_word, word_at}
 use Rattle.plain_messages.specs.Arguments as spelled
 use Rattle.plain_messages.specs.Parts as parts
@@ -80,7 +83,9 @@ optional_begins count of (Some x) long =
       found = λ rest.
           led_by (λ h w d. (h && nat_lt w 2) && cond (nat_eq w 1) (has count d) true) 1 (of x) rest (lit< tt)
           ∙ item.found rest;
-      left = λ rest. led_by (λ h w d. cond (nat_eq w 1) (drop count d) d) 1 (of x) rest (lit< tt) ∙ item.left rest;
+      left = λ rest.
+          led_by (λ h w d. cond (nat_eq w 1) (drop count d) d) 1 (of x) rest (lit< tt)
+          ∙ item.left rest;
     }
 
 set_time_begins : (it : SetTime) → Begins can.set_time (spelled.set_time it)
@@ -95,8 +100,8 @@ set_time_begins times.Server = record {
 }
 set_time_begins (times.Client time) = record {
   found = λ rest.
-      led_by (λ h w d. h && nat_lt w 3 && cond (nat_eq w 2) (has 8 d) true) 2 (parts.moment time) rest (lit< tt)
-      ∙ (moment_begins time).found rest;
+      led_by (λ h w d. h && nat_lt w 3 && cond (nat_eq w 2) (has 8 d) true) 2
+      (parts.moment time) rest (lit< tt) ∙ (moment_begins time).found rest;
   left = λ rest.
       led_by (λ h w d. cond (nat_eq w 2) (drop 8 d) d) 2 (parts.moment time) rest (lit< tt)
       ∙ (moment_begins time).left rest;
@@ -116,7 +121,8 @@ attributes_begin it =
     joined_five (can.optional 4) (can.optional 4) (can.optional 8) can.set_time can.set_time uid gid size atime
     mtime
     (optional_begins 4 spelled_word it.uid length_word) (optional_begins 4 spelled_word it.gid length_word)
-    (optional_begins 8 spelled_double it.size length_double) (set_time_begins it.atime) (set_time_begins it.mtime)
+    (optional_begins 8 spelled_double it.size length_double) (set_time_begins it.atime)
+    (set_time_begins it.mtime)
     in
     same_bytes can.settings (mode ++ ((((uid ++ gid) ++ size) ++ atime) ++ mtime))
     (((((mode ++ uid) ++ gid) ++ size) ++ atime) ++ mtime) (simp append_assoc)
@@ -139,7 +145,8 @@ stability_begins it =
     let number : ℕ = parts.stability_number it in
     record {
       found = λ rest.
-          led (λ h w d. h && nat_lt w 3) number rest (omega arith) ∙ (let is : nat_lt number 3 ≡ true = grind (arith, nat_tests) in is);
+          led (λ h w d. h && nat_lt w 3) number rest (omega arith)
+          ∙ (let is : nat_lt number 3 ≡ true = grind (arith, nat_tests) in is);
       left = λ rest. (word_begins number).left rest;
     }
 
@@ -178,9 +185,11 @@ special_led : (number : ℕ) (f : can.Form) (x : List ℕ) → number < 2 ^ 32
 unfolding can.has_special can.behind_special
 special_led number f x fits has_same behind_same begins = record {
   found = λ rest.
-      led_by (λ h w d. h && can.has_special_of w d) number x rest fits ∙ has_same (x ++ rest) ∙ begins.found rest;
+      led_by (λ h w d. h && can.has_special_of w d) number x rest fits ∙ has_same (x ++ rest)
+      ∙ begins.found rest;
   left = λ rest.
-      led_by (λ h w d. can.behind_special_of w d) number x rest fits ∙ behind_same (x ++ rest) ∙ begins.left rest;
+      led_by (λ h w d. can.behind_special_of w d) number x rest fits ∙ behind_same (x ++ rest)
+      ∙ begins.left rest;
 }
 
 special_bare : (number : ℕ) → number < 2 ^ 32 → ((rest : List ℕ) → can.has_special_of number rest ≡ true)
@@ -202,13 +211,14 @@ device_led : (number : ℕ) (wanted : NewAttributes) (numbers : DeviceNumber) �
 device_led number wanted numbers fits has_same behind_same =
     let set : List ℕ = spelled.new_attributes wanted in
     let both_begin : Begins (both can.attributes (sized 8)) (set ++ spelled.device numbers) =
-    joined can.attributes (sized 8) set (spelled.device numbers) (attributes_begin wanted) (device_begins numbers)
+    joined can.attributes (sized 8) set (spelled.device numbers) (attributes_begin wanted)
+    (device_begins numbers)
     in
     same_bytes can.special (spelled_word number ++ (set ++ spelled.device numbers))
     ((spelled_word number ++ set) ++ spelled.device numbers)
     (sym (append_assoc (spelled_word number) set (spelled.device numbers)))
-    (special_led number (both can.attributes (sized 8)) (set ++ spelled.device numbers) fits has_same behind_same
-    both_begin)
+    (special_led number (both can.attributes (sized 8)) (set ++ spelled.device numbers) fits has_same
+    behind_same both_begin)
 
 pub special_begins : (it : SpecialFile) → Begins can.special (spelled.special it)
 special_begins specials.Regular = special_bare 1 (lit< tt) (λ rest. refl) (λ rest. refl)

@@ -1,6 +1,7 @@
 -- Which bytes begin with the arguments of a procedure, and what stands behind them (RFC 1813, sections 2.3 to
 -- 2.6, 3.3 and 5.2).
-use Rattle.std.specs.Prelude.{◌≡◌, ℕ, ◌^◌, ◌-◌, ◌&&◌, ◌||◌, nat_eq, nat_lt, Bool, true, false, cond, List, [], ◌∷◌}
+use Rattle.std.specs.Prelude.{◌≡◌, ℕ, ◌^◌, ◌-◌, ◌&&◌, ◌||◌, nat_eq, nat_lt, Bool, true, false, cond, List}
+use Rattle.std.specs.Prelude.{[], ◌∷◌}
 use Rattle.std.specs.Prelude.{drop, get_or, length}
 use Rattle.limits.specs.declared.TheConstants.{MOST_HANDLE_BYTES}
 use Rattle.nfs_types.specs.Fits.{CallFits, MountCallFits}
@@ -59,8 +60,8 @@ optional count = form (has_optional count) (behind_optional count)
 abbrev pub set_time : Form
 set_time = form has_set_time behind_set_time
 
--- the mode, the user, the group and the size that are set, each of which may be left out, and what is to become
--- of two times (`sattr3`)
+-- the mode, the user, the group and the size that are set, each of which may be left out, and what is to
+-- become of two times (`sattr3`)
 abbrev pub settings : Form
 settings =
     both (optional 4) (both (optional 4) (both (optional 4) (both (optional 8) (both set_time set_time))))

@@ -1,7 +1,8 @@
 use Rattle.std.proofs.Common.{◌≡◌, ℕ, List, ap, arith, drop, inr, ◌∙◌}
 use Rattle.std.proofs.lemmas.Grind.{common_steps}
 use Rattle.plain_items.specs.Items.{word_at}
-use Rattle.plain_hearing.specs.Headers.{arguments_at, body_at, flavor_at, procedure_at, program_at, version_at}
+use Rattle.plain_hearing.specs.Headers.{arguments_at, body_at, flavor_at, procedure_at, program_at}
+use Rattle.plain_hearing.specs.Headers.{version_at}
 use Rattle.plain_hearing.proofs.Refusals.{refuses_header}
 use Rattle.plain_hearing.proofs.hearing.hear.Goals as goal
 
