@@ -1,6 +1,6 @@
 -- What follows from what the program did.
 use Rattle.std.proofs.Common.{◌≡◌, ◌∙◌, ℕ, ◌-◌, ◌⊎◌, ap, inl, inr, List, Option, Ok, Err, arith, refl, subst}
-use Rattle.std.proofs.Common.{sym}
+use Rattle.std.proofs.Common.{Result, sym}
 use Rattle.std.specs.Prelude.{IfErr, OnOk}
 use Rattle.std.specs.Io.KnownBytes.{Appends}
 use Rattle.clap.specs.Words.{Text}
@@ -11,7 +11,10 @@ use Rattle.nfsd_words.specs.declared.Args.TheVariants.{Format, Once}
 use Rattle.nfsd_words.specs.Words.{HasMeaning, WordsAsk}
 use Rattle.layout.specs.Geometry.{data_at}
 use Rattle.store_images.specs.Formatting.{HasFormatted}
-use Rattle.session.specs.Serving.{Client}
+use Rattle.nfs_types.specs.declared.ctx.Moment.{Moment}
+use Rattle.session.specs.Serving.{Client, HasServed}
+use Rattle.session.specs.declared.serving.SessionFault.{SessionFault}
+use Rattle.store_images.specs.Opening.{HasOpened, Opened}
 use Rattle.nfsd.specs.declared.fault.Fault.{Fault}
 use Rattle.nfsd.specs.declared.fault.Fault.TheVariants as fault
 use Rattle.nfsd.specs.Done.{Answers, DoesCommand, FormatsDevice, IsWithoutMemory, Obeys, Outcome}
@@ -50,6 +53,25 @@ prints old new inodes time count written written' outcome formatted printed prin
         (whole, subst (λ (n : ℕ). Appends written written' (formatted_line n inodes)) formatted.4 line)
     go (Err why) line print =
         subst (λ (f : Fault). FormatsDevice old inodes time written (Err f) new written') (sym print) whole
+
+-- what comes of a device by what came of serving
+abbrev pub outcome_of : Result ℕ SessionFault → Outcome
+outcome_of (Ok count) = Ok tt
+outcome_of (Err why) = Err (fault.Session why)
+
+-- a store was opened, and what came of serving the client from it is what comes of the device
+pub serves : (old new : Device) (time : ℕ) (client later : Client) (opened store : Opened) (moment : Moment)
+    (result : Result ℕ SessionFault) (outcome : Outcome)
+    → HasOpened old (Ok opened) → moment ≡ moment_at time → HasServed opened client moment result store later
+    → store.device ≡ new → outcome ≡ outcome_of result → ServesDevice old time client outcome new later
+serves old new time client later opened store moment result outcome opens at served left is =
+    subst (λ (o : Outcome). ServesDevice old time client o new later) (sym is)
+    (go result (subst (λ m. HasServed opened client m result store later) at served))
+  where
+    go : (result : Result ℕ SessionFault) → HasServed opened client (moment_at time) result store later
+        → ServesDevice old time client (outcome_of result) new later
+    go (Ok count) served = (opened, store, count, opens, served, left)
+    go (Err why) served = (opened, store, opens, served, left)
 
 -- the device of the image's file was formatted, so the command was done
 pub formats_command : (first : FirstContents) (image : _) (blocks inodes time : ℕ) (new : Device)
