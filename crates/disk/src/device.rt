@@ -45,6 +45,6 @@ pub trait CrashDisk {
         ensures failure { CountsFailure (device self.old) (device self.new) result }
         ensures model { keeps_model self.new → keeps_model self.old };
 
-    /// What it tells of are blocks.
+    /// Where it keeps its model, what it tells of are blocks.
     ghost whole: { (d : Self) → keeps_model d → AreBlocks (device d) };
 }

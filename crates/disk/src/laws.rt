@@ -10,7 +10,7 @@ ghost use Rattle.disk.specs.File.{Calls, EachFits, IsHonest, KeepsModel, first_i
 
 use crate::CrashDisk;
 
-/// What a device tells of are blocks, at each clock so far.
+/// Where a device keeps its model, what it tells of are blocks, at each clock so far.
 pub fn a_device_tells_of_blocks<D: CrashDisk>(disk: &D)
     ensures { D.keeps_model disk.now → AreBlocks (D.device disk.now) }
 {}

@@ -8,7 +8,7 @@ use Rattle.std.proofs.lemmas.Bool.Decides.{leb_tells, eqb_tells}
 use Rattle.std.proofs.lemmas.List.{get_or_append_left, get_or-append-add, get_or_past, length-replicate}
 use Rattle.std.proofs.lemmas.List.FromFn.{get_or-map-range_with_len, length-map-range_with_len}
 use Rattle.limits.specs.declared.TheConstants.{BITS_PER_BLOCK, BLOCK_BYTES, FIRST_HOME_BLOCK, INODE_BYTES}
-use Rattle.limits.specs.declared.TheConstants.{ROOT, SUPER_BLOCK}
+use Rattle.limits.specs.declared.TheConstants.{ROOT, ROOT_MODE, SUPER_BLOCK}
 use Rattle.nfs_types.specs.declared.ctx.Moment.{Moment}
 use Rattle.nfs_types.specs.Fits.{AreBytes}
 use Rattle.layout.specs.declared.geometry.Geometry.{Geometry}
@@ -105,7 +105,7 @@ module _ (moment : Moment) where
   inode_are : IsBytes inode
   unfolding head_bytes middle_bytes tail_bytes
   inode_are = join (join
-      (join (join (join (join (join (four 2) (four 493)) (four 0)) (four 0)) (four 2)) (four 0))
+      (join (join (join (join (join (four 2) (four ROOT_MODE)) (four 0)) (four 0)) (four 2)) (four 0))
       (join (join (join (join (join (eight 0) (join (four moment.seconds) (four moment.nanoseconds)))
       (join (four moment.seconds) (four moment.nanoseconds)))
       (join (four moment.seconds) (four moment.nanoseconds))) (eight 0)) (eight 0)))

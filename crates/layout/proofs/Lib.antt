@@ -14,8 +14,6 @@ pub mod Written
 pub mod WrittenBytes
 pub mod Retouched
 pub mod ChangedInode
-pub mod Marks
-pub mod OtherWrites
 pub mod Mapped
 pub mod Used
 pub mod FreshHomes

@@ -1,4 +1,4 @@
-//! Every number of the server that is a choice: limits, sizes and places of the format. No code and no proof
+//! The numbers of the server that are choices: limits, sizes and places of the format. No code and no proof
 //! repeats one of them.
 #![tactic(auto)]
 
@@ -122,7 +122,7 @@ pub const LISTING_FRAME: u32 = 104;
 pub const ENTRY_BYTES: u32 = 24;
 /// The bytes that an entry of READDIRPLUS takes, but for its name.
 pub const ENTRY_PLUS_BYTES: u32 = 140;
-/// The step of the server's clock, in nanoseconds.
+/// The step in which the server tells the time of day, in nanoseconds.
 pub const CLOCK_STEP: u32 = 1;
 
 // The sizes of sessions.

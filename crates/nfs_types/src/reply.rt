@@ -69,7 +69,7 @@ pub struct FileSystemSpace {
 }
 
 /// What FSINFO tells: greatest, preferred and least sizes of transfers in bytes, the largest file, the steps
-/// of the clock, and the properties as bits.
+/// in which times are kept, and the properties as bits.
 #[derive(Clone, Copy, Debug, PartialEq, Eq)]
 pub struct FileSystemInfo {
     pub read_max: u32,

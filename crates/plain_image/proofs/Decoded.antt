@@ -73,9 +73,6 @@ more_range a zero = ap (λ k. k ∷ []) (omega arith)
 more_range a (suc n) =
     ap (λ l. a ∷ l) (more_range (a + 1) n ∙ ap (λ k. range_with_len (a + 1) n ++ k ∷ []) (omega arith))
 
-pub none_below : (g : Geometry) (image : Image) → used_below g image 0 ≡ []
-none_below g image = refl
-
 pub one_below : (g : Geometry) (image : Image) (count : ℕ)
     → used_below g image (count + 1) ≡ used_below g image count ++ if_used g image count
 one_below g image count =

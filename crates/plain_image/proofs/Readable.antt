@@ -1,11 +1,10 @@
 -- What was read of an image's parts can be read of the image.
 use Rattle.std.proofs.Common.{◌≡◌, ℕ, ◌*◌, ◌/◌, ◌%◌, ◌<◌, ◌≤◌, sym, ap, ◌∙◌, refl, subst, Bool, true, false}
-use Rattle.std.proofs.Common.{◌&&◌, ◌||◌, nat_eq, nat_le, nat_lt, List, [], ◌∷◌, take, drop, get_or, length}
+use Rattle.std.proofs.Common.{◌&&◌, ◌||◌, nat_eq, nat_le, nat_lt, List, take, drop, get_or, length}
 use Rattle.std.proofs.Common.{All}
 use Rattle.std.proofs.Common.{IfErr, IsOk, Ok, Err, Result, arith, inr}
-use Rattle.std.specs.List.{list_all, AllByRecursion}
+use Rattle.std.specs.List.{list_all}
 use Rattle.std.proofs.lemmas.Bool.Decides.{nat_tests}
-use Rattle.std.proofs.lemmas.List.Elements.{All-from_recursion}
 use Rattle.std.proofs.lemmas.List.Folds.{list_all-append}
 use Rattle.std.proofs.lemmas.List.FromFn.{get_or-range_with_len, length-range_with_len}
 use Rattle.limits.specs.declared.TheConstants.{BLOCK_BYTES, INDIRECT_INDEXES, LARGEST_DIRECTORY}
@@ -83,18 +82,6 @@ module _ (g : Geometry) (size : ℕ) (fits : g.blocks ≤ size) where
 
   pub within : (number : ℕ) → is_data_block_or_none g number ≡ true → number < size
   within number place = within_as number (nat_eq number 0) (is_data g number) refl refl place
-
-  all_by_recursion : (numbers : List ℕ) → list_all (is_data_block_or_none g) numbers ≡ true
-      → AllByRecursion (λ number. number < size) numbers
-  all_by_recursion [] places = tt
-  all_by_recursion (number ∷ numbers) places =
-      let both = all_two (is_data_block_or_none g number) (list_all (is_data_block_or_none g) numbers) places in
-      (within number both.0, all_by_recursion numbers both.1)
-
-  pub all_within : (numbers : List ℕ) → list_all (is_data_block_or_none g) numbers ≡ true
-      → All (λ number. number < size) numbers
-  all_within numbers places = All-from_recursion (λ number. number < size) numbers
-      (all_by_recursion numbers places)
 
   pub far_within : (inode : Inode) → SoundInode g inode → inode.indirect < size
   far_within inode sound = within inode.indirect (maps g inode sound).1

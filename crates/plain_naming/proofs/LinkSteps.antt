@@ -1,19 +1,17 @@
 -- Steps of LINK, by which of its handles name files.
-use Rattle.std.proofs.Common.{◌≡◌, ℕ, sym, ap, ◌∙◌, refl, List, Option, Some, None, Result, Ok, Err}
+use Rattle.std.proofs.Common.{◌≡◌, ℕ, sym, ap, ◌∙◌, List, Option, Result, Ok}
 use Rattle.nfs_types.specs.declared.attributes.Attributes.{Attributes}
 use Rattle.nfs_types.specs.declared.attributes.WeakCacheAttributes.{WeakCacheAttributes}
 use Rattle.nfs_types.specs.declared.attributes.WeakCacheData.{WeakCacheData}
 use Rattle.nfs_types.specs.declared.ctx.Ctx.{Ctx}
 use Rattle.nfs_types.specs.declared.status.Status.{Status}
-use Rattle.model.proofs.Answered.{found-stands}
-use Rattle.model.specs.Attributes.{attributes_of, before_change, untold}
+use Rattle.model.specs.Attributes.{before_change}
 use Rattle.model.specs.Find.{find_file}
 use Rattle.model.specs.Node.{Node}
 use Rattle.model.specs.Tree.{Tree}
 use Rattle.procedures.specs.FirstTests.{after_first, found_then}
 use Rattle.procedures.specs.Link.{LinkStep, link}
 use Rattle.procedures.specs.Told.{Effect, answer_of, attributes_at, change_told, told_in, tree_after}
-use Rattle.std.specs.Option.{option_map}
 use Rattle.plain_procedures.specs.Effects.{told_since}
 
 -- what comes of a call by what its handles name
@@ -46,18 +44,3 @@ module _ (tree next : Tree) (ctx : Ctx) (file directory name : List ℕ) (outcom
       step (Ok found) (Ok parent) is other_is (answered ∙ ap answer_of linked) (leads
       ∙ ap (tree_after tree) linked) parts
       (directory_parts ∙ ap (λ b. told_since b parent.0 next) was)
-
-  pub names_no_file : (status : Status) → find_file tree file ≡ Err status → outcome ≡ Err status → next ≡ tree
-      → told ≡ None → directory_told ≡ untold
-      → LinkStep tree ctx file directory name outcome told directory_told next
-  names_no_file status is answered leads parts directory_parts =
-      step (Err status) (find_file tree directory) is refl answered leads parts directory_parts
-
-  pub names_no_directory : (found : ℕ × Node) (status : Status) → find_file tree file ≡ Ok found
-      → find_file tree directory ≡ Err status → outcome ≡ Err status → next ≡ tree
-      → told ≡ Some (attributes_of found.0 found.1) → directory_told ≡ untold
-      → LinkStep tree ctx file directory name outcome told directory_told next
-  names_no_directory found status is other_is answered leads parts directory_parts =
-      step (Ok found) (Err status) is other_is answered leads
-      (parts ∙ ap (option_map (attributes_of found.0)) (sym (found-stands tree file found is))
-      ∙ ap (λ t. attributes_at t found.0) (sym leads)) directory_parts

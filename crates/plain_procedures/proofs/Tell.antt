@@ -1,5 +1,5 @@
 -- Steps that only tell something, by whether the handle names a file.
-use Rattle.std.proofs.Common.{◌≡◌, ℕ, sym, ap, ◌∙◌, refl, List, Option, Some, None, Result, Ok, Err}
+use Rattle.std.proofs.Common.{◌≡◌, ℕ, sym, ap, ◌∙◌, refl, List, Option, Some, None, Result, Ok}
 use Rattle.std.specs.Option.{option_map}
 use Rattle.nfs_types.specs.Verifier.{boot_verifier}
 use Rattle.nfs_types.specs.declared.attributes.Attributes.{Attributes}
@@ -24,16 +24,6 @@ module _ {A : Type 0} (tree : Tree) (handle : List ℕ) where
     answered = told ∙ ap (λ f. found_then f tell) (sym is);
     parts = parts ∙ ap (option_map (attributes_of file.0)) (sym (found-stands tree handle file is))
         ∙ ap (told_in tree) (sym is);
-    unchanged = refl;
-  }
-
-  pub tells_none : (tell : ℕ → Node → Result A Status) (outcome : Result A Status)
-      (object : Option Attributes)
-      (status : Status) → find_file tree handle ≡ Err status → outcome ≡ Err status → object ≡ None
-      → Tells tree handle tell outcome object tree
-  tells_none tell outcome object status is told parts = record {
-    answered = told ∙ ap (λ f. found_then f tell) (sym is);
-    parts = parts ∙ ap (told_in tree) (sym is);
     unchanged = refl;
   }
 

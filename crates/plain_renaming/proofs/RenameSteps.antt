@@ -1,18 +1,16 @@
 -- Steps of RENAME, by which of its handles name files.
-use Rattle.std.proofs.Common.{◌≡◌, ℕ, sym, ap, ◌∙◌, refl, List, Some, Result, Ok, Err}
+use Rattle.std.proofs.Common.{◌≡◌, ℕ, sym, ap, ◌∙◌, List, Result, Ok}
 use Rattle.nfs_types.specs.declared.attributes.WeakCacheAttributes.{WeakCacheAttributes}
 use Rattle.nfs_types.specs.declared.attributes.WeakCacheData.{WeakCacheData}
 use Rattle.nfs_types.specs.declared.ctx.Ctx.{Ctx}
 use Rattle.nfs_types.specs.declared.status.Status.{Status}
-use Rattle.model.proofs.Answered.{found-stands}
-use Rattle.model.specs.Attributes.{attributes_of, before_change, change_of, untold}
+use Rattle.model.specs.Attributes.{before_change}
 use Rattle.model.specs.Find.{find_file}
 use Rattle.model.specs.Node.{Node}
 use Rattle.model.specs.Tree.{Tree}
 use Rattle.procedures.specs.FirstTests.{after_first, found_then}
 use Rattle.procedures.specs.Rename.{RenameStep, rename}
 use Rattle.procedures.specs.Told.{Effect, answer_of, change_told, tree_after}
-use Rattle.std.specs.Option.{option_map}
 use Rattle.plain_procedures.specs.Effects.{told_since}
 use Rattle.plain_renaming.specs.Moves.{place_in}
 
@@ -51,19 +49,3 @@ module _ (tree next : Tree) (ctx : Ctx) (from name to new_name : List ℕ) (outc
       step (Ok source) (Ok target) is other_is (answered ∙ ap answer_of renamed)
       (leads ∙ ap (tree_after tree) renamed) (parts ∙ ap (λ b. told_since b source.0 next) was)
       (new_parts ∙ ap (λ b. told_since b target.0 next) target_was)
-
-  pub names_no_source : (status : Status) → find_file tree from ≡ Err status → outcome ≡ Err status
-      → next ≡ tree → told ≡ untold → new_told ≡ untold
-      → RenameStep tree ctx from name to new_name outcome told new_told next
-  names_no_source status is answered leads parts new_parts =
-      step (Err status) (find_file tree to) is refl answered leads parts new_parts
-
-  pub names_no_target : (source : ℕ × Node) (status : Status) → find_file tree from ≡ Ok source
-      → find_file tree to ≡ Err status → outcome ≡ Err status → next ≡ tree
-      → told ≡ change_of source.0 source.1 source.1 → new_told ≡ untold
-      → RenameStep tree ctx from name to new_name outcome told new_told next
-  names_no_target source status is other_is answered leads parts new_parts =
-      step (Ok source) (Err status) is other_is answered leads (parts
-      ∙ ap (λ a. record { before = Some (before_change source.1); after = a })
-      (ap (option_map (attributes_of source.0)) (sym (found-stands tree from source is)))
-      ∙ ap (λ t. change_told t (Ok source)) (sym leads)) new_parts

@@ -88,6 +88,7 @@ impl Clone for PlainNode {
 }
 
 impl PlainBody {
+    /// What kind of file it is the body of.
     pub fn kind(&self) -> FileKind
         ensures { result ≡ kind_of (body_of self.now) }
     {

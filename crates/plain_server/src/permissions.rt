@@ -9,12 +9,14 @@ use crate::PlainNode;
 use limits::{GROUP_CLASS, OWNER_CLASS, WRITE_RIGHT};
 use nfs_types::Credential;
 
+/// Whether the caller has the user number 0, whom no permission stops.
 pub fn is_superuser(caller: &Credential) -> bool
     ensures { result ≡ is_superuser caller.now }
 {
     caller.uid == 0
 }
 
+/// Whether the caller is in the group, by its own number or by one of its further groups.
 pub fn is_own_group(caller: &Credential, gid: u32) -> bool
     ensures { result ≡ is_own_group caller.now gid }
 {

@@ -164,11 +164,6 @@ least_is_free body slot is =
 
 -- The directory stays sound.
 
-chosen_entry : (b : Bool) (new entry : DirectoryEntry) (o : Option DirectoryEntry) (P : DirectoryEntry → Type 0)
-    → P new → ((e : DirectoryEntry) → o ≡ Some e → P e) → cond b (Some new) o ≡ Some entry → P entry
-chosen_entry true new entry o P mine others is = let same : new ≡ entry = cc in subst P same mine
-chosen_entry false new entry o P mine others is = others entry is
-
 module _ (named : Entries) (span : ℕ) (name : List ℕ) (new : DirectoryEntry) (good : SoundEntries named span)
     (lawful : SoundName name) (slot : new.slot < SLOTS_PER_BLOCK * MOST_SPAN)
     (free : (other : List ℕ) (entry : DirectoryEntry) → get named other ≡ Some entry

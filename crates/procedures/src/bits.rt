@@ -23,5 +23,5 @@ pub const HAS_LINKS: u32 = 1;
 pub const HAS_SYMBOLIC_LINKS: u32 = 2;
 /// PATHCONF tells the same of each file.
 pub const IS_HOMOGENEOUS: u32 = 8;
-/// SETATTR sets times as exactly as the clock tells them.
+/// SETATTR sets times as exactly as the server tells the time of day.
 pub const SETS_TIMES: u32 = 16;

@@ -50,7 +50,8 @@ pub fn one_file_needs_what_it_adds()
         → need tree (with_node tree number new) ≡ cost new.body - cost old.body }
 {}
 
-/// A COMMIT that is answered OK bears the verifier of each WRITE of its boot that was.
+/// A COMMIT that is answered OK bears the verifier that each WRITE of the same boot bore, where that was
+/// answered OK too.
 pub fn a_commit_bears_the_verifier_of_what_was_written()
     ensures { (tree next other last : Tree) (ctx later : Ctx) (file another : List ℕ) (offset count : ℕ)
         (stability : Stability) (text : List ℕ) (reply : Written) (verifier : Verifier)

@@ -28,7 +28,7 @@ use Rattle.session.specs.declared.serving.SessionFault.{SessionFault}
 use Rattle.session.specs.declared.serving.SessionFault.TheVariants as faults
 use Rattle.session.specs.Replying.{IsAnswered, IsCallAnswered, IsSpelled}
 use Rattle.session.specs.Streaming.{Answered, IsCourse, IsUnfinished, IsUntouched, IsCutShort, StopsAt}
-use Rattle.session.specs.Streaming.{EndsAt, IsCutOff, Delivers, Serves, Writes, IsStream, text_of}
+use Rattle.session.specs.Streaming.{EndsAt, IsCutOff, Delivers, Serves, IsStream, text_of}
 
 -- ---- known bytes
 
@@ -214,18 +214,6 @@ delivers_so P Q first (Err faults.Record) written so d = absurd d
 delivers_so P Q first (Err faults.Input) written so d = absurd d
 delivers_so P Q first (Err faults.Truncated) written so d = absurd d
 delivers_so P Q first (Err faults.Device) written so d = absurd d
-
--- bytes that were written are a reply that was delivered
-pub delivers : (P : List ℕ → Type 0) (reply bytes : List ℕ) (first : Option (List ℕ))
-    (result : Result (Unit {0}) SessionFault) (written : Option (List ℕ)) → P reply
-    → bytes ≡ fragment true reply → Writes first bytes result written → Delivers P first result written
-delivers P reply bytes first (Ok x) written is e w = (reply, is, subst (Appends first written) e w)
-delivers P reply bytes first (Err faults.Output) written is e w = (reply, w.0, w.1, is, sym e ∙ w.2, w.3)
-delivers P reply bytes first (Err faults.NoMemory) written is e w = absurd w
-delivers P reply bytes first (Err faults.Record) written is e w = absurd w
-delivers P reply bytes first (Err faults.Input) written is e w = absurd w
-delivers P reply bytes first (Err faults.Truncated) written is e w = absurd w
-delivers P reply bytes first (Err faults.Device) written is e w = absurd w
 
 -- each body has what it is spelled as
 spelled_by : (xid : ℕ) (body : ReplyBody) (long many : Bool) → body_too_long body ≡ long

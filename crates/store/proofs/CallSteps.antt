@@ -58,7 +58,7 @@ use Rattle.store_runs.proofs.AtWorkStays.{some_of}
 use Rattle.store.proofs.CallStages.{IsAfter, IsStepFrom, begun_then as number_then, comes_then, made_so_far}
 use Rattle.store.proofs.CallStages.{made_tells}
 use Rattle.store.proofs.CallStages.{next_ok, noted, same_entries, stands_then}
-use Rattle.store.proofs.CallStages.{so_far_still, so_far_then, tells_of, told_by}
+use Rattle.store.proofs.CallStages.{so_far_then, tells_of, told_by}
 use Rattle.store_runs.proofs.GoingWork.{has_replies}
 use Rattle.store_images.proofs.StillOpen.{further_then}
 
@@ -138,10 +138,6 @@ verdict_of entries progress made ready is =
 both_true : (one other : Bool) → (one && other) ≡ true → other ≡ true
 both_true true other is = is
 both_true false other is = cc
-
-never_both : (b : Bool) → (not b && b) ≡ false
-never_both true = refl
-never_both false = refl
 
 no_entry : (boot places : ℕ) (progress : Progress) (made : Option Step) (entry : Option ready.Entry)
     → has_committed made ≡ false → TellsEntry boot places progress made entry → entry ≡ None

@@ -19,7 +19,7 @@ use Rattle.wal_law.specs.Logger.{with_log_made, with_log_out}
 use Rattle.wal_law.specs.Installer.{IsNextInstCall, is_inst_out, may_install, next_home}
 use Rattle.wal_law.specs.Installer.{with_inst_back, with_inst_made, with_inst_out, with_installed}
 use Rattle.store_images.proofs.OutCalls.{inst_is_out, inst_out_sound, its_is_out}
-use Rattle.store_images.specs.Settling.{HasCalled, IsQuiet, group_left, calls_left}
+use Rattle.store_images.specs.Settling.{HasCalled, group_left, calls_left}
 
 -- the logger takes the tail, where it has no group
 taken_left : (all logged taken made : ℕ) (fits : Bool) → logged + taken ≤ all → (taken ≡ 0 → made ≡ 0)
@@ -206,27 +206,6 @@ inst_back log before after (Err e) lawful may out_lawful more sound_out =
       failed = λ broken. grind (arith);
       counted = grind (arith);
     }
-
--- no call is out once it was given back
-inst_made_quiet : (out : Log) (is_home is_next : Bool) (step : ℕ) → out.log_out ≡ false
-    → IsQuiet (if is_home then record out { inst_step = step; inst_out = false }
-    else if is_next then record out { inst_step = out.inst_step + 1; inst_out = false }
-    else with_installed out)
-inst_made_quiet out true is_next step quiet = record { logging = quiet; installing = refl }
-inst_made_quiet out false true step quiet = record { logging = quiet; installing = refl }
-inst_made_quiet out false false step quiet = record { logging = quiet; installing = refl }
-
-inst_back_quiet : (out : Log) (ok : Bool) → out.log_out ≡ false → IsQuiet (with_inst_back out ok)
-inst_back_quiet out true quiet =
-    inst_made_quiet out (nat_lt out.inst_step out.installing) (nat_lt out.inst_step (out.installing + 2))
-    (next_home out.changes out.installing (out.inst_step + 1)) quiet
-inst_back_quiet out false quiet = record { logging = quiet; installing = refl }
-
-pub inst_done_quiet : (out new : Log) (io : Io) (ok : Bool) → is_inst_out out io ≡ true → out.log_out ≡ false
-    → new ≡ (if is_inst_out out io then with_inst_back out ok else out) → IsQuiet new
-inst_done_quiet out new io ok is quiet given =
-    subst IsQuiet (sym (given_back (is_inst_out out io) (with_inst_back out ok) out new is given))
-    (inst_back_quiet out ok quiet)
 
 -- so it is once the installer's call was handed out, made and given back
 pub inst_called : (log out new : Log) (before after : Device) (io : Io)

@@ -21,10 +21,6 @@ use Rattle.store_images.specs.Formatting.{HasWrittenUpTo, IsMade, IsMadeBehind, 
 abbrev done : Result Unit Failed
 done = Ok tt
 
--- the data of equal geometries begin at one block
-pub same_data : (a b : Geometry) → a ≡ b → data_at a.blocks a.inodes ≡ data_at b.blocks b.inodes
-same_data a b same = ap (λ (g : Geometry). data_at g.blocks g.inodes) same
-
 or_false : (b : Bool) → (b || false) ≡ b
 or_false true = refl
 or_false false = refl

@@ -1,6 +1,6 @@
 -- Each step of the log's side leads from what is told to what is told next, and keeps the agreement.
 use Rattle.std.proofs.Common.{◌≡◌, ◌≤◌, ℕ, ◌+◌, ap, sym, ◌∙◌, refl, subst, arith, length}
-use Rattle.std.proofs.Common.{Bool, true, false, if◌then◌else◌, Option, Some, None, Result, Ok, Err, is_ok}
+use Rattle.std.proofs.Common.{Bool, true, false, if◌then◌else◌, Option, Some, Result, Ok, Err, is_ok}
 use Rattle.std.proofs.Common.{nat_eq, nat_lt}
 use Rattle.std.proofs.lemmas.List.{length-drop}
 use Rattle.disk.specs.Crash.{Image}
@@ -91,20 +91,7 @@ behind_logged o log true behind = by_last (nat_eq log.log_step (log.taken + 2))
     by_last false = record { position = behind.position; blocks = behind.blocks }
 
 module _ (d : Device) (old : Log) (installing : Pending) (lawful : IsLawful old) where
-  pub nothing_to_log : may_log old ≡ false
-      → Tells MayLog (side d old idle installing) None (side d old idle installing)
-  nothing_to_log none o base over =
-      let may = may_log_is o.position old installing lawful over.agrees.logger ∙ none in (
-        subst (λ b. IsNextOfLog b (next_log_call o.position (log_told o.position old idle installing)) None)
-            (sym may) refl,
-        refl,
-        over,
-      )
-
   module _ (io : Io) where
-    pub log_waits : Tells MayLog (side d old (out io) installing) None (side d old (out io) installing)
-    log_waits o base over = (refl, refl, over)
-
     pub log_taken : (new : Log) → may_log old ≡ true → new ≡ with_log_out old → LogCallGoesOut old io new
         → Tells MayLog (side d old idle installing) (Some (step.LogNext io.call))
         (side d new (out io) installing)
@@ -178,18 +165,6 @@ log_made before after log installing io result ok lawful made is o base over =
       },
     )
 
-pub log_is_made : (d : Device) (log : Log) (installing : Pending) (io : Option Io) (ok : Bool)
-    → Tells MayLogIo (side d log (pending_of io (Some ok)) installing) None
-    (side d log (pending_of io (Some ok)) installing)
-log_is_made d log installing None ok o base over = (refl, refl, over)
-log_is_made d log installing (Some io) true o base over = (refl, refl, over)
-log_is_made d log installing (Some io) false o base over = (refl, refl, over)
-
-pub no_log_call : (d : Device) (log : Log) (installing : Pending) (made : Option Bool)
-    → Tells MayLogIo (side d log (pending_of None made) installing) None
-    (side d log (pending_of None made) installing)
-no_log_call d log installing made o base over = (refl, refl, over)
-
 -- ---- the installer
 
 home_out_of : (d : Device) (base : Image) (log : Log) (io : Io) (ok : Bool)
@@ -240,20 +215,7 @@ behind_taken o log behind = by_test (nat_lt 0 log.installing)
     by_test false = record { position = behind.position; blocks = behind.blocks }
 
 module _ (d : Device) (old : Log) (logging : Pending) (lawful : IsLawful old) where
-  pub nothing_to_install : may_install old ≡ false
-      → Tells MayInstall (side d old logging idle) None (side d old logging idle)
-  nothing_to_install none o base over =
-      let may = may_install_is o.position old logging over.agrees.installer ∙ none in (
-        subst (λ b. IsNextOfInstaller b (IsNextOfInstalling o.geometry.blocks
-            (log_told o.position old logging idle)) None) (sym may) refl,
-        refl,
-        over,
-      )
-
   module _ (io : Io) where
-    pub inst_waits : Tells MayInstall (side d old logging (out io)) None (side d old logging (out io))
-    inst_waits o base over = (refl, refl, over)
-
     pub inst_taken : (new : Log) → may_install old ≡ true → new ≡ with_inst_out old
         → InstCallGoesOut old io new
         → Tells MayInstall (side d old logging idle) (Some (step.InstNext io.call))
@@ -331,15 +293,3 @@ inst_made before after log logging io result ok lawful made is o base over =
         behind = over.behind;
       },
     )
-
-pub inst_is_made : (d : Device) (log : Log) (logging : Pending) (io : Option Io) (ok : Bool)
-    → Tells MayInstIo (side d log logging (pending_of io (Some ok))) None
-    (side d log logging (pending_of io (Some ok)))
-inst_is_made d log logging None ok o base over = (refl, refl, over)
-inst_is_made d log logging (Some io) true o base over = (refl, refl, over)
-inst_is_made d log logging (Some io) false o base over = (refl, refl, over)
-
-pub no_inst_call : (d : Device) (log : Log) (logging : Pending) (made : Option Bool)
-    → Tells MayInstIo (side d log logging (pending_of None made)) None
-    (side d log logging (pending_of None made))
-no_inst_call d log logging made o base over = (refl, refl, over)

@@ -19,12 +19,16 @@ use thiserror::Error;
 /// Why an image isn't made.
 #[derive(Clone, Copy, Debug, PartialEq, Eq, Error)]
 pub enum FormatFault {
+    /// The disk has too few blocks, or too many.
     #[error("Size")]
     Size,
+    /// The inodes are too few, too many, no multiple of those of a block, or leave too few data blocks.
     #[error("Inodes")]
     Inodes,
+    /// A call of the device failed.
     #[error("Device")]
     Device,
+    /// An allocation failed.
     #[error("NoMemory")]
     NoMemory,
 }

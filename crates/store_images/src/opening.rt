@@ -31,7 +31,8 @@ use wal::circ::{self, LogFault};
 /// Opens a store: brings home what the log holds, and counts the opening. An image is refused by the first of
 /// these that holds: an allocation failed (NoMemory), its device has no blocks (Magic), the super block can't
 /// be read (Device) or is refused as `Super::read` says, its sizes aren't the device's or no boot number is
-/// left (Range), the log isn't one (Log). Until then nothing is written. Later only Device and NoMemory come.
+/// left (Range), a block of the log can't be read (Device) or isn't one of a log (Log), or an allocation for it
+/// failed (NoMemory). Until then nothing is written. Later only Device and NoMemory come.
 /// A refusal hands the disk back, and is Device just where a call of the device failed and was counted. A
 /// device at rest with a good image keeps its tree at each stop, and so it does when it is opened again.
 #[tactic(auto, using(crate::specs::Opening::has_opened))]

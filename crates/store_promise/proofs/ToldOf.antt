@@ -418,9 +418,6 @@ module _ (position : ℕ) (log : Log) (io : Io) (answer : Result Unit Failed) (l
       by_cases (inl less) = less
       by_cases (inr none) = absurd (never (omega (arith, none)))
 
-  has_some : nat_lt 0 log.installing ≡ true
-  has_some = let less = some in grind (arith, nat_tests)
-
   within_changes : log.installing ≤ length log.changes
   within_changes = let a = lawful.installing in let b = lawful.taken_within in omega (arith, a, b)
 

@@ -18,15 +18,19 @@ pub trait Change: Drop {
     // and inodes.
     ghost is_plan: { ℕ → ℕ → List ObjectBytes → List ObjectBytes → Type 0 };
 
+    /// What it read, as the objects were then.
     fn read(&self) -> &[Object]
         ensures { result.now ≡ (planned self.now).read };
 
+    /// What it writes, as the objects will be.
     fn written(&self) -> &[Object]
         ensures { result.now ≡ (planned self.now).written };
 
+    /// The blocks of the image that it was worked out for.
     fn blocks(&self) -> u32
         ensures { result ≡ (planned self.now).blocks };
 
+    /// The inodes of that image.
     fn inodes(&self) -> u32
         ensures { result ≡ (planned self.now).inodes };
 

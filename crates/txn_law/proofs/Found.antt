@@ -1,8 +1,7 @@
 -- Lemmas on the first of a list that passes a test.
-use Rattle.std.proofs.Common.{◌≡◌, Bool, true, false, cond, List, [], ◌∷◌, ◌++◌, Some, None, All, refl, sym}
+use Rattle.std.proofs.Common.{◌≡◌, Bool, true, false, cond, List, [], ◌∷◌, ◌++◌, Some, None, refl, sym}
 use Rattle.std.proofs.Common.{ap, ◌∙◌}
 use Rattle.std.specs.List.{find, filter}
-use Rattle.std.proofs.lemmas.List.Elements.{All-nil, All-cons}
 
 module _ {X : Type 0} (p : X → Bool) where
   -- it is the first still where it is kept
@@ -78,13 +77,3 @@ module _ {X : Type 0} (p : X → Bool) where
       go rest false kept t is = rest
       go rest true kept true is = absurd (let no : q y ≡ false = away y is in cc)
       go rest true kept false is = ap (λ b. cond b (Some y) (find p (filter q ys))) is ∙ rest
-
-  -- where none is found, none passes
-  pub find_fails : (xs : List X) → find p xs ≡ None → All (λ x. p x ≡ false) xs
-  find_fails [] e = All-nil (λ x. p x ≡ false)
-  find_fails (y ∷ ys) e = go (find_fails ys) (p y) refl e
-    where
-      go : (find p ys ≡ None → All (λ x. p x ≡ false) ys) → (t : Bool) → p y ≡ t
-          → cond t (Some y) (find p ys) ≡ None → All (λ x. p x ≡ false) (y ∷ ys)
-      go rest true is e = absurd (cc)
-      go rest false is e = All-cons (λ x. p x ≡ false) y ys is (rest e)

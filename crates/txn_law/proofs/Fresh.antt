@@ -1,19 +1,15 @@
 -- Lemmas: a log in which no commit was made has the window of none.
-use Rattle.std.proofs.Common.{◌≡◌, ℕ, ◌+◌, ◌-◌, ◌<◌, ◌≤◌, ◌⊎◌, inl, inr, List, [], ◌∷◌, length, take, drop, All}
+use Rattle.std.proofs.Common.{◌≡◌, ℕ, ◌-◌, ◌<◌, ◌≤◌, ◌⊎◌, inl, inr, List, [], ◌∷◌, length, take, drop, All}
 use Rattle.std.proofs.Common.{zero, suc, refl, sym, ap, subst, ◌∙◌, arith, if◌then◌else◌, Bool}
 use Rattle.std.proofs.lemmas.Bool.{eq-eqb}
 use Rattle.std.proofs.lemmas.List.{drop_all, take_all, length-drop}
 use Rattle.std.proofs.lemmas.List.Elements.{All-nil, All-cons, All-head, All-tail, All-drop}
 use Rattle.disk.specs.Device.{Content}
-use Rattle.std.proofs.Common.{Option, Some, None, true, false, nat_lt}
-use Rattle.std.specs.Prelude.{IsSome, IsNone}
 use Rattle.disk.specs.Crash.{Image}
-use Rattle.disk.specs.declared.block.BlockNo.{BlockNo}
 use Rattle.wal_law.specs.declared.change.LogChange.{LogChange}
 use Rattle.wal_law.specs.Grows.{recovered}
 use Rattle.wal_law.specs.Law.{with_changes}
 use Rattle.wal_law.specs.Log.{Log, IsLawful, IsRising, IsCommitted, first_place, place_before, opened}
-use Rattle.wal_law.specs.Installer.{next_home, with_inst_out, with_inst_back}
 use Rattle.txn_law.specs.CoreLaw.{IsFresh}
 use Rattle.txn_law.specs.Window.{Footprint, after_commits, opening, GroupEnd, at_first, at_installed, at_logged}
 use Rattle.txn_law.specs.Window.{at_taken, at_last, commits_among, AreInLog, ArePinned, IsCurrent, IsWindowOver}
@@ -96,58 +92,3 @@ fresh_window base log lawful fresh =
     (ap (λ (n : ℕ). place_before log.changes n) fresh.places ∙ none_before log.changes found)
     (omega (arith, lawful.taken_within)) (omega (arith, lawful.taken_within)) fresh.installing
     (All-nil (IsCurrent (with_changes base log.changes)))
-
--- The log that an opening found is fresh, and its installation leaves it so.
-
-pub fresh_opened : (blocks start : ℕ) (found : List (BlockNo × Content)) → IsFresh (opened blocks start found)
-fresh_opened blocks start found = record { places = refl; installing = λ some. absurd (omega (arith, some)) }
-
-pub fresh_next : {X : Type 0} (o : Option X) (old new : Log) → (IsSome o → new ≡ with_inst_out old)
-    → (IsNone o → new ≡ old) → IsFresh old → IsFresh new
-fresh_next None old new some none h = subst IsFresh (sym (none refl)) h
-fresh_next (Some x) old new some none h = subst IsFresh (sym (some refl)) (go (nat_lt 0 old.installing))
-  where
-    go : (t : Bool) → IsFresh (if t then record old { inst_out = true } else record old {
-      installing = old.logged;
-      inst_step = next_home old.changes old.logged 0;
-      inst_out = true;
-    })
-    go true = record { places = h.places; installing = h.installing }
-    go false = record { places = h.places; installing = λ some. refl }
-
-pub fresh_back : (old new : Log) (is_out ok : Bool) → new ≡ (if is_out then with_inst_back old ok else old)
-    → IsFresh old → IsFresh new
-fresh_back old new false ok e h = subst IsFresh (sym e) h
-fresh_back old new true false e h = subst IsFresh (sym e)
-    (record { places = h.places; installing = h.installing })
-fresh_back old new true true e h = subst IsFresh (sym e) (first (nat_lt old.inst_step old.installing))
-  where
-    second : (u : Bool) → IsFresh (if u then record old { inst_step = old.inst_step + 1; inst_out = false }
-        else record old {
-          start = old.start + old.installing;
-          changes = drop old.installing old.changes;
-          logged = old.logged - old.installing;
-          installing = 0;
-          inst_step = 0;
-          inst_out = false;
-        })
-    second true = record { places = h.places; installing = h.installing }
-    second false = record { places = h.places; installing = λ some. absurd (omega (arith, some)) }
-
-    first : (t : Bool) → IsFresh (if t
-        then record old {
-          inst_step = next_home old.changes old.installing (old.inst_step + 1);
-          inst_out = false;
-        }
-        else if nat_lt old.inst_step (old.installing + 2)
-        then record old { inst_step = old.inst_step + 1; inst_out = false }
-        else record old {
-          start = old.start + old.installing;
-          changes = drop old.installing old.changes;
-          logged = old.logged - old.installing;
-          installing = 0;
-          inst_step = 0;
-          inst_out = false;
-        })
-    first true = record { places = h.places; installing = h.installing }
-    first false = second (nat_lt old.inst_step (old.installing + 2))

@@ -167,9 +167,6 @@ window_inst_back base log commits held false lawful h =
     (window_stepped base log commits held log.log_step log.log_out log.inst_step false true h)
 window_inst_back base log commits held true lawful h = outer (nat_lt log.inst_step log.installing) refl
   where
-    goal_at : Image → Log → Type 0
-    goal_at b new = IsWindowOver b new (past (installed_place new) commits) held
-
     unchanged : log.inst_step < log.installing + 2 → home_after base log true ≡ base
     unchanged lt =
         ap (λ (t : Bool). if t then with_changes base (take log.installing log.changes)

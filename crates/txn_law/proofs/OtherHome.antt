@@ -116,9 +116,6 @@ module _ (at : ℕ) where
         (All-tail AreElsewhere c cs h) r.1,
   )
 
-  taken_elsewhere : (cs : List Footprint) (n : ℕ) → All AreElsewhere cs → All AreElsewhere (take n cs)
-  taken_elsewhere cs n h = All-take AreElsewhere n cs h
-
 module _ (base : Image) (log : Log) (commits : List Footprint) (held : List (ℕ × Content)) (at : ℕ)
     (content : Content) (none : newest log at ≡ None)
     (away : (c : Content) → Contains held (at, c) → ⊥) (h : IsWindowOver base log commits held) where

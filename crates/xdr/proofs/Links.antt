@@ -83,17 +83,6 @@ no_item F front bytes middle total d more e l =
 
 -- ---- writing a chain as a loop does
 
-pub put_on : {A : Type 0} (F : Code A) (xs : List A) (i : ℕ) (x : A) (out whole : List ℕ) → i < length xs
-    → x ≡ get_or xs i x
-    → out ++ chain_bytes F (drop i xs) ≡ whole
-    → ((out ++ items.flag true) ++ F.spell x) ++ chain_bytes F (drop (i + 1) xs) ≡ whole
-put_on F xs i x out whole lt is so_far =
-    let next : chain_bytes F (drop i xs) ≡ items.flag true ++ (F.spell x ++ chain_bytes F (drop (i + 1) xs)) =
-    at_drop_more (chain_bytes F) xs i x lt ∙ ap (λ (y : _). chain_bytes F (y ∷ drop (i + 1) xs)) (sym is) in
-    let regrouped : ((out ++ items.flag true) ++ F.spell x) ++ chain_bytes F (drop (i + 1) xs) ≡ out
-    ++ (items.flag true ++ (F.spell x ++ chain_bytes F (drop (i + 1) xs))) = simp append_assoc refl in
-    regrouped ∙ ap (λ (t : List ℕ). out ++ t) (sym next) ∙ so_far
-
 pub put_end : {A : Type 0} (F : Code A) (xs : List A) (i : ℕ) (out whole : List ℕ) → length xs ≤ i
     → out ++ chain_bytes F (drop i xs) ≡ whole → out ++ items.flag false ≡ whole
 put_end F xs i out whole le so_far =
@@ -101,16 +90,6 @@ put_end F xs i out whole le so_far =
     ap (λ (y : List _). out ++ chain_bytes F y) (sym none) ∙ so_far
 
 -- ---- writing counted items as a loop does
-
-pub put_item : {A : Type 0} (F : Code A) (xs : List A) (i : ℕ) (x : A) (out whole : List ℕ) → i < length xs
-    → x ≡ get_or xs i x → out ++ items_bytes F (drop i xs) ≡ whole
-    → (out ++ F.spell x) ++ items_bytes F (drop (i + 1) xs) ≡ whole
-put_item F xs i x out whole lt is so_far =
-    let next : items_bytes F (drop i xs) ≡ F.spell x ++ items_bytes F (drop (i + 1) xs) =
-    at_drop_more (items_bytes F) xs i x lt
-    ∙ ap (λ (y : _). items_bytes F (y ∷ drop (i + 1) xs)) (sym is) in
-    append_assoc out (F.spell x) (items_bytes F (drop (i + 1) xs)) ∙ ap (λ (t : List ℕ). out ++ t) (sym next)
-    ∙ so_far
 
 pub put_last : {A : Type 0} (F : Code A) (xs : List A) (i : ℕ) (out whole : List ℕ) → length xs ≤ i
     → out ++ items_bytes F (drop i xs) ≡ whole → out ≡ whole
@@ -155,13 +134,6 @@ more_left : {A : Type 0} (F : Code A) (xs : List A) (i : ℕ) (x : A) → i < le
 more_left F xs i x lt is =
     at_drop_more (some_too_long F) xs i x lt
     ∙ ap (λ (y : _). some_too_long F (y ∷ drop (i + 1) xs)) (sym is)
-
-pub short_on : {A : Type 0} (F : Code A) (xs : List A) (i : ℕ) (x : A) (whole : Bool) → i < length xs
-    → x ≡ get_or xs i x → F.too_long x ≡ false → some_too_long F (drop i xs) ≡ whole
-    → some_too_long F (drop (i + 1) xs) ≡ whole
-short_on F xs i x whole lt is short so_far =
-    ap (λ (b : Bool). b || some_too_long F (drop (i + 1) xs)) (sym short)
-    ∙ sym (more_left F xs i x lt is) ∙ so_far
 
 pub short_end : {A : Type 0} (F : Code A) (xs : List A) (i : ℕ) (whole : Bool) → length xs ≤ i
     → some_too_long F (drop i xs) ≡ whole → whole ≡ false

@@ -13,4 +13,4 @@ returns-clause-bytes c =
     ∙ ap (λ (l : List ℕ). l ++ super_head c.args.self.now) c.in_ok-bytes.ensures.items in
     let few : length c.put_head.new.bytes.items ≤ BLOCK_BYTES = omega (arith, n) in
     let m : vec_len c.put_head.new.bytes ≡ 32 = omega (arith, n) in
-    c.in_ok-resize.ensures.items ∙ rw (take_all 4096 c.put_head.new.bytes.items few, m, b) refl
+    c.in_ok-resize.ensures.items ∙ rw (take_all BLOCK_BYTES c.put_head.new.bytes.items few, m, b) refl
