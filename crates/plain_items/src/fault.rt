@@ -14,6 +14,7 @@ pub enum ReadFault {
     /// The bytes spell nothing of the kind.
     #[error("unreadable")]
     Unreadable,
+    /// An allocation for what is kept failed.
     #[error("no memory")]
     NoMemory,
 }
@@ -43,9 +44,10 @@ impl From<AllocError> for ReadFault {
 /// Why what has strings or lists in it isn't written.
 #[derive(Clone, Copy, Debug, PartialEq, Eq, Error)]
 pub enum PutFault {
-    /// A length has no four bytes.
+    /// The length of a string or of a list is 2^32 or more, so that no four bytes tell it.
     #[error("too long")]
     TooLong,
+    /// An allocation failed.
     #[error("no memory")]
     NoMemory,
 }

@@ -1,5 +1,5 @@
 //! Writing items, each behind what is written.
-ghost use Rattle.std.specs.Prelude.{◌≡◌, ◌≤◌, ◌++◌, ◌^◌, length, OnOk, Err};
+ghost use Rattle.std.specs.Prelude.{◌≡◌, ◌<◌, ◌≤◌, ◌++◌, ◌^◌, length, OnOk, Err};
 ghost use Rattle.plain_items.specs.Items.{spelled_double, spelled_flag, spelled_string, spelled_word};
 ghost use Rattle.plain_items.specs.declared.fault.PutFault.TheVariants as fault;
 
@@ -44,6 +44,7 @@ pub fn put_flag(out: &mut Vec<u8>, flag: bool) -> Result<(), AllocError>
 #[tactic(auto, unfolding(crate::specs::Items::spelled_string))]
 pub fn put_opaque(out: &mut Vec<u8>, bytes: &[u8]) -> Result<(), PutFault>
     ensures written { OnOk result (out.new.items ≡ out.old.items ++ spelled_string bytes.now) }
+    ensures fits { OnOk result (length bytes.now < 2 ^ 32) }
     ensures long { result ≡ Err fault.TooLong → 2 ^ 32 ≤ length bytes.now }
 {
     let length = u32::try_from(bytes.len()).or(Err(PutFault::TooLong))?;

@@ -19,6 +19,7 @@ const LAST: u32 = 0x8000_0000;
 pub fn done(alloc: Global, xid: u32, reply: &ProgramReply) -> Result<Vec<u8>, PutFault>
     ensures written { IfOk result (λ whole. whole.items
         ≡ recorded (words (xid ∷ accepted (0 ∷ [])) ++ result_of reply.now)) }
+    ensures fits { OnOk result (length (words (xid ∷ accepted (0 ∷ [])) ++ result_of reply.now) < 2 ^ 31) }
     ensures long { result ≡ Err fault.TooLong
         → 2 ^ 31 ≤ length (words (xid ∷ accepted (0 ∷ [])) ++ result_of reply.now) }
 {
