@@ -110,7 +110,7 @@ SpellsNone program procedure arguments =
     × (program ≡ 100005 → SpellsNoMountCall procedure arguments)
 
 -- A refusal is that of the first of these tests that fails: the credential, the program, its version, the
--- procedure, the arguments. An allocation may fail at the credential or at the arguments.
+-- procedure, the arguments. An allocation may fail in a body of AUTH_SYS, or in the arguments.
 abbrev pub Refuses : ℕ → List ℕ → ℕ → ℕ → ℕ → List ℕ → PlainRefusal → Type 0
 Refuses flavor body program version procedure arguments refusal.RpcVersion = ⊥
 Refuses flavor body program version procedure arguments refusal.BadCredential =
@@ -126,7 +126,9 @@ Refuses flavor body program version procedure arguments refusal.Procedure =
 Refuses flavor body program version procedure arguments refusal.Arguments =
     (has_caller flavor body ≡ true) × (version ≡ 3) × (has_procedure program procedure ≡ true)
     × (has_arguments program procedure arguments ≡ false) × SpellsNone program procedure arguments
-Refuses flavor body program version procedure arguments refusal.System = flavor < 2
+Refuses flavor body program version procedure arguments refusal.System =
+    (flavor ≡ 1)
+    ⊎ (has_caller flavor body ≡ true) × (version ≡ 3) × (has_procedure program procedure ≡ true)
 
 -- the same of a header
 abbrev pub RefusesHeader : List ℕ → PlainRefusal → Type 0
@@ -141,7 +143,9 @@ RefusesRecord record_bytes why =
     ⊎ ((word_at (drop 8 record_bytes) ≡ 2) × RefusesHeader (drop 12 record_bytes) why)
 
 pub record CallsFor (rest : List ℕ) (caller : Credential) (call : ProgramCall) : Type 0 where
+  pub known : has_caller (flavor_at rest) (body_at rest) ≡ true
   pub names : Names (flavor_at rest) (body_at rest) caller
+  pub readable : has_arguments (program_at rest) (procedure_at rest) (arguments_at rest) ≡ true
   pub asks : Asks (program_at rest) (version_at rest) (procedure_at rest) (arguments_at rest) call
 
 -- what is heard of a record

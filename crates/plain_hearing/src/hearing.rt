@@ -8,8 +8,8 @@ ghost use Rattle.plain_messages.specs.Arguments.{nfs_procedure};
 ghost use Rattle.plain_messages.specs.Refused.{words};
 ghost use Rattle.plain_messages.specs.declared.refusal.PlainRefusal.TheVariants as refusal;
 ghost use Rattle.plain_hearing.specs.Headers.{Asks, Hears, IsNumbered, Names, Refuses, arguments_at};
-ghost use Rattle.plain_hearing.specs.Headers.{body_at, flavor_at, has_caller, has_gids, has_header, has_named};
-ghost use Rattle.plain_hearing.specs.Headers.{has_user, is_call};
+ghost use Rattle.plain_hearing.specs.Headers.{body_at, flavor_at, has_arguments, has_caller, has_gids};
+ghost use Rattle.plain_hearing.specs.Headers.{has_header, has_named, has_user, is_call};
 ghost use Rattle.plain_hearing.specs.Headers.{procedure_at, program_at, version_at};
 ghost use Rattle.plain_hearing.specs.declared.hearing.Heard.TheVariants as heard;
 
@@ -161,7 +161,10 @@ fn read_call(
     header: &Header<'_>,
     arguments: &[u8],
 ) -> Result<(Credential, ProgramCall), PlainRefusal>
+    ensures known { OnOk result (has_caller header.now.flavor header.now.body.now ≡ true) }
     ensures names { IfOk result (λ told. Names header.now.flavor header.now.body.now told.0) }
+    ensures readable { OnOk result (has_arguments header.now.program header.now.procedure arguments.now
+        ≡ true) }
     ensures asks { IfOk result (λ told. Asks header.now.program header.now.version
         header.now.procedure arguments.now told.1) }
     ensures refuses { IfErr result (λ why. Refuses header.now.flavor header.now.body.now header.now.program
@@ -186,6 +189,8 @@ fn read_nfs(alloc: Global, header: &Header<'_>, arguments: &[u8]) -> Result<Call
     requires caller { has_caller header.now.flavor header.now.body.now ≡ true }
     requires program { header.now.program ≡ 100003 }
     ensures version { OnOk result (header.now.version ≡ 3) }
+    ensures readable { OnOk result (has_arguments header.now.program header.now.procedure arguments.now
+        ≡ true) }
     ensures number { IfOk result (λ call. nfs_procedure call ≡ header.now.procedure) }
     ensures spelled { IfOk result (λ call. arguments.now ≡ nfs_arguments call) }
     ensures refuses { IfErr result (λ why. Refuses header.now.flavor header.now.body.now header.now.program
@@ -213,6 +218,8 @@ fn read_mount(
     requires caller { has_caller header.now.flavor header.now.body.now ≡ true }
     requires program { header.now.program ≡ 100005 }
     ensures version { OnOk result (header.now.version ≡ 3) }
+    ensures readable { OnOk result (has_arguments header.now.program header.now.procedure arguments.now
+        ≡ true) }
     ensures number { IfOk result (λ call. mount_procedure call ≡ header.now.procedure) }
     ensures spelled { IfOk result (λ call. arguments.now ≡ mount_arguments call) }
     ensures refuses { IfErr result (λ why. Refuses header.now.flavor header.now.body.now header.now.program
