@@ -1,5 +1,6 @@
 -- What a record is answered, and which files it leaves.
-use Rattle.std.specs.Prelude.{◌≡◌, ℕ, ◌+◌, ◌-◌, ◌^◌, ◌⊎◌, min, true, false, List, [], ◌∷◌, ◌++◌}
+use Rattle.std.specs.Prelude.{◌≡◌, ℕ, ◌+◌, ◌-◌, ◌<◌, ◌≤◌, ◌^◌, ◌⊎◌, min, true, false, List, [], ◌∷◌, ◌++◌}
+use Rattle.std.specs.Prelude.{length}
 use Rattle.model.specs.Mount.{mount_reply}
 use Rattle.model.specs.Tree.{Tree}
 use Rattle.nfs_types.specs.declared.call.Call.{Call}
@@ -79,16 +80,18 @@ IsUndone before (programs.Nfs call) after =
     (is_null call ≡ false) × (after ≡ next_files before before.tree)
 IsUndone before (programs.Mount call) after = after ≡ before
 
--- the record that tells a result, and the one that refuses a call
-abbrev pub result_record : ℕ → ProgramReply → List ℕ
-result_record xid told = recorded (words (xid ∷ accepted (0 ∷ [])) ++ result_of told)
+-- the message that tells a result, and the record that refuses a call
+abbrev pub result_message : ℕ → ProgramReply → List ℕ
+result_message xid told = words (xid ∷ accepted (0 ∷ [])) ++ result_of told
 
 abbrev pub refusal_record : ℕ → PlainRefusal → List ℕ
 refusal_record xid why = recorded (words (xid ∷ refusing why))
 
--- a result is told, or that the system failed, where memory fails or no record holds it
+-- a result is told, or where no record holds it, that the system failed
 abbrev pub IsTold : ℕ → ProgramReply → List ℕ → Type 0
-IsTold xid told bytes = (bytes ≡ result_record xid told) ⊎ (bytes ≡ refusal_record xid refusal.System)
+IsTold xid told bytes =
+    (length (result_message xid told) < 2 ^ 31) × (bytes ≡ recorded (result_message xid told))
+    ⊎ (2 ^ 31 ≤ length (result_message xid told)) × (bytes ≡ refusal_record xid refusal.System)
 
 -- What a call is answered: its result; or, where memory fails before it is done, that the system failed.
 pub data IsCallAnswered (before : Files) (xid : ℕ) (caller : Credential) (call : ProgramCall)

@@ -8,6 +8,7 @@ ghost use Rattle.plain_steps.specs.Computed.{is_null as is_null_call};
 use crate::mounted::mount;
 use nfs_types::{Call, Credential, Ctx, Moment, ProgramCall, ProgramReply, Reply};
 use plain_hearing::{Heard, hear};
+use plain_items::PutFault;
 use plain_messages::{PlainRefusal, done, refused};
 use plain_server::PlainTree;
 use plain_steps::answer;
@@ -65,13 +66,15 @@ fn answer_call(
     }
 }
 
-// The record that tells a result. Where memory fails, or a result fits no record, that is told.
+// The record that tells a result. Where no record holds the result, that is told. The call is done by now, so
+// where memory fails nothing is told.
 fn tell(alloc: Global, xid: u32, reply: &ProgramReply) -> Result<Vec<u8>, AllocError>
     ensures { IfOk result (λ whole. IsTold xid reply.now whole.items) }
 {
     match done(alloc, xid, reply) {
         Ok(record) => Ok(record),
-        Err(_) => refused(alloc, xid, PlainRefusal::System),
+        Err(PutFault::NoMemory) => Err(AllocError),
+        Err(PutFault::TooLong) => refused(alloc, xid, PlainRefusal::System),
     }
 }
 

@@ -1,8 +1,8 @@
-use Rattle.std.proofs.Common.{refl, inr}
+use Rattle.std.proofs.Common.{refl}
 use Rattle.std.proofs.lemmas.Result.{IfOk-weaker}
 use Rattle.plain_messages.specs.declared.refusal.PlainRefusal.TheVariants.{System}
 use Rattle.plain_session.specs.Answering.{Done, Undone, refusal_record}
-use Rattle.plain_session.proofs.Lost.{on_err}
+use Rattle.plain_session.proofs.Lost.{on_err, some_told}
 use Rattle.plain_session.proofs.answers.answer_call.Goals as goal
 
 pub returns-in-Ok-clause-ok : goal.returns-in-Ok-clause-ok
@@ -11,7 +11,8 @@ returns-in-Ok-clause-ok c =
 
 pub returns-in-Ok-clause-lost : goal.returns-in-Ok-clause-lost
 returns-in-Ok-clause-lost c =
-    on_err c.tell.result (refusal_record c.args.xid System, Done c.in-Ok.reply c.in-Ok.ensures.ok (inr refl))
+    let told = some_told c.args.xid c.in-Ok.reply in
+    on_err c.tell.result (told.0, Done c.in-Ok.reply c.in-Ok.ensures.ok told.1)
 
 pub returns-in-Err-clause-lost : goal.returns-in-Err-clause-lost
 returns-in-Err-clause-lost c =
