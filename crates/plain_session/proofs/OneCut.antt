@@ -7,7 +7,7 @@ use Rattle.std.proofs.lemmas.List.Concat.{flat_map-cons}
 use Rattle.std.proofs.lemmas.Nat.{from_be_bytes-to_be_bytes_4}
 use Rattle.limits.specs.declared.TheConstants.{RECORD_BYTES}
 use Rattle.plain_items.specs.Items.{spelled_word}
-use Rattle.plain_session.specs.Records.{Begins, EndsInFragment, EndsInMark, HasBegun, IsMarked, IsTooLong}
+use Rattle.plain_session.specs.Records.{Begins, EndsInFragment, EndsInMark, IsMarked, IsTooLong, NeedsMore}
 use Rattle.plain_session.specs.Records.{fragment, fragments, joined, mark}
 use Rattle.plain_session.specs.Serving.{IsFirst}
 use Rattle.plain_session.proofs.Answered.{word-length}
@@ -176,12 +176,12 @@ one_record bytes message other behind rest f g =
     let b : other ≡ joined g.is.parts ++ g.is.last = g.is.is in
     (cc, t.2)
 
-pub whole_or_begun : (bytes message behind : List ℕ) → IsFirst bytes message behind → HasBegun bytes → ⊥
-whole_or_begun bytes message behind f (inl e) =
+pub whole_or_more : (bytes message behind : List ℕ) → IsFirst bytes message behind → NeedsMore bytes → ⊥
+whole_or_more bytes message behind f (inl e) =
     let s = one_stop bytes _ _ _ _ (whole bytes message behind f) (in_mark bytes e) in
     let long = ap length s.1 in
     omega (arith, e.part, long, mark-length true (length f.is.last), length-append {A = ℕ})
-whole_or_begun bytes message behind f (inr e) =
+whole_or_more bytes message behind f (inr e) =
     let s = one_stop bytes _ _ _ _ (whole bytes message behind f) (in_fragment bytes e) in
     let m = marked_alike e.next e.behind f.is.last behind e.last true e.count e.announced
     (omega (arith, small bytes message behind f)) (sym s.1) in
@@ -196,12 +196,12 @@ whole_or_long bytes message behind f e =
     let held = ap (λ (ps : List (List ℕ)). length (joined ps)) s.0 in
     omega (arith, e.long, m.1, held, small bytes message behind f)
 
-pub begun_or_long : (bytes : List ℕ) → HasBegun bytes → IsTooLong bytes → ⊥
-begun_or_long bytes (inl a) e =
+pub more_or_long : (bytes : List ℕ) → NeedsMore bytes → IsTooLong bytes → ⊥
+more_or_long bytes (inl a) e =
     let s = one_stop bytes _ _ _ _ (in_mark bytes a) (too_long bytes e) in
     let long = ap length (s.1 ∙ e.announced.cut) in
     omega (arith, a.part, long, mark-length e.last e.count, length-append {A = ℕ})
-begun_or_long bytes (inr a) e =
+more_or_long bytes (inr a) e =
     let s = one_stop bytes _ _ _ _ (in_fragment bytes a) (too_long bytes e) in
     let m = marks_alike a.last e.last a.count e.count a.behind e.behind a.announced.marked e.announced.marked
     (sym a.announced.cut ∙ s.1 ∙ e.announced.cut) in

@@ -2,7 +2,7 @@
 use Rattle.std.proofs.Common.{◌≡◌, ◌≢◌, ℕ, ◌⊎◌, Bool, true, false, List, [], ◌++◌, Option, Some}
 use Rattle.std.proofs.Common.{subst, sym, refl, inl, inr}
 use Rattle.plain_session.specs.Counts.{HasData}
-use Rattle.plain_session.specs.Records.{HasBegun, IsTooLong}
+use Rattle.plain_session.specs.Records.{IsTooLong, NeedsMore}
 use Rattle.plain_session.specs.Serving.{AreAnswered, BeginsClosing, Ends, EndsWith, IsFed, IsNew, IsStream}
 use Rattle.plain_session.specs.Serving.{Session, Stops, fresh, fresh_files, is_closed_by, session_of}
 use Rattle.plain_session.specs.declared.session.PlainSession.{PlainSession}
@@ -23,9 +23,9 @@ fresh_of blocks inodes made time told session is new =
 -- what is left, where it has closed or something is left
 left_at_end : (left : List ℕ) (is_closed : Bool) (went : Progress) → Stops left went
     → is_closed ≡ is_closed_by went → (is_closed ≡ true) ⊎ (left ≢ [])
-    → IsTooLong left ⊎ BeginsClosing left ⊎ HasBegun left × (left ≢ [])
-left_at_end left is_closed Open begun stays (inl closed) = cc
-left_at_end left is_closed Open begun stays (inr some) = inr (inr (begun, some))
+    → IsTooLong left ⊎ BeginsClosing left ⊎ NeedsMore left × (left ≢ [])
+left_at_end left is_closed Open more stays (inl closed) = cc
+left_at_end left is_closed Open more stays (inr some) = inr (inr (more, some))
 left_at_end left is_closed Closed (inl long) closed ends = inl long
 left_at_end left is_closed Closed (inr closing) closed ends = inr (inl closing)
 

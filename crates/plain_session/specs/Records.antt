@@ -70,13 +70,13 @@ pub record EndsInFragment (stream : List ℕ) : Type 0 where
   pub bounded : length (joined parts) + count ≤ RECORD_BYTES
   pub part : length behind < count
 
--- no record is whole: nothing is there, or one has begun
-abbrev pub HasBegun : List ℕ → Type 0
-HasBegun stream = EndsInMark stream ⊎ EndsInFragment stream
+-- no record is whole yet: nothing is there, or one has begun
+abbrev pub NeedsMore : List ℕ → Type 0
+NeedsMore stream = EndsInMark stream ⊎ EndsInFragment stream
 
 -- what stands at the beginning of a stream
 abbrev pub Cuts : List ℕ → Cut → Type 0
-Cuts stream cuts.Begun = HasBegun stream
+Cuts stream cuts.NeedsMore = NeedsMore stream
 Cuts stream cuts.TooLong = IsTooLong stream
 Cuts stream (cuts.Record content taken) =
     (taken ≤ length stream) × IsRecord (take taken stream) content.items

@@ -5,7 +5,7 @@ use Rattle.model.specs.Format.{format_tree}
 use Rattle.nfs_types.specs.declared.ctx.Moment.{Moment}
 use Rattle.plain_session.specs.Answering.{Closes, Files, IsAnswered, files_of}
 use Rattle.plain_session.specs.Counts.{HasData}
-use Rattle.plain_session.specs.Records.{HasBegun, IsRecord, IsTooLong}
+use Rattle.plain_session.specs.Records.{IsRecord, IsTooLong, NeedsMore}
 use Rattle.plain_session.specs.declared.session.PlainSession.{PlainSession}
 use Rattle.plain_session.specs.declared.session.Progress.{Progress}
 use Rattle.plain_session.specs.declared.session.Progress.TheVariants as progress
@@ -71,7 +71,7 @@ pub data AreAnswered (before : Files) (bytes first : List ℕ) : List ℕ → Li
 
 -- no record more is answered: none is whole, or the connection closes
 abbrev pub Stops : List ℕ → Progress → Type 0
-Stops left progress.Open = HasBegun left
+Stops left progress.Open = NeedsMore left
 Stops left progress.Closed = IsTooLong left ⊎ BeginsClosing left
 
 abbrev pub is_closed_by : Progress → Bool
@@ -111,7 +111,7 @@ Ends session progress.Closed = (session.is_closed ≡ true) ⊎ (session.unread 
 -- the exit status by what is left of a whole input: 0 at its end, 1 where the connection closes before it
 abbrev pub EndsWith : List ℕ → ℕ → Type 0
 EndsWith left status = ((status ≡ 0) × (left ≡ []))
-    ⊎ ((status ≡ 1) × (IsTooLong left ⊎ BeginsClosing left ⊎ HasBegun left × (left ≢ [])))
+    ⊎ ((status ≡ 1) × (IsTooLong left ⊎ BeginsClosing left ⊎ NeedsMore left × (left ≢ [])))
 
 -- a whole input, answered over fresh files
 pub record IsStream (before : Files) (input replies : List ℕ) (status : ℕ) : Type 0 where

@@ -1,19 +1,19 @@
 //! Laws of sessions. Nothing runs here: each contract is what the definitions entail.
 ghost use Rattle.std.specs.Prelude.{◌≡◌, ◌++◌, ℕ, List};
 ghost use Rattle.plain_session.specs.Answering.{Files};
-ghost use Rattle.plain_session.specs.Records.{HasBegun, IsTooLong};
+ghost use Rattle.plain_session.specs.Records.{IsTooLong, NeedsMore};
 ghost use Rattle.plain_session.specs.Serving.{AreAnswered, IsFirst};
 
-/// A stream begins with one record and one rest, or announces too much, or has only begun: and with one of
+/// A stream begins with one record and one rest, or announces too much, or needs more: and with one of
 /// these alone.
 pub fn a_stream_begins_one_way()
     ensures record_alone { (bytes message other behind rest : List ℕ) → IsFirst bytes message behind
         → IsFirst bytes other rest → (message ≡ other) × (behind ≡ rest) }
-    ensures whole_or_begun { (bytes message behind : List ℕ) → IsFirst bytes message behind
-        → HasBegun bytes → ⊥ }
+    ensures whole_or_more { (bytes message behind : List ℕ) → IsFirst bytes message behind
+        → NeedsMore bytes → ⊥ }
     ensures whole_or_long { (bytes message behind : List ℕ) → IsFirst bytes message behind
         → IsTooLong bytes → ⊥ }
-    ensures begun_or_long { (bytes : List ℕ) → HasBegun bytes → IsTooLong bytes → ⊥ }
+    ensures more_or_long { (bytes : List ℕ) → NeedsMore bytes → IsTooLong bytes → ⊥ }
 {}
 
 /// Pieces that come one behind another are answered as they are in one.

@@ -6,7 +6,7 @@ use limits::ROOT;
 use nfs_types::{Handle, MountCall, MountReply, Mounted, NumberList, Stamp, Status};
 use std::alloc::{AllocError, Global};
 
-// The flavor of credentials that the server takes (RFC 5531, section 8.2).
+// The one flavor of credentials that MNT lists (RFC 5531, section 8.2).
 const AUTH_SYS: u32 = 1;
 
 /// What a call of MOUNT is answered.
@@ -32,7 +32,7 @@ fn mounted(alloc: Global, path: &[u8]) -> Result<Result<Mounted, Status>, AllocE
     }
 }
 
-// The root, which no transaction made, for credentials of AUTH_SYS alone.
+// The root, which no transaction made, with a list of that one flavor.
 fn root(alloc: Global) -> Result<Mounted, AllocError>
     ensures { IfOk result (λ root. root ≡ root_mounted) }
 {

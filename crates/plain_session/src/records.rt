@@ -10,8 +10,8 @@ use std::alloc::{AllocError, Global};
 /// What stands at the beginning of a stream.
 #[derive(Drop)]
 pub enum Cut {
-    /// No whole record.
-    Begun,
+    /// No record is whole yet.
+    NeedsMore,
     /// Marks that announce more than a record may have.
     TooLong,
     /// A record, and how many bytes its fragments take with their marks.
@@ -30,14 +30,14 @@ pub fn first_record(alloc: Global, stream: &[u8]) -> Result<Cut, AllocError>
     // Each fragment takes four bytes at least.
     for _taken in 0..stream.len() {
         let Ok(mark) = reader.word() else {
-            return Ok(Cut::Begun);
+            return Ok(Cut::NeedsMore);
         };
         let (is_last, length) = announced(mark);
         if record.len().saturating_add(length) > RECORD_BYTES {
             return Ok(Cut::TooLong);
         }
         let Ok(fragment) = reader.take(length) else {
-            return Ok(Cut::Begun);
+            return Ok(Cut::NeedsMore);
         };
         record.extend_from_slice(fragment)?;
         if is_last {
@@ -45,7 +45,7 @@ pub fn first_record(alloc: Global, stream: &[u8]) -> Result<Cut, AllocError>
             return Ok(Cut::Record { record, taken });
         }
     }
-    Ok(Cut::Begun)
+    Ok(Cut::NeedsMore)
 }
 
 // Whether a mark is that of a last fragment, and the length that it announces.

@@ -144,7 +144,7 @@ fn answer_next(
         × IsCutOff (files_of files.old) unread.old.items (files_of files.new)) }
 {
     let (record, taken) = match first_record(alloc, unread.as_slice())? {
-        Cut::Begun => return Ok(Some(Progress::Open)),
+        Cut::NeedsMore => return Ok(Some(Progress::Open)),
         Cut::TooLong => return Ok(Some(Progress::Closed)),
         Cut::Record { record, taken } => (record, taken),
     };
