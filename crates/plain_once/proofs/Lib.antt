@@ -1,1 +1,2 @@
 pub mod Attended
+pub mod Spelled

@@ -1,7 +1,9 @@
 -- What is known while the records of an input are answered.
-use Rattle.std.specs.Prelude.{◌≡◌, ℕ, false, List, [], ◌++◌, Option}
+use Rattle.std.specs.Prelude.{◌≡◌, ℕ, false, List, [], ◌++◌, Option, Some}
 use Rattle.std.specs.Io.KnownBytes.{Appends, Consumes, IsAtEnd}
-use Rattle.plain_session.specs.Serving.{AreAnswered, Session}
+use Rattle.plain_session.specs.Counts.{HasData}
+use Rattle.plain_session.specs.Serving.{AreAnswered, Session, fresh}
+use Rattle.plain_once.specs.declared.words.Asked.{Asked}
 
 -- The records that are whole in what was read are answered, and their replies are written. Told are what is
 -- left of the input and what the output holds, before and now, where they are known.
@@ -18,3 +20,10 @@ pub record IsDone (start now : Session) (unread rest first written : Option (Lis
   pub attended : IsAttended start now unread rest first written
   pub all : now.unread ≡ []
   pub at_end : IsAtEnd rest
+
+-- so it is of a session over the tree of a fresh image, with the counts and at the times that are asked for
+pub record IsAnswered (asked : Asked) (unread rest first written : Option (List ℕ)) : Type 0 where
+  pub data_blocks : ℕ
+  pub has_data : HasData asked.blocks asked.inodes (Some data_blocks)
+  pub last : Session
+  pub done : IsDone (fresh data_blocks asked.inodes asked.made asked.time) last unread rest first written

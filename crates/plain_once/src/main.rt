@@ -2,11 +2,13 @@
 //! tree in memory, by plain code, to compare another server with.
 #![tactic(auto)]
 
-ghost use Rattle.std.specs.Prelude.{◌≡◌, ◌<◌, ℕ, List, [], Option, Some, true, false, length, IfNone};
+ghost use Rattle.std.specs.Prelude.{◌≡◌, ◌<◌, ◌≤◌, ℕ, List, [], Option, Some, None, true, false, length};
+ghost use Rattle.std.specs.Prelude.{IfNone, IfSome};
 ghost use Rattle.std.specs.Io.KnownBytes.{Appends};
 ghost use Rattle.plain_session.specs.Serving.{Ends, IsFed, Session, session_of};
 ghost use Rattle.plain_session.specs.declared.session.Progress.TheVariants as progress;
-ghost use Rattle.plain_once.specs.Attending.{IsAttended, IsDone};
+ghost use Rattle.plain_session.specs.Counts.{HasData};
+ghost use Rattle.plain_once.specs.Attending.{IsAnswered, IsAttended, IsDone};
 
 mod words;
 
@@ -34,35 +36,42 @@ fn main(rt: HostRuntime) -> ExitCode {
 
 // Reads the arguments, and answers the standard input.
 fn attend(rt: &HostRuntime) -> u8 {
-    let Ok(Some(asked)) = read_arguments(rt) else {
-        return SENSELESS;
-    };
-    let alloc = rt.alloc();
-    let mut piece = [0; PIECE_BYTES];
-    match PlainSession::new(alloc, asked.blocks, asked.inodes, asked.made, asked.time) {
-        Ok(Some(mut session)) => answer_input(
-            alloc,
-            &mut session,
-            &mut rt.reader(),
-            &mut rt.stdout(),
-            &mut piece,
-            MOST_READS,
-        ),
+    match read_arguments(rt) {
+        Ok(Some(asked)) => answer_asked(rt.alloc(), asked, &mut rt.reader(), &mut rt.stdout()),
         Ok(None) => SENSELESS,
         Err(_) => CLOSED,
     }
 }
 
-// What the arguments ask for.
+// What the arguments ask for. Arguments that can't be read ask for nothing.
 fn read_arguments<R: Env + AllocGlobal>(rt: &R) -> Result<Option<Asked>, AllocError> {
     let Ok(given) = env::args(rt) else {
         return Ok(None);
     };
-    let line: Vec<String> = match given.collect(rt.alloc()) {
-        Ok(line) => line,
-        Err(_) => return Ok(None),
-    };
+    let line: Vec<String> = given.collect(rt.alloc())?;
     Ok(parse(line.as_slice()))
+}
+
+// Answers the records of an input over the image that is asked for, and gives the exit status. It is 0 only
+// where the whole input is answered and its replies are written, and 2 only where no image has these counts.
+fn answer_asked<R: Read, W: Write>(
+    alloc: Global,
+    asked: Asked,
+    reader: &mut R,
+    writer: &mut W,
+) -> u8
+    ensures ended { result ≡ ENDED → IsAnswered asked (R.remaining reader.old) (R.remaining reader.new)
+        (W.contents writer.old) (W.contents writer.new) }
+    ensures senseless { result ≡ SENSELESS → HasData asked.blocks asked.inodes None }
+{
+    let mut piece = [0; PIECE_BYTES];
+    match PlainSession::new(alloc, asked.blocks, asked.inodes, asked.made, asked.time) {
+        Ok(Some(mut session)) => {
+            answer_input(alloc, &mut session, reader, writer, &mut piece, MOST_READS)
+        }
+        Ok(None) => SENSELESS,
+        Err(_) => CLOSED,
+    }
 }
 
 // Answers the records of an input as they come, over at most so many reads, and gives the exit status. It is
@@ -76,7 +85,8 @@ fn answer_input<R: Read, W: Write>(
     most_reads: u64,
 ) -> u8
     requires { 0 < length piece.old }
-    ensures { (session_of session.old).is_closed ≡ false → result ≡ ENDED
+    ensures sensible { result ≤ CLOSED }
+    ensures ended { (session_of session.old).is_closed ≡ false → result ≡ ENDED
         → IsDone (session_of session.old) (session_of session.new) (R.remaining reader.old)
         (R.remaining reader.new) (W.contents writer.old) (W.contents writer.new) }
 {
@@ -105,6 +115,7 @@ fn answer_read<R: Read, W: Write>(
         (session_of session.old) unread (R.remaining reader.old) first (W.contents writer.old)
         → result ≡ Some ENDED → IsDone start (session_of session.new) unread (R.remaining reader.new) first
         (W.contents writer.new) }
+    ensures sensible { IfSome result (λ status. status ≤ CLOSED) }
 {
     match reader.read(piece) {
         Ok(0) => Some(status_at_the_end(session)),
@@ -121,7 +132,8 @@ fn answer_read<R: Read, W: Write>(
 }
 
 fn status_at_the_end(session: &PlainSession) -> u8
-    ensures { result ≡ ENDED → Ends (session_of session.now) progress.Open }
+    ensures ended { result ≡ ENDED → Ends (session_of session.now) progress.Open }
+    ensures sensible { result ≤ CLOSED }
 {
     match session.end() {
         Progress::Open => ENDED,

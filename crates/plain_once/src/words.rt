@@ -1,4 +1,7 @@
 //! What the words of the command line ask for.
+ghost use Rattle.std.specs.Prelude.{ℕ, map, string_bytes, IfSome, IfNone};
+ghost use Rattle.plain_once.specs.Words.{AsksFor, Spells};
+ghost use Rattle.plain_once.specs.declared.words.Asked.{Asked as ask};
 
 /// The counts of the image, when its root is made, and when calls come.
 #[derive(Clone, Copy, Debug, PartialEq, Eq)]
@@ -10,7 +13,10 @@ pub struct Asked {
 }
 
 /// What a command line asks for, of which the first word is the program's name: four numbers, or nothing.
-pub fn parse(line: &[String]) -> Option<Asked> {
+pub fn parse(line: &[String]) -> Option<Asked>
+    ensures asks { IfSome result (AsksFor (map string_bytes line.now)) }
+    ensures senseless { IfNone result ((asked : ask) → AsksFor (map string_bytes line.now) asked → ⊥) }
+{
     match line {
         [_, blocks, inodes, made, time] => Some(Asked {
             blocks: number(blocks)?,
@@ -23,6 +29,9 @@ pub fn parse(line: &[String]) -> Option<Asked> {
 }
 
 // The number that a word spells in decimal digits.
-fn number(word: &String) -> Option<u32> {
+fn number(word: &String) -> Option<u32>
+    ensures spells { IfSome result (Spells (string_bytes word.now)) }
+    ensures senseless { IfNone result ((number : ℕ) → Spells (string_bytes word.now) number → ⊥) }
+{
     word.as_str().parse::<u32>().ok()
 }

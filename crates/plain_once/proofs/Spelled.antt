@@ -1,0 +1,22 @@
+-- The words of a command line, each at its place.
+use Rattle.std.proofs.Common.{◌≡◌, ◌<◌, ℕ, List, Global, Option, None, [], map, get_or, length, string_bytes}
+use Rattle.std.proofs.Common.{subst, sym, ap, ◌∙◌}
+use Rattle.std.specs.Prelude.{String, IfNone}
+use Rattle.std.proofs.lemmas.List.{get_or-map}
+use Rattle.plain_once.specs.Words.{AsksFor, Spells}
+use Rattle.plain_once.specs.declared.words.Asked.{Asked}
+
+module _ (line : List (String Global)) (at : ℕ) (word : String Global) (within : at < length line)
+    (is : word ≡ get_or line at word) where
+  -- the bytes of a word
+  pub bytes_at : get_or (map string_bytes line) at [] ≡ string_bytes word
+  bytes_at = get_or-map string_bytes line at word [] within ∙ ap string_bytes (sym is)
+
+  -- where it spells no number, nothing is asked for that goes by it
+  pub asks_for_none : ((number : ℕ) → Spells (string_bytes word) number → ⊥) → (told : Option Asked)
+      → told ≡ None → (by : Asked → ℕ)
+      → ((asked : Asked) → AsksFor (map string_bytes line) asked
+      → Spells (get_or (map string_bytes line) at []) (by asked))
+      → IfNone told ((asked : Asked) → AsksFor (map string_bytes line) asked → ⊥)
+  asks_for_none unspelled told none by spells = subst (λ told. IfNone told ((asked : Asked) → AsksFor (map string_bytes line) asked → ⊥)) (sym none)
+      (λ asked asks. unspelled (by asked) (subst (λ w. Spells w (by asked)) bytes_at (spells asked asks)))
