@@ -1,5 +1,5 @@
 -- The records that refuse a call (RFC 5531, sections 9 and 11).
-use Rattle.std.specs.Prelude.{ℕ, ◌+◌, List, [], ◌∷◌, ◌++◌, length}
+use Rattle.std.specs.Prelude.{ℕ, ◌+◌, ◌^◌, List, [], ◌∷◌, ◌++◌, length}
 use Rattle.plain_items.specs.Items.{spelled_word}
 use Rattle.plain_messages.specs.Parts.{chain}
 use Rattle.plain_messages.specs.declared.refusal.PlainRefusal.{PlainRefusal}
@@ -11,7 +11,7 @@ words numbers = chain spelled_word numbers
 
 -- a message as the one fragment of a record: behind a mark of its length, with the highest bit
 abbrev pub recorded : List ℕ → List ℕ
-recorded message = spelled_word (2147483648 + length message) ++ message
+recorded message = spelled_word (2 ^ 31 + length message) ++ message
 
 -- a reply to a call that is denied, and to one that is accepted with an empty verifier
 abbrev pub denied : List ℕ → List ℕ

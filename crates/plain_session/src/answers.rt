@@ -2,7 +2,6 @@
 ghost use Rattle.std.specs.Prelude.{◌≡◌, ℕ, List, Ok, None, false, IfOk, IfSome, OnErr};
 ghost use Rattle.plain_session.specs.Answering.{Closes, IsAnswered, IsCallAnswered, IsNfsReply, IsReply};
 ghost use Rattle.plain_session.specs.Answering.{IsStep, IsTold, IsUndone, files_of, next_files};
-ghost use Rattle.plain_session.specs.Answering.{refusal_record};
 ghost use Rattle.plain_steps.specs.Computed.{is_null as is_null_call};
 
 use crate::mounted::mount;
