@@ -12,11 +12,16 @@ module _ (line : List (String Global)) (at : ℕ) (word : String Global) (within
   pub bytes_at : get_or (map string_bytes line) at [] ≡ string_bytes word
   bytes_at = get_or-map string_bytes line at word [] within ∙ ap string_bytes (sym is)
 
-  -- where it spells no number, nothing is asked for that goes by it
+  -- nothing is asked for
+  abbrev AsksForNone : Option Asked → Type 0
+  AsksForNone told = IfNone told ((asked : Asked) → AsksFor (map string_bytes line) asked → ⊥)
+
+  -- so it is where the word spells no number, and what is asked for goes by it
   pub asks_for_none : ((number : ℕ) → Spells (string_bytes word) number → ⊥) → (told : Option Asked)
       → told ≡ None → (by : Asked → ℕ)
       → ((asked : Asked) → AsksFor (map string_bytes line) asked
       → Spells (get_or (map string_bytes line) at []) (by asked))
-      → IfNone told ((asked : Asked) → AsksFor (map string_bytes line) asked → ⊥)
-  asks_for_none unspelled told none by spells = subst (λ told. IfNone told ((asked : Asked) → AsksFor (map string_bytes line) asked → ⊥)) (sym none)
-      (λ asked asks. unspelled (by asked) (subst (λ w. Spells w (by asked)) bytes_at (spells asked asks)))
+      → AsksForNone told
+  asks_for_none unspelled told none by spells =
+      subst AsksForNone (sym none) (λ asked asks. unspelled (by asked)
+      (subst (λ w. Spells w (by asked)) bytes_at (spells asked asks)))
