@@ -16,7 +16,7 @@ use Rattle.disk.specs.declared.file.FileCall.{FileCall}
 use Rattle.disk.specs.declared.file.FileCall.TheVariants.{Read, Write, Sync}
 use Rattle.disk.specs.Device.{Content, Device, current, newest, OneLater, HasRead, HasWritten, HasSettled}
 use Rattle.disk.specs.Device.{Appends, Settles, CountsFailure}
-use Rattle.disk.specs.File.{Calls, is_at, effect, contents_after, spoils_block, is_spoiled, file_device}
+use Rattle.disk.specs.File.{Calls, is_at, effect, contents_after, spoils_block, is_spoiled, file_device, is_lost}
 use Rattle.disk.specs.File.{KeepsModel}
 use Rattle.disk.proofs.Failures.{told_before, told_last}
 
@@ -67,6 +67,7 @@ module _ (first : ℕ → Content) (size : ℕ) (calls : Calls) where
     past = λ clock block h. ap (λ (es : Calls). contents_after block (first block ∷ []) es)
         (take-append-le clock calls ((call, r) ∷ []) h);
     failed = λ made h. told_before (λ e. is_err e.1) calls (call, r) made h;
+    lost = λ made h. told_before (λ e. is_lost e.0 e.1) calls (call, r) made h;
     counted = counted_more call r
         ∙ ap (λ (b : Bool). count_by (λ e. is_err e.1) calls + cond b 1 0)
         (sym (told_last (λ e. is_err e.1) calls (call, r)));
@@ -97,6 +98,7 @@ module _ (first : ℕ → Content) (size : ℕ) (calls : Calls) where
       → HasRead now (next (Read at bytes) r)
   has_read at bytes r = record {
     later = later (Read at bytes) r;
+    lost = told_last (λ e. is_lost e.0 e.1) calls (Read at bytes, r);
     contents = λ block. current_more (Read at bytes) r block;
     spoiled = λ block. spoiled_more block (Read at bytes) r ∙ or-false (is_spoiled block calls);
   }
@@ -117,6 +119,7 @@ module _ (first : ℕ → Content) (size : ℕ) (calls : Calls) where
       let call : FileCall = Write (b * BLOCK_BYTES) bytes in
       record {
         later = later call r;
+        lost = told_last (λ e. is_lost e.0 e.1) calls (call, r);
         written = appends b (current now b) (current (next call r) b) bytes.value r (current_more call r b);
         others = λ other ne. current_more call r other
             ∙ ap (λ (t : Bool). if t then current now other ++ bytes.value ∷ [] else current now other)
@@ -144,6 +147,7 @@ module _ (first : ℕ → Content) (size : ℕ) (calls : Calls) where
   pub has_settled : (side : Side) (r : Result Unit Failed) → HasSettled now side r (next (Sync side) r)
   has_settled side r = record {
     later = later (Sync side) r;
+    lost = told_last (λ e. is_lost e.0 e.1) calls (Sync side, r);
     contents = λ block. settles side block (current now block) (current (next (Sync side) r) block) r
         (current_more (Sync side) r block);
     spoiled = λ block. spoiled_more block (Sync side) r ∙ or-false (is_spoiled block calls);

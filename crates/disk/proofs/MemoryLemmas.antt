@@ -18,7 +18,7 @@ use Rattle.disk.specs.declared.call_record.Call.TheVariants.{Read, Write, Barrie
 use Rattle.disk.specs.declared.call_record.CallRecord.{CallRecord}
 use Rattle.disk.specs.Device.{Content, Device, current, OneLater, CountsFailure, HasRead, HasWritten}
 use Rattle.disk.specs.Device.{HasSettled, Appends, Settles}
-use Rattle.disk.specs.CallRecord.{is_failure, spoils}
+use Rattle.disk.specs.CallRecord.{is_failure, is_lost, spoils}
 use Rattle.disk.specs.Memory.{Blocks, Past, held_at, device_of}
 use Rattle.disk.proofs.Failures.{told_before, told_last}
 
@@ -48,6 +48,7 @@ later now new past n same = record {
   clock = length-append past ((now, n) ∷ []);
   past = λ clock block h. ap (λ (bs : Blocks). get_or bs block []) (held_before now new past n clock h);
   failed = λ call h. told_before (λ e. is_failure e.1) past (now, n) call h;
+  lost = λ call h. told_before (λ e. is_lost e.1.call e.1.result) past (now, n) call h;
   counted = counted (λ e. is_failure e.1) past (now, n)
       ∙ ap (λ (b : Bool). count_by (λ e. is_failure e.1) past + cond b 1 0)
       (sym (told_last (λ e. is_failure e.1) past (now, n)));
@@ -91,6 +92,7 @@ has_read now past b r =
     let n : CallRecord = record { call = Read b; result = r } in
     record {
       later = later now now past n refl;
+      lost = told_last (λ e. is_lost e.1.call e.1.result) past (now, n);
       contents = λ block. current_after now now past n block ∙ sym (current_now now past block);
       spoiled = λ block. any_after (λ e. spoils block e.1) past (now, n)
           ∙ no_write (list_any (λ e. spoils block e.1) past) r;
@@ -112,6 +114,7 @@ has_written now new past b content r same h others =
     let n : CallRecord = record { call = Write b; result = r } in
     record {
       later = later now new past n same;
+      lost = told_last (λ e. is_lost e.1.call e.1.result) past (now, n);
       written = appends (get_or now b.0 []) (current (device_of now past) b.0) (get_or new b.0 [])
           (current (device_of new (past ++ (now, n) ∷ [])) b.0) content r (current_now now past b.0)
           (current_after now new past n b.0) h;
@@ -135,6 +138,7 @@ has_settled now new past side r same h =
     let n : CallRecord = record { call = Barrier side; result = r } in
     record {
       later = later now new past n same;
+      lost = told_last (λ e. is_lost e.1.call e.1.result) past (now, n);
       contents = λ block. settles side block (get_or now block []) (current (device_of now past) block)
           (get_or new block []) (current (device_of new (past ++ (now, n) ∷ [])) block) r
           (current_now now past block) (current_after now new past n block) (h block);

@@ -28,6 +28,12 @@ spoils (reads block bytes) r k = false
 spoils (writes block bytes) r k = is_err r && nat_eq k block
 spoils (settles side) r k = false
 
+-- the call is a write or a barrier that fails
+abbrev loses : DeviceCall → Result Unit Failed → Bool
+loses (reads block bytes) r = false
+loses (writes block bytes) r = is_err r
+loses (settles side) r = is_err r
+
 -- what the call does to a block that it touches
 abbrev Leaves : DeviceCall → Result Unit Failed → List Content → List Content → Type 0
 Leaves (reads block bytes) r old new = new ≡ old
@@ -44,6 +50,7 @@ Answers d (settles side) r = Unit
 record Changes (old : Device) (call : DeviceCall) (r : Result Unit Failed) (new : Device) : Type 0 where
   later : OneLater old new
   failure : CountsFailure old new r
+  lost : new.lost old.clock ≡ loses call r
   others : (k : ℕ) → touches call k ≡ false → current new k ≡ current old k
   own : (k : ℕ) → touches call k ≡ true → Leaves call r (current old k) (current new k)
   spoiled : (k : ℕ) → new.spoiled k ≡ (old.spoiled k || spoils call r k)
@@ -73,6 +80,7 @@ changes : (old : Device) (call : DeviceCall) (r : Result Unit Failed) (new : Dev
     → Changes old call r new
 changes old (reads block bytes) r new (read, failure, brings) = record {
   later = read.later;
+  lost = read.lost;
   failure = failure;
   others = λ k h. read.contents k;
   own = λ k h. read.contents k;
@@ -81,6 +89,7 @@ changes old (reads block bytes) r new (read, failure, brings) = record {
 }
 changes old (writes block bytes) r new (write, failure) = record {
   later = write.later;
+  lost = write.lost;
   failure = failure;
   others = λ k h. write.others k (eqb-false k block h);
   own = λ k h. subst (λ (n : ℕ). Appends (current old n) bytes r (current new n)) (sym (eqb-true k block h))
@@ -90,6 +99,7 @@ changes old (writes block bytes) r new (write, failure) = record {
 }
 changes old (settles side) r new (settle, failure) = record {
   later = settle.later;
+  lost = settle.lost;
   failure = failure;
   others = λ k h. settles_off side k r (current old k) (current new k) h (settle.contents k);
   own = λ k h. settles_at side k r (current old k) (current new k) h (settle.contents k);
@@ -102,6 +112,7 @@ makes : (old : Device) (call : DeviceCall) (r : Result Unit Failed) (new : Devic
 makes old (reads block bytes) r new h = (
   record {
     later = h.later;
+    lost = h.lost;
     contents = λ k. h.others k refl;
     spoiled = λ k. h.spoiled k
         ∙ or-false (old.spoiled k);
@@ -112,6 +123,7 @@ makes old (reads block bytes) r new h = (
 makes old (writes block bytes) r new h = (
   record {
     later = h.later;
+    lost = h.lost;
     written = h.own block (eq-eqb block block refl);
     others = λ k ne. h.others k (ne_eqb k block ne);
     spoiled = h.spoiled;
@@ -121,6 +133,7 @@ makes old (writes block bytes) r new h = (
 makes old (settles side) r new h = (
   record {
     later = h.later;
+    lost = h.lost;
     contents = λ k. settles_from side k r (current old k) (current new k) (h.others k) (h.own k);
     spoiled =
         λ k. h.spoiled k ∙ or-false (old.spoiled k);
@@ -133,38 +146,46 @@ abbrev counted : Result Unit Failed → ℕ
 counted r = cond (is_err r) 1 0
 
 -- a device one call later, which had this result, with these contents
-abbrev next : Device → (ℕ → List Content) → Result Unit Failed → (ℕ → Bool) → Device
-next d lists result spoiled = record {
+abbrev next : Device → (ℕ → List Content) → DeviceCall → Result Unit Failed → (ℕ → Bool) → Device
+next d lists call result spoiled = record {
   size = d.size;
   clock = d.clock + 1;
   failures = d.failures + counted result;
-  failed = λ call. if nat_lt call d.clock then d.failed call else is_err result;
+  failed = λ made. if nat_lt made d.clock then d.failed made else is_err result;
+  lost = λ made. if nat_lt made d.clock then d.lost made else loses call result;
   contents = λ clock k. if nat_le clock d.clock then d.contents clock k else lists k;
   spoiled = spoiled;
 }
 
-next_later : (d : Device) (lists : ℕ → List Content) (result : Result Unit Failed) (spoiled : ℕ → Bool)
-    → OneLater d (next d lists result spoiled)
-next_later d lists result spoiled = record {
+next_later : (d : Device) (lists : ℕ → List Content) (call : DeviceCall) (result : Result Unit Failed)
+    (spoiled : ℕ → Bool) → OneLater d (next d lists call result spoiled)
+next_later d lists call result spoiled = record {
   size = refl;
   clock = refl;
   past = λ clock k h. ap (λ (t : Bool). if t then d.contents clock k else lists k) (le-leb clock d.clock h);
-  failed = λ call h. ap (λ (t : Bool). if t then d.failed call else is_err result) (lt-ltb call d.clock h);
+  failed = λ made h. ap (λ (t : Bool). if t then d.failed made else is_err result) (lt-ltb made d.clock h);
+  lost = λ made h. ap (λ (t : Bool). if t then d.lost made else loses call result) (lt-ltb made d.clock h);
   counted = ap (λ (t : Bool). d.failures + cond (if t then d.failed d.clock else is_err result) 1 0)
       (sym (le-ltb d.clock d.clock (omega arith)));
 }
 
-next_current : (d : Device) (lists : ℕ → List Content) (result : Result Unit Failed)
+-- of that call it is told whether it was lost
+next_lost : (d : Device) (lists : ℕ → List Content) (call : DeviceCall) (result : Result Unit Failed)
+    (spoiled : ℕ → Bool) → (next d lists call result spoiled).lost d.clock ≡ loses call result
+next_lost d lists call result spoiled =
+    ap (λ (t : Bool). if t then d.lost d.clock else loses call result) (le-ltb d.clock d.clock (omega arith))
+
+next_current : (d : Device) (lists : ℕ → List Content) (call : DeviceCall) (result : Result Unit Failed)
     (spoiled : ℕ → Bool) (k : ℕ)
-    → current (next d lists result spoiled) k ≡ lists k
-next_current d lists result spoiled k =
+    → current (next d lists call result spoiled) k ≡ lists k
+next_current d lists call result spoiled k =
     ap (λ (t : Bool). if t then d.contents (d.clock + 1) k
     else lists k) (lt-leb (d.clock + 1) d.clock (omega arith))
 
-counts_next : (d : Device) (lists : ℕ → List Content) (spoiled : ℕ → Bool) (r : Result Unit Failed)
-    → CountsFailure d (next d lists r spoiled) r
-counts_next d lists spoiled (Ok u) = omega arith
-counts_next d lists spoiled (Err u) = refl
+counts_next : (d : Device) (lists : ℕ → List Content) (call : DeviceCall) (spoiled : ℕ → Bool)
+    (r : Result Unit Failed) → CountsFailure d (next d lists call r spoiled) r
+counts_next d lists call spoiled (Ok u) = omega arith
+counts_next d lists call spoiled (Err u) = refl
 
 failures_of : (old new : Device) (r : Result Unit Failed) → CountsFailure old new r
     → new.failures ≡ old.failures + counted r
@@ -269,17 +290,17 @@ module _ (old middle new : Device) (first second : DeviceCall) (r s : Result Uni
   lists k = if touches second k then current new k else current old k
 
   abbrev between : Device
-  between = next old lists s (λ k. old.spoiled k || spoils second s k)
+  between = next old lists second s (λ k. old.spoiled k || spoils second s k)
 
   abbrev end : Device
-  end = next between (λ k. current new k) r (λ k. between.spoiled k
+  end = next between (λ k. current new k) first r (λ k. between.spoiled k
       || spoils first r k)
 
   between_at : (k : ℕ) → current between k ≡ lists k
-  between_at k = next_current old lists s (λ k. old.spoiled k || spoils second s k) k
+  between_at k = next_current old lists second s (λ k. old.spoiled k || spoils second s k) k
 
   end_at : (k : ℕ) → current end k ≡ current new k
-  end_at k = next_current between (λ k. current new k) r (λ k. between.spoiled k
+  end_at k = next_current between (λ k. current new k) first r (λ k. between.spoiled k
       || spoils first r k) k
 
   lists_at : (k : ℕ) (t : Bool) → touches second k ≡ t
@@ -288,8 +309,9 @@ module _ (old middle new : Device) (first second : DeviceCall) (r s : Result Uni
 
   second_first : Changes old second s between
   second_first = record {
-    later = next_later old lists s (λ k. old.spoiled k || spoils second s k);
-    failure = counts_next old lists (λ k. old.spoiled k || spoils second s k) s;
+    later = next_later old lists second s (λ k. old.spoiled k || spoils second s k);
+    lost = next_lost old lists second s (λ k. old.spoiled k || spoils second s k);
+    failure = counts_next old lists second (λ k. old.spoiled k || spoils second s k) s;
     others = λ k h. between_at k ∙ lists_at k false h;
     own = λ k h.
         let same : current middle k ≡ current old k = one.others k (untouched first second apart k h) in
@@ -302,9 +324,11 @@ module _ (old middle new : Device) (first second : DeviceCall) (r s : Result Uni
 
   first_second : Changes between first r end
   first_second = record {
-    later = next_later between (λ k. current new k) r (λ k. between.spoiled k
+    later = next_later between (λ k. current new k) first r (λ k. between.spoiled k
         || spoils first r k);
-    failure = counts_next between (λ k. current new k) (λ k. between.spoiled k || spoils first r k) r;
+    lost = next_lost between (λ k. current new k) first r (λ k. between.spoiled k
+        || spoils first r k);
+    failure = counts_next between (λ k. current new k) first (λ k. between.spoiled k || spoils first r k) r;
     others = λ k h. elim (cases_Bool (touches second k)) [
       | inl t ↦ end_at k ∙ sym (between_at k ∙ lists_at k true t)
       | inr f ↦ end_at k ∙ two.others k f ∙ one.others k h ∙ sym (between_at k ∙ lists_at k false f)

@@ -1,6 +1,7 @@
 -- The disk model: the contents that each block may have, at each count of calls, and what a call of the
 -- device does to them.
-use Rattle.std.specs.Prelude.{◌≡◌, ◌≢◌, ℕ, ◌+◌, ◌-◌, ◌<◌, ◌≤◌, Bool, ◌||◌, ◌&&◌, if◌then◌else◌, nat_lt, nat_le}
+use Rattle.std.specs.Prelude.{◌≡◌, ◌≢◌, ℕ, ◌+◌, ◌-◌, ◌<◌, ◌≤◌, Bool, false, ◌||◌, ◌&&◌, if◌then◌else◌}
+use Rattle.std.specs.Prelude.{nat_lt, nat_le}
 use Rattle.std.specs.Prelude.{nat_eq, List, [], ◌∷◌, ◌++◌, length, drop, slice_index_or, Result, Ok, Err}
 use Rattle.std.specs.Prelude.{is_err, ◌⊎◌}
 use Rattle.limits.specs.declared.TheConstants.{LOG_HEADER_BLOCK, START_BLOCK}
@@ -22,6 +23,8 @@ pub record Device : Type 0 where
   pub failures : ℕ
   -- whether the call of this number failed, from 0
   pub failed : ℕ → Bool
+  -- whether it was a write or a barrier, and failed
+  pub lost : ℕ → Bool
   -- at a clock, for a block: the contents that a crash may leave, the newest last
   pub contents : ℕ → ℕ → List Content
   -- a write of the block has failed
@@ -54,6 +57,7 @@ pub record OneLater (old new : Device) : Type 0 where
   pub clock : new.clock ≡ old.clock + 1
   pub past : (clock block : ℕ) → clock ≤ old.clock → new.contents clock block ≡ old.contents clock block
   pub failed : (call : ℕ) → call < old.clock → new.failed call ≡ old.failed call
+  pub lost : (call : ℕ) → call < old.clock → new.lost call ≡ old.lost call
   pub counted : new.failures ≡ old.failures + (if new.failed old.clock then 1 else 0)
 
 -- a call counts a failure just where it answers that it failed
@@ -64,6 +68,7 @@ CountsFailure old new (Err _) = new.failures ≡ old.failures + 1
 -- after a read, made or failed: no block has changed
 pub record HasRead (old new : Device) : Type 0 where
   pub later : OneLater old new
+  pub lost : new.lost old.clock ≡ false
   pub contents : (block : ℕ) → current new block ≡ current old block
   pub spoiled : (block : ℕ) → new.spoiled block ≡ old.spoiled block
 
@@ -76,6 +81,7 @@ Appends old content (Err _) new = (new ≡ old) ⊎ (new ≡ old ++ content ∷ 
 pub record HasWritten (old : Device) (block : ℕ) (content : Content) (result : Result Unit Failed)
     (new : Device) : Type 0 where
   pub later : OneLater old new
+  pub lost : new.lost old.clock ≡ is_err result
   pub written : Appends (current old block) content result (current new block)
   pub others : (other : ℕ) → other ≢ block → current new other ≡ current old other
   pub spoiled : (other : ℕ) → new.spoiled other ≡ (old.spoiled other || (is_err result && nat_eq other block))
@@ -88,5 +94,6 @@ Settles side block old (Err _) new = new ≡ old
 -- after a barrier, made or failed
 pub record HasSettled (old : Device) (side : Side) (result : Result Unit Failed) (new : Device) : Type 0 where
   pub later : OneLater old new
+  pub lost : new.lost old.clock ≡ is_err result
   pub contents : (block : ℕ) → Settles side block (current old block) result (current new block)
   pub spoiled : (block : ℕ) → new.spoiled block ≡ old.spoiled block

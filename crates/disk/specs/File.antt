@@ -73,6 +73,16 @@ is_spoiled block calls = list_any (λ call. spoils_block block call.0 call.1) ca
 abbrev pub failed_in : Calls → ℕ → Bool
 failed_in calls call = slice_index_or (map (λ made. is_err made.1) calls) call false
 
+-- it was a write or a sync, and failed
+abbrev pub is_lost : FileCall → Result Unit Failed → Bool
+is_lost (Read at bytes) result = false
+is_lost (Write at bytes) result = is_err result
+is_lost (Sync side) result = is_err result
+
+-- whether the call of this number among them was one
+abbrev pub lost_in : Calls → ℕ → Bool
+lost_in calls call = slice_index_or (map (λ made. is_lost made.0 made.1) calls) call false
+
 -- the device that held this when it was opened, after these calls
 abbrev pub file_device : (ℕ → Content) → ℕ → Calls → Device
 file_device first size calls = record {
@@ -80,6 +90,7 @@ file_device first size calls = record {
   clock = length calls;
   failures = count_by (λ call. is_err call.1) calls;
   failed = λ call. failed_in calls call;
+  lost = λ call. lost_in calls call;
   contents = λ clock block. contents_after block (first block ∷ []) (take clock calls);
   spoiled = λ block. is_spoiled block calls;
 }

@@ -4,7 +4,7 @@ use Rattle.std.specs.Prelude.{Contains}
 use Rattle.std.specs.List.{list_any}
 use Rattle.disk.specs.Device.{Content, Device, current, newest}
 use Rattle.disk.specs.Crash.{Image}
-use Rattle.disk.specs.CallRecord.{is_failure, spoils}
+use Rattle.disk.specs.CallRecord.{is_failure, is_lost, spoils}
 use Rattle.disk.specs.declared.call_record.CallRecord.{CallRecord}
 use Rattle.disk.specs.declared.mem_disk.MemDisk.{MemDisk}
 
@@ -24,12 +24,17 @@ held_at now past clock = slice_index_or (map (λ e. e.0) past) clock now
 abbrev pub failed_at : Past → ℕ → Bool
 failed_at past call = slice_index_or (map (λ e. is_failure e.1) past) call false
 
+-- whether it was a write or a barrier, and failed
+abbrev pub lost_at : Past → ℕ → Bool
+lost_at past call = slice_index_or (map (λ e. is_lost e.1.call e.1.result) past) call false
+
 abbrev pub device_of : Blocks → Past → Device
 device_of now past = record {
   size = length now;
   clock = length past;
   failures = count_by (λ e. is_failure e.1) past;
   failed = λ call. failed_at past call;
+  lost = λ call. lost_at past call;
   contents = λ clock block. slice_index_or (held_at now past clock) block [];
   spoiled = λ block. list_any (λ e. spoils block e.1) past;
 }
