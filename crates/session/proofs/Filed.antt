@@ -99,6 +99,7 @@ record FilesOne (moment : Moment) (old : Opened) (files : Files) (j : Judged) (b
 -- nothing has changed
 stays_there : (old : Opened) → GoesTo old old
 stays_there old = record {
+  past = past_none old.device;
   failures = omega arith;
   further = same_further old.core;
   failed = λ broken. inl broken;
@@ -269,9 +270,9 @@ files_after stops longer K moment old files messages replies served device core 
     further behind settles =
     let done = all stops longer K moment old files messages replies served keeps timely opened a in
     let open_then = behind done.later done.opened in
-    let along = each_message old.boot moment served.device.failed K (settled_place core.log) old files
+    let along = each_message old.boot moment served.device K (settled_place core.log) old files
     messages replies
-    served done.later old served refl opened (λ number below. refl) a
+    served done.later old served refl opened (λ number below. (refl, refl)) a
     (done.each (settled_place core.log) further) in
     let kept = settles done.opened.base served.boot done.later.first done.later.last done.later.entries
     done.opened.opened.since in
@@ -279,7 +280,7 @@ files_after stops longer K moment old files messages replies served device core 
       later = done.later;
       each = done.each (settled_place core.log) further;
       along = along;
-      answers = served_along old.boot moment served.device.failed (settled_place core.log) old files
+      answers = served_along old.boot moment served.device (settled_place core.log) old files
           messages replies served done.later (done.each (settled_place core.log) further) along;
       goes = done.goes;
       first = done.first;
@@ -328,7 +329,12 @@ served_behind stops longer K L so moment old unread first result rest written se
         answered = longer_answers K L so moment old stream.messages stream.replies served stream.answered;
         ends = stream.ends;
       };
-      goes = record { failures = leaves.failures; further = leaves.further; failed = leaves.failed };
+      goes = record {
+        past = leaves.past;
+        failures = leaves.failures;
+        further = leaves.further;
+        failed = leaves.failed;
+      };
       settled = settled;
       files = λ files keeps timely opened.
           files_after stops longer L moment old files stream.messages stream.replies served device

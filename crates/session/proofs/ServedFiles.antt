@@ -34,7 +34,7 @@ use Rattle.store_promise.specs.Verdicts.{refusal}
 use Rattle.store_promise.proofs.Later.{past_more, past_none}
 use Rattle.store_images.specs.Further.{end_of}
 use Rattle.store_images.specs.Opening.{Opened}
-use Rattle.store_images.specs.Settling.{HasFailed}
+use Rattle.store_images.specs.Settling.{HasBroken, HasFailed, HasLost}
 use Rattle.store.proofs.LogRoom.{few_changed}
 use Rattle.store.specs.Calling as store
 use Rattle.session.specs.Filing.{AreAnswered, AreFiled, Files, IsFiled, IsOpenFor, filed, outset_of}
@@ -58,8 +58,12 @@ some_failed failed first (suc count) some = elim (cases_Bool (failed (first + co
       (found.0, found.1, omega (arith, found.2), found.3))
 ]
 
-failed_within : (s : wire.Serving) (before now : Device) → IsLater before now
-    → ((number : ℕ) → number < now.clock → s.failed number ≡ now.failed number)
+-- so the calls of a device failed up to now
+abbrev Agrees : wire.Serving → Device → Type 0
+Agrees s now = (number : ℕ) → number < now.clock
+    → (s.failed number ≡ now.failed number) × (s.lost number ≡ now.lost number)
+
+failed_within : (s : wire.Serving) (before now : Device) → IsLater before now → Agrees s now
     → before.failures < now.failures → wire.FailsWithin s before.clock now.clock
 failed_within s before now past same more =
     let counted = past.counted in
@@ -70,8 +74,18 @@ failed_within s before now past same more =
       call = found.0;
       since = found.1;
       before = before_end;
-      failed = same found.0 before_end ∙ found.3;
+      failed = (same found.0 before_end).0 ∙ found.3;
     }
+
+lost_within : (s : wire.Serving) (before now : Device) → Agrees s now → HasLost before now
+    → wire.LosesWithin s before.clock now.clock
+lost_within s before now same was = record {
+  call = was.call;
+  since = was.since;
+  before = was.below;
+  failed = (same was.call was.below).0 ∙ was.failed;
+  lost = (same was.call was.below).1 ∙ was.lost;
+}
 
 -- ---- from one standing to the next
 
@@ -128,13 +142,13 @@ past_all settled moment old files (message ∷ messages) (reply ∷ replies) new
     past_more old.device middle.device new.device first.past
     (past_all settled moment middle between messages replies new later first.is_open rest)
 
-module _ (boot : ℕ) (moment : Moment) (failed : ℕ → Bool) where
+module _ (boot : ℕ) (moment : Moment) (end : Device) where
   abbrev s : wire.Serving
-  s = serving_of boot moment failed
+  s = serving_of boot moment end
 
   -- so the calls of the device failed up to now
   abbrev AgreesWith : Opened → Type 0
-  AgreesWith now = (number : ℕ) → number < now.device.clock → failed number ≡ now.device.failed number
+  AgreesWith now = Agrees s now.device
 
   has_failed : (old new : Opened) (files later : Files) → IsLater old.device new.device → AgreesWith new
       → HasFailed old.core.log old.device new.device
@@ -142,6 +156,12 @@ module _ (boot : ℕ) (moment : Moment) (failed : ℕ → Bool) where
   has_failed old new files later past same (inl broken) = inr broken
   has_failed old new files later past same (inr more) =
       inl (failed_within s old.device new.device past same more)
+
+  has_broken : (old new : Opened) (files later : Files) → AgreesWith new
+      → HasBroken old.core.log old.device new.device
+      → wire.HasBroken s (standing_of old files.last) (standing_of new later.last)
+  has_broken old new files later same (inl broken) = inr broken
+  has_broken old new files later same (inr lost) = inl (lost_within s old.device new.device same lost)
 
   goes_on : (old new : Opened) (files later : Files) → store.GoesTo old new → IsLater old.device new.device
       → AgreesWith new → wire.IsLater s (standing_of old files.last) (standing_of new later.last)
@@ -154,10 +174,10 @@ module _ (boot : ℕ) (moment : Moment) (failed : ℕ → Bool) where
     stays_broken = goes.further.broken;
   }
     where
-      by_cause : old.core.log.broken ≡ false → HasFailed old.core.log old.device new.device
-          → wire.FailsWithin s old.device.clock new.device.clock
+      by_cause : old.core.log.broken ≡ false → HasBroken old.core.log old.device new.device
+          → wire.LosesWithin s old.device.clock new.device.clock
       by_cause sound (inl broken) = absurd (true≢false (sym broken ∙ sound))
-      by_cause sound (inr more) = failed_within s old.device new.device past same more
+      by_cause sound (inr lost) = lost_within s old.device new.device same lost
 
   rests : (at : Opened) (files : Files) → wire.Rests s (standing_of at files.last) (standing_of at files.last)
   rests at files = record {
@@ -268,7 +288,7 @@ module _ (boot : ℕ) (moment : Moment) (failed : ℕ → Bool) where
         by_rules true (left (Some entry) last) made.begun_for.rules
         (wire.Unsettled entry.reply
         (steps entry last made after (goes_on old new files (left (Some entry) last) goes past same))
-        (has_failed old new files (left (Some entry) last) past same un.failed) un.stable
+        (has_broken old new files (left (Some entry) last) same un.failed) un.stable
         (told_as (verdicts.Reply (refused status.Io asked)) un.told_is))
     by_entry None last comes after goes past same (inl un) =
         by_rules false (left None last) un.rules (
@@ -352,7 +372,8 @@ module _ (boot : ℕ) (moment : Moment) (failed : ℕ → Bool) where
       let left = leaves settled moment old files (judged message) reply middle between is_open filed in
       let past = past_all settled moment middle between messages replies new later left.is_open all in
       let at_middle : AgreesWith middle = λ number below.
-      same number (let clock = past.clock in omega (arith, below, clock)) ∙ past.failed number below in (
+      let told = same number (let clock = past.clock in omega (arith, below, clock)) in
+      (told.0 ∙ past.failed number below, told.1 ∙ past.lost number below) in (
         one_message K settled old files (judged message) reply middle between one mid is is_open at_middle
             answered filed,
         each_message K settled middle between messages replies new later mid other (left.boot ∙ is) left.is_open

@@ -121,9 +121,9 @@ pub record HasFiled (moment : Moment) (old : Opened) (files : Files) (messages r
     (served new : Opened) : Type 0 where
   pub later : Files
   pub each : AreFiled (settled_place new.core.log) moment old files messages replies served later
-  pub along : AreAnswered (serving_of old.boot moment served.device.failed) (settled_place new.core.log)
+  pub along : AreAnswered (serving_of old.boot moment served.device) (settled_place new.core.log)
       moment old files messages replies served later each
-  pub answers : stream.served (serving_of old.boot moment served.device.failed)
+  pub answers : stream.served (serving_of old.boot moment served.device)
       (standing_of old files.last) messages replies (standing_of served later.last)
   pub goes : GoesTo old served
   pub first : later.first ≡ files.first

@@ -1,5 +1,6 @@
 -- How a store stands between two messages of the stream that it serves.
-use Rattle.std.specs.Prelude.{ℕ, ◌+◌, Bool}
+use Rattle.std.specs.Prelude.{ℕ, ◌+◌}
+use Rattle.disk.specs.Device.{Device}
 use Rattle.model.specs.Tree.{Tree}
 use Rattle.nfs_types.specs.declared.ctx.Moment.{Moment}
 use Rattle.session_wire.specs.Served.{Serving, Standing}
@@ -17,6 +18,11 @@ standing_of store tree = record {
   is_broken = store.core.log.broken;
 }
 
--- the calls of the stream are of this boot and this moment, and so the device's calls failed
-abbrev pub serving_of : ℕ → Moment → (ℕ → Bool) → Serving
-serving_of boot moment failed = record { boot = boot; moment = moment; failed = failed }
+-- the calls of the stream are of this boot and this moment, and so the calls of this device failed
+abbrev pub serving_of : ℕ → Moment → Device → Serving
+serving_of boot moment device = record {
+  boot = boot;
+  moment = moment;
+  failed = device.failed;
+  lost = device.lost;
+}

@@ -22,9 +22,9 @@ use Rattle.rpc.specs.declared.refusal.Refusal.TheVariants.{SystemError}
 use Rattle.session_wire.specs.Calls.{CredentialFits, caller_of}
 use Rattle.session_wire.specs.Judging.{judged}
 use Rattle.rpc.specs.Refused.{refused}
-use Rattle.session_wire.specs.Served.{FailsWithin, HasFailed, HasNoCause, IsCallReply, IsDone, IsLater}
+use Rattle.session_wire.specs.Served.{FailsWithin, HasBroken, HasFailed, HasNoCause, IsCallReply, IsDone, IsLater}
 use Rattle.session_wire.specs.Served.{IsNfsDone, IsNfsReply, IsPlain, IsReplyTo, IsReplyWithRules}
-use Rattle.session_wire.specs.Served.{IsServable, IsSpent, LacksMemory, Rests, Serving, Standing, Stays}
+use Rattle.session_wire.specs.Served.{IsServable, IsSpent, LacksMemory, LosesWithin, Rests, Serving, Standing, Stays}
 use Rattle.session_wire.specs.Served.{Steps, all_done, done, done_but_for_memory, nfs_done, served}
 use Rattle.session_wire.proofs.CallLaws.{judged_takes}
 
@@ -88,12 +88,31 @@ fails_longer s a b c d first last fails = record {
   failed = fails.failed;
 }
 
+-- so is a write or a barrier that failed
+loses_longer : (s : Serving) (a b c d : ℕ) → a ≤ b → c ≤ d → LosesWithin s b c → LosesWithin s a d
+loses_longer s a b c d first last loses = record {
+  call = loses.call;
+  since = let h = loses.since in omega (arith, first, h);
+  before = let h = loses.before in omega (arith, last, h);
+  failed = loses.failed;
+  lost = loses.lost;
+}
+
+-- and that is a failure
+loses_fails : (s : Serving) (from to : ℕ) → LosesWithin s from to → FailsWithin s from to
+loses_fails s from to loses = record {
+  call = loses.call;
+  since = loses.since;
+  before = loses.before;
+  failed = loses.failed;
+}
+
 breaks-on : (s : Serving) (a b c : Standing) → IsLater s a b → IsLater s b c → a.is_broken ≡ false
-    → c.is_broken ≡ true → (v : Bool) → b.is_broken ≡ v → FailsWithin s a.clock c.clock
+    → c.is_broken ≡ true → (v : Bool) → b.is_broken ≡ v → LosesWithin s a.clock c.clock
 breaks-on s a b c first second was now true is =
-    fails_longer s a.clock a.clock b.clock c.clock (omega arith) second.clock (first.breaks was is)
+    loses_longer s a.clock a.clock b.clock c.clock (omega arith) second.clock (first.breaks was is)
 breaks-on s a b c first second was now false is =
-    fails_longer s a.clock b.clock c.clock c.clock first.clock (omega arith) (second.breaks is now)
+    loses_longer s a.clock b.clock c.clock c.clock first.clock (omega arith) (second.breaks is now)
 
 on : (s : Serving) (a b c : Standing) → IsLater s a b → IsLater s b c → IsLater s a c
 on s a b c first second = record {
@@ -196,7 +215,7 @@ last_part : (s : Serving) (old middle new : Standing) → IsLater s old middle �
 last_part s old middle new first later none = record {
   whole = not_true middle.is_broken (λ broken. none.none_fails
       (fails_longer s old.clock old.clock middle.clock new.clock (omega arith) later.clock
-      (first.breaks none.whole broken)));
+      (loses_fails s old.clock middle.clock (first.breaks none.whole broken))));
   none_fails = λ fails. none.none_fails
       (fails_longer s old.clock middle.clock new.clock new.clock first.clock (omega arith) fails);
   unspent = none.unspent;
@@ -206,6 +225,10 @@ last_part s old middle new first later none = record {
 not_failed : (s : Serving) (old new : Standing) → HasNoCause s old new → HasFailed s old new → ⊥
 not_failed s old new none (inl fails) = none.none_fails fails
 not_failed s old new none (inr broken) = let whole = none.whole in cc
+
+not_broken : (s : Serving) (old new : Standing) → HasNoCause s old new → HasBroken s old new → ⊥
+not_broken s old new none (inl loses) = none.none_fails (loses_fails s old.clock new.clock loses)
+not_broken s old new none (inr broken) = let whole = none.whole in cc
 
 module _ (s : Serving) (old new : Standing) (bytes : List ℕ) (none : HasNoCause s old new) where
   with_rules : (xid : ℕ) (credential : Credential) (call : types.Call)
@@ -217,8 +240,8 @@ module _ (s : Serving) (old new : Standing) (bytes : List ℕ) (none : HasNoCaus
   with_rules xid credential call (IsReplyWithRules.Spent stays spent told) = absurd (none.unspent spent)
   with_rules xid credential call (IsReplyWithRules.Failed stays failed told) =
       absurd (not_failed s old new none failed)
-  with_rules xid credential call (IsReplyWithRules.Unsettled reply taken failed waits told) =
-      absurd (not_failed s old new none failed)
+  with_rules xid credential call (IsReplyWithRules.Unsettled reply taken broken waits told) =
+      absurd (not_broken s old new none broken)
 
   of_nfs : (rules : Bool) (xid : ℕ) (credential : Credential) (call : types.Call)
       → IsNfsReply s old rules xid credential call bytes new

@@ -26,11 +26,12 @@ use Rattle.rpc.specs.Refused.{accepted, refused}
 use Rattle.nfs_results.specs.Results.{result_bytes}
 
 -- The boot number and the moment of all calls of a stream, and of the device under it whether its call of a
--- number failed, the first of them being call 0.
+-- number failed, and whether it was a write or a barrier that did, the first of them being call 0.
 pub record Serving : Type 0 where
   pub boot : ℕ
   pub moment : Moment
   pub failed : ℕ → Bool
+  pub lost : ℕ → Bool
 
 -- How a stream stands between two messages: the tree so far, the least number that the next transaction may
 -- have, how many places and log positions were given out, the device's clock, which is the count of its calls
@@ -51,14 +52,23 @@ pub record FailsWithin (s : Serving) (from to : ℕ) : Type 0 where
   pub before : call < to
   pub failed : s.failed call ≡ true
 
+-- one of them failed, and was a write or a barrier
+pub record LosesWithin (s : Serving) (from to : ℕ) : Type 0 where
+  pub call : ℕ
+  pub since : from ≤ call
+  pub before : call < to
+  pub failed : s.failed call ≡ true
+  pub lost : s.lost call ≡ true
+
 -- What a message may do besides its step: numbers of transactions, places, log positions and the device's clock
--- only rise, and a store breaks only as a device call of that message fails, which is never taken back.
+-- only rise, and a store breaks only as a write or a barrier of that message fails, which is never taken back.
+-- A read that fails breaks nothing.
 pub record IsLater (s : Serving) (old new : Standing) : Type 0 where
   pub numbers : old.number ≤ new.number
   pub places : old.places ≤ new.places
   pub positions : old.positions ≤ new.positions
   pub clock : old.clock ≤ new.clock
-  pub breaks : old.is_broken ≡ false → new.is_broken ≡ true → FailsWithin s old.clock new.clock
+  pub breaks : old.is_broken ≡ false → new.is_broken ≡ true → LosesWithin s old.clock new.clock
   pub stays_broken : old.is_broken ≡ true → new.is_broken ≡ true
 
 -- no step: the tree stays, and no place was given out
@@ -91,6 +101,10 @@ pub record Steps (s : Serving) (old : Standing) (credential : Credential) (call 
 abbrev pub HasFailed : Serving → Standing → Standing → Type 0
 HasFailed s old new = FailsWithin s old.clock new.clock ⊎ (old.is_broken ≡ true)
 
+-- a write or a barrier of this message failed, or the store was broken before it
+abbrev pub HasBroken : Serving → Standing → Standing → Type 0
+HasBroken s old new = LosesWithin s old.clock new.clock ⊎ (old.is_broken ≡ true)
+
 -- no number of a transaction is left, no place, or too few log positions for the most that a transaction
 -- changes
 abbrev pub IsSpent : Standing → Type 0
@@ -105,8 +119,8 @@ abbrev pub nfs_done : ℕ → Reply → List ℕ
 nfs_done xid reply = done xid (program_replies.Nfs reply)
 
 -- What a call with rules is answered: the reply of its step. Or it made no step and is told why: memory was
--- refused, a counter is spent, or a device call failed. A failure may also come after its step, where the
--- answer had to wait until what it changed is stable.
+-- refused, a counter is spent, or a device call failed. A write or a barrier may also fail after its step, where
+-- the answer had to wait until what it changed is stable.
 pub data IsReplyWithRules (s : Serving) (old : Standing) (xid : ℕ) (credential : Credential)
     (call : types.Call) (bytes : List ℕ) (new : Standing) : Type 0 where
   Done : (reply : Reply) → Steps s old credential call reply new → bytes ≡ nfs_done xid reply
@@ -117,7 +131,7 @@ pub data IsReplyWithRules (s : Serving) (old : Standing) (xid : ℕ) (credential
       → IsReplyWithRules s old xid credential call bytes new
   Failed : Stays s old new → HasFailed s old new → bytes ≡ nfs_done xid (model.refused status.Io call)
       → IsReplyWithRules s old xid credential call bytes new
-  Unsettled : (reply : Reply) → Steps s old credential call reply new → HasFailed s old new
+  Unsettled : (reply : Reply) → Steps s old credential call reply new → HasBroken s old new
       → is_answered_stable call ≡ true
       → bytes ≡ nfs_done xid (model.refused status.Io call)
       → IsReplyWithRules s old xid credential call bytes new

@@ -36,7 +36,7 @@ use Rattle.store.specs.Calling.{IsSoFar}
 use Rattle.store.specs.Calling.{LeavesFiles, Outset, StandsWith, Tells}
 use Rattle.store_images.specs.Further.{LeavesOpen, RunsOn}
 use Rattle.store_images.specs.Opening.{Opened, store_of}
-use Rattle.store_images.specs.Settling.{HasFailed, IsIdle}
+use Rattle.store_images.specs.Settling.{IsIdle}
 use Rattle.store_images.specs.SettlingStops.{KeepsPrefixes, StaysOpen}
 use Rattle.store_workers.specs.Phases.{is_ready}
 use Rattle.store_workers.specs.Seen.{seen_in}
@@ -52,7 +52,7 @@ use Rattle.store_workers.specs.declared.workers.parts.Phase as phases
 use Rattle.store_workers.specs.declared.workers.parts.Phase.TheVariants as Phase
 use Rattle.store_workers.specs.declared.workers.parts.State.{State}
 use Rattle.store_workers.specs.declared.workers.parts.Work.{Work}
-use Rattle.store.proofs.CallStages.{IsAfter, begun_then, comes_then, failed_then, so_far_still, tells_still}
+use Rattle.store.proofs.CallStages.{IsAfter, begun_then, broken_after, comes_then, so_far_still, tells_still}
 use Rattle.store.proofs.CallSteps.{open_of, runs_of, setting_of}
 use Rattle.store.proofs.DrivenAlone.{starts_alone}
 use Rattle.store_runs.proofs.GoingOn.{still_at_work}
@@ -60,6 +60,7 @@ use Rattle.store_workers.proofs.HowFar.{some_of}
 use Rattle.store_promise.proofs.Later.{past_more, past_none, past_one}
 use Rattle.store_images.proofs.Later.{some_image}
 use Rattle.store_images.proofs.Staying.{kept_along, none_left, stops_along}
+use Rattle.store_images.proofs.Lost.{broken_along}
 use Rattle.store_images.proofs.StillOpen.{further_then, same_further}
 
 -- ---- a call begins
@@ -127,7 +128,7 @@ KeepsByCall = (before old new : Device) (base : Image) (core : CoreState) (loggi
 
 module _ (o : Outset) (now : Opened) (device : Device) (worker : State)
     (calling : IsCalling o now worker) (io : Fetch) (content : Content) (answer : Result Unit Failed)
-    (failure : CountsFailure now.device device answer) where
+    (failure : CountsFailure now.device device answer) (one : OneLater now.device device) where
   abbrev later : Opened
   later = record now { device = device }
 
@@ -139,6 +140,7 @@ module _ (o : Outset) (now : Opened) (device : Device) (worker : State)
 
   after : IsAfter now later
   after = record {
+    past = past_one now.device device one;
     failures = more_failed now.device device answer failure;
     further = same_further now.core;
   }
@@ -161,9 +163,9 @@ module _ (o : Outset) (now : Opened) (device : Device) (worker : State)
   so_far_by broken (At job (Again begun)) may has = absurd (none_made made may)
   so_far_by broken (At job (Waiting place)) may has = absurd (none_made made may)
 
-  kept_then : KeepsByCall → OneLater now.device device → HasKeptFiles o.store.device device o.store.boot o.first
+  kept_then : KeepsByCall → HasKeptFiles o.store.device device o.store.boot o.first
       (o.entries ++ option_to_list calling.entry) (settled_place o.store.core.log)
-  kept_then keeps one = keeps o.store.device now.device device calling.base now.core nothing_out
+  kept_then keeps = keeps o.store.device now.device device calling.base now.core nothing_out
       nothing_out o.store.boot
       (settled_place o.store.core.log) o.first calling.last
       (o.entries ++ option_to_list calling.entry) calling.kept
@@ -171,7 +173,7 @@ module _ (o : Outset) (now : Opened) (device : Device) (worker : State)
       (o.entries ++ option_to_list calling.entry) calling.last) calling.boot calling.opened.since)
       calling.further.settled one
 
-  pub was_read : KeepsByCall → OneLater now.device device
+  pub was_read : KeepsByCall
       → TellsRead o.store.boot (o.entries ++ option_to_list calling.entry) worker (Some made) read
       → IsCoreAtWork read now.core
       → IsRunningOver (setting_of calling.base now (fetches_of worker) o.first
@@ -179,14 +181,14 @@ module _ (o : Outset) (now : Opened) (device : Device) (worker : State)
       (quiet device now.core)
       (fetches_of read) now.boot o.first (o.entries ++ option_to_list calling.entry) calling.last
       → IsCalling o later read
-  was_read keeps one tells at_work run = record {
+  was_read keeps tells at_work run = record {
     entry = calling.entry;
     last = calling.last;
     base = calling.base;
     boot = calling.boot;
     comes = comes_then o now later after calling.entry calling.last calling.comes;
     past = past_more o.store.device now.device device calling.past (past_one now.device device one);
-    kept = kept_then keeps one;
+    kept = kept_then keeps;
     opened = open_of _ calling.base later (fetches_of read) o.first (o.entries ++ option_to_list calling.entry)
         calling.last run;
     stands = tells.stands;
@@ -195,7 +197,7 @@ module _ (o : Outset) (now : Opened) (device : Device) (worker : State)
         (so_far_by now.core.log.broken (progress_of worker) tells.may calling.so_far);
     counted = let was = calling.counted in let more = after.failures in omega (arith, was, more);
     further = calling.further;
-    broken = λ is. failed_then o now later after (calling.broken is);
+    broken = λ is. broken_after o now later after (calling.broken is);
   }
 
 -- ---- a settling
@@ -211,7 +213,7 @@ module _ (o : Outset) (now : Opened) (device : Device) (core : CoreState) (worke
     settled = store_of device core now.boot
 
     abbrev pub still_after : IsAfter now settled
-    still_after = record { failures = opens.failures; further = opens.further }
+    still_after = record { past = opens.past; failures = opens.failures; further = opens.further }
 
     -- where the call isn't served, there was nothing to wait for
     pub same_unserved : has_rules o.asked.call ≡ false → settled ≡ now
@@ -224,10 +226,6 @@ module _ (o : Outset) (now : Opened) (device : Device) (core : CoreState) (worke
     module _ (calling : IsCalling o now worker) (with : GoesWith worker core) where
       abbrev entries : List Entry
       entries = o.entries ++ option_to_list calling.entry
-
-      from : HasFailed now.core.log now.device device → HasFailed o.store.core.log o.store.device device
-      from (inl broken) = failed_then o now settled still_after (calling.broken broken)
-      from (inr more) = inr (let was = calling.counted in omega (arith, was, more))
 
       run : IsRunningOver (setting_of calling.base now (fetches_of worker) o.first entries calling.last
           calling.opened) calling.base (quiet now.device now.core) (fetches_of worker) now.boot o.first
@@ -265,7 +263,8 @@ module _ (o : Outset) (now : Opened) (device : Device) (core : CoreState) (worke
             calling.so_far;
         counted = let was = calling.counted in let more = opens.failures in omega (arith, was, more);
         further = further_then o.store.core now.core core calling.further opens.further;
-        broken = λ is. from (opens.failed is);
+        broken = λ is. broken_along o.store.core.log now.core.log o.store.device now.device device
+            calling.past opens.past calling.broken (opens.failed is);
       }
 
 answer_still : (o : Outset) (now new : Opened) (is_after : IsAfter now new) → new.core.begun ≡ now.core.begun
@@ -294,18 +293,12 @@ settled_step o now device core worker waits served waited stepped with = record 
 -- one store led to another, and that to a third
 pub gone_on : (a b c : Opened) → GoesTo a b → GoesTo b c → GoesTo a c
 gone_on a b c one two = record {
+  past = past_more a.device b.device c.device one.past two.past;
   failures = let x = one.failures in let y = two.failures in omega (arith, x, y);
   further = further_then a.core b.core c.core one.further two.further;
-  failed = λ broken. since (two.failed broken);
+  failed = λ broken. broken_along a.core.log b.core.log a.device b.device c.device one.past two.past one.failed
+      (two.failed broken);
 }
-  where
-    since : HasFailed b.core.log b.device c.device → HasFailed a.core.log a.device c.device
-    since (inl broken) = before (one.failed broken)
-      where
-        before : HasFailed a.core.log a.device b.device → HasFailed a.core.log a.device c.device
-        before (inl was) = inl was
-        before (inr more) = inr (let y = two.failures in omega (arith, more, y))
-    since (inr more) = inr (let x = one.failures in omega (arith, more, x))
 
 -- what is settled behind an open store's call leaves it open, for whatever it was
 pub settled_open : (now : Opened) (device : Device) (core : CoreState) (first : Tree) (entries : List Entry)
@@ -355,15 +348,21 @@ settled_answer o verdict now device core opens keeps blocks many has = record {
   last = has.last;
   boot = has.boot;
   comes = comes_then o now (store_of device core now.boot)
-      (record { failures = opens.failures; further = opens.further }) has.entry has.last has.comes;
+      (record { past = opens.past; failures = opens.failures; further = opens.further }) has.entry has.last
+      has.comes;
   files = files_then o (o.entries ++ option_to_list has.entry) has.last now device core blocks has.boot
       has.goes.further.settled keeps has.opened has.files;
   opened = settled_open now device core o.first (o.entries ++ option_to_list has.entry) has.last
       opens has.opened;
   goes = gone_on o.store now (store_of device core now.boot) has.goes
-      (record { failures = opens.failures; further = opens.further; failed = opens.failed });
+      (record {
+        past = opens.past;
+        failures = opens.failures;
+        further = opens.further;
+        failed = opens.failed;
+      });
   tells = tells_still o now (store_of device core now.boot)
-      (record { failures = opens.failures; further = opens.further }) opens.core.begun
+      (record { past = opens.past; failures = opens.failures; further = opens.further }) opens.core.begun
       (λ unserved few. absurd (omega (arith, many, few))) has.entry verdict has.tells;
 }
 
@@ -550,7 +549,12 @@ answered keeps stops o now worker ready blocks stepped is =
             fetched = All-nil (IsFetchOver was.base now.core);
           };
         };
-        goes = record { failures = was.counted; further = was.further; failed = was.broken };
+        goes = record {
+          past = was.past;
+          failures = was.counted;
+          further = was.further;
+          failed = was.broken;
+        };
         tells = subst (λ (o2 : Option CallAnswer). IfSome o2
             (λ ready. Tells o was.entry ready.verdict now)) (sym is) stepped.answer;
       },

@@ -46,7 +46,10 @@ use Rattle.store.specs.Calling.{Outset, StandsWith, Tells}
 use Rattle.store.specs.Driving.{waits_for_log}
 use Rattle.store_images.specs.Further.{IsFurther}
 use Rattle.store_images.specs.Opening.{Opened}
-use Rattle.store_images.specs.Settling.{HasFailed}
+use Rattle.store_images.specs.Settling.{HasBroken, HasFailed}
+use Rattle.store_images.proofs.Lost.{broken_failed, broken_then}
+use Rattle.store_promise.specs.Openings.{IsLater}
+use Rattle.store_promise.proofs.Later.{past_more}
 
 -- ---- an entry in a transcript
 
@@ -86,8 +89,9 @@ reply_is entries e place a at is = is.told ∙ ap (λ (c : Committed). verdict.R
 
 -- ---- what a later store still has
 
--- a store later on: no failure was taken back, and it has gone further
+-- a store later on: its device's past stays, no failure was taken back, and it has gone further
 pub record IsAfter (now new : Opened) : Type 0 where
+  pub past : IsLater now.device new.device
   pub failures : now.device.failures ≤ new.device.failures
   pub further : IsFurther now.core new.core
 
@@ -96,6 +100,10 @@ module _ (o : Outset) (now new : Opened) (after : IsAfter now new) where
       → HasFailed o.store.core.log o.store.device new.device
   failed_then (inl broken) = inl broken
   failed_then (inr failed) = inr (let more = after.failures in omega (arith, failed, more))
+
+  pub broken_after : HasBroken o.store.core.log o.store.device now.device
+      → HasBroken o.store.core.log o.store.device new.device
+  broken_after = broken_then o.store.core.log o.store.device now.device new.device after.past
 
   spent_then : IsSpent o.asked.call now.core → IsSpent o.asked.call new.core
   spent_then (inl begun) = inl (let more = after.further.begun in omega (arith, begun, more))
@@ -183,7 +191,7 @@ module _ (o : Outset) (now new : Opened) (after : IsAfter now new) where
     stable = unsettled.stable;
     told_is = unsettled.told_is;
     broken = after.further.broken unsettled.broken;
-    failed = failed_then unsettled.failed;
+    failed = broken_after unsettled.failed;
   })
 
 -- ---- a step
@@ -203,7 +211,8 @@ pub record IsStepFrom (o : Outset) (now : Opened) (s : Setting) (t : Told) : Typ
   pub settled_is : settled_told t.log ≡ settled_place now.core.log
   pub numbers : (blocks : ℕ) → blocks ≤ most_changed o.asked.call → (HasNumbers s t.log blocks → ⊥)
       → IsSpent o.asked.call now.core
-  pub broke : now.core.log.broken ≡ true → HasFailed o.store.core.log o.store.device now.device
+  pub past : IsLater o.store.device now.device
+  pub broke : now.core.log.broken ≡ true → HasBroken o.store.core.log o.store.device now.device
 
 module _ (o : Outset) (now new : Opened) (s : Setting) (t : Told) (from : IsStepFrom o now s t)
     (after : IsAfter now new) where
@@ -213,8 +222,12 @@ module _ (o : Outset) (now new : Opened) (s : Setting) (t : Told) (from : IsStep
   abbrev broken : Bool
   broken = now.core.log.broken
 
+  breaks : now.core.log.broken ≡ true → HasBroken o.store.core.log o.store.device new.device
+  breaks is = broken_after o now new after (from.broke is)
+
   broke : now.core.log.broken ≡ true → HasFailed o.store.core.log o.store.device new.device
-  broke is = failed_then o now new after (from.broke is)
+  broke is = broken_failed o.store.core.log o.store.device new.device
+      (past_more o.store.device now.device new.device from.past after.past) (breaks is)
 
   -- why no transaction was begun
   begin_cause : (served : Bool) (why : BeginFault) → IsStepOfCalled t served (step.Begun (Err why))
@@ -449,7 +462,7 @@ module _ (o : Outset) (now new : Opened) (s : Setting) (t : Told) (from : IsStep
         stable = stands.2;
         told_is = told.1;
         broken = after.further.broken is_broken;
-        failed = broke is_broken;
+        failed = breaks is_broken;
       })
     where
       broken_by : (b : Bool) → is_idle (going_on o.asked

@@ -35,6 +35,7 @@ use Rattle.store_promise.specs.declared.events.Event.TheVariants as event
 use Rattle.store_promise.specs.declared.events.Step.{Step}
 use Rattle.store_promise.specs.declared.events.Step.TheVariants as step
 use Rattle.store_promise.specs.declared.transcript.Answer.{Answer}
+use Rattle.store_promise.proofs.Later.{past_none}
 use Rattle.store_promise.proofs.ToldLog.{settled_is}
 use Rattle.store_runs.specs.AtWork.{GoesOnWith, IsCoreAtWork, entry_by, fetches_of, has_committed, with_core}
 use Rattle.store.specs.Calling.{ComesTo, HasStepped, IsCalling, IsMadeFor, IsOpenAt, IsSoFar, Outset}
@@ -298,6 +299,7 @@ module _ (o : Outset) (now : Opened) (worker : State) (new : Side) (made : Optio
       place = left.0;
       positions = let within = left.1 in omega (arith, few, within);
     }));
+    past = calling.past;
     broke = calling.broken;
   }
 
@@ -319,6 +321,7 @@ module _ (o : Outset) (now : Opened) (worker : State) (new : Side) (made : Optio
 
       after : IsAfter now later
       after = record {
+        past = past_none now.device;
         failures = omega arith;
         further = record {
           begun = let more = begun_then t made in let is = told_then.begun in omega (arith, more, is);
@@ -526,7 +529,11 @@ module _ (o : Outset) (now : Opened) (worker : State) (new : Side) (made : Optio
         }
 
         after_made : IsAfter now later
-        after_made = record { failures = omega arith; further = further_made }
+        after_made = record {
+          past = past_none now.device;
+          failures = omega arith;
+          further = further_made;
+        }
 
         made_for : IsMadeFor o later e goes_with.left
         made_for = record {

@@ -34,7 +34,7 @@ use Rattle.store_promise.specs.declared.events.Cause.TheVariants as cause
 use Rattle.store_runs.specs.AtWork.{IsCoreAtWork, fetches_of}
 use Rattle.store_images.specs.Further.{IsFurther, LeavesOpen, end_of}
 use Rattle.store_images.specs.Opening.{Opened}
-use Rattle.store_images.specs.Settling.{HasFailed}
+use Rattle.store_images.specs.Settling.{HasBroken, HasFailed}
 use Rattle.store_images.specs.SettlingStops.{StayOpen}
 use Rattle.store_workers.specs.Stages.{IsWorkerAt, progress_of}
 use Rattle.store_workers.specs.Telling.{told}
@@ -55,12 +55,14 @@ pub record IsOpenWith (store : Opened) (first : Tree) (entries : List Entry) (la
   pub base : Image
   pub opened : IsOpenAt base store [] first entries last
 
--- One store led to another: no failure is taken back, what is settled stays settled, no number is given back,
--- and it breaks only with a device call that failed.
+-- One store led to another: its device's past stays, no failure is taken back, what is settled stays settled,
+-- no number is given back, and it breaks only with a write or a barrier that failed. A read that failed breaks
+-- nothing.
 pub record GoesTo (old new : Opened) : Type 0 where
+  pub past : IsLater old.device new.device
   pub failures : old.device.failures ≤ new.device.failures
   pub further : IsFurther old.core new.core
-  pub failed : new.core.log.broken ≡ true → HasFailed old.core.log old.device new.device
+  pub failed : new.core.log.broken ≡ true → HasBroken old.core.log old.device new.device
 
 -- ---- a call
 
@@ -123,7 +125,7 @@ pub record IsUnsettled (o : Outset) (told : Verdict) (now : Opened) : Type 0 whe
   pub stable : is_answered_stable o.asked.call ≡ true
   pub told_is : told ≡ verdict.Reply (refused status.Io o.asked.call)
   pub broken : now.core.log.broken ≡ true
-  pub failed : HasFailed o.store.core.log o.store.device now.device
+  pub failed : HasBroken o.store.core.log o.store.device now.device
 
 -- That it isn't served: no transaction was begun for it, and the store is as it was, but that it is settled
 -- where it kept too many commits.
@@ -204,7 +206,7 @@ IsSoFar o entry now (At job stage) = (job ≡ o.asked) × StandsWith o entry now
 
 -- A call is under way: the store is open with the entries that there were and with the call's, where its
 -- procedure was committed; each stop before now left its files; its worker has it alone, and is so far; and
--- whatever broke the store was a counted failure.
+-- whatever broke the store was a write or a barrier that failed.
 pub record IsCalling (o : Outset) (now : Opened) (worker : State) : Type 0 where
   pub entry : Option Entry
   pub last : Tree
@@ -220,7 +222,7 @@ pub record IsCalling (o : Outset) (now : Opened) (worker : State) : Type 0 where
   pub so_far : IsSoFar o entry now (progress_of worker)
   pub counted : o.store.device.failures ≤ now.device.failures
   pub further : IsFurther o.store.core now.core
-  pub broken : now.core.log.broken ≡ true → HasFailed o.store.core.log o.store.device now.device
+  pub broken : now.core.log.broken ≡ true → HasBroken o.store.core.log o.store.device now.device
 
 -- So it is after a step of the worker's own, once its entry and its answer are taken; and its answer, if it
 -- gave one, is what the call comes to.

@@ -1,14 +1,14 @@
 -- Each device call of the log and of the installer leaves fewer to make.
 use Rattle.std.proofs.Common.{arith, ◌≡◌, ◌∙◌, refl, sym, ap, subst, true≢false, Result, Ok, Err, is_ok, ℕ}
-use Rattle.std.proofs.Common.{◌+◌, ◌-◌, ◌*◌, ◌<◌, ◌≤◌, Bool, true, false, not}
+use Rattle.std.proofs.Common.{is_err, ◌+◌, ◌-◌, ◌*◌, ◌<◌, ◌≤◌, Bool, true, false, not}
 use Rattle.std.proofs.Common.{◌&&◌, ◌||◌, nat_eq, nat_lt, nat_le, if◌then◌else◌, length, drop, List, [], ◌∷◌}
 use Rattle.std.proofs.Common.{zero, suc}
 use Rattle.std.proofs.lemmas.Bool.Decides.{nat_tests}
 use Rattle.std.proofs.lemmas.List.{length-drop}
 use Rattle.limits.specs.declared.TheConstants.{LOG_SLOTS}
-use Rattle.disk.specs.Device.{CountsFailure, Device}
+use Rattle.disk.specs.Device.{CountsFailure, Device, OneLater}
 use Rattle.disk.specs.declared.device.Failed.{Failed}
-use Rattle.wal.specs.Io.{Io}
+use Rattle.wal.specs.Io.{HasMade, Io}
 use Rattle.wal_law.specs.Log.{Log, IsLawful, place_before, settled_place}
 use Rattle.wal_law.specs.declared.change.LogChange.{LogChange}
 use Rattle.txn_law.specs.Core.{CoreState}
@@ -18,6 +18,9 @@ use Rattle.wal_law.specs.Logger.{IsNextLogCall, group_size, has_group, is_log_ou
 use Rattle.wal_law.specs.Logger.{with_log_made, with_log_out}
 use Rattle.wal_law.specs.Installer.{IsNextInstCall, is_inst_out, may_install, next_home}
 use Rattle.wal_law.specs.Installer.{with_inst_back, with_inst_made, with_inst_out, with_installed}
+use Rattle.store_promise.proofs.Later.{past_one}
+use Rattle.store_images.proofs.Lost.{lost_now}
+use Rattle.store_images.proofs.Made.{made_later, made_lost}
 use Rattle.store_images.proofs.OutCalls.{inst_is_out, inst_out_sound, its_is_out}
 use Rattle.store_images.specs.Settling.{HasCalled, group_left, calls_left}
 
@@ -96,24 +99,30 @@ given_back false made same new is given = absurd (true≢false (sym is))
 -- what was given back, answered so
 log_back : (log : Log) (before after : Device) (answer : Result Unit Failed) → IsLawful log
     → may_log log ≡ true → IsLawful (with_log_out log) → CountsFailure before after answer
+    → OneLater before after → after.lost before.clock ≡ is_err answer
     → HasCalled log before (with_log_back (with_log_out log) (is_ok answer)) after
-log_back log before after (Ok u) lawful may out_lawful same =
+log_back log before after (Ok u) lawful may out_lawful same later lost =
     let is = may_is log.broken (has_group log) log.log_out may in
     let left = log_out_left log lawful is.1 in
     let nearer = log_made_nearer (with_log_out log) left.1 out_lawful.log_step in
     record {
       sound = is.0;
       nearer = λ sound. grind (arith);
+      past = past_one before after later;
       failed = λ broken. absurd (true≢false (sym broken
+          ∙ log_made_sound (with_log_out log) (nat_eq log.log_step (group_size log + 2)) ∙ is.0));
+      lost = λ broken. absurd (true≢false (sym broken
           ∙ log_made_sound (with_log_out log) (nat_eq log.log_step (group_size log + 2)) ∙ is.0));
       counted = grind (arith);
     }
-log_back log before after (Err e) lawful may out_lawful more =
+log_back log before after (Err e) lawful may out_lawful more later lost =
     let is = may_is log.broken (has_group log) log.log_out may in
     record {
       sound = is.0;
       nearer = λ sound. absurd (true≢false sound);
+      past = past_one before after later;
       failed = λ broken. grind (arith);
+      lost = λ broken. lost_now before after e later more lost;
       counted = grind (arith);
     }
 
@@ -121,11 +130,12 @@ log_back log before after (Err e) lawful may out_lawful more =
 pub log_called : (log out new : Log) (before after : Device) (io : Io) (answer : Result Unit Failed) (ok : Bool)
     → IsLawful log → true ≡ may_log log → out ≡ with_log_out log → IsLawful out → IsNextLogCall out io
     → ok ≡ is_ok answer → new ≡ (if is_log_out out io then with_log_back out ok else out)
-    → CountsFailure before after answer → HasCalled log before new after
-log_called log out new before after io answer ok lawful may out_is out_lawful next ok_is given counted =
+    → CountsFailure before after answer → HasMade before io answer after → HasCalled log before new after
+log_called log out new before after io answer ok lawful may out_is out_lawful next ok_is given counted called =
     let is_out = its_is_out out io (ap (λ (l : Log). l.log_out) out_is) next in
     let made = given_back (is_log_out out io) (with_log_back out ok) out new is_out given in
-    let back = log_back log before after answer lawful (sym may) (subst IsLawful out_is out_lawful) counted in
+    let back = log_back log before after answer lawful (sym may) (subst IsLawful out_is out_lawful) counted
+    (made_later before io answer after called) (made_lost before io answer after called) in
     subst (λ l. HasCalled log before l after)
     (sym (made ∙ ap (λ a. with_log_back out a) ok_is ∙ ap (λ l. with_log_back l (is_ok answer)) out_is)) back
 
@@ -186,24 +196,29 @@ inst_made_nearer out some lawful =
 
 inst_back : (log : Log) (before after : Device) (answer : Result Unit Failed) → IsLawful log
     → may_install log ≡ true → IsLawful (with_inst_out log) → CountsFailure before after answer
-    → (with_inst_out log).broken ≡ log.broken
+    → (with_inst_out log).broken ≡ log.broken → OneLater before after
+    → after.lost before.clock ≡ is_err answer
     → HasCalled log before (with_inst_back (with_inst_out log) (is_ok answer)) after
-inst_back log before after (Ok u) lawful may out_lawful same sound_out =
+inst_back log before after (Ok u) lawful may out_lawful same sound_out later lost =
     let is = may_is log.broken (nat_lt 0 log.installing || nat_lt 0 log.logged) log.inst_out may in
     let left = inst_out_left log lawful is.1 in
     let nearer = inst_made_nearer (with_inst_out log) left.1 out_lawful in
     record {
       sound = is.0;
       nearer = λ sound. grind (arith);
+      past = past_one before after later;
       failed = λ broken. absurd (true≢false (sym broken ∙ nearer.1 ∙ sound_out ∙ is.0));
+      lost = λ broken. absurd (true≢false (sym broken ∙ nearer.1 ∙ sound_out ∙ is.0));
       counted = grind (arith);
     }
-inst_back log before after (Err e) lawful may out_lawful more sound_out =
+inst_back log before after (Err e) lawful may out_lawful more sound_out later lost =
     let is = may_is log.broken (nat_lt 0 log.installing || nat_lt 0 log.logged) log.inst_out may in
     record {
       sound = is.0;
       nearer = λ sound. absurd (true≢false sound);
+      past = past_one before after later;
       failed = λ broken. grind (arith);
+      lost = λ broken. lost_now before after e later more lost;
       counted = grind (arith);
     }
 
@@ -212,13 +227,13 @@ pub inst_called : (log out new : Log) (before after : Device) (io : Io)
     (answer : Result Unit Failed) (ok : Bool)
     → IsLawful log → true ≡ may_install log → out ≡ with_inst_out log → IsLawful out → IsNextInstCall out io
     → ok ≡ is_ok answer → new ≡ (if is_inst_out out io then with_inst_back out ok else out)
-    → CountsFailure before after answer → HasCalled log before new after
-inst_called log out new before after io answer ok lawful may out_is out_lawful next ok_is given counted =
+    → CountsFailure before after answer → HasMade before io answer after → HasCalled log before new after
+inst_called log out new before after io answer ok lawful may out_is out_lawful next ok_is given counted called =
     let handed = inst_out_sound log (nat_lt 0 log.installing) in
     let is_out = inst_is_out log out io out_is next in
     let made = given_back (is_inst_out out io) (with_inst_back out ok) out new is_out given in
     let back = inst_back log before after answer lawful (sym may) (subst IsLawful out_is out_lawful) counted
-    handed.0 in
+    handed.0 (made_later before io answer after called) (made_lost before io answer after called) in
     subst (λ l. HasCalled log before l after)
     (sym (made ∙ ap (λ a. with_inst_back out a) ok_is ∙ ap (λ l. with_inst_back l (is_ok answer)) out_is)) back
 

@@ -7,6 +7,7 @@ pub mod HeldTaken
 pub mod Later
 pub mod LogMoves
 pub mod LogSteps
+pub mod Lost
 pub mod Made
 pub mod Opens
 pub mod OutCalls

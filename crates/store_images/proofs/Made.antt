@@ -1,5 +1,6 @@
 -- A device call of the log or of the installer is one call of the device.
-use Rattle.std.proofs.Common.{◌≡◌, ◌∙◌, ◌||◌, ◌&&◌, Bool, true, false, refl, Result, Ok, Err, is_ok, nat_eq}
+use Rattle.std.proofs.Common.{◌≡◌, ◌∙◌, ◌||◌, ◌&&◌, Bool, true, false, refl, Result, Ok, Err, is_ok, is_err}
+use Rattle.std.proofs.Common.{nat_eq}
 use Rattle.wal_law.specs.Recovery.{IsUnspoiled}
 use Rattle.disk.specs.Device.{Content, Device, OneLater}
 use Rattle.disk.specs.declared.device.Failed.{Failed}
@@ -15,6 +16,16 @@ call_later old (Barrier side) content result new made = made.later
 pub made_later : (old : Device) (io : Io) (result : Result Unit Failed) (new : Device)
     → HasMade old io result new → OneLater old new
 made_later old io result new made = call_later old io.call io.content result new made
+
+-- a write or a barrier, which is lost where it failed
+call_lost : (old : Device) (call : IoCall) (content : Content) (result : Result Unit Failed) (new : Device)
+    → HasMadeCall old call content result new → new.lost old.clock ≡ is_err result
+call_lost old (Write block) content result new made = made.lost
+call_lost old (Barrier side) content result new made = made.lost
+
+pub made_lost : (old : Device) (io : Io) (result : Result Unit Failed) (new : Device)
+    → HasMade old io result new → new.lost old.clock ≡ is_err result
+made_lost old io result new made = call_lost old io.call io.content result new made
 
 -- so it leaves the count of blocks
 pub made_size : (old : Device) (io : Io) (result : Result Unit Failed) (new : Device)

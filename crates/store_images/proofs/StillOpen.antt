@@ -14,8 +14,10 @@ use Rattle.store_promise.specs.Running.{IsLogStep, KeepsTransactions, StoreSide,
 use Rattle.store_promise.specs.Schedule.{Setting}
 use Rattle.store_promise.specs.declared.events.Step.{Step}
 use Rattle.store_images.specs.Further.{IsFurther, LeavesOpen, end_of}
-use Rattle.store_images.specs.Settling.{HasCalled, HasFailed}
+use Rattle.store_images.specs.Settling.{HasCalled}
+use Rattle.store_promise.proofs.Later.{past_more, past_none}
 use Rattle.store_images.proofs.LogSteps.{same_transactions}
+use Rattle.store_images.proofs.Lost.{broken_along}
 
 -- ---- the position behind the last change stays
 
@@ -126,6 +128,7 @@ pub same_open : (d : Device) (core : CoreState) → LeavesOpen d core d core
 same_open d core = record {
   core = same_transactions core;
   further = same_further core;
+  past = past_none d;
   failures = omega arith;
   failed = λ is. inl is;
   runs = λ o base fetches boot first last entries run. record { home = base; running = run };
@@ -136,20 +139,13 @@ pub open_then : (d e f : Device) (a b c : CoreState) → LeavesOpen d a e b → 
 open_then d e f a b c one two = record {
   core = kept_then a b c one.core two.core;
   further = further_then a b c one.further two.further;
+  past = past_more d e f one.past two.past;
   failures = let x = one.failures in let y = two.failures in omega (arith, x, y);
-  failed = λ is. from (two.failed is);
+  failed = λ is. broken_along a.log b.log d e f one.past two.past one.failed (two.failed is);
   runs = λ o base fetches boot first last entries run.
       let mid = one.runs o base fetches boot first last entries run in
       two.runs o mid.home fetches boot first last entries mid.running;
 }
-  where
-    failed_before : HasFailed a.log d e → HasFailed a.log d f
-    failed_before (inl broken) = inl broken
-    failed_before (inr more) = inr (let y = two.failures in omega (arith, more, y))
-
-    from : HasFailed b.log e f → HasFailed a.log d f
-    from (inl broken) = failed_before (one.failed broken)
-    from (inr more) = inr (let x = one.failures in omega (arith, more, x))
 
 -- three steps of the log's side make a call: it is taken, made and given back
 pub open_by : (May Make Give : Setting → LogTold → Option Step → Type 0) (d e : Device) (old new : CoreState)
@@ -159,8 +155,9 @@ pub open_by : (May Make Give : Setting → LogTold → Option Step → Type 0) (
 open_by May Make Give d e old new out back one two three taken made given further called = record {
   core = kept_then old out.core new taken.core (kept_then out.core back.core new made.core given.core);
   further = further;
+  past = called.past;
   failures = called.counted;
-  failed = λ is. inr (called.failed is);
+  failed = λ is. inr (called.lost is);
   runs = λ o base fetches boot first last entries run.
       let a = taken.runs o base fetches boot first last entries run in
       let b = made.runs o (home_next base old.log one) fetches boot first last entries a.running in

@@ -7,9 +7,10 @@ use Rattle.model.specs.Tree.{Tree}
 use Rattle.txn_law.specs.Core.{CoreState}
 use Rattle.txn_law.specs.Fetch.{Fetch}
 use Rattle.wal_law.specs.Log.{Log, settled_place}
+use Rattle.store_promise.specs.Openings.{IsLater}
 use Rattle.store_promise.specs.Running.{IsRunningOver, KeepsTransactions, at_rest}
 use Rattle.store_promise.specs.Schedule.{Setting}
-use Rattle.store_images.specs.Settling.{HasFailed}
+use Rattle.store_images.specs.Settling.{HasBroken}
 
 -- the log position behind the last change
 abbrev pub end_of : Log → ℕ
@@ -30,12 +31,13 @@ pub record RunsOn (o : Setting) (after : Device) (new : CoreState)
   pub running : IsRunningOver o home (at_rest after new) fetches boot first entries last
 
 -- An open store stays open, whatever is at home, and what transactions have stays. It breaks only with a
--- device call that failed.
+-- write or a barrier that failed.
 pub record LeavesOpen (before : Device) (old : CoreState) (after : Device) (new : CoreState) : Type 0 where
   pub core : KeepsTransactions old new
   pub further : IsFurther old new
+  pub past : IsLater before after
   pub failures : before.failures ≤ after.failures
-  pub failed : new.log.broken ≡ true → HasFailed old.log before after
+  pub failed : new.log.broken ≡ true → HasBroken old.log before after
   pub runs : (o : Setting) (base : Image) (fetches : List Fetch) (boot : ℕ) (first last : Tree)
       (entries : List Entry) → IsRunningOver o base (at_rest before old) fetches boot first entries last
       → RunsOn o after new fetches boot first entries last

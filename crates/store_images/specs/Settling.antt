@@ -4,6 +4,7 @@ use Rattle.std.specs.Prelude.{[], length}
 use Rattle.disk.specs.Device.{Device}
 use Rattle.wal.specs.Log.{Log}
 use Rattle.txn.specs.Core.{CoreState}
+use Rattle.store_promise.specs.Openings.{IsLater}
 use Rattle.store_images.specs.Fetches.{FetchesOnly}
 
 -- no device call of the log or of the installer is out
@@ -43,13 +44,28 @@ most_calls log = if log.broken then 0 else calls_left log + 1
 pub record SpendsCalls (before : Device) (old : Log) (after : Device) (new : Log) : Type 0 where
   pub few : after.clock + most_calls new ≤ before.clock + most_calls old
 
--- A device call was made and given back. An answer of Ok leaves fewer to make; a failure breaks the log.
+-- one of the calls since was a write or a barrier, and failed
+pub record HasLost (before after : Device) : Type 0 where
+  pub call : ℕ
+  pub since : before.clock ≤ call
+  pub below : call < after.clock
+  pub failed : after.failed call ≡ true
+  pub lost : after.lost call ≡ true
+
+-- A write or a barrier was made and given back. An answer of Ok leaves fewer to make; only its failure breaks
+-- the log.
 pub record HasCalled (old : Log) (before : Device) (new : Log) (after : Device) : Type 0 where
   pub sound : old.broken ≡ false
   pub nearer : new.broken ≡ false → calls_left new < calls_left old
+  pub past : IsLater before after
   pub failed : new.broken ≡ true → before.failures < after.failures
+  pub lost : new.broken ≡ true → HasLost before after
   pub counted : before.failures ≤ after.failures
 
--- a write or a barrier had failed before, or a device call failed since
+-- a write or a barrier had failed before, or one failed since
+abbrev pub HasBroken : Log → Device → Device → Type 0
+HasBroken log before after = (log.broken ≡ true) ⊎ HasLost before after
+
+-- a write or a barrier had failed before, or a device call failed since, which may be a read
 abbrev pub HasFailed : Log → Device → Device → Type 0
 HasFailed log before after = (log.broken ≡ true) ⊎ (before.failures < after.failures)

@@ -6,7 +6,7 @@ ghost use Rattle.store_images.specs.Counts.{SameFrame};
 ghost use Rattle.store_images.specs.Fetches.{KeepsFetches};
 ghost use Rattle.store_images.specs.Further.{LeavesOpen};
 ghost use Rattle.store_images.specs.Opening.{IsSettled};
-ghost use Rattle.store_images.specs.Settling.{HasCalled, HasFailed, IsQuiet, SameNumbers};
+ghost use Rattle.store_images.specs.Settling.{HasBroken, HasCalled, IsQuiet, SameNumbers};
 ghost use Rattle.store_images.specs.Settling.{SpendsCalls, most_calls};
 ghost use Rattle.store_images.specs.SettlingStops.{KeepsPrefixes, StayOpen};
 ghost use Rattle.wal_law.specs.Installer.{may_install};
@@ -64,8 +64,8 @@ pub fn close<D: CrashDisk>(store: Store<D>) -> D
 
 /// Makes every change settled in the log. What is logged is brought home only where the log has no room
 /// behind its settled start for the changes that wait, or where more than MOST_KEPT_COMMITS commits are kept;
-/// what is left, the next opening brings home. It fails only where a device call fails in it, or where a
-/// write or a barrier failed since the opening. It makes at most `most_calls` device calls. Whatever comes of
+/// what is left, the next opening brings home. It fails only where a write or a barrier fails in it, or
+/// failed since the opening. It makes at most `most_calls` device calls. Whatever comes of
 /// it, a store that is open for some entries stays open for them, and each stop leaves the files after a
 /// beginning of them, in which is what was settled before, and behind each device call what is settled by
 /// then.
@@ -79,7 +79,7 @@ pub fn settle<D: CrashDisk>(store: &mut Store<D>) -> Result<(), Failed>
     ensures numbers { SameNumbers store.old.core store.new.core }
     ensures fetches { KeepsFetches store.old.core store.new.core }
     ensures settled { OnOk result (IsSettled store.new.core) }
-    ensures failed { OnErr result (HasFailed store.old.core.log (D.device store.old.disk)
+    ensures failed { OnErr result (HasBroken store.old.core.log (D.device store.old.disk)
         (D.device store.new.disk)) }
     ensures broken { OnErr result (store.new.core.log.broken ≡ true) }
     ensures few { (D.device store.new.disk).clock ≤ (D.device store.old.disk).clock + most_calls

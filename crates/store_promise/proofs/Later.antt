@@ -12,6 +12,7 @@ past_none device = record {
   clock = omega arith;
   past = λ clock block below. refl;
   failed = λ call below. refl;
+  lost = λ call below. refl;
   counted = counts_none device;
 }
 
@@ -22,6 +23,7 @@ past_one old new later = record {
   clock = (let clock = later.clock in omega (arith, clock));
   past = later.past;
   failed = later.failed;
+  lost = later.lost;
   counted = counts_one old new later;
 }
 
@@ -32,6 +34,7 @@ read_later before later reads = record {
   clock = reads.clock;
   past = reads.past;
   failed = reads.failed;
+  lost = reads.lost;
   counted = reads.counted;
 }
 
@@ -46,5 +49,6 @@ past_more before middle later one other =
       past = λ clock block within. other.past clock block (omega (arith, within, first))
           ∙ one.past clock block within;
       failed = λ call within. other.failed call (omega (arith, within, first)) ∙ one.failed call within;
+      lost = λ call within. other.lost call (omega (arith, within, first)) ∙ one.lost call within;
       counted = counts_then before middle later first second other.failed one.counted other.counted;
     }

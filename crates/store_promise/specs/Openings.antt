@@ -24,6 +24,7 @@ pub record IsLater (before later : Device) : Type 0 where
   pub past : (clock block : ℕ) → clock ≤ before.clock
       → later.contents clock block ≡ before.contents clock block
   pub failed : (call : ℕ) → call < before.clock → later.failed call ≡ before.failed call
+  pub lost : (call : ℕ) → call < before.clock → later.lost call ≡ before.lost call
   pub counted : CountsFailures before later
 
 -- Whenever a call of the device was or will be next, from one device to what it became, whatever a crash

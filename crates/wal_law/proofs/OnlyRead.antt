@@ -22,6 +22,7 @@ read_alone before later read = record {
   ];
   spoiled = λ block. read.spoiled block;
   failed = read.later.failed;
+  lost = read.later.lost;
   counted = counts_one before later read.later;
 }
 
@@ -33,6 +34,7 @@ no_read before = record {
   during = λ clock block from to. ap (λ n. before.contents n block) (omega (arith, from, to));
   spoiled = λ block. refl;
   failed = λ call below. refl;
+  lost = λ call below. refl;
   counted = counts_none before;
 }
 
@@ -50,6 +52,7 @@ reads_then a b c first second =
           ];
       spoiled = λ block. second.spoiled block ∙ first.spoiled block;
       failed = λ call below. second.failed call (omega (arith, below, first.clock)) ∙ first.failed call below;
+      lost = λ call below. second.lost call (omega (arith, below, first.clock)) ∙ first.lost call below;
       counted = counts_then a b c first.clock second.clock second.failed first.counted second.counted;
     }
 

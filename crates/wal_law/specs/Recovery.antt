@@ -29,6 +29,7 @@ pub record HasOnlyRead (old new : Device) : Type 0 where
       → new.contents clock block ≡ current old block
   pub spoiled : (block : ℕ) → new.spoiled block ≡ old.spoiled block
   pub failed : (call : ℕ) → call < old.clock → new.failed call ≡ old.failed call
+  pub lost : (call : ℕ) → call < old.clock → new.lost call ≡ old.lost call
   pub counted : CountsFailures old new
 
 -- a failure is counted just where the answer is that the device failed

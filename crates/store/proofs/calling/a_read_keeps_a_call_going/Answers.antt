@@ -14,8 +14,8 @@ returns c = λ o now device worker new made calling reading contents read with.
     let entries = o.entries ++ option_to_list calling.entry in
     let s = setting_of calling.base now (fetches_of worker) o.first entries calling.last calling.opened in
     subst (λ (w : State). IsCalling o (record now { device = device }) w) (sym read.worker)
-    (was_read o now device worker calling read.io read.content read.answer read.failure
-    c.an_open_store_keeps_its_files.ensures.call read.call.later
+    (was_read o now device worker calling read.io read.content read.answer read.failure read.call.later
+    c.an_open_store_keeps_its_files.ensures.call
     (c.a_worker_tells_its_read.ensures.made o.store.boot entries worker ok read.io read.content
     reading read.io_is calling.stands)
     (c.a_read_leaves_the_run_going.ensures.core ok read.io read.content worker now.core reading read.io_is

@@ -29,31 +29,29 @@ unreachable-requires g c =
 pub returns-then-broken-clause-few : goal.returns-then-broken-clause-few
 returns-then-broken-clause-few g c =
     made_few (g.D.CrashDisk.device c.args.store.now.disk) (g.D.CrashDisk.device c.calls.store.disk)
-    c.args.store.now.core.log c.calls.store.core.log c.calls.invariant.10
+    c.args.store.now.core.log c.calls.store.core.log c.calls.invariant.8
 
 pub returns-then-broken-clause-keeps : goal.returns-then-broken-clause-keeps
 returns-then-broken-clause-keeps g c = λ keeps.
     prefixes_kept (g.D.CrashDisk.device c.args.store.now.disk) (g.D.CrashDisk.device c.calls.store.disk)
     c.args.store.now.core c.calls.store.core (g.met.D.CrashDisk.whole c.calls.store.disk keeps)
-    c.an_open_store_keeps_its_files.ensures.now c.a_stop_leaves_a_beginning.ensures.files c.calls.invariant.9
+    c.an_open_store_keeps_its_files.ensures.now c.a_stop_leaves_a_beginning.ensures.files c.calls.invariant.7
 
 pub returns-then-not-keeps_too_many-clause-few : goal.returns-then-not-keeps_too_many-clause-few
 returns-then-not-keeps_too_many-clause-few g c =
     made_few (g.D.CrashDisk.device c.args.store.now.disk) (g.D.CrashDisk.device c.calls.store.disk)
-    c.args.store.now.core.log c.calls.store.core.log c.calls.invariant.10
+    c.args.store.now.core.log c.calls.store.core.log c.calls.invariant.8
 
 pub returns-then-not-keeps_too_many-clause-keeps : goal.returns-then-not-keeps_too_many-clause-keeps
 returns-then-not-keeps_too_many-clause-keeps g c = λ keeps.
     prefixes_kept (g.D.CrashDisk.device c.args.store.now.disk) (g.D.CrashDisk.device c.calls.store.disk)
     c.args.store.now.core c.calls.store.core (g.met.D.CrashDisk.whole c.calls.store.disk keeps)
-    c.an_open_store_keeps_its_files.ensures.now c.a_stop_leaves_a_beginning.ensures.files c.calls.invariant.9
+    c.an_open_store_keeps_its_files.ensures.now c.a_stop_leaves_a_beginning.ensures.files c.calls.invariant.7
 
 pub calls-init : goal.calls-init
 calls-init g c =
     let device = g.D.CrashDisk.device c.args.store.now.disk in
     let core = c.args.store.now.core in (
-      search rules,
-      search rules,
       search rules,
       search rules,
       search rules,
@@ -73,20 +71,18 @@ calls-preserved g c =
     let mid = c.log_one.new.store in
     let logged : LeavesOpen (device first.disk) first.core (device mid.disk) mid.core =
     open_then (device first.disk) (device old.disk) (device mid.disk) first.core old.core mid.core
-    c.calls.invariant.8 c.log_one.ensures.open in
+    c.calls.invariant.6 c.log_one.ensures.open in
     let stayed : StayOpen (device first.disk) first.core (device mid.disk) mid.core =
     stay_along (device first.disk) (device old.disk) (device mid.disk) first.core old.core mid.core
-    c.calls.invariant.9 c.log_one.ensures.stays in
+    c.calls.invariant.7 c.log_one.ensures.stays in
     let spent : SpendsCalls (device first.disk) first.core.log (device mid.disk) mid.core.log =
     spends_along (device first.disk) (device old.disk) (device mid.disk) first.core.log
     old.core.log mid.core.log
-    c.calls.invariant.10 c.log_one.ensures.few in
+    c.calls.invariant.8 c.log_one.ensures.few in
     elim c.else-not-log_one.branch [
       | else-not-log_one-via-then-not-log_one+else-not-install_one w ↦
           let new = w.install_one.new.store in
           let same = sym w.store-is in (
-            search rules,
-            search rules,
             search rules,
             search rules,
             search rules,
@@ -108,8 +104,6 @@ calls-preserved g c =
           )
       | else-not-log_one-via-else-not-log_one w ↦
           let same = sym w.store-is in (
-            search rules,
-            search rules,
             search rules,
             search rules,
             search rules,

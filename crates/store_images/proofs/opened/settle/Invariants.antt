@@ -1,11 +1,11 @@
--- no transaction begins or ends, the image's counts and the pending fetches stay, no device call is out, what
--- has failed was counted, the device has kept its model so far where it does, the store has stayed open, and
+-- no transaction begins or ends, the image's counts and the pending fetches stay, no device call is out, the
+-- device has kept its model so far where it does, the store has stayed open, and
 -- each call was one of those that were left
-use Rattle.std.proofs.Common.{◌≡◌, ◌≤◌, true}
+use Rattle.std.proofs.Common.{◌≡◌}
 use Rattle.store_images.specs.Counts.{SameFrame}
 use Rattle.store_images.specs.Fetches.{KeepsFetches}
 use Rattle.store_images.specs.Further.{LeavesOpen}
-use Rattle.store_images.specs.Settling.{HasFailed, SameNumbers, SpendsCalls, most_calls}
+use Rattle.store_images.specs.Settling.{SameNumbers, SpendsCalls, most_calls}
 use Rattle.store_images.specs.SettlingStops.{StayOpen}
 use Rattle.store_images.proofs.opened.settle.Given as goal
 
@@ -14,9 +14,6 @@ invariant-calls g l = (l.store.core.out ≡ l.fn.store.core.out)
     × SameFrame l.fn.store.core l.store.core
     × SameNumbers l.fn.store.core l.store.core
     × KeepsFetches l.fn.store.core l.store.core
-    × ((g.D.CrashDisk.device l.fn.store.disk).failures ≤ (g.D.CrashDisk.device l.store.disk).failures)
-    × (l.store.core.log.broken ≡ true
-    → HasFailed l.fn.store.core.log (g.D.CrashDisk.device l.fn.store.disk) (g.D.CrashDisk.device l.store.disk))
     × (g.D.CrashDisk.keeps_model l.store.disk → g.D.CrashDisk.keeps_model l.fn.store.disk)
     × (l.store.boot ≡ l.fn.store.boot)
     × LeavesOpen (g.D.CrashDisk.device l.fn.store.disk) l.fn.store.core
