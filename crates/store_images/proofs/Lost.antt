@@ -1,6 +1,6 @@
 -- A write or a barrier that failed, and stores that broke by it.
-use Rattle.std.proofs.Common.{arith, ◌≡◌, ◌∙◌, ◌-◌, ℕ, ◌+◌, ◌<◌, ◌≤◌, inl, inr, Bool, true, false, Result}
-use Rattle.std.proofs.Common.{Ok, Err, is_err, if◌then◌else◌, sym, true≢false}
+use Rattle.std.proofs.Common.{arith, ◌≡◌, ◌∙◌, ◌-◌, ℕ, ◌+◌, ◌<◌, ◌≤◌, inl, inr, Bool, true, false}
+use Rattle.std.proofs.Common.{Err, if◌then◌else◌, refl, sym, true≢false}
 use Rattle.std.proofs.lemmas.Bool.{cases_lt}
 use Rattle.disk.specs.Device.{CountsFailure, Device, OneLater}
 use Rattle.disk.specs.Failures.{failures_from}

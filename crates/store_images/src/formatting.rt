@@ -6,6 +6,7 @@ ghost use Rattle.disk.specs.Device.{CountsFailure, Device, HasWritten};
 ghost use Rattle.layout.specs.Fresh.{fresh};
 ghost use Rattle.layout.specs.Geometry.{IsLawful, data_at};
 ghost use Rattle.limits.specs.declared.TheConstants.{BLOCK_BYTES, FIRST_HOME_BLOCK, SUPER_BLOCK};
+ghost use Rattle.model.specs.Sound.{SoundTime};
 ghost use Rattle.store_images.specs.Formatting.{HasFormatted, HasWrittenUpTo, IsBlank, IsMade, IsMadeBehind};
 ghost use Rattle.store_images.specs.Formatting.{LeavesByFormat, LeavesSuper, Stops};
 
@@ -43,16 +44,17 @@ impl From<AllocError> for FormatFault {
     }
 }
 
-/// Makes an image of all blocks of the disk, with so many inodes, whose root is made at the moment. It
-/// answers the count of data blocks. The faults in their order: Size, Inodes, NoMemory, each before any
-/// write, and Device. While it goes on, and where the device fails, the image is the old one, or one that has
-/// no super block, or the new one.
+/// Makes an image of all blocks of the disk, with so many inodes, whose root is made at the moment, which has
+/// less than a second of nanoseconds: no good image has a file of another one. It answers the count of data
+/// blocks. The faults in their order: Size, Inodes, NoMemory, each before any write, and Device. While it goes
+/// on, and where the device fails, the image is the old one, or one that has no super block, or the new one.
 pub fn format<D: CrashDisk>(
     alloc: Global,
     disk: &mut D,
     inodes: u32,
     moment: Moment,
 ) -> Result<u32, FormatFault>
+    requires { SoundTime moment }
     ensures formatted { HasFormatted (D.device disk.old) inodes moment result (D.device disk.new) }
     ensures lawful { OnOk result (IsLawful (D.device disk.old).size inodes) }
     ensures left { D.keeps_model disk.new

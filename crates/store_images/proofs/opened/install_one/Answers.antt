@@ -29,6 +29,7 @@ returns-clause-called g c = λ _.
     c.perform.result c.is_ok-ok.result c.lawful.ensures.log c.in-Some.ensures.causes
     (ap (λ (core : CoreState). core.log) (c.in-Some.ensures.some refl)) c.lawful-2.ensures.log
     c.in-Some.ensures.call c.is_ok-ok.ensures.value c.inst_done.ensures.log c.perform.ensures.failure
+    c.perform.ensures.call
 
 pub returns-clause-numbers : goal.returns-clause-numbers
 returns-clause-numbers g c = record {
@@ -120,7 +121,8 @@ returns-clause-open g c =
     (ap (λ (core : CoreState). core.records) c.inst_done.ensures.only)) in
     let called : HasCalled old.log d new.log e =
     inst_called old.log mid.log new.log d e io answer ok c.lawful.ensures.log c.in-Some.ensures.causes log_is
-    c.lawful-2.ensures.log c.in-Some.ensures.call ok_is c.inst_done.ensures.log c.perform.ensures.failure in
+    c.lawful-2.ensures.log c.in-Some.ensures.call ok_is c.inst_done.ensures.log c.perform.ensures.failure
+    c.perform.ensures.call in
     open_by MayInstall MayInstIo MayInstall d e old new (side d mid idle (out io))
     (side e mid idle made) _ _ _ taken performed given
     (called_further old mid new d e (back_kept.begun ∙ out_kept.begun)
@@ -146,7 +148,8 @@ returns-clause-few g c =
     c.is_ok-ok.result c.lawful.ensures.log c.in-Some.ensures.causes
     (ap (λ (core : CoreState). core.log) (c.in-Some.ensures.some refl)) c.lawful-2.ensures.log
     c.in-Some.ensures.call
-    c.is_ok-ok.ensures.value c.inst_done.ensures.log c.perform.ensures.failure)
+    c.is_ok-ok.ensures.value c.inst_done.ensures.log c.perform.ensures.failure
+    c.perform.ensures.call)
     (made_later d c.in-Some.io c.perform.result e c.perform.ensures.call).clock
 
 pub returns-in_default-clause-stays : goal.returns-in_default-clause-stays

@@ -28,6 +28,7 @@ returns-clause-called g c = λ _.
     c.perform.result c.is_ok-ok.result c.lawful.ensures.log c.in-Some.ensures.causes
     (ap (λ (core : CoreState). core.log) (c.in-Some.ensures.some refl)) c.lawful-2.ensures.log
     c.in-Some.ensures.call c.is_ok-ok.ensures.value c.log_done.ensures.log c.perform.ensures.failure
+    c.perform.ensures.call
 
 pub returns-clause-numbers : goal.returns-clause-numbers
 returns-clause-numbers g c = record {
@@ -110,7 +111,8 @@ returns-clause-open g c =
     (log_given_same mid.log (is_log_out mid.log io) ok))) in
     let called : HasCalled old.log d new.log e =
     log_called old.log mid.log new.log d e io answer ok c.lawful.ensures.log c.in-Some.ensures.causes log_is
-    c.lawful-2.ensures.log c.in-Some.ensures.call ok_is c.log_done.ensures.log c.perform.ensures.failure in
+    c.lawful-2.ensures.log c.in-Some.ensures.call ok_is c.log_done.ensures.log c.perform.ensures.failure
+    c.perform.ensures.call in
     open_by MayLog MayLogIo MayLog d e old new (side d mid (out io) idle) (side e mid made idle) _ _ _
     taken performed given
     (called_further old mid new d e (back_kept.begun ∙ out_kept.begun)
@@ -136,7 +138,8 @@ returns-clause-few g c =
     c.is_ok-ok.result c.lawful.ensures.log c.in-Some.ensures.causes
     (ap (λ (core : CoreState). core.log) (c.in-Some.ensures.some refl)) c.lawful-2.ensures.log
     c.in-Some.ensures.call
-    c.is_ok-ok.ensures.value c.log_done.ensures.log c.perform.ensures.failure)
+    c.is_ok-ok.ensures.value c.log_done.ensures.log c.perform.ensures.failure
+    c.perform.ensures.call)
     (made_later d c.in-Some.io c.perform.result e c.perform.ensures.call).clock
 
 pub returns-in_default-clause-stays : goal.returns-in_default-clause-stays

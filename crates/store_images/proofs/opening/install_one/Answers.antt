@@ -5,6 +5,7 @@ use Rattle.store_images.proofs.CallsLeft.{given_back, inst_called}
 use Rattle.store_images.proofs.OutCalls.{inst_is_out}
 use Rattle.store_images.proofs.ComingHome.{called_home, home_stops}
 use Rattle.store_images.proofs.Made.{made_later}
+use Rattle.store_promise.proofs.Later.{past_one}
 use Rattle.wal_law.specs.Recovery.{image_of}
 use Rattle.store_images.proofs.opening.install_one.Goals as goal
 
@@ -29,6 +30,12 @@ returns-clause-home g c = λ before raised brings.
           (made_later now c.in-Some.io c.perform.result next c.perform.ensures.call) coming brings.keeps;
     }
 
+pub returns-clause-later : goal.returns-clause-later
+returns-clause-later g c =
+    let now = g.D.CrashDisk.device c.args.disk.now in
+    let next = g.D.CrashDisk.device c.perform.new.disk in
+    past_one now next (made_later now c.in-Some.io c.perform.result next c.perform.ensures.call)
+
 pub returns-clause-called : goal.returns-clause-called
 returns-clause-called g c = λ _.
     inst_called c.args.wal.now c.inst_next.new.self c.inst_done.new.self
@@ -36,3 +43,4 @@ returns-clause-called g c = λ _.
     c.perform.result c.is_ok-ok.result c.lawful.ensures c.in-Some.ensures.causes (c.in-Some.ensures.some refl)
     c.lawful-2.ensures c.in-Some.ensures.call c.is_ok-ok.ensures.value c.inst_done.ensures.log
     c.perform.ensures.failure
+    c.perform.ensures.call
