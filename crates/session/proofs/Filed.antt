@@ -19,6 +19,7 @@ use Rattle.session_wire.specs.Judging.{judged}
 use Rattle.txn_law.specs.Core.{CoreState}
 use Rattle.wal_law.specs.Calls.{Pending, idle}
 use Rattle.wal_law.specs.Log.{settled_place}
+use Rattle.store_promise.specs.GoodImage.{IsGoodImage}
 use Rattle.store_promise.specs.OpenSince.{HasKeptFiles, IsOpenSince, KeepsFiles, LeavesBeginning}
 use Rattle.store_promise.specs.Openings.{IsLater}
 use Rattle.store_images.specs.Further.{LeavesOpen}
@@ -49,6 +50,13 @@ LeavesFiles = (base : Image) (d : Device) (core : CoreState) (logging installing
     (first last : Tree) (entries : List Entry) (image : Image)
     → IsOpenSince base d core logging installing boot first entries last → IsCrashImage d d.clock image
     → LeavesBeginning d.size boot first entries (settled_place core.log) image
+
+-- and where all of them are settled, the last files
+abbrev pub LeavesWhole : Type 0
+LeavesWhole = (base : Image) (d : Device) (core : CoreState) (logging installing : Pending) (boot : ℕ)
+    (first last : Tree) (entries : List Entry) (image : Image)
+    → IsOpenSince base d core logging installing boot first entries last → IsCrashImage d d.clock image
+    → settled_place core.log ≡ core.log.places → IsGoodImage d.size image last boot
 
 -- what was left stays so with more entries
 abbrev pub KeepsLonger : Type 0
@@ -258,14 +266,14 @@ all stops longer K moment old files (m ∷ ms) (r ∷ rs) new keeps timely opene
 -- ---- behind the last message
 
 -- what the stream has made of the files, where this was settled behind it
-pub files_after : LeavesFiles → KeepsLonger → (K : Type 0) (moment : Moment) (old : Opened) (files : Files)
+pub files_after : LeavesFiles → LeavesWhole → KeepsLonger → (K : Type 0) (moment : Moment) (old : Opened) (files : Files)
     (messages replies : List (List ℕ)) (served : Opened) (device : Device) (core : CoreState) (boot : ℕ) → K
     → SoundTime moment → IsOpenFor old files → Answered K moment old messages replies served → AreBlocks device
     → boot ≡ served.boot → settled_place served.core.log ≤ settled_place core.log
     → ((later : Files) → IsOpenFor served later → IsOpenFor (store_of device core boot) later)
     → KeepsPrefixes served.device served.core device core
     → HasFiled moment old files messages replies served (store_of device core boot)
-files_after stops longer K moment old files messages replies served device core boot keeps timely
+files_after stops whole longer K moment old files messages replies served device core boot keeps timely
     opened a blocks same
     further behind settles =
     let done = all stops longer K moment old files messages replies served keeps timely opened a in
@@ -302,12 +310,16 @@ files_after stops longer K moment old files messages replies served device core 
           stops open_then.base device core idle idle boot done.later.first done.later.last
           done.later.entries image
           open_then.opened.since left;
+      whole = λ settled image left.
+          whole open_then.base device core idle idle boot done.later.first done.later.last
+          done.later.entries image
+          open_then.opened.since left settled;
     }
 
 -- ---- what came of serving
 
 -- a stream that has ended, and the settling behind it
-pub served_behind : LeavesFiles → KeepsLonger → (K L : Type 0) → (L → K) → (moment : Moment) (old : Opened)
+pub served_behind : LeavesFiles → LeavesWhole → KeepsLonger → (K L : Type 0) → (L → K) → (moment : Moment) (old : Opened)
     (unread first : Option (List ℕ)) (result : Result ℕ SessionFault) (rest written : Option (List ℕ))
     (served : Opened) (device : Device) (core : CoreState) (boot : ℕ)
     → LeavesOpen served.device served.core device core → boot ≡ served.boot
@@ -315,7 +327,7 @@ pub served_behind : LeavesFiles → KeepsLonger → (K L : Type 0) → (L → K)
     → (L → KeepsPrefixes served.device served.core device core) → (L → AreBlocks device)
     → IsStream K moment old unread first result rest written served → IsSettledBehind result core
     → IsServed L moment old unread first result rest written (store_of device core boot)
-served_behind stops longer K L so moment old unread first result rest written served device core boot
+served_behind stops whole longer K L so moment old unread first result rest written served device core boot
     leaves same opens
     settles blocks stream settled = record {
       served = served;
@@ -337,7 +349,7 @@ served_behind stops longer K L so moment old unread first result rest written se
       };
       settled = settled;
       files = λ files keeps timely opened.
-          files_after stops longer L moment old files stream.messages stream.replies served device
+          files_after stops whole longer L moment old files stream.messages stream.replies served device
           core boot keeps
           timely opened (longer_answers K L so moment old stream.messages stream.replies served stream.answered)
           (blocks keeps) same leaves.further.settled

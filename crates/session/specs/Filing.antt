@@ -18,6 +18,7 @@ use Rattle.session_wire.specs.Replies.{reply_bytes}
 use Rattle.session_wire.specs.Served as stream
 use Rattle.wal_law.specs.Log.{settled_place}
 use Rattle.txn_law.specs.Core.{CoreState}
+use Rattle.store_promise.specs.GoodImage.{IsGoodImage}
 use Rattle.store_promise.specs.OpenSince.{KeepsFiles, LeavesBeginning}
 use Rattle.store_promise.specs.Openings.{IsLater, LeavesImages}
 use Rattle.store_promise.specs.declared.answers.Verdict.{Verdict}
@@ -116,7 +117,8 @@ NumbersRise least (entry ∷ entries) most =
 -- and behind them the stream's. Whatever a stop leaves, from the call on, is good, and has the tree after a
 -- beginning of them, in which is each place that was settled at the call, and behind the last message each
 -- that was settled by then. Once the call has returned each place is in it that is settled then, and so the
--- place of each procedure that waits for its place and was answered its reply.
+-- place of each procedure that waits for its place and was answered its reply. Where every place is settled
+-- then, each image that a stop leaves has the tree that the served stream ends with.
 pub record HasFiled (moment : Moment) (old : Opened) (files : Files) (messages replies : List (List ℕ))
     (served new : Opened) : Type 0 where
   pub later : Files
@@ -138,6 +140,9 @@ pub record HasFiled (moment : Moment) (old : Opened) (files : Files) (messages r
       (settled_place served.core.log)
   pub stops : (image : Image) → IsCrashImage new.device new.device.clock image
       → LeavesBeginning new.device.size new.boot later.first later.entries (settled_place new.core.log) image
+  pub whole : settled_place new.core.log ≡ new.core.log.places → (image : Image)
+      → IsCrashImage new.device new.device.clock image
+      → IsGoodImage new.device.size image later.last new.boot
 
 -- everything is settled, or the store has broken; where the output failed nothing was settled behind the last
 -- message

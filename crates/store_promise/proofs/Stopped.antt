@@ -24,19 +24,22 @@ use Rattle.txn_law.specs.Object.{ObjectBytes}
 use Rattle.txn_law.specs.Window.{AreInLog, Footprint, IsInLog, after_commits}
 use Rattle.txn_law.specs.Window.{with_object, with_objects}
 use Rattle.store_promise.specs.OpenStore.{IsChain}
+use Rattle.store_promise.proofs.Chains.{chain_leads}
 
--- ---- a chain holds up to each of its commits
+-- ---- a chain holds up to each of its commits, and leads on from there
 
 pub chain_to : (g : Geometry) (blocks : Image) (tree : Tree) (commits : List Footprint) (entries : List Entry)
     (last : Tree) (k : ℕ)
     → IsChain g blocks tree commits entries last → k ≤ length commits
     → (left : Tree) × after tree (take k entries) left × Stands g (after_commits blocks (take k commits)) left
-chain_to g blocks tree [] [] last zero chain fits = (tree, refl, chain.0)
+    × after left (drop k entries) last
+chain_to g blocks tree [] [] last zero chain fits = (tree, refl, chain.0, chain.1)
 chain_to g blocks tree [] [] last (suc k) chain fits = absurd (omega (arith, fits))
-chain_to g blocks tree (commit ∷ commits) (entry ∷ entries) last zero chain fits = (tree, refl, chain.0)
+chain_to g blocks tree (commit ∷ commits) (entry ∷ entries) last zero chain fits =
+    (tree, refl, chain.0, chain_leads g blocks tree (commit ∷ commits) (entry ∷ entries) last chain)
 chain_to g blocks tree (commit ∷ commits) (entry ∷ entries) last (suc k) chain fits =
     let rest = chain_to g (with_objects blocks commit.written) chain.1 commits entries last k chain.3
-    (omega (arith, fits)) in (rest.0, (chain.1, chain.2, rest.1), rest.2)
+    (omega (arith, fits)) in (rest.0, (chain.1, chain.2, rest.1), rest.2, rest.3)
 chain_to g blocks tree [] (entry ∷ entries) last k chain fits = absurd chain
 chain_to g blocks tree (commit ∷ commits) [] last k chain fits = absurd chain
 

@@ -19,6 +19,7 @@ ghost use Rattle.wal_law.specs.Installer.{is_inst_out, may_install, with_inst_ba
 ghost use Rattle.wal_law.specs.Io.{HasMade, Io};
 ghost use Rattle.wal_law.specs.Log.{installed_place, settled_place};
 ghost use Rattle.wal_law.specs.Logger.{is_log_out, with_log_back, with_log_out};
+ghost use Rattle.store_promise.specs.GoodImage.{IsGoodImage};
 ghost use Rattle.store_promise.specs.OpenSince.{HasKeptFiles, IsOpenSince, IsSoundCore, KeepsFiles};
 ghost use Rattle.store_promise.specs.OpenSince.{LeavesBeginning, LeavesBlocks, StandsBeside, TellsOf};
 
@@ -113,7 +114,7 @@ pub fn the_installer_leaves_the_store_open()
 }
 
 /// Whatever a stop leaves of a store that is open since then is good, and has the files after a beginning of
-/// the entries, in which is each settled place.
+/// the entries, in which is each settled place. Where all are settled it has the last files.
 pub fn a_stop_leaves_a_beginning()
     ensures blocks { (base : Image) (d : Device) (core : CoreState) (logging installing : Pending) (boot : ℕ)
         (first last : Tree) (entries : List Entry) (image : Image)
@@ -123,6 +124,10 @@ pub fn a_stop_leaves_a_beginning()
         (first last : Tree) (entries : List Entry) (image : Image)
         → IsOpenSince base d core logging installing boot first entries last → IsCrashImage d d.clock image
         → LeavesBeginning d.size boot first entries (settled_place core.log) image }
+    ensures whole { (base : Image) (d : Device) (core : CoreState) (logging installing : Pending) (boot : ℕ)
+        (first last : Tree) (entries : List Entry) (image : Image)
+        → IsOpenSince base d core logging installing boot first entries last → IsCrashImage d d.clock image
+        → settled_place core.log ≡ core.log.places → IsGoodImage d.size image last boot }
 {
     crate::a_stop_leaves_a_good_image();
 }

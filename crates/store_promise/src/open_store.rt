@@ -1,9 +1,10 @@
 //! Laws on an open store.
-ghost use Rattle.std.specs.Prelude.{◌≡◌, ℕ, ◌+◌, ◌≤◌, List, [], length};
+ghost use Rattle.std.specs.Prelude.{◌≡◌, ℕ, ◌+◌, ◌≤◌, List, [], drop, length};
 ghost use Rattle.limits.specs.declared.TheConstants.{BLOCK_BYTES, SUPER_BLOCK};
 ghost use Rattle.disk.specs.Crash.{Image, IsCrashImage};
 ghost use Rattle.disk.specs.Device.{Content, Device};
 ghost use Rattle.model.specs.Entry.{Entry};
+ghost use Rattle.procedures.specs.After.{after};
 ghost use Rattle.model.specs.Tree.{Tree};
 ghost use Rattle.layout.specs.declared.super_block.Super.{Super};
 ghost use Rattle.layout.specs.SuperForm.{IsSuper};
@@ -19,15 +20,16 @@ ghost use Rattle.store_promise.specs.Openings.{IsOpened};
 ghost use Rattle.store_promise.specs.Prefix.{HasPrefix};
 
 /// An image that has whole groups over what is at home is good, and has the tree after the first so many of the
-/// entries, not fewer than are settled, and the blocks after their commits. It needs no device that agrees, and
-/// so holds within the write of a super block too.
+/// entries, not fewer than are settled, and the blocks after their commits; the others lead on from that tree.
+/// It needs no device that agrees, and so holds within the write of a super block too.
 pub fn whole_groups_are_a_good_image()
     ensures { (base : Image) (core : CoreState) (boot : ℕ) (tree last : Tree) (entries : List Entry)
         (image : Image)
         → IsLawful core.log → HasFilesOver base core boot tree entries last → IsBoundary base core.log image
         → (left : HasPrefix core.log.blocks (IsBoot boot) tree entries (length entries)
         (IsSettledOf core.log) image)
-        × (homes_of core.log.blocks (over image) ≡ blocks_after base core left.count) }
+        × (homes_of core.log.blocks (over image) ≡ blocks_after base core left.count)
+        × after left.left (drop left.count entries) last }
 {
     txn_law::a_crash_leaves_a_prefix();
 }
@@ -39,7 +41,8 @@ pub fn a_stop_leaves_a_good_image()
         → IsOpenOver base d core logging installing boot tree entries last → IsCrashImage d d.clock image
         → (left : HasPrefix core.log.blocks (IsBoot boot) tree entries (length entries)
         (IsSettledOf core.log) image)
-        × (homes_of core.log.blocks (over image) ≡ blocks_after base core left.count) }
+        × (homes_of core.log.blocks (over image) ≡ blocks_after base core left.count)
+        × after left.left (drop left.count entries) last }
 {
     wal_law::law::a_crash_leaves_whole_groups();
     whole_groups_are_a_good_image();

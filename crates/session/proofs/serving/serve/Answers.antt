@@ -21,6 +21,7 @@ returns-in-Err-Output-clause-stream g c =
     let output : c.serve_all-served.result ≡ Err faults.Output = search rules in
     let d = device served.disk in
     served_behind c.a_stop_leaves_a_beginning.ensures.files
+    c.a_stop_leaves_a_beginning.ensures.whole
     c.an_open_store_keeps_its_files.ensures.longer keeps keeps
     (λ kept. kept) c.args.moment (store_of (device was.disk) was.core was.boot)
     (g.R.Read.remaining c.args.reader.now) (g.W.Write.contents c.args.writer.now) c.serve_all-served.result
@@ -59,7 +60,8 @@ returns-in-Err g c =
           let served = c.serve_all-served.new.store in
           let keeps = g.D.CrashDisk.keeps_model in
           let fault = c.in-Err.field-0 in
-          served_behind c.a_stop_leaves_a_beginning.ensures.files c.an_open_store_keeps_its_files.ensures.longer
+          served_behind c.a_stop_leaves_a_beginning.ensures.files
+    c.a_stop_leaves_a_beginning.ensures.whole c.an_open_store_keeps_its_files.ensures.longer
           (keeps served.disk) (keeps now.disk) c.settle.ensures.model c.args.moment
           (store_of (device was.disk) was.core was.boot) (g.R.Read.remaining c.args.reader.now)
           (g.W.Write.contents c.args.writer.now) c.serve_all-served.result
@@ -84,7 +86,8 @@ returns-in-Ok-settle-clause-stream g c =
     let now = c.settle-in-Ok.new.store in
     let device = g.D.CrashDisk.device in
     let keeps = g.D.CrashDisk.keeps_model in
-    served_behind c.a_stop_leaves_a_beginning.ensures.files c.an_open_store_keeps_its_files.ensures.longer
+    served_behind c.a_stop_leaves_a_beginning.ensures.files
+    c.a_stop_leaves_a_beginning.ensures.whole c.an_open_store_keeps_its_files.ensures.longer
     (keeps served.disk) (keeps now.disk) c.settle-in-Ok.ensures.model c.args.moment
     (store_of (device was.disk) was.core was.boot) (g.R.Read.remaining c.args.reader.now)
     (g.W.Write.contents c.args.writer.now) c.serve_all-served.result
@@ -110,7 +113,8 @@ returns-in-Err-settle-clause-stream g c =
     let first = g.W.Write.contents c.args.writer.now in
     let rest = g.R.Read.remaining c.serve_all-served.new.reader in
     let written = g.W.Write.contents c.serve_all-served.new.writer in
-    served_behind c.a_stop_leaves_a_beginning.ensures.files c.an_open_store_keeps_its_files.ensures.longer
+    served_behind c.a_stop_leaves_a_beginning.ensures.files
+    c.a_stop_leaves_a_beginning.ensures.whole c.an_open_store_keeps_its_files.ensures.longer
     (keeps served.disk) (keeps now.disk) c.settle-in-Ok.ensures.model c.args.moment old unread first
     (Err faults.Device) rest written mid (device now.disk) now.core now.boot c.settle-in-Ok.ensures.open
     c.settle-in-Ok.ensures.boot

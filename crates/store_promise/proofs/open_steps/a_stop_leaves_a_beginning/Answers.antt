@@ -1,6 +1,6 @@
 -- Those that are home come first, and then those of the commits that it has.
-use Rattle.std.proofs.Common.{◌≡◌, ℕ, ◌+◌, ◌-◌, ap, sym, ◌∙◌, subst, arith, List, length, drop}
-use Rattle.std.proofs.lemmas.List.{length-drop}
+use Rattle.std.proofs.Common.{◌≡◌, ℕ, ◌+◌, ◌-◌, ◌≤◌, ap, sym, ◌∙◌, subst, arith, List, length, drop}
+use Rattle.std.proofs.lemmas.List.{drop_all, length-drop}
 use Rattle.disk.specs.Crash.{Image}
 use Rattle.disk.specs.Device.{Device}
 use Rattle.layout.specs.Homes.{homes_of}
@@ -11,6 +11,8 @@ use Rattle.wal_law.specs.Calls.{Pending}
 use Rattle.wal_law.specs.Log.{installed_place, settled_place}
 use Rattle.wal_law.specs.Overlay.{over}
 use Rattle.wal_law.proofs.Ends.{place_le}
+use Rattle.procedures.specs.After.{after}
+use Rattle.store_promise.specs.GoodImage.{IsGoodImage}
 use Rattle.store_promise.specs.OpenSince.{IsOpenSince, LeavesBeginning, LeavesBlocks, blocks_after}
 use Rattle.store_promise.specs.OpenStore.{IsBoot, IsSettledOf}
 use Rattle.store_promise.specs.Prefix.{HasPrefix}
@@ -55,6 +57,26 @@ module _ (base : Image) (d : Device) (core : CoreState) (logging installing : Pe
           behind = omega arith;
           homes = homes ∙ ap (λ (k : ℕ). blocks_after base core k) same;
         }
+
+    -- where all are settled none is left out, and so it has the last files
+    whole : after left.left (drop left.count rest) last → settled_place core.log ≡ core.log.places
+        → IsGoodImage core.log.blocks image last boot
+    whole leads settled =
+        let long = length-drop n entries in
+        let counted = since.counted in
+        let there = left.lasts (core.log.places - n) (omega (arith, settled)) in
+        let all : length rest ≤ left.count = omega (arith, long, counted, there) in
+        let same : last ≡ left.left = subst (λ (es : List Entry). after left.left es last)
+        (drop_all left.count rest all) leads in
+        subst (λ (tree : Tree). IsGoodImage core.log.blocks image tree boot) (sym same)
+        (subst (λ (b : ℕ). IsGoodImage core.log.blocks image left.left b) left.boot_is left.good)
+
+pub returns-clause-whole : goal.returns-clause-whole
+returns-clause-whole c = λ base d core logging installing boot first last entries image since crash settled.
+    let left = c.a_stop_leaves_a_good_image.ensures d base core logging installing boot since.home last _ image
+    since.over crash in
+    subst (λ (size : ℕ). IsGoodImage size image last boot) (sym since.over.agrees.agrees.size)
+    (whole base d core logging installing boot first last entries image since left.0 left.1 left.2 settled)
 
 pub returns-clause-blocks : goal.returns-clause-blocks
 returns-clause-blocks c = λ base d core logging installing boot first last entries image since crash.

@@ -1,5 +1,6 @@
 -- Its homes under the log are those after a beginning of the commits, its super block is the one at home.
 use Rattle.std.proofs.Common.{◌≡◌, ℕ, ◌-◌, ◌≤◌, inl, sym, refl, subst, arith, List, length, take}
+use Rattle.std.proofs.Common.{drop}
 use Rattle.limits.specs.declared.TheConstants.{SUPER_BLOCK}
 use Rattle.disk.specs.Crash.{Image}
 use Rattle.model.specs.Entry.{Entry}
@@ -41,6 +42,7 @@ module _ (base : Image) (core : CoreState) (boot : ℕ) (tree last : Tree) (entr
     found : (left : Tree) × after tree (take k entries) left
         × Stands files.super.geometry (after_commits (homes_of size (opening base core.log))
         (take k core.records)) left
+        × after left (drop k entries) last
     found = chain_to files.super.geometry (homes_of size (opening base core.log)) tree core.records entries
         last k files.chain few
 
@@ -59,6 +61,7 @@ module _ (base : Image) (core : CoreState) (boot : ℕ) (tree last : Tree) (entr
 
     pub left : (left : HasPrefix size (IsBoot boot) tree entries (length entries) (IsSettledOf core.log) image)
         × (homes_of size (over image) ≡ blocks_after base core left.count)
+        × after left.left (drop left.count entries) last
     left =
         let long = chain_long files.super.geometry (homes_of size (opening base core.log)) tree core.records
         entries last files.chain in (
@@ -73,6 +76,7 @@ module _ (base : Image) (core : CoreState) (boot : ℕ) (tree last : Tree) (entr
             lasts = λ place held. omega (arith, held, settled);
           },
           homes_after base core lawful files.home k (over image) there,
+          found.3,
         )
 
 pub returns : goal.returns
