@@ -61,7 +61,7 @@ returns-in-Err g c =
           let keeps = g.D.CrashDisk.keeps_model in
           let fault = c.in-Err.field-0 in
           served_behind c.a_stop_leaves_a_beginning.ensures.files
-    c.a_stop_leaves_a_beginning.ensures.whole c.an_open_store_keeps_its_files.ensures.longer
+          c.a_stop_leaves_a_beginning.ensures.whole c.an_open_store_keeps_its_files.ensures.longer
           (keeps served.disk) (keeps now.disk) c.settle.ensures.model c.args.moment
           (store_of (device was.disk) was.core was.boot) (g.R.Read.remaining c.args.reader.now)
           (g.W.Write.contents c.args.writer.now) c.serve_all-served.result
