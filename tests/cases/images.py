@@ -1,0 +1,252 @@
+"""A writer of whole images, from the tables of docs/FORMAT.md alone, and cases that hold it to the program.
+
+A tree is described by its root: a file made by `regular`, `directory` or `link`, which keeps its numbers and links once
+it is laid out. The same file under two names is one file with two links. `Image(root)` lays it out.
+"""
+
+import struct
+
+from cases import nfs, wire
+from cases.running import BLOCKS, INODES, MADE, NEW_MODE, contents, expect, same
+
+BLOCK_BYTES, INODE_BYTES, SLOT_BYTES, NAME_BYTES = 4096, 128, 128, 112
+LOG_HEADER, FIRST_SLOT, LOG_SLOTS, START, BITMAP = 1, 2, 511, 513, 514
+BITS, INODES_PER_BLOCK, SLOTS, DIRECT, INDIRECT = 32768, 32, 32, 8, 1024
+LARGEST_FILE = (DIRECT + INDIRECT) * BLOCK_BYTES
+ROOT = 1
+REGULAR, DIRECTORY, LINK = nfs.REGULAR, nfs.DIRECTORY, nfs.LINK_TYPE
+
+
+class File:
+    """What an inode has: `size` bytes, of which `pieces` has the blocks that are mapped, by their indexes. A directory
+    has `slots` too: a name and a file for each slot in use, by its number. The layout sets number, nlink and parent."""
+
+    def __init__(self, kind, size, pieces, mode, uid=0, gid=0, times=((800, 1), (801, 2), (802, 3)), stamp=(0, 5),
+                 verifier=None, number=None):
+        self.kind, self.size, self.pieces, self.slots = kind, size, pieces, {}
+        self.mode, self.uid, self.gid, self.stamp, self.verifier = mode, uid, gid, stamp, verifier
+        self.atime, self.mtime, self.ctime = (nfs.Time(*it) for it in times)
+        self.number, self.nlink, self.parent = number, 0, None
+
+    def cost(self):
+        """How many blocks it uses: one more where an index is mapped that its inode has no place for."""
+        return len(self.pieces) + any(index >= DIRECT for index in self.pieces)
+
+    def bytes(self, offset=0, count=LARGEST_FILE):
+        """A regular file's or a link's bytes from an offset on, at most so many."""
+        found, end = bytearray(), min(self.size, offset + count)
+        while offset < end:
+            index, at = divmod(offset, BLOCK_BYTES)
+            piece = self.pieces.get(index, b"").ljust(BLOCK_BYTES, b"\0")[at : at + end - offset]
+            found += piece
+            offset += len(piece)
+        return bytes(found)
+
+    def handle(self):
+        return nfs.handle(self.number, *self.stamp)
+
+    def attributes(self):
+        """What a reply tells of it (RFC 1813, section 2.6)."""
+        return nfs.Attributes(
+            self.kind, self.mode, self.nlink, self.uid, self.gid, self.size, BLOCK_BYTES * self.cost(),
+            nfs.Device(0, 0), 1, self.number, self.atime, self.mtime, self.ctime)
+
+
+def regular(*parts, size=None, mapped=(), mode=0o644, **more):
+    """A regular file with these bytes at these offsets, in pairs: `regular((0, b"hello"))`. It maps the blocks that they
+    lie in and those of `mapped`, and no other, so that all else is a hole. It ends behind the last byte, if at no other
+    size."""
+    pieces = {index: bytearray(BLOCK_BYTES) for index in mapped}
+    for offset, data in parts:
+        for at in range(offset // BLOCK_BYTES, (offset + len(data) + BLOCK_BYTES - 1) // BLOCK_BYTES):
+            block = pieces.setdefault(at, bytearray(BLOCK_BYTES))
+            low, high = max(offset, at * BLOCK_BYTES), min(offset + len(data), (at + 1) * BLOCK_BYTES)
+            block[low - at * BLOCK_BYTES : high - at * BLOCK_BYTES] = data[low - offset : high - offset]
+    end = max([offset + len(data) for offset, data in parts], default=0)
+    return File(REGULAR, end if size is None else size, {at: bytes(it) for at, it in pieces.items()}, mode, **more)
+
+
+def link(target, mode=0o777, **more):
+    return File(LINK, len(target), {0: target}, mode, **more)
+
+
+def directory(names, span=None, free=(), mode=0o755, **more):
+    """A directory with these files by their names, in the order of their slots. The slots of `free` stay free. It spans
+    as many blocks as its names take, if no other count."""
+    slots, slot = {}, 0
+    for name, file in names.items():
+        while slot in free:
+            slot += 1
+        slots[slot], slot = (name, file), slot + 1
+    made = File(DIRECTORY, BLOCK_BYTES * (-(-slot // SLOTS) if span is None else span), {}, mode, **more)
+    made.slots = slots
+    return made
+
+
+class Image:
+    """The blocks of an image with this tree, each by its number: a block that isn't there is zeros. Data blocks are taken
+    from the first on, or in another order of their numbers."""
+
+    def __init__(self, root, blocks=BLOCKS, inodes=INODES, boot=0, order=lambda numbers: numbers):
+        self.root, self.blocks, self.inodes = root, blocks, inodes
+        self.inode_bitmap = BITMAP + -(-blocks // BITS)
+        self.table = self.inode_bitmap + -(-inodes // BITS)
+        self.data = self.table + inodes // INODES_PER_BLOCK
+        self.files, self.content = [], {0: wire.super_block(blocks, inodes, boot)}
+        root.stamp = (0, 0)
+        self.number_files()
+        free = iter(order(list(range(self.data, blocks))))
+        taken = {number for file in self.files for number in self.lay(file, free)}
+        self.free_blocks, self.free_files = blocks - self.data - len(taken), inodes - 1 - len(self.files)
+        self.mark(BITMAP, lambda k: k < self.data or k in taken or k >= blocks, blocks)
+        numbers = {0} | {file.number for file in self.files}
+        self.mark(self.inode_bitmap, lambda k: k in numbers or k >= inodes, inodes)
+
+    def number_files(self):
+        """Numbers the files that have no number, each directory before its files, and counts their links."""
+        fixed = {file.number for file in files_below(self.root)}
+        rising = iter(it for it in range(ROOT, self.inodes) if it not in fixed)
+        waiting = [(self.root, self.root)]
+        while waiting:
+            file, above = waiting.pop(0)
+            if not file.nlink:
+                self.files.append(file)
+                file.number = file.number or next(rising)
+            file.nlink += 1
+            if file.kind == DIRECTORY:
+                file.parent, file.nlink = above, 2
+                above.nlink += above is not file
+                waiting += [(it, file) for _, it in file.slots.values()]
+
+    def lay(self, file, free):
+        """Writes a file's blocks and its inode, and gives the numbers of the blocks that it takes."""
+        if file.kind == DIRECTORY:
+            file.pieces = {index: slots_of(file, index) for index in range(file.size // BLOCK_BYTES)}
+        numbers = {index: next(free) for index in sorted(file.pieces)}
+        for index, number in numbers.items():
+            self.content[number] = file.pieces[index].ljust(BLOCK_BYTES, b"\0")
+        indirect = 0
+        if any(index >= DIRECT for index in numbers):
+            indirect = next(free)
+            self.content[indirect] = struct.pack("<1024I", *(numbers.get(DIRECT + it, 0) for it in range(INDIRECT)))
+        direct = [numbers.get(it, 0) for it in range(DIRECT)]
+        at, place = self.table + file.number // INODES_PER_BLOCK, INODE_BYTES * (file.number % INODES_PER_BLOCK)
+        block = bytearray(self.content.get(at, bytes(BLOCK_BYTES)))
+        block[place : place + INODE_BYTES] = inode(file, direct, indirect)
+        self.content[at] = bytes(block)
+        return [*numbers.values(), *([indirect] if indirect else [])]
+
+    def mark(self, first, is_marked, count):
+        """Writes a bitmap, bit k of which is bit k mod 8, the least first, of byte k / 8."""
+        for block in range(-(-count // BITS)):
+            bits = [is_marked(it) for it in range(BITS * block, BITS * (block + 1))]
+            value = int("".join("1" if it else "0" for it in reversed(bits)), 2)
+            self.content[first + block] = value.to_bytes(BLOCK_BYTES, "little")
+
+    def into_log(self, numbers, start=0, old=lambda block: bytes(BLOCK_BYTES)):
+        """Moves these blocks, from 514 on, into the log, in this order: at home lies what they were before."""
+        homes = [0] * LOG_SLOTS
+        for position, number in enumerate(numbers, start):
+            homes[position % LOG_SLOTS] = number
+            self.content[FIRST_SLOT + position % LOG_SLOTS] = self.block(number)
+            self.content[number] = old(self.block(number))
+        self.content[LOG_HEADER] = struct.pack("<Q511Q", start + len(numbers), *homes).ljust(BLOCK_BYTES, b"\0")
+        self.content[START] = struct.pack("<Q", start).ljust(BLOCK_BYTES, b"\0")
+
+    def block(self, number):
+        return self.content.get(number, bytes(BLOCK_BYTES))
+
+    def write(self, path):
+        """Writes the image into a file, which has holes where blocks are zeros, and gives the path."""
+        with open(path, "wb") as file:
+            file.truncate(BLOCK_BYTES * self.blocks)
+            for number, block in self.content.items():
+                file.seek(BLOCK_BYTES * number)
+                file.write(block)
+        return path
+
+
+def files_below(file):
+    """A file and all below it, each once."""
+    found, waiting = {}, [file]
+    while waiting:
+        it = waiting.pop()
+        if id(it) not in found:
+            found[id(it)] = it
+            waiting += [below for _, below in it.slots.values()]
+    return found.values()
+
+
+def slots_of(file, index):
+    """The bytes of a directory's block: number, length and name of each slot in use."""
+    found = bytearray(BLOCK_BYTES)
+    for slot, (name, it) in file.slots.items():
+        if slot // SLOTS == index:
+            struct.pack_into("<II112s", found, SLOT_BYTES * (slot % SLOTS), it.number, len(name), name)
+    return bytes(found)
+
+
+def inode(file, direct, indirect):
+    times = [it for time in (file.atime, file.mtime, file.ctime) for it in time]
+    head = struct.pack("<6IQ6I2Q", file.kind, file.mode, file.uid, file.gid, file.nlink, 0, file.size, *times, *file.stamp)
+    parent = file.parent.number if file.kind == DIRECTORY else 0
+    verifier = struct.pack("<II8s", parent, int(file.verifier is not None), file.verifier or b"")
+    return head + verifier + struct.pack("<8III", *direct, indirect, 0)
+
+
+def new_root():
+    return directory({}, mode=NEW_MODE, times=((MADE, 0),) * 3)
+
+
+def several():
+    """A tree with a file of each kind, files with holes, and names of all lengths."""
+    twice = regular((0, b"two names"), uid=7, gid=8, mode=0o4711)
+    below = directory({b"deep": directory({b"up": link(b"../..")}, mode=0o700, uid=9)}, span=2, free=(0, 33), mode=0o1777)
+    return directory({
+        b"empty": regular(mode=0),
+        b"hello": regular((0, b"hello"), (BLOCK_BYTES, b"there")),
+        b"hole": regular((3 * BLOCK_BYTES + 5, b"x"), verifier=b"verifier"),
+        b"last byte": regular((LARGEST_FILE - 1, b"z")),
+        b"mapped past its end": regular((0, b"short"), mapped=(7, 8, 1031), stamp=(2**40, 2**41)),
+        b"border": regular((0, bytes(range(256)) * 160), mode=0o7777, uid=2**32 - 1, gid=2**32 - 2),
+        b"twice": twice,
+        b"below": below,
+        b"n" * NAME_BYTES: twice,
+        b"\xff\x01": link(b"t" * 1024, times=((2**32 - 1, 999_999_999),) * 3),
+        b"far": regular((0, b"far"), number=63),
+        b"full": directory({b"%d" % it: twice for it in range(32 * 9 + 1)}),
+    }, free=(1, 5), span=3)
+
+
+def assert_told(place, image, what):
+    """The program tells each file's attributes as its description has them."""
+    calls = [nfs.GETATTR.call(file.number, wire.AUTH_NONE, file.handle()) for file in image.files]
+    wanted = [wire.reply(file.number, nfs.GETATTR.done(file.attributes())) for file in image.files]
+    ran = place.once(image.write(place.path("image")), b"".join(calls))
+    same(f"{what}: standard error", ran.errors, b"")
+    for file, found, reply in zip(image.files, wire.records(ran.output), wire.records(b"".join(wanted))):
+        same(f"{what}: the reply about file {file.number}", found, reply)
+    expect(what, ran, 0, b"".join(wanted), b"")
+
+
+def test_a_fresh_image_is_written_as_format_writes_it(place):
+    for blocks, inodes in (BLOCKS, INODES), (4096, 32), (40_000, 65_536):
+        counts = ["--blocks", str(blocks), "--inodes", str(inodes), "--time", str(MADE)]
+        ran = place.run(["format", "image", *counts])
+        same("what format tells", (ran.status, ran.errors), (0, b""))
+        written = Image(new_root(), blocks, inodes).write(place.path("written"))
+        same(f"{blocks} blocks with {inodes} inodes", contents(place.path("image")), contents(written))
+
+
+def test_the_program_tells_of_each_file_of_a_written_image(place):
+    assert_told(place, Image(several(), boot=2**40), "one by one")
+    assert_told(place, Image(several(), boot=2**40, order=lambda it: it[::-1]), "from the last block on")
+    assert_told(place, Image(several(), 40_000, 4096, boot=2**40, order=lambda it: it[32_000:]), "past the first bitmap")
+
+
+def test_the_program_finds_what_a_written_image_has_in_its_log(place):
+    for start in 0, 500, 511 * 2**50:
+        image = Image(several(), boot=2**40)
+        blocks = [image.table, BITMAP, image.inode_bitmap, image.table + 1, *range(image.data, image.data + 20)]
+        image.into_log(blocks, start)
+        assert_told(place, image, f"a log from position {start}")
