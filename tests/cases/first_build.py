@@ -1,7 +1,6 @@
 """./nfsd before the program stands and after, over a stand-in for rt."""
 
 import os
-import resource
 import shutil
 import signal
 import subprocess
@@ -347,23 +346,17 @@ def test_who_may_not_write_the_checkout_may_run_what_is_built(place):
         close(checkout.top, True)
 
 
-def test_once_it_is_built_a_call_costs_under_25_ms_more(place):
-    # Of processor time, which other processes add less to than to the clock's, and the least of many.
-    checkout = Checkout(place, without=())
-    checkout.put("program", "#!/bin/sh\n")
-    checkout.run([])
-
-    def spent():
-        used = resource.getrusage(resource.RUSAGE_CHILDREN)
-        return used.ru_utime + used.ru_stime
-
-    def least(command):
-        def seconds():
-            before = spent()
-            checkout.run([], command=[command])
-            return spent() - before
-
-        return min(seconds() for _ in range(25))
-
-    more = least(checkout.command()) - least(checkout.path("crates/nfsd/out/nfsd"))
-    is_so(f"it costs {1000 * more:.1f} ms more", more < 0.025)
+def test_a_try_is_told_as_unproved_and_builds_nothing(place):
+    checkout, folder = Checkout(place), place.path("a folder")
+    os.mkdir(folder)
+    arguments = ["once", "an image", "--time", "2000", place.path("another")]
+    ran = checkout.run(arguments, DATA, name="try", cwd=folder)
+    given = ["once", os.path.join(os.path.realpath(folder), "an image"), "--time", "2000", place.path("another")]
+    shown = [os.path.realpath(checkout.path("crates/nfsd")), "try", "--", *given]
+    same("what rt is called with", ran.output, "".join(f"{it}\n" for it in shown).encode() + DATA)
+    proved = os.path.realpath(checkout.command())
+    said = f"try: this program isn't proved. {proved} proves the program and runs that\n"
+    same("standard error", ran.errors.decode(), said)
+    same("status", ran.status, 3)
+    same("calls of rt", len(checkout.calls()), 1)
+    is_so("something was built", not os.path.exists(checkout.path("out")))

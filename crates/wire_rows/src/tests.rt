@@ -3,7 +3,6 @@
 mod copies;
 mod items;
 mod judged;
-mod plain_reader;
 mod replies;
 mod room;
 mod setattr;

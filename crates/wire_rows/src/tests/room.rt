@@ -1,9 +1,7 @@
 //! What takes memory to read: it is found where there is some, up to the largest.
 
 use nfs_types::{Call, Credential, ProgramCall};
-use plain_wire::read_call;
-use session_wire::{Judged, MessageCredential, judge};
-use std::alloc::{AllocError, Global};
+use session_wire::{Judged, judge};
 use std::test::Fail;
 use worked_messages::content;
 
@@ -71,34 +69,5 @@ fn sixteen_groups_are_judged(rt: HostRuntime) -> Result<(), Fail> {
     let found = judge(rt.alloc(), bytes.as_slice());
     assert!(rt; is_null_by_caller(&found));
     drop(found);
-    Ok(())
-}
-
-fn is_caller_on_client(credential: &MessageCredential) -> bool {
-    match credential {
-        MessageCredential::Caller {
-            stamp,
-            machine,
-            caller,
-        } => *stamp == 5 && machine.as_slice() == b"client".as_slice() && is_caller(caller),
-        MessageCredential::Nobody => false,
-    }
-}
-
-// Whether the plain reader finds that user in these bytes.
-fn is_read_so(alloc: Global, bytes: &[u8]) -> Result<bool, AllocError> {
-    let read = read_call(alloc, bytes)?;
-    let is_so = match &read {
-        Some(message) => message.xid == 9 && is_caller_on_client(&message.credential),
-        None => false,
-    };
-    drop(read);
-    Ok(is_so)
-}
-
-#[test]
-fn sixteen_groups_are_read(rt: HostRuntime) -> Result<(), Fail> {
-    let bytes = content(rt.alloc(), &SIXTEEN_GIDS)?;
-    assert!(rt; is_read_so(rt.alloc(), bytes.as_slice())?);
     Ok(())
 }
