@@ -1,0 +1,2 @@
+pub mod FoundHere
+pub mod KindsAgree
