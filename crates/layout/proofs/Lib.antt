@@ -26,3 +26,4 @@ pub mod SuperBytes
 pub mod OneGeometry
 pub mod Versions
 pub mod AllNumbers
+pub mod OnGrid

@@ -5,6 +5,7 @@ pub mod Owners
 pub mod Parts
 pub mod Geometry
 pub mod Places
+pub mod Objects
 pub mod NumbersForm
 pub mod SlotForm
 pub mod Stands

@@ -7,6 +7,7 @@ mod fields;
 mod fresh;
 mod fresh_image;
 mod geometry;
+mod grid;
 mod inode;
 mod inode_bytes;
 mod inode_fields;
@@ -24,6 +25,7 @@ pub use fresh::{
 };
 pub use fresh_image::FreshImage;
 pub use geometry::{Geometry, GeometryFault};
+pub use grid::{objects_are_one_or_apart, objects_lie_at_home};
 pub use inode::{Inode, InodeKind};
 pub use laws::{a_changed_mode_stands, a_touched_inode_stands, blocks_stand_for_one_tree};
 pub use numbers::Numbers;
