@@ -1,0 +1,202 @@
+"""Images of which bytes were changed: what an opening answers by docs/FORMAT.md, and what the program tells then."""
+
+import struct
+
+from cases import wire
+from cases.running import MADE, NEW_MODE, contents, expect, same
+
+BLOCK_BYTES = 4096
+SUPER, HEADER, FIRST_SLOT, START = 0, 1, 2, 513
+# The first block of the table of inodes in such an image, and where the root begins in it, behind inode 0.
+TABLE, ROOT_AT = 516, 128
+SECOND, CHANGED_MODE = 2000, 448
+MAGIC, VERSION, RANGE, LOG = (f"nfsd: {it}\n".encode() for it in ("1 Magic", "2 Version", "3 Range", "4 Log"))
+
+
+def put(image, block, at, data):
+    """Writes bytes into a block of an image, and gives those that it had."""
+    with open(image, "r+b") as file:
+        file.seek(BLOCK_BYTES * block + at)
+        before = file.read(len(data))
+        file.seek(BLOCK_BYTES * block + at)
+        file.write(data)
+    return before
+
+
+def is_refused(place, image, what, fault):
+    """The image is refused by this line, and stays as it is."""
+    before = contents(image)
+    expect(what, place.once(image, wire.null_call(1)), 1, b"", fault)
+    same(f"{what}: the image", contents(image), before)
+
+
+def opens(place, image, boot, what):
+    """The image is opened, and has this boot number then."""
+    expect(what, place.once(image, wire.null_call(1)), 0, wire.null_reply(1), b"")
+    same(f"{what}: the boot number", struct.unpack("<Q", contents(image)[24:32])[0], boot)
+
+
+def refuses_each(place, block, places, fault):
+    """A fresh image is refused by this line where any of these bytes is one higher."""
+    image = place.image()
+    for at in places:
+        before = put(image, block, at, b"\0")
+        put(image, block, at, bytes([(before[0] + 1) % 256]))
+        is_refused(place, image, f"byte {at} of block {block}", fault)
+        put(image, block, at, before)
+    opens(place, image, 1, "the fresh image")
+
+
+def test_another_magic_version_or_count_is_refused(place):
+    refuses_each(place, SUPER, range(8), MAGIC)
+    refuses_each(place, SUPER, range(8, 12), VERSION)
+    # No other count of blocks is that of the file.
+    refuses_each(place, SUPER, range(12, 16), RANGE)
+
+
+def test_bytes_of_the_super_block_that_no_field_has_are_zeros(place):
+    refuses_each(place, SUPER, [*range(20, 24), *range(32, 4096, 29), 4095], RANGE)
+
+
+def test_counts_of_inodes_are_lawful(place):
+    # No inodes, 65, 16448 (whose table has 514 blocks), 65600 and 16777280.
+    for at, value in (16, 0), (16, 65), (17, 64), (18, 1), (19, 1):
+        image = place.image()
+        put(image, SUPER, at, bytes([value]))
+        is_refused(place, image, f"{value} at {at}", RANGE)
+    # 32, 96 and 320 inodes: an opening looks at no block behind the log.
+    for at, value in (16, 32), (16, 96), (17, 1):
+        image = place.image()
+        put(image, SUPER, at, bytes([value]))
+        opens(place, image, 1, f"{value} at {at}")
+
+
+def test_an_opening_counts_on_from_each_boot_number(place):
+    for boot in [*(1 << 8 * it for it in range(8)), 2**64 - 2]:
+        image = place.image()
+        put(image, SUPER, 24, struct.pack("<Q", boot))
+        opens(place, image, boot + 1, f"boot number {boot}")
+    image = place.image()
+    put(image, SUPER, 24, b"\xff" * 8)
+    is_refused(place, image, "the last boot number", RANGE)
+
+
+def test_an_empty_log_has_no_other_end_and_no_other_start(place):
+    # Each other end is out of range, or has a position without a home; each other start is behind the end.
+    refuses_each(place, HEADER, range(8), LOG)
+    refuses_each(place, START, range(8), LOG)
+
+
+def test_what_no_log_has_in_use_is_free_bytes(place):
+    for block in HEADER, START:
+        image = place.image()
+        put(image, block, 8, b"\xff" * (BLOCK_BYTES - 8))
+        opens(place, image, 1, f"ones in block {block}")
+
+
+def logged(place):
+    """An image whose log has one position, that of a SETATTR of the root's mode: the home of slot 0 is the block of the
+    root's inode, which is 4 and 2."""
+    image = place.image()
+    wanted = wire.setattr_reply(4, CHANGED_MODE, MADE, MADE, SECOND)
+    expect("a SETATTR", place.once(image, wire.setattr_call(4, CHANGED_MODE)), 0, wanted, b"")
+    return image
+
+
+def test_a_log_has_no_other_end_start_or_home(place):
+    rows = {
+        # A second position has no home, and 513 positions are too many.
+        HEADER: [(0, 2), (1, 2), (7, 1)]
+        # Homes 260 and 512 lie in the log, 1028 and those past four billion behind the last block.
+        + [(8, 0), (9, 1), (9, 4), (10, 1), (12, 1), (15, 1)],
+        # No start lies behind the end.
+        START: [(0, 2), (1, 1), (7, 1)],
+    }
+    for block, changes in rows.items():
+        for at, value in changes:
+            image = logged(place)
+            put(image, block, at, bytes([value]))
+            is_refused(place, image, f"{value} at {at} of block {block}", LOG)
+
+
+def test_an_opening_brings_home_what_the_log_has(place):
+    for block, value, mode, second in (HEADER, 1, CHANGED_MODE, SECOND), (HEADER, 0, NEW_MODE, MADE), (START, 1, NEW_MODE, MADE):
+        image = logged(place)
+        put(image, block, 0, bytes([value]))
+        place.attributes(image, mode, second, f"{value} in block {block}")
+
+
+def test_of_a_full_log_the_last_position_wins(place):
+    image = place.image()
+    fresh = contents(image)
+    changed = contents(logged(place))[BLOCK_BYTES * FIRST_SLOT :][:BLOCK_BYTES]
+    table = fresh[BLOCK_BYTES * TABLE :][:BLOCK_BYTES]
+    header = struct.pack("<Q511Q", 511, *[TABLE] * 511)
+    for slot, mode, second in (510, CHANGED_MODE, SECOND), (0, NEW_MODE, MADE), (100, NEW_MODE, MADE), (509, NEW_MODE, MADE):
+        image = place.image()
+        put(image, FIRST_SLOT, 0, table * 511)
+        put(image, FIRST_SLOT + slot, 0, changed)
+        put(image, HEADER, 0, header)
+        place.attributes(image, mode, second, f"slot {slot}")
+
+
+# Bytes of the root's inode, by the offset of their field, with values that no inode of a directory without blocks has.
+UNSOUND = [
+    # the kind: free, regular, of no file, a link
+    (0, 0), (0, 1), (0, 3), (0, 5),
+    # more bits of the mode than twelve
+    (5, 0x11),
+    # one name, and bytes of no field
+    (16, 1), (20, 1),
+    # a size that is no block's, and one of a block that isn't there
+    (24, 1), (25, 0x10),
+    # a billion nanoseconds and more, of each time
+    (39, 0x40), (47, 0x40), (55, 0x40),
+    # no parent, and one past the last inode
+    (72, 0), (72, 64),
+    # a verifier by its flag, another flag, and a verifier without its flag
+    (76, 1), (76, 2), (80, 1), (87, 1),
+    # a first and a last block, of the log and behind the image, and an indirect one
+    (88, 1), (89, 4), (119, 1), (120, 1),
+    # bytes of no field
+    (124, 1), (127, 1),
+]
+
+
+def test_a_root_that_is_no_inode_is_told_as_io(place):
+    for at, value in UNSOUND:
+        image = place.image()
+        put(image, TABLE, ROOT_AT + at, bytes([value]))
+        expect(f"{value} at {at}", place.once(image, wire.getattr_call(7)), 0, wire.getattr_failed(7), b"")
+
+
+def test_other_inodes_are_not_looked_at(place):
+    image = place.image()
+    put(image, TABLE, 0, b"\xff" * ROOT_AT)
+    put(image, TABLE, 2 * ROOT_AT, b"\xff" * (BLOCK_BYTES - 2 * ROOT_AT))
+    place.attributes(image, NEW_MODE, MADE)
+
+
+def spent(place, position):
+    """A fresh image whose log begins and ends at this position."""
+    image = place.image()
+    for block in HEADER, START:
+        put(image, block, 0, struct.pack("<Q", position))
+    return image
+
+
+def test_where_no_log_position_is_left_nothing_is_changed(place):
+    image = spent(place, 2**64 - 1)
+    calls = wire.setattr_call(4, CHANGED_MODE) + wire.getattr_call(3) + wire.null_call(1)
+    wanted = [wire.reply(4, wire.words(10006, 0, 0)), wire.getattr_reply(3, NEW_MODE, MADE, MADE), wire.null_reply(1)]
+    expect("once", place.once(image, calls), 0, b"".join(wanted), b"")
+    place.attributes(image, NEW_MODE, MADE)
+
+
+def test_the_last_log_position_is_used_once(place):
+    image = spent(place, 2**64 - 2)
+    calls = wire.setattr_call(4, CHANGED_MODE) + wire.setattr_call(5, 0) + wire.getattr_call(3)
+    done = wire.setattr_reply(4, CHANGED_MODE, MADE, MADE, SECOND)
+    wanted = [done, wire.reply(5, wire.words(10006, 0, 0)), wire.getattr_reply(3, CHANGED_MODE, MADE, SECOND)]
+    expect("once", place.once(image, calls), 0, b"".join(wanted), b"")
+    place.attributes(image, CHANGED_MODE, SECOND)
