@@ -27,7 +27,7 @@ use Rattle.procedures.proofs.Lacking.{equal_or_not, gone_change, put_change}
 use Rattle.procedures.specs.Changes.{changed_at, departed, is_last_name, with_file, without_name}
 use Rattle.procedures.specs.Changes.{without_node}
 use Rattle.procedures.specs.After.{after}
-use Rattle.procedures.specs.Histories.{IsEarlier, IsMadeUpTo, Rising, stamp_of}
+use Rattle.procedures.specs.Histories.{AreApart, AreNewTo, IsGivenByNone, stamp_of}
 use Rattle.procedures.specs.Link.{linked}
 use Rattle.procedures.specs.Rename.{file_in, moved}
 use Rattle.procedures.specs.Step.{step}
@@ -241,46 +241,32 @@ no_later boot tree next ctx asked given made now step number node is =
       | inr own ↦ subst (λ s. s.boot ≤ boot) (sym own) now
     ]
 
--- Stamps in their order.
+-- Which stamps the entries have that are to come.
 
-earlier : (a b c : Stamp) → IsEarlier a b → IsEarlier b c → IsEarlier a c
-earlier a b c (inl x) (inl y) = inl (omega (arith, x, y))
-earlier a b c (inl x) (inr y) = let same = y.0 in inl (omega (arith, x, same))
-earlier a b c (inr x) (inl y) = let same = x.0 in inl (omega (arith, same, y))
-earlier a b c (inr x) (inr y) = let less = x.1 in let more = y.1 in inr (x.0 ∙ y.0, omega (arith, less, more))
-
-up_to : (a b c : Stamp) → IsEarlier a b ⊎ (a ≡ b) → IsEarlier b c → IsEarlier a c
-up_to a b c (inl x) y = earlier a b c x y
-up_to a b c (inr same) y = subst (λ s. IsEarlier s c) (sym same) y
-
-not_itself : (a b : Stamp) → IsEarlier a b → a ≢ b
-not_itself a b (inl x) same = let boots = ap (λ s. s.boot) same in omega (arith, x, boots)
-not_itself a b (inr x) same =
-    let transactions = ap (λ s. s.transaction) same in let less = x.1 in omega (arith, less, transactions)
-
--- Files made up to one stamp are, after a step, made up to that of its context.
-pub made_up_to : (tree next : Tree) (from : Stamp) (ctx : Ctx) (asked : Call) (given : Reply)
-    → IsMadeUpTo from tree → IsEarlier from (stamp_of ctx) → step tree ctx asked given next
-    → IsMadeUpTo (stamp_of ctx) next
-made_up_to tree next from ctx asked given made rises step number node is =
+-- a step gives no stamp of these entries, where its own isn't theirs
+pub still_new : (tree next : Tree) (ctx : Ctx) (asked : Call) (given : Reply) (entries : List Entry)
+    → AreNewTo tree entries → IsGivenByNone (stamp_of ctx) entries → step tree ctx asked given next
+    → AreNewTo next entries
+still_new tree next ctx asked given entries new own step number node is =
     elim ((step_follows tree next ctx asked given step).stamps number node is) [
-      | inl old ↦ inl (subst (λ s. IsEarlier s (stamp_of ctx)) old.2
-          (up_to old.0.stamp from (stamp_of ctx) (made number old.0 old.1) rises))
-      | inr own ↦ inr own
+      | inl old ↦ subst (λ s. IsGivenByNone s entries) old.2 (new number old.0 old.1)
+      | inr mine ↦ subst (λ s. IsGivenByNone s entries) (sym mine) own
     ]
 
-rising_for : (stamp from : Stamp) (entries : List Entry) → IsEarlier stamp from ⊎ (stamp ≡ from)
-    → Rising from entries → Rising stamp entries
-rising_for stamp from [] before rises = tt
-rising_for stamp from (entry ∷ entries) before rises =
-    (up_to stamp from (stamp_of entry.ctx) before rises.0, rises.1)
+given_behind : (stamp : Stamp) (first second : List Entry) → IsGivenByNone stamp (first ++ second)
+    → IsGivenByNone stamp second
+given_behind stamp [] second none = none
+given_behind stamp (entry ∷ first) second none = given_behind stamp first second none.1
 
-pub rising_behind : (stamp from : Stamp) (first second : List Entry) → IsEarlier stamp from ⊎ (stamp ≡ from)
-    → Rising from (first ++ second) → Rising stamp second
-rising_behind stamp from [] second before rises = rising_for stamp from second before rises
-rising_behind stamp from (entry ∷ first) second before rises =
-    rising_behind stamp (stamp_of entry.ctx) first second
-    (inl (up_to stamp from (stamp_of entry.ctx) before rises.0)) rises.1
+-- after the entries before them none of the others is given
+new_behind : (tree next : Tree) (past later : List Entry) → AreNewTo tree (past ++ later)
+    → AreApart (past ++ later) → after tree past next → AreNewTo next later
+new_behind tree next [] later new apart same =
+    subst (λ t. AreNewTo t later) (sym same) new
+new_behind tree next (entry ∷ past) later new apart leads =
+    new_behind leads.0 next past later
+    (still_new tree leads.0 entry.ctx entry.call entry.reply (past ++ later)
+    (λ number node is. (new number node is).1) apart.0 leads.1) apart.1 leads.2
 
 -- Stale handles.
 
@@ -329,9 +315,9 @@ stale_too tree next handle same stale never =
     (λ found found_there. never found (is ∙ found_there))
 
 step_stale : (tree next : Tree) (ctx : Ctx) (asked : Call) (given : Reply) (handle : List ℕ)
-    → find_file tree handle ≡ Err status.Stale → IsEarlier (stamp_in handle) (stamp_of ctx)
+    → find_file tree handle ≡ Err status.Stale → stamp_of ctx ≢ stamp_in handle
     → step tree ctx asked given next → find_file next handle ≡ Err status.Stale
-step_stale tree next ctx asked given handle stale before step =
+step_stale tree next ctx asked given handle stale other step =
     let follows = step_follows tree next ctx asked given step in
     stale_too tree next handle follows.geometry stale (λ found is.
     let f = found_is next handle found is in
@@ -346,27 +332,26 @@ step_stale tree next ctx asked given handle stale before step =
             stamp = ap (same_stamp (stamp_in handle)) old.2 ∙ f.stamp;
           }) in
           let never : Ok (found.0, old.0) ≡ Err status.Stale = sym was ∙ stale in cc
-      | inr own ↦ not_itself (stamp_in handle) (stamp_of ctx) before (mine ∙ own)
+      | inr own ↦ absurd (other (sym (mine ∙ own)))
     ])
 
 pub history_stale : (tree next : Tree) (entries : List Entry) (handle : List ℕ)
-    → find_file tree handle ≡ Err status.Stale → Rising (stamp_in handle) entries
+    → find_file tree handle ≡ Err status.Stale → IsGivenByNone (stamp_in handle) entries
     → after tree entries next
     → find_file next handle ≡ Err status.Stale
-history_stale tree next [] handle stale rises same = ap (λ t. find_file t handle) same ∙ stale
-history_stale tree next (entry ∷ entries) handle stale rises leads =
+history_stale tree next [] handle stale none same = ap (λ t. find_file t handle) same ∙ stale
+history_stale tree next (entry ∷ entries) handle stale none leads =
     history_stale leads.0 next entries handle
-    (step_stale tree leads.0 entry.ctx entry.call entry.reply handle stale rises.0 leads.1)
-    (rising_for (stamp_in handle) (stamp_of entry.ctx) entries (inl rises.0) rises.1) leads.2
+    (step_stale tree leads.0 entry.ctx entry.call entry.reply handle stale none.0 leads.1) none.1 leads.2
 
 -- A handle that named a file, and is stale, names none again.
-pub named_then_stale : (first middle last : Tree) (from : Stamp) (before later : List Entry) (handle : List ℕ)
-    (found : ℕ × Node) → IsMadeUpTo from first → Rising from (before ++ later)
-    → find_file first handle ≡ Ok found → after middle later last
-    → find_file middle handle ≡ Err status.Stale → find_file last handle ≡ Err status.Stale
-named_then_stale first middle last from before later handle found made rises named leads stale =
-    let f = found_is first handle found named in
+pub named_then_stale : (first named middle last : Tree) (past later : List Entry) (handle : List ℕ)
+    (found : ℕ × Node) → AreNewTo first (past ++ later) → AreApart (past ++ later) → after first past named
+    → find_file named handle ≡ Ok found → find_file middle handle ≡ Err status.Stale
+    → after middle later last → find_file last handle ≡ Err status.Stale
+named_then_stale first named middle last past later handle found new apart led is stale leads =
+    let f = found_is named handle found is in
     let mine = stamps_are (stamp_in handle) found.1.stamp f.stamp in
     history_stale middle last later handle stale
-    (rising_behind (stamp_in handle) from before later
-    (subst (λ s. IsEarlier s from ⊎ (s ≡ from)) (sym mine) (made found.0 found.1 f.there)) rises) leads
+    (subst (λ s. IsGivenByNone s later) (sym mine)
+    (new_behind first named past later new apart led found.0 found.1 f.there)) leads

@@ -1,5 +1,5 @@
 -- Histories whose calls can be spelled, and the transactions that made them.
-use Rattle.std.specs.Prelude.{◌≡◌, ◌⊎◌, ℕ, ◌<◌, List, [], ◌∷◌, Some}
+use Rattle.std.specs.Prelude.{◌≡◌, ◌≢◌, ℕ, ◌<◌, List, [], ◌∷◌, ◌++◌, slice_get, Some}
 use Rattle.nfs_types.specs.declared.ctx.Ctx.{Ctx}
 use Rattle.nfs_types.specs.declared.handle.Stamp.{Stamp}
 use Rattle.nfs_types.specs.Fits.{CallFits}
@@ -21,16 +21,39 @@ SoundHistory (entry ∷ entries) = SoundEntry entry × SoundHistory entries
 abbrev pub stamp_of : Ctx → Stamp
 stamp_of ctx = record { boot = ctx.boot; transaction = ctx.transaction }
 
--- the one stamp was given before the other: in an earlier boot, or in the same by an earlier transaction
-abbrev pub IsEarlier : Stamp → Stamp → Type 0
-IsEarlier a b = (a.boot < b.boot) ⊎ ((a.boot ≡ b.boot) × (a.transaction < b.transaction))
+-- no entry's transaction has this stamp
+abbrev pub IsGivenByNone : Stamp → List Entry → Type 0
+IsGivenByNone stamp [] = Unit {0}
+IsGivenByNone stamp (entry ∷ entries) = (stamp_of entry.ctx ≢ stamp) × IsGivenByNone stamp entries
 
--- each entry's transaction comes after this stamp, and after those of the entries before it
-abbrev pub Rising : Stamp → List Entry → Type 0
-Rising from [] = Unit {0}
-Rising from (entry ∷ entries) = IsEarlier from (stamp_of entry.ctx) × Rising (stamp_of entry.ctx) entries
+-- no two entries have one stamp
+abbrev pub AreApart : List Entry → Type 0
+AreApart [] = Unit {0}
+AreApart (entry ∷ entries) = IsGivenByNone (stamp_of entry.ctx) entries × AreApart entries
 
--- each file was made by this stamp's transaction or before it
-abbrev pub IsMadeUpTo : Stamp → Tree → Type 0
-IsMadeUpTo stamp tree = (number : ℕ) (node : Node) → node_at tree number ≡ Some node
-    → IsEarlier node.stamp stamp ⊎ (node.stamp ≡ stamp)
+-- no file of the tree has the stamp of an entry
+abbrev pub AreNewTo : Tree → List Entry → Type 0
+AreNewTo tree entries = (number : ℕ) (node : Node) → node_at tree number ≡ Some node
+    → IsGivenByNone node.stamp entries
+
+-- ---- from one opening to the next
+
+abbrev pub AreOfBoot : ℕ → List Entry → Type 0
+AreOfBoot boot [] = Unit {0}
+AreOfBoot boot (entry ∷ entries) = (entry.ctx.boot ≡ boot) × AreOfBoot boot entries
+
+-- What was committed in one boot, in any order of numbers: no two entries have one transaction number.
+pub record IsLife (boot : ℕ) (entries : List Entry) : Type 0 where
+  pub boots : AreOfBoot boot entries
+  pub numbers : (one other : ℕ) (a b : Entry) → slice_get entries one ≡ Some a
+      → slice_get entries other ≡ Some b → a.ctx.transaction ≡ b.ctx.transaction → one ≡ other
+
+-- of boot after boot, beyond this one
+abbrev pub AreLives : ℕ → List (List Entry) → Type 0
+AreLives from [] = Unit {0}
+AreLives from (life ∷ lives) = (boot : ℕ) × (from < boot) × IsLife boot life × AreLives boot lives
+
+-- the entries of all of them
+abbrev pub all_of : List (List Entry) → List Entry
+all_of [] = []
+all_of (life ∷ lives) = life ++ all_of lives

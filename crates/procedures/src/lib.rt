@@ -26,7 +26,8 @@ pub use files::{
     what_lies_behind_stays,
 };
 pub use handles::{
-    a_handle_once_stale_names_no_file_again, a_stale_handle_stays_stale, steps_give_their_own_stamp,
+    a_handle_once_stale_names_no_file_again, a_stale_handle_stays_stale,
+    lives_have_stamps_of_their_own, steps_give_their_own_stamp,
 };
 pub use histories::{an_empty_history_leads_nowhere, histories_join};
 pub use steps::{

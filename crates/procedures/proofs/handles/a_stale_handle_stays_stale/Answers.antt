@@ -2,4 +2,4 @@ use Rattle.procedures.proofs.Stale.{history_stale}
 use Rattle.procedures.proofs.handles.a_stale_handle_stays_stale.Goals as goal
 
 pub returns : goal.returns
-returns c tree next entries handle stale rises leads = history_stale tree next entries handle stale rises leads
+returns c tree next entries handle stale none leads = history_stale tree next entries handle stale none leads
