@@ -1,0 +1,3 @@
+pub mod Gathers
+pub mod Lists
+pub mod Parts

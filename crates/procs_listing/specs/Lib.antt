@@ -1,0 +1,4 @@
+pub mod Dots
+pub mod Gathered
+pub mod Plus
+pub mod Tests
