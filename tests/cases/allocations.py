@@ -55,13 +55,13 @@ REFUSED = {
 CHANGED_MODE, NOW = 0o700, 2000
 
 
-def library(place):
-    """Builds the library in the case's folder."""
+def library(place, text=LIBRARY):
+    """Builds such a library in the case's folder."""
     compiler = shutil.which("cc") or shutil.which("clang") or shutil.which("gcc")
     if compiler is None:
         raise Skipped("there is no C compiler")
     with open(place.path("fails.c"), "w", encoding="utf-8") as file:
-        file.write(LIBRARY)
+        file.write(text)
     words = ["-shared", "-fPIC", "-O1", "-fno-builtin", "-o", place.path("fails.so"), place.path("fails.c")]
     built = place.run(words, command=[compiler])
     same("the compiler's status", (built.status, built.errors), (0, b""))

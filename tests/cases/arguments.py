@@ -1,8 +1,10 @@
 """The arguments of the command line: what --help tells, and arguments that can't be read."""
 
+import os
 import re
 
-from cases.running import expect, is_so, same
+from cases import wire
+from cases.running import NEW_MODE, expect, is_so, same
 
 # The lawful range and the default of each option, as docs/FORMAT.md and RFC 1813's seconds of 32 bits have them.
 OPTIONS = {
@@ -39,23 +41,66 @@ def test_help_has_the_range_and_default_of_each_option(place):
                 is_so(f"{command} --help: {option} has no {number}", re.search(rf"\b{number}\b", part))
 
 
-def test_help_says_that_format_destroys_what_was_there(place):
-    text = told(place, ["format", "--help"])
-    is_so("no such word", "destroy" in text)
-    is_so("no word of the length", "length" in text)
+def test_help_says_what_format_takes_and_that_it_destroys_what_was_there(place):
+    text = " ".join(told(place, ["format", "--help"]).split())
+    for part in (
+        "destroy", "length", "blocks of 4096 bytes, from 1024 to 1048576", "from 32 to 65536 by 32,",
+        "at least 64 data blocks", "[default: 16384]", "[default: 4096]", "4294967295 [default: 0]",
+    ):
+        is_so(f"no word of {part!r}", part in text)
 
 
 def test_arguments_that_are_no_text_are_the_fault_arguments(place):
-    for arguments in [b"once", b"\xff", b"--time", b"1"], [b"\xc3"], [b"format", b"image", b"--blocks", b"\x80"]:
+    rows = [
+        [b"once", b"\xff", b"--time", b"1"],
+        [b"\xc3"],
+        [b"format", b"image", b"--blocks", b"\x80"],
+        # A cut sequence, a surrogate and a longer form than is needed.
+        [b"once", b"a\xc3"],
+        [b"once", b"\xed\xa0\x80"],
+        [b"once", b"\xc0\xaf"],
+    ]
+    for arguments in rows:
         expect(repr(arguments), place.run(arguments), 2, b"", b"nfsd: arguments\n")
 
 
+def test_each_option_may_stand_anywhere_and_has_its_default(place):
+    formatted = b"formatted 1024 blocks 64 inodes 506 data\n"
+    line = ["format", "--blocks", "1024", "--inodes=64", "bild-\u00e4.img", "--time", "4294967295"]
+    expect("format with each option", place.run(line), 0, formatted, b"")
+    expect("once", place.run(["once", "--time=1", "bild-\u00e4.img"]), 0, b"", b"")
+    ran = place.once("bild-\u00e4.img", wire.getattr_call(1))
+    expect("a root of that second", ran, 0, wire.getattr_reply(1, NEW_MODE, 4294967295, 4294967295), b"")
+    # 514 blocks of the log and the super block, two bitmaps, and a table of 128 blocks.
+    expect("format without options", place.run(["format", "image"]), 0, b"formatted 16384 blocks 4096 inodes 15740 data\n", b"")
+    same("its length", os.path.getsize(place.path("image")), 16384 * 4096)
+    ran = place.once("image", wire.getattr_call(1))
+    expect("a root of second 0", ran, 0, wire.getattr_reply(1, NEW_MODE, 0, 0), b"")
+
+
+# Arguments behind the program's name that ask for nothing, and numbers that are none of 32 bits.
+SENSELESS = [
+    [], ["--help"], ["--version"], ["help"], ["check"], ["check", "image"], ["serve"],
+    ["serve", "image", "--listen", "127.0.0.1:0"], ["sim", "script"], ["format"], ["format", "--help"],
+    ["format", "image", "other"], ["format", "image", "--workers", "1"], ["format", "image", "--blocks", "many"],
+    ["once"], ["once", "image"], ["once", "--time", "1"], ["once", "image", "--time"],
+    ["once", "image", "--time", "1", "--time", "2"],
+]
+NO_NUMBERS = ["", "x", "-1", "1.5", "0x10", "4294967296", "18446744073709551616"]
+
+
 def test_arguments_without_a_meaning_have_status_2(place):
-    for arguments in [], ["format"], ["once", "image"], ["serve"], ["format", "image", "--blocks", "many"]:
+    numbers = [
+        [*line, number]
+        for line in (["format", "image", "--blocks"], ["format", "image", "--inodes"], ["once", "image", "--time"])
+        for number in NO_NUMBERS
+    ]
+    for arguments in SENSELESS + numbers:
         ran = place.run(arguments)
         same(f"status of {arguments}", ran.status, 2)
         same(f"standard output of {arguments}", ran.output, b"")
         is_so(f"{arguments} are refused without a word", ran.errors)
+    same("what was made", os.listdir(place.folder), [])
 
 
 def test_memory_that_runs_out_before_the_arguments_are_read_is_the_fault_memory(place):

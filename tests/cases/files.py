@@ -1,5 +1,6 @@
 """The image's file: what makes it unfit, its mode, and limits of its size."""
 
+import fcntl
 import os
 import stat
 
@@ -126,3 +127,41 @@ def test_a_limit_of_file_sizes_below_block_0_refuses_to_open(place):
     expect("once", ran, 1, NOTHING, b"nfsd: 5 Device\n")
     same("block 0", block_0(image), wire.super_block(BLOCKS, INODES, 0))
     place.attributes(image, NEW_MODE, MADE)
+
+
+def test_a_file_that_is_no_image_is_refused(place):
+    for name, data in ("text", b"not an image\n"), ("nothing", b""), ("zeros", bytes(8192)):
+        with open(place.path(name), "wb") as file:
+            file.write(data)
+        expect(name, place.once(name, wire.null_call(1)), 1, NOTHING, b"nfsd: 1 Magic\n")
+        same(f"the file {name}", contents(place.path(name)), data)
+
+
+def test_an_image_of_another_length_is_refused(place):
+    for length in 1023 * 4096, 1024 * 4096 - 1, 1025 * 4096:
+        image = place.image()
+        os.truncate(image, length)
+        before = contents(image)
+        expect(f"{length} bytes", place.once(image, wire.null_call(1)), 1, NOTHING, b"nfsd: 3 Range\n")
+        is_so(f"the image of {length} bytes was changed", contents(image) == before)
+
+
+def test_format_refuses_unlawful_counts(place):
+    rows = [(it, "64", b"nfsd: 1 Size\n") for it in ("0", "1023", "1048577")] + [("1023", "33", b"nfsd: 1 Size\n")]
+    rows += [("1024", it, b"nfsd: 2 Inodes\n") for it in ("0", "31", "33", "65568", "65536")]
+    for blocks, inodes, line in rows:
+        ran = place.run(["format", "image", "--blocks", blocks, "--inodes", inodes])
+        expect(f"{blocks} blocks and {inodes} inodes", ran, 1, NOTHING, line)
+
+
+def test_a_file_that_another_has_locked_is_left(place):
+    image = place.image()
+    before = contents(image)
+    with open(image, "rb") as other:
+        fcntl.flock(other, fcntl.LOCK_EX)
+        expect("once", place.once(image, wire.null_call(1)), 1, NOTHING, REFUSED)
+        expect("format", place.run(["format", image, "--blocks", "2048"]), 1, NOTHING, REFUSED)
+        is_so("the image was changed", contents(image) == before)
+    # It is free again once a program has ended, also by a fault.
+    expect("format", place.run(["format", image, "--blocks", "1024", "--inodes", "33"]), 1, NOTHING, b"nfsd: 2 Inodes\n")
+    place.attributes(place.image(), NEW_MODE, MADE)

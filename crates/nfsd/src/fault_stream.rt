@@ -34,12 +34,4 @@ impl<E: Write> FaultStream<E> {
         let answer = write!(self.stream, "{fault}");
         self.told = self.told.and(fault, &answer);
     }
-
-    /// The stream itself.
-    pub fn into_stream(self) -> E
-        ensures { result ≡ self.stream }
-    {
-        let FaultStream { stream, told: _ } = self;
-        stream
-    }
 }

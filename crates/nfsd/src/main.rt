@@ -8,8 +8,6 @@ mod fault;
 mod fault_stream;
 mod lines;
 mod streams;
-#[cfg(test)]
-mod tests;
 
 use crate::answer::{answer, conclude};
 use crate::arguments::arguments;
