@@ -21,8 +21,8 @@ fn commit_refusal(caller: &Credential, head: &Head) -> Option<Status>
     }
 }
 
-// What is told of a file that the call leaves as it is.
-fn left_alone(head: &Head) -> WeakCacheData
+/// What is told of a file that the call leaves as it is.
+pub(crate) fn left_alone(head: &Head) -> WeakCacheData
     ensures { (body : Body) → IsBodyOf head.now body
         → result ≡ change_of head.now.number (node_of head.now body) (node_of head.now body) }
 {

@@ -9,6 +9,7 @@ mod getting;
 mod looking;
 mod reading;
 mod space;
+mod special;
 mod targets;
 
 pub use accessing::access;
@@ -18,4 +19,5 @@ pub use getting::get_attributes;
 pub use looking::look_up;
 pub use reading::read;
 pub use space::file_system_space;
+pub use special::make_special;
 pub use targets::read_link;
