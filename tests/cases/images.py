@@ -42,6 +42,13 @@ class File:
             offset += len(piece)
         return bytes(found)
 
+    def below(self, *names):
+        """The file that these names lead to, one behind the other."""
+        found = self
+        for name in names:
+            found = next(file for it, file in found.slots.values() if it == name)
+        return found
+
     def handle(self):
         return nfs.handle(self.number, *self.stamp)
 
@@ -53,9 +60,9 @@ class File:
 
 
 def regular(*parts, size=None, mapped=(), mode=0o644, **more):
-    """A regular file with these bytes at these offsets, in pairs: `regular((0, b"hello"))`. It maps the blocks that they
-    lie in and those of `mapped`, and no other, so that all else is a hole. It ends behind the last byte, if at no other
-    size."""
+    """A regular file with these bytes at these offsets, in pairs: `regular((0, b"hello"))`. It maps the blocks that
+    they lie in and those of `mapped`, and no other, so that all else is a hole. It ends behind the last byte, if at no
+    other size."""
     pieces = {index: bytearray(BLOCK_BYTES) for index in mapped}
     for offset, data in parts:
         for at in range(offset // BLOCK_BYTES, (offset + len(data) + BLOCK_BYTES - 1) // BLOCK_BYTES):
@@ -84,8 +91,8 @@ def directory(names, span=None, free=(), mode=0o755, **more):
 
 
 class Image:
-    """The blocks of an image with this tree, each by its number: a block that isn't there is zeros. Data blocks are taken
-    from the first on, or in another order of their numbers."""
+    """The blocks of an image with this tree, each by its number: a block that isn't there is zeros. Data blocks are
+    taken from the first on, or in another order of their numbers."""
 
     def __init__(self, root, blocks=BLOCKS, inodes=INODES, boot=0, order=lambda numbers: numbers):
         self.root, self.blocks, self.inodes = root, blocks, inodes
@@ -188,10 +195,11 @@ def slots_of(file, index):
 
 def inode(file, direct, indirect):
     times = [it for time in (file.atime, file.mtime, file.ctime) for it in time]
-    head = struct.pack("<6IQ6I2Q", file.kind, file.mode, file.uid, file.gid, file.nlink, 0, file.size, *times, *file.stamp)
+    head = struct.pack("<6I", file.kind, file.mode, file.uid, file.gid, file.nlink, 0)
+    middle = struct.pack("<Q6I2Q", file.size, *times, *file.stamp)
     parent = file.parent.number if file.kind == DIRECTORY else 0
     verifier = struct.pack("<II8s", parent, int(file.verifier is not None), file.verifier or b"")
-    return head + verifier + struct.pack("<8III", *direct, indirect, 0)
+    return head + middle + verifier + struct.pack("<8III", *direct, indirect, 0)
 
 
 def new_root():
@@ -201,7 +209,7 @@ def new_root():
 def several():
     """A tree with a file of each kind, files with holes, and names of all lengths."""
     twice = regular((0, b"two names"), uid=7, gid=8, mode=0o4711)
-    below = directory({b"deep": directory({b"up": link(b"../..")}, mode=0o700, uid=9)}, span=2, free=(0, 33), mode=0o1777)
+    deep = directory({b"up": link(b"../..")}, mode=0o700, uid=9)
     return directory({
         b"empty": regular(mode=0),
         b"hello": regular((0, b"hello"), (BLOCK_BYTES, b"there")),
@@ -210,7 +218,7 @@ def several():
         b"mapped past its end": regular((0, b"short"), mapped=(7, 8, 1031), stamp=(2**40, 2**41)),
         b"border": regular((0, bytes(range(256)) * 160), mode=0o7777, uid=2**32 - 1, gid=2**32 - 2),
         b"twice": twice,
-        b"below": below,
+        b"below": directory({b"deep": deep}, span=2, free=(0, 33), mode=0o1777),
         b"n" * NAME_BYTES: twice,
         b"\xff\x01": link(b"t" * 1024, times=((2**32 - 1, 999_999_999),) * 3),
         b"far": regular((0, b"far"), number=63),
@@ -241,7 +249,8 @@ def test_a_fresh_image_is_written_as_format_writes_it(place):
 def test_the_program_tells_of_each_file_of_a_written_image(place):
     assert_told(place, Image(several(), boot=2**40), "one by one")
     assert_told(place, Image(several(), boot=2**40, order=lambda it: it[::-1]), "from the last block on")
-    assert_told(place, Image(several(), 40_000, 4096, boot=2**40, order=lambda it: it[32_000:]), "past the first bitmap")
+    image = Image(several(), 40_000, 4096, boot=2**40, order=lambda it: it[32_000:])
+    assert_told(place, image, "past the first bitmap")
 
 
 def test_the_program_finds_what_a_written_image_has_in_its_log(place):

@@ -124,8 +124,9 @@ NewAttributes, NEW_ATTRIBUTES = fields(
     "NewAttributes", mode=optional(WORD), uid=optional(WORD), gid=optional(WORD), size=optional(DOUBLE),
     atime=SET_TIME, mtime=SET_TIME)
 Entry, ENTRY = fields("Entry", number=DOUBLE, name=OPAQUE, cookie=DOUBLE)
-EntryPlus, ENTRY_PLUS = fields("EntryPlus", number=DOUBLE, name=OPAQUE, cookie=DOUBLE, attributes=TOLD, handle=NEW_HANDLE)
-NODE, NO_DEVICE = fields("Node", attributes=NEW_ATTRIBUTES, device=DEVICE)[1], VOID
+EntryPlus, ENTRY_PLUS = fields(
+    "EntryPlus", number=DOUBLE, name=OPAQUE, cookie=DOUBLE, attributes=TOLD, handle=NEW_HANDLE)
+Node, NODE = fields("Node", attributes=NEW_ATTRIBUTES, device=DEVICE)
 
 
 def client_time(seconds, nanoseconds=0):
@@ -219,6 +220,8 @@ PATHCONF = Procedure("PATHCONF", 20, ASKED,
                      {**TELLS, "links": WORD, "name_bytes": WORD, **dict.fromkeys(RULES, FLAG)}, TELLS)
 COMMIT = Procedure("COMMIT", 21, {**ASKED, "offset": DOUBLE, "count": WORD}, {**CHANGED, "verifier": EIGHT}, CHANGED)
 
+# Those that the program serves, but for SETATTR of more than the mode: the others answer NOTSUPP.
+SERVED = (GETATTR, SETATTR)
 PROCEDURES = {it.number: it for it in list(globals().values()) if isinstance(it, Procedure)}
 
 
