@@ -205,7 +205,7 @@ SYMLINK = Procedure("SYMLINK", 10, {**NAMED, "attributes": NEW_ATTRIBUTES, "targ
 MKNOD = Procedure("MKNOD", 11, {**NAMED, "what": WHAT}, MADE, CHANGED)
 REMOVE = Procedure("REMOVE", 12, NAMED, CHANGED, CHANGED)
 RMDIR = Procedure("RMDIR", 13, NAMED, CHANGED, CHANGED)
-RENAME = Procedure("RENAME", 14, {**NAMED, "target": HANDLE, "new_name": NAME}, MOVED, MOVED)
+RENAME = Procedure("RENAME", 14, {**NAMED, "new_directory": HANDLE, "new_name": NAME}, MOVED, MOVED)
 LINK = Procedure("LINK", 15, {**ASKED, **NAMED}, LINKED, LINKED)
 READDIR = Procedure("READDIR", 16, {**ASKED, "cookie": DOUBLE, "verifier": EIGHT, "count": WORD},
                     {**LISTS, "entries": listed(ENTRY), "eof": FLAG}, TELLS)
