@@ -10,8 +10,8 @@ import time
 
 from cases import wire
 
-# How long one command may take.
-SECONDS = 30
+# After how many seconds a command is taken to hang.
+SECONDS = 120
 BLOCKS, INODES, MADE = 1024, 64, 1000
 # The mode of a new root.
 NEW_MODE = 0o755
