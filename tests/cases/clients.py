@@ -1,5 +1,5 @@
-"""A client that others wrote (the commands of libnfs, where they are installed) against the server and the plain program,
-each of which serves one stream: a relay takes connections, and passes their calls on one by one."""
+"""A client that others wrote, the commands of libnfs where they are installed, with the server and the plain program. Each
+of them serves one stream: a relay takes connections, and passes their calls on one by one."""
 
 import os
 import shutil
@@ -9,7 +9,8 @@ import threading
 from cases import nfs, plain, wire
 from cases.running import INODES, MADE, SECONDS, Skipped, is_so, same
 
-NEEDED = {nfs.LOOKUP, nfs.ACCESS, nfs.READ, nfs.WRITE, nfs.CREATE, nfs.READDIRPLUS, nfs.FSSTAT, nfs.FSINFO, nfs.PATHCONF}
+NEEDED = {nfs.LOOKUP, nfs.ACCESS, nfs.READ, nfs.WRITE, nfs.CREATE, nfs.READDIRPLUS}
+NEEDED |= {nfs.FSSTAT, nfs.FSINFO, nfs.PATHCONF}
 NOW = 2000
 
 

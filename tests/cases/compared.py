@@ -10,7 +10,7 @@ import os
 import random
 import struct
 
-from cases import nfs, plain, wire
+from cases import checking, nfs, plain, wire
 from cases.running import MADE, expect, same
 
 # The server sets only the mode so far, as docs/PROTOCOL.md says.
@@ -249,6 +249,7 @@ def assert_compared(place, seed):
     ran = place.once(place.path("image"), b"".join(second), NOW)
     assert_same(f"{what}, opened again", stream, opened_again, ran.output)
     expect(f"{what}, opened again", ran, 0, ran.output, b"")
+    same(f"{what}: why the image is bad", checking.why_bad(place.path("image")), None)
 
 
 def case_of(seeds):
