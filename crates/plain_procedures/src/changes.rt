@@ -21,7 +21,7 @@ fn retain_others(files: &mut Vec<NumberedNode>, number: u32)
 }
 
 /// The tree without the file of a number.
-fn without_node(tree: PlainTree, number: u32) -> PlainTree
+pub fn without_node(tree: PlainTree, number: u32) -> PlainTree
     ensures { tree_of result ≡ without_node (tree_of tree) number }
 {
     let mut next = tree;
@@ -49,7 +49,13 @@ pub fn parent_links(body: &PlainBody) -> u32
     }
 }
 
-fn add_entry(body: &mut PlainBody, name: Octets, number: u32, slot: u32) -> Result<(), AllocError>
+/// A directory gets a name for a file, in place of any that it led to.
+pub fn add_entry(
+    body: &mut PlainBody,
+    name: Octets,
+    number: u32,
+    slot: u32,
+) -> Result<(), AllocError>
     ensures { OnOk result (body_of body.new ≡ with_entry name (record { number = number; slot = slot })
         (body_of body.old)) }
 {
@@ -60,7 +66,8 @@ fn add_entry(body: &mut PlainBody, name: Octets, number: u32, slot: u32) -> Resu
     Ok(())
 }
 
-fn remove_entry(body: &mut PlainBody, name: &[u8])
+/// A directory loses a name.
+pub fn remove_entry(body: &mut PlainBody, name: &[u8])
     ensures { body_of body.new ≡ without_entry name.now (body_of body.old) }
 {
     if let PlainBody::Directory { entries, .. } = body {

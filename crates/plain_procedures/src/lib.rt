@@ -20,22 +20,25 @@ mod special;
 mod targets;
 mod writing;
 
-pub use changes::{parent_links, with_departed, with_entered, with_node, without_name};
+pub use changes::{
+    add_entry, parent_links, remove_entry, with_departed, with_entered, with_node, without_name,
+    without_node,
+};
 pub use committing::commit;
 pub use effects::{Changed, PlainEffect, attributes_at, led_to, refused, take_effect, told_since};
 pub use file_system::{file_system_info, path_limits};
 pub use finding::{Told, attributes_of, found, left_alone};
 pub use looking::{look_up, parent_of};
 pub use names::{
-    entry_at, file_at, first_of, is_found_directory, is_found_filled, is_found_other, is_full,
-    is_no_name, is_own_name, may_change, named_file, place_refusal,
+    entry_at, file_at, first_of, has_names, is_found_directory, is_found_filled, is_found_other,
+    is_full, is_no_name, is_own_name, may_change, named_file, place_refusal,
 };
 pub use needs::if_room;
 pub use numbers::least_unused;
-pub use reading::read;
+pub use reading::{bytes_of, piece, read};
 pub use rights::access;
 pub use slots::least_free_slot;
-pub use space::file_system_space;
+pub use space::{count_of, file_system_space, free_blocks};
 pub use special::make_special;
 pub use targets::read_link;
-pub use writing::write;
+pub use writing::{overwritten, with_touched, write};

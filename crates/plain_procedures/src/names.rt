@@ -151,7 +151,8 @@ pub fn is_found_other(file: Option<&NumberedNode>) -> bool
     }
 }
 
-fn has_names(body: &PlainBody) -> bool
+/// Whether some name lies in it.
+pub fn has_names(body: &PlainBody) -> bool
     ensures { result ≡ has_names (body_of body.now) }
 {
     match body {

@@ -31,7 +31,8 @@ fn read_refusal(caller: &Credential, node: &PlainNode) -> Option<Status>
     }
 }
 
-fn bytes_of(body: &PlainBody) -> &[u8]
+/// The bytes of a regular file.
+pub fn bytes_of(body: &PlainBody) -> &[u8]
     ensures { result.now ≡ bytes_of (body_of body.now) }
 {
     match body {
@@ -41,7 +42,7 @@ fn bytes_of(body: &PlainBody) -> &[u8]
 }
 
 /// So many of the bytes from the offset on, as far as there are any and one call moves them.
-fn piece(bytes: &[u8], offset: u64, count: u32) -> &[u8]
+pub fn piece(bytes: &[u8], offset: u64, count: u32) -> &[u8]
     ensures { result.now ≡ piece offset count bytes.now }
 {
     if offset >= bytes.len() as u64 {

@@ -65,7 +65,7 @@ fn blocks_of(files: &[NumberedNode]) -> u128
 }
 
 /// The data blocks that no file uses.
-pub(crate) fn free_blocks(tree: &PlainTree) -> u32
+pub fn free_blocks(tree: &PlainTree) -> u32
     ensures { result ≡ free (tree_of tree.now) }
 {
     let blocks = blocks_of(&tree.nodes);
@@ -91,8 +91,8 @@ fn count_with(files: &[NumberedNode], index: usize, count: u64) -> u64
     }
 }
 
-// How many files there are.
-fn count_of(files: &[NumberedNode]) -> u64
+/// How many files there are.
+pub fn count_of(files: &[NumberedNode]) -> u64
     ensures { result ≡ map.len (files_of files.now) }
 {
     let mut count: u64 = 0;

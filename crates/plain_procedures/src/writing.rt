@@ -62,7 +62,7 @@ fn written_reply(ctx: &Ctx, count: u32, stability: Stability) -> Written
 }
 
 /// The indexes with each in which some of so many bytes from the offset on lie.
-fn with_touched(
+pub fn with_touched(
     mapped: &MappedIndexes,
     offset: u64,
     count: usize,
@@ -81,7 +81,7 @@ fn with_touched(
 }
 
 /// What is written, laid over the bytes.
-fn overwritten(
+pub fn overwritten(
     alloc: Global,
     bytes: &[u8],
     offset: usize,

@@ -38,7 +38,7 @@ fn mode_of(mode: &Option<u32>, old: u32) -> u32
 }
 
 /// Gives a regular file its new size.
-fn set_length(body: &mut PlainBody, size: &Option<u64>) -> Result<(), AllocError>
+pub fn set_length(body: &mut PlainBody, size: &Option<u64>) -> Result<(), AllocError>
     ensures ok { OnOk result (body_of body.new ≡ with_length size.now (body_of body.old)) }
     ensures err { OnErr result (body_of body.new ≡ body_of body.old) }
 {

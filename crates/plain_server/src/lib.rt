@@ -11,7 +11,7 @@ mod refusals;
 mod server;
 mod tree;
 
-pub use attributes::set_attributes;
+pub use attributes::{set_attributes, set_length};
 pub use mapped::MappedIndexes;
 pub use names::{PlainEntry, PlainNames};
 pub use node::{PlainBody, PlainNode};

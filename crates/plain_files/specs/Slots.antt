@@ -1,0 +1,18 @@
+-- What lies in the slots of a directory.
+use Rattle.std.specs.Prelude.{◌≡◌, ℕ, ◌*◌, Option, Some, None}
+use Rattle.std.specs.Option.{option_map}
+use Rattle.limits.specs.declared.TheConstants.{SLOTS_PER_BLOCK}
+use Rattle.model.specs.Node.{Body, Regular, Directory, Link}
+use Rattle.procedures.specs.Listing.{listed_in}
+use Rattle.files.specs.declared.entry.SlotName.{SlotName}
+use Rattle.files.specs.Heads.{listing_of}
+
+-- how many slots a directory has
+abbrev pub count_slots : Body → ℕ
+count_slots (Regular bytes mapped) = 0
+count_slots (Directory named span parent) = SLOTS_PER_BLOCK * span
+count_slots (Link target) = 0
+
+-- this is what lies in the slot
+abbrev pub IsIn : Body → ℕ → Option SlotName → Type 0
+IsIn directory slot found = listed_in directory slot ≡ option_map listing_of found
