@@ -10,7 +10,7 @@ import os
 import random
 import struct
 
-from cases import checking, nfs, plain, wire
+from cases import checking, conversing, nfs, plain, wire
 from cases.running import MADE, expect, same
 
 # The server sets only the mode so far, as docs/PROTOCOL.md says.
@@ -230,7 +230,7 @@ def assert_compared(place, seed):
     drawn = random.Random(seed)
     is_narrow = drawn.random() < 0.3
     blocks, inodes = drawn.choice(NARROW) if is_narrow else ROOMY
-    client = plain.Client(place, blocks, inodes, NOW)
+    client = conversing.with_plain(place, plain.command_of(place), blocks, inodes, NOW)
     served = {it: weight for it, weight in WEIGHTS.items() if it in nfs.SERVED}
     filling = {it: weight * FILLING.get(it, 1) for it, weight in served.items()}
     stream = Stream(client, drawn, filling if is_narrow else served)

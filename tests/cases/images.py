@@ -4,6 +4,7 @@ A tree is described by its root: a file made by `regular`, `directory` or `link`
 it is laid out. The same file under two names is one file with two links. `Image(root)` lays it out.
 """
 
+import collections
 import struct
 
 from cases import nfs, wire
@@ -13,7 +14,7 @@ BLOCK_BYTES, INODE_BYTES, SLOT_BYTES, NAME_BYTES = 4096, 128, 128, 112
 LOG_HEADER, FIRST_SLOT, LOG_SLOTS, START, BITMAP = 1, 2, 511, 513, 514
 BITS, INODES_PER_BLOCK, SLOTS, DIRECT, INDIRECT = 32768, 32, 32, 8, 1024
 LARGEST_FILE = (DIRECT + INDIRECT) * BLOCK_BYTES
-ROOT = 1
+ROOT, ZEROS = 1, bytes(BLOCK_BYTES)
 REGULAR, DIRECTORY, LINK = nfs.REGULAR, nfs.DIRECTORY, nfs.LINK_TYPE
 
 
@@ -63,14 +64,15 @@ def regular(*parts, size=None, mapped=(), mode=0o644, **more):
     """A regular file with these bytes at these offsets, in pairs: `regular((0, b"hello"))`. It maps the blocks that
     they lie in and those of `mapped`, and no other, so that all else is a hole. It ends behind the last byte, if at no
     other size."""
-    pieces = {index: bytearray(BLOCK_BYTES) for index in mapped}
+    pieces = dict.fromkeys(mapped, ZEROS)
     for offset, data in parts:
         for at in range(offset // BLOCK_BYTES, (offset + len(data) + BLOCK_BYTES - 1) // BLOCK_BYTES):
-            block = pieces.setdefault(at, bytearray(BLOCK_BYTES))
+            block = bytearray(pieces.get(at, ZEROS))
             low, high = max(offset, at * BLOCK_BYTES), min(offset + len(data), (at + 1) * BLOCK_BYTES)
             block[low - at * BLOCK_BYTES : high - at * BLOCK_BYTES] = data[low - offset : high - offset]
+            pieces[at] = bytes(block)
     end = max([offset + len(data) for offset, data in parts], default=0)
-    return File(REGULAR, end if size is None else size, {at: bytes(it) for at, it in pieces.items()}, mode, **more)
+    return File(REGULAR, end if size is None else size, pieces, mode, **more)
 
 
 def link(target, mode=0o777, **more):
@@ -113,9 +115,9 @@ class Image:
         """Numbers the files that have no number, each directory before its files, and counts their links."""
         fixed = {file.number for file in files_below(self.root)}
         rising = iter(it for it in range(ROOT, self.inodes) if it not in fixed)
-        waiting = [(self.root, self.root)]
+        waiting = collections.deque([(self.root, self.root)])
         while waiting:
-            file, above = waiting.pop(0)
+            file, above = waiting.popleft()
             if not file.nlink:
                 self.files.append(file)
                 file.number = file.number or next(rising)
@@ -168,8 +170,9 @@ class Image:
         with open(path, "wb") as file:
             file.truncate(BLOCK_BYTES * self.blocks)
             for number, block in self.content.items():
-                file.seek(BLOCK_BYTES * number)
-                file.write(block)
+                if block != ZEROS:
+                    file.seek(BLOCK_BYTES * number)
+                    file.write(block)
         return path
 
 
@@ -187,9 +190,10 @@ def files_below(file):
 def slots_of(file, index):
     """The bytes of a directory's block: number, length and name of each slot in use."""
     found = bytearray(BLOCK_BYTES)
-    for slot, (name, it) in file.slots.items():
-        if slot // SLOTS == index:
-            struct.pack_into("<II112s", found, SLOT_BYTES * (slot % SLOTS), it.number, len(name), name)
+    for place in range(SLOTS):
+        if (slot := SLOTS * index + place) in file.slots:
+            name, below = file.slots[slot]
+            struct.pack_into("<II112s", found, SLOT_BYTES * place, below.number, len(name), name)
     return bytes(found)
 
 

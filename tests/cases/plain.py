@@ -1,10 +1,9 @@
 """The plain program: it answers what the server answers, byte by byte, and has the exit statuses of its page."""
 
 import os
-import struct
 
-from cases import nfs, wire
-from cases.running import BLOCKS, INODES, MADE, SECONDS, Skipped, expect, read_exactly, same
+from cases import changing, conversing, wire
+from cases.running import BLOCKS, INODES, MADE, Skipped, expect, same
 
 # A mark of a record's last fragment that announces one byte more than a record may have.
 TOO_LONG = wire.words(0x80000000 | 40961)
@@ -21,32 +20,6 @@ def command_of(place):
 
 def answer(place, data, arguments=COUNTS):
     return place.run(arguments, data, command=command_of(place))
-
-
-class Client:
-    """A conversation with the plain program: each call is answered before the next is sent."""
-
-    def __init__(self, place, blocks, inodes, now):
-        counts = [str(it) for it in (blocks, inodes, MADE, now)]
-        self.ran, self.xid = place.start(counts, command=command_of(place), stdin=-1, bufsize=0), 0
-
-    def reply(self, record):
-        """The message that a record is answered with."""
-        self.ran.stdin.write(record)
-        mark = struct.unpack(">I", read_exactly(self.ran.stdout, 4, "a reply's mark"))[0]
-        return read_exactly(self.ran.stdout, mark & 0x7FFFFFFF, "a reply")
-
-    def do(self, procedure, *arguments):
-        """Does a call as user 0, and gives the fields of its result."""
-        self.xid += 1
-        result = nfs.result_of(self.reply(procedure.call(self.xid, nfs.credential(0, 0), *arguments)))
-        status, fields = procedure.read_result(result)
-        same(f"{procedure.title}{arguments!r:.80}: status", status, nfs.OK)
-        return fields
-
-    def end(self):
-        """Ends the input, and gives what comes then: output, errors and the status."""
-        return *self.ran.communicate(timeout=SECONDS), self.ran.returncode
 
 
 def header(xid, version_of_rpc=2, program=wire.PROGRAM, version=wire.VERSION, procedure=wire.GETATTR):
@@ -114,3 +87,17 @@ def test_the_plain_program_ends_with_2_where_its_arguments_ask_for_nothing(place
     ]
     for arguments in senseless:
         expect(f"{arguments}", answer(place, wire.null_call(1), arguments), 2, b"", b"")
+
+
+def case_of(name):
+    def over_the_plain_program(place):
+        counts = changing.GEOMETRIES.get(name, changing.COMMON)
+        client = conversing.with_plain(place, command_of(place), *counts, changing.NOW)
+        changing.ROWS[name](client)
+        same("the end", client.end(), (b"", b"", 0))
+
+    return over_the_plain_program
+
+
+for row in changing.ROWS:
+    globals()["test_the_plain_program_has_" + row] = case_of(row)

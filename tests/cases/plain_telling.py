@@ -2,8 +2,7 @@
 
 import struct
 
-from cases import images, nfs, telling
-from cases.plain import Client
+from cases import conversing, images, nfs, plain, telling
 from cases.running import same
 
 BLOCKS, INODES, NOW = 2048, 256, 2000
@@ -62,7 +61,8 @@ def set_attributes(client, file):
 
 
 def assert_told(place, root, asks):
-    image, client = images.Image(root, BLOCKS, INODES), Client(place, BLOCKS, INODES, NOW)
+    image = images.Image(root, BLOCKS, INODES)
+    client = conversing.with_plain(place, plain.command_of(place), BLOCKS, INODES, NOW)
     for file in image.files:
         file.is_made = file is image.root
     make(client, image.root)

@@ -1,0 +1,550 @@
+"""Worked conversations with calls that change something. Each row is a function of a client over a fresh tree. It is
+asked of the plain program by `plain`, and here of the server, whose image is then held to what the client was told.
+What is wanted comes from RFC 1813 and from docs/PROTOCOL.md."""
+
+import os
+
+from cases import checking, conversing, images, nfs
+from cases.conversing import ROOT
+from cases.nfs import ACCES, EXIST, FBIG, INVAL, ISDIR, MLINK, NAMETOOLONG, NOENT, NOSPC, NOTDIR, NOTEMPTY, NOTSUPP
+from cases.nfs import NOT_SYNC, PERM, STALE
+from cases.running import MADE, is_so, same
+
+BLOCK, LARGEST, NOW = 4096, 1032 * 4096, 2000
+THEN = nfs.Time(NOW, 0)
+NONE = nfs.new_attributes()
+GUARDED, UNCHECKED, EXCLUSIVE = ((it, NONE) for it in (nfs.GUARDED, nfs.UNCHECKED, nfs.EXCLUSIVE))
+OWNER, MEMBER, OTHER = (5, 50, ()), (6, 60, (50,)), (7, 70, ())
+# Counts of blocks and inodes: of a common image, of one with few numbers, and of one with 64 data blocks.
+COMMON, FEW_NUMBERS, FEW_BLOCKS = (1024, 64), (1024, 32), (1024, 14_208)
+
+
+def takes(client, file, size, blocks, what):
+    found = client.attributes(file)
+    same(what, (found.size, found.used), (size, BLOCK * blocks))
+
+
+def free(client):
+    found = client.do(nfs.FSSTAT, ROOT)
+    return found.free_bytes // BLOCK, found.free_files
+
+
+# Bytes.
+
+
+def row_the_last_byte_of_the_largest_file(client):
+    file = client.create(ROOT, b"f")
+    client.write(file, LARGEST - 1, b"z")
+    takes(client, file, LARGEST, 2, "a byte and the indirect block")
+    for offset, data in (LARGEST, b"z"), (LARGEST - 1, b"zz"), (2**64 - 1, b"z"), (2**32, b"z"):
+        client.refuse(FBIG, nfs.WRITE, file, offset, len(data), nfs.UNSTABLE, data)
+    client.refuse(FBIG, nfs.SETATTR, file, nfs.new_attributes(size=LARGEST + 1), None)
+    part = client.do(nfs.READ, file, LARGEST - 3, 10)
+    same("the last bytes", (part.data, part.eof), (b"\0\0z", True))
+    client.set(file, size=0)
+    takes(client, file, 0, 0, "nothing")
+
+
+def row_a_hole_then_hello(client):
+    file = client.create(ROOT, b"f")
+    client.write(file, 3 * BLOCK + 7, b"hello")
+    takes(client, file, 3 * BLOCK + 12, 1, "one block")
+    same("its bytes", client.read(file), bytes(3 * BLOCK + 7) + b"hello")
+    client.write(file, BLOCK - 2, b"over")
+    takes(client, file, 3 * BLOCK + 12, 3, "two blocks more")
+    same("its bytes", client.read(file), bytes(BLOCK - 2) + b"over" + bytes(2 * BLOCK + 5) + b"hello")
+
+
+def row_shrunk_then_grown(client):
+    file = client.create(ROOT, b"f", b"x" * 10_000)
+    client.set(file, size=5)
+    takes(client, file, 5, 1, "cut")
+    client.set(file, size=10_000)
+    takes(client, file, 10_000, 1, "grown")
+    same("its bytes", client.read(file), b"x" * 5 + bytes(9995))
+    client.write(file, 9000, b"y")
+    same("its bytes", client.read(file), b"x" * 5 + bytes(8995) + b"y" + bytes(999))
+
+
+def row_cut_below_the_indirect_border(client):
+    file = client.create(ROOT, b"f", b"x" * (9 * BLOCK + 1))
+    takes(client, file, 9 * BLOCK + 1, 11, "ten blocks and the indirect one")
+    for size, blocks in (9 * BLOCK, 10), (8 * BLOCK + 1, 10), (8 * BLOCK, 8), (8 * BLOCK - 1, 8), (1, 1), (0, 0):
+        client.set(file, size=size)
+        takes(client, file, size, blocks, f"cut to {size}")
+        same(f"cut to {size}", client.read(file), b"x" * size)
+
+
+def row_written_over_the_indirect_border(client):
+    file, data = client.create(ROOT, b"f"), os.urandom(32768)
+    client.write(file, 4 * BLOCK + 100, data)
+    takes(client, file, 4 * BLOCK + 100 + 32768, 10, "nine blocks and the indirect one")
+    same("its bytes", client.read(file), bytes(4 * BLOCK + 100) + data)
+    client.write(file, 7 * BLOCK, b"n" * 2 * BLOCK)
+    takes(client, file, 4 * BLOCK + 100 + 32768, 10, "no more")
+    behind = 3 * BLOCK - 100
+    wanted = bytes(4 * BLOCK + 100) + data[:behind] + b"n" * 2 * BLOCK + data[behind + 2 * BLOCK :]
+    same("its bytes", client.read(file), wanted)
+
+
+def row_what_a_write_answers(client):
+    file = client.create(ROOT, b"f", mtime=nfs.client_time(7, 8))
+    before = client.attributes(file)
+    wrote = client.do(nfs.WRITE, file, 100, 0, nfs.UNSTABLE, b"")
+    same("no byte changes nothing", wrote.change.after, before)
+    # What is to be stable at all is stable as a whole.
+    for stable in nfs.UNSTABLE, nfs.DATA_SYNC, nfs.FILE_SYNC:
+        wrote = client.write(file, 0, b"abc", stable)
+        same("what is told", (wrote.count, wrote.committed), (3, nfs.FILE_SYNC if stable else nfs.UNSTABLE))
+        same("its times", (wrote.change.after.mtime, wrote.change.after.ctime), (THEN, THEN))
+    same("the verifier", client.do(nfs.COMMIT, file, 0, 0).verifier, wrote.verifier)
+    client.refuse(INVAL, nfs.WRITE, file, 0, 2, nfs.UNSTABLE, b"abc")
+    client.refuse(INVAL, nfs.WRITE, file, 0, 4, nfs.UNSTABLE, b"abc")
+    client.refuse(INVAL, nfs.WRITE, file, 0, 32769, nfs.UNSTABLE, bytes(32769))
+    client.refuse(INVAL, nfs.WRITE, ROOT, 0, 1, nfs.UNSTABLE, b"a")
+    same("its bytes", client.read(file), b"abc")
+
+
+# Files that are made.
+
+
+def row_an_exclusive_create_twice(client):
+    made = client.do(nfs.CREATE, ROOT, b"f", (nfs.EXCLUSIVE, b"verifier"))
+    same("its mode", made.attributes.mode, 0o600)
+    client.write(made.object, 0, b"kept")
+    again = client.do(nfs.CREATE, ROOT, b"f", (nfs.EXCLUSIVE, b"verifier"))
+    same("the same file", (again.object, again.attributes.size), (made.object, 4))
+    for how in (nfs.EXCLUSIVE, b"another "), (nfs.GUARDED, NONE):
+        client.refuse(EXIST, nfs.CREATE, ROOT, b"f", how)
+    unchecked = client.do(nfs.CREATE, ROOT, b"f", (nfs.UNCHECKED, nfs.new_attributes(0o777, size=2)))
+    same("its size alone is set", (unchecked.attributes.mode, unchecked.attributes.size), (0o600, 2))
+    same("its bytes", client.read(made.object), b"ke")
+    other = client.create(ROOT, b"g")
+    client.refuse(EXIST, nfs.CREATE, ROOT, b"g", (nfs.EXCLUSIVE, bytes(8)))
+    same("the other file", client.attributes(other).size, 0)
+
+
+def row_new_files_are_their_callers(client):
+    client.set(ROOT, mode=0o777)
+    modes = {"file": 0o644, "directory": 0o755, "link": 0o777}
+    found = {
+        "file": client.do(nfs.CREATE, ROOT, b"f", (nfs.UNCHECKED, NONE), by=OWNER),
+        "directory": client.do(nfs.MKDIR, ROOT, b"d", NONE, by=OWNER),
+        "link": client.do(nfs.SYMLINK, ROOT, b"l", NONE, b"target", by=OWNER),
+    }
+    for what, made in found.items():
+        told = made.attributes
+        same(f"{what}: mode and owner", (told.mode, told.uid, told.gid), (modes[what], 5, 50))
+        same(f"{what}: times and links", (told.mtime, told.ctime, told.nlink), (THEN, THEN, 1 + (what == "directory")))
+        same(f"{what}: what is found", client.attributes(made.object), told)
+    given = (nfs.UNCHECKED, nfs.new_attributes(0o4755, 5, 50, 9000))
+    told = client.do(nfs.CREATE, ROOT, b"own", given, by=OWNER).attributes
+    same("mode and size", (told.mode, told.size, told.used), (0o4755, 9000, 0))
+    client.refuse(PERM, nfs.CREATE, ROOT, b"no", (nfs.UNCHECKED, nfs.new_attributes(uid=6)), by=OWNER)
+    client.refuse(FBIG, nfs.CREATE, ROOT, b"no", (nfs.UNCHECKED, nfs.new_attributes(size=LARGEST + 1)))
+    client.refuse(INVAL, nfs.CREATE, ROOT, b"no", (nfs.UNCHECKED, nfs.new_attributes(atime=(2, nfs.Time(0, 10**9)))))
+    client.refuse(NOENT, nfs.LOOKUP, ROOT, b"no")
+    same("the root's links", client.attributes(ROOT).nlink, 3)
+
+
+def row_names_that_can_not_be_made(client):
+    client.create(ROOT, b"f")
+    client.mkdir(ROOT, b"d")
+    for procedure, more in (nfs.CREATE, [GUARDED]), (nfs.MKDIR, [NONE]), (nfs.SYMLINK, [NONE, b"t"]):
+        for name, status in (b".", EXIST), (b"..", EXIST), (b"f", EXIST), (b"d", EXIST):
+            client.refuse(status, procedure, ROOT, name, *more)
+        for name, status in (b"", ACCES), (b"a/b", ACCES), (b"\0", ACCES), (b"n" * 113, NAMETOOLONG):
+            client.refuse(status, procedure, ROOT, name, *more)
+        client.do(procedure, ROOT, procedure.title.encode() + b"n" * 100, *more)
+    client.refuse(INVAL, nfs.SYMLINK, ROOT, b"l", NONE, b"")
+    client.refuse(NAMETOOLONG, nfs.SYMLINK, ROOT, b"l", NONE, b"t" * 1025)
+    client.do(nfs.SYMLINK, ROOT, b"l", NONE, b"t" * 1024)
+    for kind in range(1, 8):
+        device = nfs.Node(NONE, nfs.Device(1, 2))
+        what = device if kind in (nfs.BLOCK, nfs.CHARACTER) else NONE if kind in (nfs.SOCKET, nfs.FIFO) else None
+        client.refuse(NOTSUPP, nfs.MKNOD, ROOT, b"node", (kind, what))
+    same("the names", len(client.entries(ROOT)), 6)
+
+
+# Names.
+
+
+def row_a_rename_between_two_names_of_one_file(client):
+    file, directory = client.create(ROOT, b"one"), client.mkdir(ROOT, b"d")
+    client.do(nfs.LINK, file, directory, b"two")
+    client.set(directory, mtime=nfs.client_time(1))
+    before = client.tree()
+    client.do(nfs.RENAME, ROOT, b"one", directory, b"two")
+    client.do(nfs.RENAME, directory, b"two", ROOT, b"one")
+    client.do(nfs.RENAME, ROOT, b"one", ROOT, b"one")
+    same("the tree", client.tree(), before)
+
+
+def row_a_rename_below_itself(client):
+    above = client.mkdir(ROOT, b"above")
+    middle = client.mkdir(above, b"middle")
+    below = client.mkdir(middle, b"below")
+    before = client.tree()
+    for target in above, middle, below:
+        client.refuse(INVAL, nfs.RENAME, ROOT, b"above", target, b"new")
+    client.refuse(INVAL, nfs.RENAME, above, b"middle", below, b"new")
+    for name, new in (b".", b"new"), (b"..", b"new"), (b"middle", b"."), (b"middle", b".."):
+        client.refuse(INVAL, nfs.RENAME, above, name, above, new)
+    same("the tree", client.tree(), before)
+
+
+def row_a_directory_moves(client):
+    one, two = client.mkdir(ROOT, b"one"), client.mkdir(ROOT, b"two")
+    moved = client.mkdir(one, b"moved")
+    client.create(moved, b"f", b"inside")
+    client.do(nfs.RENAME, one, b"moved", two, b"here")
+    same("its parent", client.find(two, b"here", b".."), two)
+    same("its file", client.read(client.find(ROOT, b"two", b"here", b"f")), b"inside")
+    same("the links", [client.attributes(it).nlink for it in (ROOT, one, two, moved)], [4, 2, 3, 2])
+    client.refuse(NOENT, nfs.LOOKUP, one, b"moved")
+    # One that is empty may be replaced, and no other.
+    client.do(nfs.RENAME, two, b"here", ROOT, b"one")
+    same("the links", [client.attributes(it).nlink for it in (ROOT, two, moved)], [4, 2, 2])
+    client.refuse(STALE, nfs.GETATTR, one)
+    client.refuse(EXIST, nfs.RENAME, ROOT, b"two", ROOT, b"one")
+    client.refuse(EXIST, nfs.RENAME, moved, b"f", ROOT, b"two")
+    client.refuse(EXIST, nfs.RENAME, ROOT, b"two", moved, b"f")
+
+
+def row_a_rename_takes_a_name_over(client):
+    files = {name: client.create(ROOT, name, name) for name in (b"a", b"b", b"c", b"d")}
+    slots = {it.name: it.cookie for it in client.entries(ROOT)}
+    client.do(nfs.LINK, files[b"b"], ROOT, b"kept")
+    client.do(nfs.RENAME, ROOT, b"a", ROOT, b"b")
+    client.do(nfs.RENAME, ROOT, b"c", ROOT, b"new")
+    found = {it.name: it.cookie for it in client.entries(ROOT)}
+    # The new link took the slot behind those of the first four.
+    kept = {b"b": slots[b"b"], b"new": slots[b"c"], b"d": slots[b"d"], b"kept": max(slots.values()) + 1}
+    same("the slots of the names", found, kept)
+    same("the file that moved", client.read(client.find(ROOT, b"b")), b"a")
+    same("the one that lost a name", client.attributes(client.find(ROOT, b"kept")).nlink, 1)
+    client.do(nfs.RENAME, ROOT, b"d", ROOT, b"kept")
+    client.refuse(STALE, nfs.GETATTR, files[b"b"])
+    client.refuse(NOENT, nfs.RENAME, ROOT, b"none", ROOT, b"b")
+
+
+def row_names_are_taken_away(client):
+    file, directory = client.create(ROOT, b"f", b"x" * 9 * BLOCK), client.mkdir(ROOT, b"d")
+    client.do(nfs.LINK, file, directory, b"g")
+    before = free(client)
+    client.do(nfs.REMOVE, ROOT, b"f")
+    same("its links", client.attributes(file).nlink, 1)
+    same("what is free", free(client), before)
+    for procedure, name, status in (
+        (nfs.REMOVE, b".", ISDIR), (nfs.REMOVE, b"..", ISDIR), (nfs.REMOVE, b"d", ISDIR), (nfs.REMOVE, b"f", NOENT),
+        (nfs.RMDIR, b".", INVAL), (nfs.RMDIR, b"..", INVAL), (nfs.RMDIR, b"f", NOENT), (nfs.RMDIR, b"d", NOTEMPTY),
+    ):
+        client.refuse(status, procedure, ROOT, name)
+    client.refuse(NOTDIR, nfs.RMDIR, directory, b"g")
+    client.do(nfs.REMOVE, directory, b"g")
+    client.refuse(STALE, nfs.READ, file, 0, 1)
+    same("what is free", free(client), (before[0] + 10, before[1] + 1))
+    client.do(nfs.RMDIR, ROOT, b"d")
+    client.refuse(STALE, nfs.LOOKUP, directory, b"..")
+    # Its block of names is free again too.
+    same("what is free", free(client), (before[0] + 11, before[1] + 2))
+    same("the root's links", client.attributes(ROOT).nlink, 2)
+    again = client.create(ROOT, b"f")
+    is_so("a new file has the handle of an old one", again not in (file, directory))
+    client.refuse(STALE, nfs.GETATTR, file)
+
+
+def row_a_directory_grows_by_links(client):
+    directory, file = client.mkdir(ROOT, b"d"), client.create(ROOT, b"f")
+    for it in range(290):
+        client.do(nfs.LINK, file, directory, b"%d" % it)
+        if it in (0, 31, 32, 255, 256):
+            span = it // 32 + 1
+            takes(client, directory, span * BLOCK, span + (span > 8), f"{it + 1} names")
+    same("the links", client.attributes(file).nlink, 291)
+    same("the names", [it.name for it in client.entries(directory)], [b"%d" % it for it in range(290)])
+    for it in range(0, 290, 2):
+        client.do(nfs.REMOVE, directory, b"%d" % it)
+    takes(client, directory, 10 * BLOCK, 11, "no directory shrinks")
+    client.do(nfs.RENAME, ROOT, b"f", directory, b"first")
+    same("the least free slot", client.entries(directory)[0].name, b"first")
+    client.refuse(INVAL, nfs.LINK, directory, ROOT, b"no")
+    client.refuse(EXIST, nfs.LINK, file, directory, b"1")
+    client.refuse(EXIST, nfs.LINK, file, directory, b".")
+    same("the links", client.attributes(file).nlink, 146)
+
+
+# Attributes.
+
+
+def row_a_guard(client):
+    file = client.create(ROOT, b"f", atime=nfs.client_time(1, 2), mtime=nfs.client_time(3, 4))
+    found = client.attributes(file)
+    same("its times", (found.atime, found.mtime, found.ctime), (nfs.Time(1, 2), nfs.Time(3, 4), THEN))
+    for guard in nfs.Time(NOW, 1), nfs.Time(NOW - 1, 0), nfs.Time(3, 4), nfs.Time(NOW, 10**9):
+        told = client.refuse(NOT_SYNC, nfs.SETATTR, file, nfs.new_attributes(0o777), guard)
+        same("nothing changed", told.change, nfs.Change(nfs.Before(0, found.mtime, found.ctime), found))
+    client.set(file, guard=THEN, mode=0o20777, atime=nfs.SERVER_TIME)
+    found = client.attributes(file)
+    same("its mode and times", (found.mode, found.atime, found.mtime), (0o777, THEN, nfs.Time(3, 4)))
+    client.set(file, size=0)
+    same("a size sets the time", client.attributes(file).mtime, THEN)
+
+
+def row_who_may_set_what(client):
+    client.set(ROOT, mode=0o777)
+    file = client.create(ROOT, b"f", b"bytes", by=OWNER, mode=0o620)
+    new = nfs.new_attributes
+    rows = [
+        (OWNER, new(mode=0o640), 0), (MEMBER, new(mode=0o777), PERM), (OTHER, new(mode=0o777), PERM),
+        (OWNER, new(uid=6), PERM), (OWNER, new(uid=5), 0), (OWNER, new(gid=51), PERM), ((5, 51, (52,)), new(gid=52), 0),
+        ((5, 51, (52,)), new(gid=50), PERM), ((0, 0, ()), new(gid=50, uid=5), 0), (MEMBER, new(uid=5, gid=50), 0),
+        (OWNER, new(mode=0o020), 0), (OWNER, new(size=4), 0), (MEMBER, new(size=3), 0), (OTHER, new(size=2), ACCES),
+        (OWNER, new(atime=nfs.client_time(1)), 0), (MEMBER, new(atime=nfs.client_time(1)), PERM),
+        (MEMBER, new(atime=nfs.SERVER_TIME), 0), (OTHER, new(mtime=nfs.SERVER_TIME), ACCES), (OTHER, NONE, 0),
+        (OTHER, new(mtime=nfs.client_time(1, 10**9)), INVAL), (OWNER, new(size=LARGEST + 1), FBIG),
+    ]
+    for caller, given, status in rows:
+        client.refuse(status, nfs.SETATTR, file, given, None, by=caller)
+    same("its bytes", client.read(file), b"byt")
+    client.refuse(INVAL, nfs.SETATTR, ROOT, new(size=0), None)
+
+
+def row_who_may_change_names(client):
+    directory = client.mkdir(ROOT, b"d", mode=0o730, uid=5, gid=50)
+    client.create(directory, b"f", by=OWNER)
+    for caller, status in (OTHER, ACCES), (None, ACCES), (MEMBER, 0), (OWNER, 0), ((0, 0, ()), 0):
+        name = b"by %d" % (caller or OTHER)[0]
+        client.refuse(status, nfs.CREATE, directory, name, GUARDED, by=caller)
+        client.refuse(status, nfs.MKDIR, directory, name + b" d", NONE, by=caller)
+        client.refuse(status, nfs.SYMLINK, directory, name + b" l", NONE, b"t", by=caller)
+        client.refuse(status, nfs.RENAME, directory, name if not status else b"f", directory, name + b" new", by=caller)
+        client.refuse(status, nfs.RMDIR, directory, name + b" d", by=caller)
+        client.refuse(status, nfs.REMOVE, directory, name + b" l", by=caller)
+    client.refuse(ACCES, nfs.RENAME, directory, b"f", ROOT, b"f", by=OWNER)
+    client.refuse(ACCES, nfs.LINK, client.find(directory, b"f"), ROOT, b"f", by=OWNER)
+    same("the names", len(client.entries(directory)), 4)
+
+
+# Room.
+
+
+def row_what_is_free_is_told_exactly(client):
+    blocks, numbers = free(client)
+    same("of a fresh tree", (blocks, numbers), (1024 - 518, 62))
+    directory = client.mkdir(ROOT, b"d")
+    client.do(nfs.SYMLINK, directory, b"l", NONE, b"target")
+    file = client.create(directory, b"f", b"x" * 9 * BLOCK)
+    # A block of names each, the target's, and ten of the file.
+    same("then", free(client), (blocks - 2 - 1 - 10, numbers - 3))
+    client.write(file, 1000 * BLOCK, b"y")
+    same("one more", free(client), (blocks - 14, numbers - 3))
+    for name in b"l", b"f":
+        client.do(nfs.REMOVE, directory, name)
+    client.do(nfs.RMDIR, ROOT, b"d")
+    same("at the end", free(client), (blocks - 1, numbers))
+
+
+def row_the_last_free_block(client):
+    same("what is free", free(client)[0], 64)
+    file, count = client.create(ROOT, b"f"), 0
+    while free(client)[0]:
+        client.write(file, 3 * count * BLOCK, b"z", nfs.UNSTABLE)
+        count += 1
+    # One block has the root's names, and one is indirect.
+    same("the blocks written", count, 62)
+    before = client.tree()
+    for offset, size in (1, 1), (3 * BLOCK - 1, 1):
+        client.refuse(NOSPC if offset > BLOCK else 0, nfs.WRITE, file, offset, size, nfs.UNSTABLE, b"y" * size)
+    client.refuse(NOSPC, nfs.SYMLINK, ROOT, b"l", NONE, b"t")
+    same("the names", list(client.tree()), list(before))
+    client.create(ROOT, b"a name needs no block")
+    client.refuse(NOSPC, nfs.CREATE, client.mkdir(ROOT, b"d"), b"its first does", GUARDED)
+    client.set(file, size=3 * 61 * BLOCK)
+    same("what is free", free(client)[0], 1)
+    client.do(nfs.SYMLINK, ROOT, b"l", NONE, b"t")
+    same("what is free", free(client)[0], 0)
+    client.do(nfs.REMOVE, ROOT, b"f")
+    same("what is free", free(client)[0], 62)
+
+
+def row_the_last_number(client):
+    made = [client.create(ROOT, b"%d" % it) for it in range(30)]
+    same("what is free", free(client)[1], 0)
+    for procedure, more in (nfs.CREATE, [GUARDED]), (nfs.MKDIR, [NONE]), (nfs.SYMLINK, [NONE, b"t"]):
+        client.refuse(NOSPC, procedure, ROOT, b"no", *more)
+    client.do(nfs.LINK, made[0], ROOT, b"a link needs no number")
+    client.do(nfs.REMOVE, ROOT, b"17")
+    new = client.create(ROOT, b"new")
+    is_so("the new file has the old handle", new not in made)
+    same("but its number", new[:4], made[17][:4])
+    client.refuse(STALE, nfs.GETATTR, made[17])
+
+
+GEOMETRIES = {"row_the_last_free_block": FEW_BLOCKS, "row_the_last_number": FEW_NUMBERS}
+ROWS = {name: it for name, it in list(globals().items()) if name.startswith("row_")}
+
+
+# Over the server.
+
+
+def new_image(place, blocks, inodes):
+    counts = ["--blocks", str(blocks), "--inodes", str(inodes), "--time", str(MADE)]
+    ran = place.run(["format", "image", *counts])
+    same("format", (ran.status, ran.errors), (0, b""))
+    return place.path("image")
+
+
+def assert_left(place, client, image):
+    """The image has what the client is told, and a second server tells the same."""
+    told = client.tree()
+    same("the end", client.end(), (b"", b"", 0))
+    same("the image's tree", conversing.tree_on(checking.tree_of(image)), told)
+    again = conversing.with_program(place, image, NOW + 1, nfs.SERVED)
+    same("the tree of a second server", again.tree(), told)
+    same("its end", again.end(), (b"", b"", 0))
+
+
+def case_of(name):
+    def over_the_server(place):
+        image = new_image(place, *GEOMETRIES.get(name, COMMON))
+        client = conversing.with_program(place, image, NOW, nfs.SERVED)
+        ROWS[name](client)
+        assert_left(place, client, image)
+
+    return over_the_server
+
+
+for name in ROWS:
+    globals()["test_" + name[len("row_") :]] = case_of(name)
+
+
+# Over images that are written.
+
+
+def on_image(place, root, blocks, inodes, **how):
+    image = images.Image(root, blocks, inodes, **how)
+    path = image.write(place.path("image"))
+    return image, conversing.with_program(place, path, NOW, nfs.SERVED)
+
+
+def full_file(**more):
+    """The largest file, with all its blocks."""
+    return images.regular(size=LARGEST, mapped=range(1032), **more)
+
+
+def assert_room_behind(place, files, blocks):
+    """So many largest files lie before all that is free, and new blocks come from there."""
+    root = images.directory({b"%d" % it: full_file() for it in range(files)})
+    image, client = on_image(place, root, blocks, 64)
+    same("what is free", free(client)[0], image.free_blocks)
+    data = os.urandom(9 * BLOCK)
+    file = client.create(ROOT, b"new", data)
+    same("what is free", free(client)[0], image.free_blocks - 10)
+    same("its bytes", client.read(file), data)
+    client.do(nfs.REMOVE, ROOT, b"0")
+    same("what is free", free(client)[0], image.free_blocks - 10 + 1033)
+    client.write(file, 9 * BLOCK, data[:BLOCK])
+    same("its bytes", client.read(file), data + data[:BLOCK])
+    for it in range(1, files):
+        client.do(nfs.REMOVE, ROOT, b"%d" % it)
+    assert_left(place, client, place.path("image"))
+
+
+def test_room_behind_pieces_of_the_bitmap_that_are_full(place):
+    assert_room_behind(place, 4, 10_000)
+
+
+def test_room_behind_a_block_of_the_bitmap_that_is_full(place):
+    assert_room_behind(place, 32, 40_000)
+
+
+def test_a_file_with_as_many_names_as_it_may_have(place):
+    file = images.regular((0, b"named"))
+    root = images.directory({b"names": images.directory({b"%d" % it: file for it in range(32_000)})})
+    image, client = on_image(place, root, 4096, 64)
+    names, handle = root.below(b"names").handle(), file.handle()
+    client.refuse(MLINK, nfs.LINK, handle, ROOT, b"one more")
+    client.do(nfs.REMOVE, names, b"31999")
+    client.do(nfs.LINK, handle, ROOT, b"one more")
+    client.refuse(MLINK, nfs.LINK, handle, names, b"31999")
+    same("its links", client.attributes(handle).nlink, 32_000)
+    same("what it is found under", client.find(names, b"31998"), handle)
+    client.end()
+    same("why the image is bad", checking.why_bad(place.path("image")), None)
+
+
+def test_a_directory_without_a_free_slot(place):
+    one, other = images.regular(), images.regular()
+    root = images.directory({b"names": images.directory({b"%d" % it: (one, other)[it % 2] for it in range(1032 * 32)})})
+    image, client = on_image(place, root, 4096, 64)
+    names = root.below(b"names").handle()
+    client.refuse(NOSPC, nfs.CREATE, names, b"one more", GUARDED)
+    client.refuse(NOSPC, nfs.LINK, one.handle(), names, b"one more")
+    file = client.create(ROOT, b"f")
+    client.refuse(NOSPC, nfs.RENAME, ROOT, b"f", names, b"one more")
+    client.do(nfs.RENAME, names, b"7", names, b"another")
+    client.do(nfs.RENAME, ROOT, b"f", names, b"8")
+    same("what it is found under", client.find(names, b"8"), file)
+    client.do(nfs.REMOVE, names, b"33023")
+    client.do(nfs.CREATE, names, b"one more", GUARDED)
+    client.end()
+    same("why the image is bad", checking.why_bad(place.path("image")), None)
+
+
+def test_a_directory_with_as_many_links_as_it_may_have(place):
+    below = {b"%d" % it: images.directory({}) for it in range(31_998)}
+    root = images.directory({b"full": images.directory(below), b"d": images.directory({})})
+    image, client = on_image(place, root, 8192, 32_768)
+    full = root.below(b"full").handle()
+    client.refuse(MLINK, nfs.MKDIR, full, b"one more", NONE)
+    client.refuse(MLINK, nfs.RENAME, ROOT, b"d", full, b"one more")
+    client.do(nfs.RENAME, full, b"1", full, b"renamed")
+    client.do(nfs.RENAME, ROOT, b"d", full, b"renamed")
+    same("its links", client.attributes(full).nlink, 32_000)
+    client.create(full, b"a file is no link of it")
+    client.do(nfs.RMDIR, full, b"31997")
+    client.do(nfs.MKDIR, full, b"one more", NONE)
+    client.end()
+    same("why the image is bad", checking.why_bad(place.path("image")), None)
+
+
+def test_a_tree_of_a_thousand_files(place):
+    image = new_image(place, 4096, 2048)
+    client = conversing.with_program(place, image, NOW, nfs.SERVED)
+    directories = [client.mkdir(ROOT, b"%d" % it) for it in range(10)]
+    for it in range(1000):
+        client.create(directories[it % 10], b"file %d" % it, b"%d" % it * (it % 7))
+    for it in range(0, 1000, 3):
+        name = b"file %d" % it
+        client.do(nfs.RENAME, directories[it % 10], name, directories[(it + 1) % 10], b"moved %d" % it)
+    found = client.tree()
+    same("the files", len(found), 1 + 10 + 1000)
+    for it in range(1000):
+        path = b"/%d/moved %d" % ((it + 1) % 10, it) if it % 3 == 0 else b"/%d/file %d" % (it % 10, it)
+        same(f"file {it}", found[path][1], b"%d" % it * (it % 7))
+    assert_left(place, client, image)
+    client = conversing.with_program(place, image, NOW, nfs.SERVED)
+    for directory in directories:
+        for entry in client.entries(directory):
+            client.do(nfs.REMOVE, directory, entry.name)
+    for it in range(10):
+        client.do(nfs.RMDIR, ROOT, b"%d" % it)
+    same("what is free", free(client), (4096 - 514 - 1 - 1 - 64 - 1, 2046))
+    assert_left(place, client, image)
+
+
+def test_what_a_commit_covers_outlasts_a_kill(place):
+    image, data = new_image(place, *COMMON), os.urandom(3 * BLOCK)
+    client = conversing.with_program(place, image, NOW, nfs.SERVED)
+    file = client.create(ROOT, b"f")
+    for at in range(0, len(data), BLOCK):
+        client.write(file, at, data[at : at + BLOCK], nfs.UNSTABLE)
+    verifier = client.do(nfs.COMMIT, file, 0, 0).verifier
+    client.write(file, 0, b"lost or kept", nfs.UNSTABLE)
+    client.ran.kill()
+    client.ran.wait()
+    again = conversing.with_program(place, image, NOW, nfs.SERVED)
+    is_so("the bytes are neither", again.read(file) in (data, b"lost or kept" + data[12:]))
+    is_so("a new boot has the verifier of the old one", again.do(nfs.COMMIT, file, 0, 0).verifier != verifier)
+    assert_left(place, again, image)
