@@ -13,5 +13,6 @@ pub mod AnswersGrow
 pub mod Before
 pub mod Settled
 pub mod Stops
+pub mod Did
 pub mod Waited
 pub mod Promised

@@ -1,13 +1,14 @@
 -- What holds of a run between two events, from its opening on.
 use Rattle.std.specs.Prelude.{◌≡◌, ℕ, ◌+◌, ◌≤◌, List, length, slice_get, Option, Some, None, take}
 use Rattle.disk.specs.Crash.{Image}
-use Rattle.disk.specs.Device.{Device}
+use Rattle.disk.specs.Device.{Device, current}
 use Rattle.procedures.specs.After.{after}
 use Rattle.model.specs.Tree.{Tree}
 use Rattle.txn_law.specs.Fetch.{Fetch}
 use Rattle.store_promise.specs.declared.events.Event.{Event}
 use Rattle.store_promise.specs.declared.transcript.Committed.{Committed}
 use Rattle.store_promise.specs.Changes.{ChangeTheirOwn, KeepsOthers}
+use Rattle.store_promise.specs.DeviceCalls.{DoEachStep, DoesStepBy}
 use Rattle.store_promise.specs.Headline.{IsGeometryOf, StandsAfter}
 use Rattle.store_promise.specs.History.{IsHistory}
 use Rattle.store_promise.specs.Openings.{IsOpened}
@@ -46,6 +47,7 @@ pub record IsRun (b : Beginning) (o : Setting) (t : Transcript) (base : Image) (
   pub running : IsRunningOver o base side fetches (b.first + 1) b.tree (entries_of t) last
   pub told : IsTold o (told_now b.events t) side
   pub moved : IsMovedAlong b.opened t.steps side.device
+  pub did : DoEachStep side.device.contents b.events b.opened.clock t.steps
   pub boot : t.boot ≡ b.first + 1
   pub leads : after b.tree (entries_of t) last
   pub files : (place : ℕ) → StandsAfter o.geometry b.tree (take place (entries_of t)) (o.blocks place)
@@ -65,7 +67,7 @@ abbrev pub ChangesOwnIn : ℕ → Schedule → Transcript → (ℕ → Image) �
 ChangesOwnIn size events t blocks None = Unit {0}
 ChangesOwnIn size events t blocks (Some c) = ChangesOwn size events t blocks c
 
--- An event was taken: its step is one that may be made, moved the device so far, left the run going, with one
+-- An event was taken: its step is one that may be made, moved the device so far by the call that it names, left the run going, with one
 -- entry more where it committed one, in a setting with the same blocks up to the places so far; and what is
 -- told with it tells of it.
 pub record GoesOn (b : Beginning) (o : Setting) (t : Transcript) (side : StoreSide) (noted : Noted)
@@ -75,6 +77,7 @@ pub record GoesOn (b : Beginning) (o : Setting) (t : Transcript) (side : StoreSi
   pub taken : IsTaken o b.workers (told_now b.events t) event noted.made
   pub notes : TellsOfEvent b.events t event noted
   pub device : IsMovedBy side.device noted.made new.device
+  pub does : DoesStepBy (told_now b.events t).log noted.made (current side.device) (current new.device)
   pub same : later ≡ record o { blocks = later.blocks }
   pub blocks : (place : ℕ) → place ≤ length t.history → later.blocks place ≡ o.blocks place
   pub running : IsRunningOver later base new fetches (b.first + 1) b.tree (entries_of (with_noted t noted)) last

@@ -1,10 +1,9 @@
 -- What comes of an opening: the image's tree stays at each stop.
-use Rattle.std.proofs.Common.{arith, ◌≡◌, ◌∙◌, refl, sym, ap, subst, ℕ, ◌+◌, ◌-◌, inl, inr}
-use Rattle.std.proofs.Common.{List, [], ◌∷◌, ◌++◌, Bool, true, false, ◌&&◌, ◌||◌, if◌then◌else◌, Ok}
+use Rattle.std.proofs.Common.{arith, ◌≡◌, ◌∙◌, refl, sym, ap, subst, ℕ, ◌+◌, inl, inr}
+use Rattle.std.proofs.Common.{List, [], ◌∷◌, Bool, true, false, ◌&&◌, ◌||◌, if◌then◌else◌, Ok}
 use Rattle.std.proofs.Common.{length, nat_eq}
 use Rattle.std.specs.List.{Contains}
 use Rattle.std.proofs.lemmas.Bool.Decides.{nat_tests}
-use Rattle.std.proofs.lemmas.List.Elements.{Contains-append_left}
 use Rattle.limits.specs.declared.TheConstants.{BLOCK_BYTES, LOG_HEADER_BLOCK, START_BLOCK}
 use Rattle.limits.specs.declared.TheConstants.{SUPER_BLOCK}
 use Rattle.disk.specs.Blocks.{AreBlocks}
@@ -32,17 +31,17 @@ use Rattle.txn_law.proofs.Fresh.{fresh_window}
 use Rattle.store_promise.specs.declared.fault.OpenFault.{OpenFault}
 use Rattle.store_promise.specs.declared.fault.OpenFault.TheVariants as fault
 use Rattle.store_promise.specs.GoodImage.{IsGoodImage}
-use Rattle.store_promise.specs.Openings.{HasTree, IsCauseOf, IsLater, IsOpened, IsRefused, IsRefusedFor}
+use Rattle.store_promise.specs.Openings.{HasTree, IsCauseOf, IsOpened, IsRefused, IsRefusedFor}
 use Rattle.store_promise.specs.Openings.{KeepsTree}
 use Rattle.store_promise.specs.OpenStore.{IsNewOver}
-use Rattle.store_promise.proofs.Later.{past_more, past_one, read_later}
+use Rattle.store_promise.proofs.Later.{read_later}
 use Rattle.store_promise.proofs.Shown.{has_blocks, not_magic, not_range, not_version}
 use Rattle.store_images.specs.BringingHome.{BringsHome, CountsCause, HasBlocksOf, HasBlocksWith}
 use Rattle.store_images.specs.BringingHome.{HasRaised, IsComingHome}
 use Rattle.store_images.specs.BringingHome.{IsFound, KeepsBlocks}
 use Rattle.store_images.specs.Opening.{HoldsTree}
-use Rattle.store_images.proofs.ComingHome.{good_under, stop_blocks, found_home, found_stops}
-use Rattle.store_images.proofs.Later.{blocks_before, some_image}
+use Rattle.store_images.proofs.ComingHome.{good_under, found_home, found_stops}
+use Rattle.store_images.proofs.Later.{some_image}
 use Rattle.store_images.proofs.Raising.{outside, raised_stops, settled_stops, under, under_raised, unlogged}
 
 one_there : (contents : List Content) → length contents ≡ 1 → Contains contents (newest contents)
@@ -204,50 +203,6 @@ module _ (before : Device) (tree : Tree) (first : ℕ) (holds : HoldsTree before
           (under_raised before now log content lawful none raises.brings image
           (crash_boundary later home log image lawful agrees.agrees is))))
 
-      -- before the last call, the old super block may still be there
-      written_holds : (image : Image) → IsCrashImage now now.clock image
-          → IsCrashImage later (later.clock - 1) image
-      written_holds image is = λ block within.
-          subst (λ (cs : List Content). Contains cs (image block))
-          (sym (ap (λ (n : ℕ). later.contents n block) (omega (arith, raises.settle.later.clock))
-          ∙ raises.settle.later.past raises.written.clock block (omega arith)))
-          (by_block block (nat_eq block SUPER_BLOCK) refl
-          (is block (omega (arith, within, raises.settle.later.size, raises.write.later.size))))
-        where
-          more : (cs : List Content) (one other : Content) → Contains cs one → Contains (cs ++ other ∷ []) one
-          more cs one other (k, lt, at) = Contains-append_left cs (other ∷ []) one (k, lt, at)
-
-          by_block : (block : ℕ) (same : Bool) → nat_eq block SUPER_BLOCK ≡ same
-              → Contains (current now block) (image block)
-              → Contains (current raises.written block) (image block)
-          by_block block true at there =
-              let here : block ≡ SUPER_BLOCK = grind (arith, nat_tests) in
-              subst (λ (b : ℕ). Contains (current now b) (image b)
-              → Contains (current raises.written b) (image b))
-              (sym here) (λ is. subst (λ (cs : List Content). Contains cs (image SUPER_BLOCK))
-              (sym raises.write.written) (more (current now SUPER_BLOCK) (image SUPER_BLOCK) content is)) there
-          by_block block false at there =
-              subst (λ (cs : List Content). Contains cs (image block))
-              (sym (raises.write.others block (λ (here : block ≡ SUPER_BLOCK). let eq = at in
-              grind (arith, nat_tests)))) there
-
-      last_left : (image : Image) × IsCrashImage later (later.clock - 1) image
-          × IsGoodImage later.size image tree first
-      last_left =
-          let went_on : IsLater now later = past_more now raises.written later
-          (past_one now raises.written raises.write.later)
-          (past_one raises.written later raises.settle.later) in
-          let found = some_image before now (blocks_before now later went_on blocks) now.clock
-          raises.brings.keeps.past.clock (omega arith) in (
-            found.0,
-            written_holds found.0 found.1,
-            subst (λ (size : ℕ). IsGoodImage size found.0 tree first) (sym size_is)
-                (old_good found.0 (subst (λ (size : ℕ). HasBlocksOf size (image_of before)
-                (image_of before SUPER_BLOCK)
-                found.0) raises.brings.keeps.past.size
-                (stop_blocks (image_of before) now log found.0 lawful raises.brings.coming found.1))),
-          )
-
       no_log : log.logged ≡ 0
       no_log = raises.brings.coming.logged ∙ ap (λ (cs : List LogChange). length cs) none
 
@@ -277,7 +232,6 @@ module _ (before : Device) (tree : Tree) (first : ℕ) (holds : HoldsTree before
         failures = same;
         left = some_image before later blocks;
         keeps = keeps_tree later keeps;
-        last = last_left;
         settled = settled_good;
         empty = is_empty;
       }

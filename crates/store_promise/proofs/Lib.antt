@@ -2,6 +2,9 @@ pub mod Stopped
 pub mod Told
 pub mod Later
 pub mod FailedCalls
+pub mod DeviceCalls
+pub mod OneLife
+pub mod Called
 pub mod OneSetAttr
 pub mod OneSetAttrAlong
 pub mod OneSetAttrTold

@@ -1,5 +1,5 @@
 -- What a store promises of a whole run, on a device that keeps its model.
-use Rattle.std.specs.Prelude.{◌≡◌, ℕ, ◌+◌, ◌≤◌, List, take, length, count_by, Contains}
+use Rattle.std.specs.Prelude.{◌≡◌, ℕ, ◌+◌, ◌<◌, ◌≤◌, List, take, length, count_by, Contains}
 use Rattle.std.specs.Prelude.{Result, Ok, Err}
 use Rattle.disk.specs.Crash.{Image, IsAtRest, IsCrashImage}
 use Rattle.disk.specs.Device.{Device}
@@ -13,6 +13,7 @@ use Rattle.wal_law.specs.Overlay.{over}
 use Rattle.store_promise.specs.declared.fault.OpenFault.{OpenFault}
 use Rattle.store_promise.specs.declared.transcript.Answer.{Answer}
 use Rattle.store_promise.specs.Changes.{ChangeTheirOwn}
+use Rattle.store_promise.specs.DeviceCalls.{DoEachStep}
 use Rattle.store_promise.specs.FailedCalls.{TellEachFailure}
 use Rattle.store_promise.specs.GoodImage.{IsGoodImage}
 use Rattle.store_promise.specs.History.{IsHistory}
@@ -20,7 +21,7 @@ use Rattle.store_promise.specs.LogTold.{settled_told}
 use Rattle.store_promise.specs.Openings.{AtEachStop, IsBootOf, IsLater, IsOpened, IsRefused, LeavesImages}
 use Rattle.store_promise.specs.Prefix.{HasPrefix}
 use Rattle.store_promise.specs.Schedule.{Schedule, Setting, AreTaken, AreTimely, told_before}
-use Rattle.store_promise.specs.Transcript.{Transcript, entries_of, device_calls, commits_by, fails}
+use Rattle.store_promise.specs.Transcript.{Transcript, Report, entries_of, device_calls, commits_by, fails}
 use Rattle.store_promise.specs.Verdicts.{IsStableAnswer, IsCoveredWrite, AreAnswers}
 
 -- The procedure of a place was promised to last by a clock, of a run whose events began at another: it was
@@ -76,6 +77,8 @@ pub record KeepsPromise (before later : Device) (tree : Tree) (first workers : �
   pub failures : later.failures ≡ opened.failures + count_by fails t.steps
   -- each of them is told to have failed just where that very call did
   pub told : TellEachFailure later.failed opened.clock t.steps
+  -- and does what its step names
+  pub did : DoEachStep later.contents events opened.clock t.steps
   -- a stop leaves some image, and whatever it leaves has the tree of a prefix, which holds what was promised to
   -- last
   pub left : LeavesImages before later
@@ -87,7 +90,7 @@ pub record KeepsPromise (before later : Device) (tree : Tree) (first workers : �
   pub boot : t.boot ≡ first + 1
   pub history : IsHistory events t
   pub answers : AreAnswers events t
-  -- every event is taken,
+  -- events are taken, from the first on,
   pub taken : AreTaken setting workers events t.steps
   -- by what the files are after the procedures that were committed by then, each of which changed only what its
   -- transaction had taken
@@ -105,14 +108,21 @@ pub record MayRun (keeps_model : Type 0) (before : Device) (tree : Tree) (first 
   pub alone : workers ≡ 1
   pub timely : AreTimely events
 
--- what comes of a run: its transcript, or why the store wasn't opened
-abbrev pub IsAnswered : Device → Device → Tree → ℕ → ℕ → Schedule → Result Transcript OpenFault → Type 0
-IsAnswered before later tree first workers events (Ok t) = KeepsPromise before later tree first workers events t
+-- A run comes to an end: it keeps its promise, and took each event, or fewer where memory was refused to it.
+pub record EndsWell (before later : Device) (tree : Tree) (first workers : ℕ) (events : Schedule)
+    (report : Report) : Type 0 where
+  pub keeps : KeepsPromise before later tree first workers events report.told
+  pub all : length report.told.steps < length events → 0 < report.refused
+
+-- what comes of a run: what it hands back, or why the store wasn't opened
+abbrev pub IsAnswered : Device → Device → Tree → ℕ → ℕ → Schedule → Result Report OpenFault → Type 0
+IsAnswered before later tree first workers events (Ok report) =
+    EndsWell before later tree first workers events report
 IsAnswered before later tree first workers events (Err cause) = IsRefused before later tree first cause
 
 -- What is promised: a run that stands on this keeps its promise, or was refused for a cause that a good image
 -- may have.
-abbrev pub IsPromised : Type 0 → Device → Device → Tree → ℕ → ℕ → Schedule → Result Transcript OpenFault
+abbrev pub IsPromised : Type 0 → Device → Device → Tree → ℕ → ℕ → Schedule → Result Report OpenFault
     → Type 0
 IsPromised keeps_model before later tree first workers events answer =
     MayRun keeps_model before tree first workers events

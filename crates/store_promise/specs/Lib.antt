@@ -6,6 +6,7 @@ pub mod NextCall
 pub mod Openings
 pub mod FailedCalls
 pub mod Schedule
+pub mod DeviceCalls
 pub mod History
 pub mod Verdicts
 pub mod CauseOfIo

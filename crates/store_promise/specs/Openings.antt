@@ -1,5 +1,5 @@
 -- What an opening, and the making of an image, do to a device.
-use Rattle.std.specs.Prelude.{◌≡◌, ◌≢◌, ℕ, ◌+◌, ◌-◌, ◌^◌, ◌<◌, ◌≤◌, ◌⊎◌, Option, Some, None}
+use Rattle.std.specs.Prelude.{◌≡◌, ◌≢◌, ℕ, ◌+◌, ◌^◌, ◌<◌, ◌≤◌, ◌⊎◌, Option, Some, None}
 use Rattle.limits.specs.declared.TheConstants.{SUPER_BLOCK}
 use Rattle.disk.specs.Crash.{Image, IsAtRest, IsCrashImage}
 use Rattle.disk.specs.Device.{Content, Device}
@@ -54,7 +54,7 @@ KeepsTree before later tree first =
     AtEachStop before later (λ clock image. HasTree later.size first tree image)
 
 -- An opening, from one device to another, of an image with this tree and this boot number: the tree stays at
--- each stop, no call fails, and the last one settles the next boot number. The log is empty then, at this
+-- each stop, no call fails, and at its end the next boot number is settled. The log is empty then, at this
 -- position.
 pub record IsOpened (before opened : Device) (tree : Tree) (first position : ℕ) : Type 0 where
   pub past : IsLater before opened
@@ -62,8 +62,6 @@ pub record IsOpened (before opened : Device) (tree : Tree) (first position : ℕ
   pub failures : opened.failures ≡ before.failures
   pub left : LeavesImages before opened
   pub keeps : KeepsTree before opened tree first
-  pub last : (image : Image) × IsCrashImage opened (opened.clock - 1) image
-      × IsGoodImage opened.size image tree first
   pub settled : (image : Image) → IsCrashImage opened opened.clock image
       → IsGoodImage opened.size image tree (first + 1)
   pub empty : (image : Image) → IsCrashImage opened opened.clock image → (start_in image ≡ position)

@@ -104,12 +104,13 @@ abbrev pub IsStepOfCall : Progress → Option Step → Type 0
 IsStepOfCall Idle made = made ≡ Some step.Called
 IsStepOfCall (At job stage) made = made ≡ None
 
--- a transaction takes the next number; a broken store begins none, nor does one whose numbers are spent
+-- a transaction takes the next number; a broken store begins none, nor does one whose numbers are spent, and
+-- memory is asked for last
 abbrev pub IsBeginning : Told → Step → Type 0
 IsBeginning told (step.Begun (Ok number)) = (told.log.broken ≡ false) × (number ≡ told.begun + 1)
 IsBeginning told (step.Begun (Err fault.Broken)) = told.log.broken ≡ true
 IsBeginning told (step.Begun (Err fault.Spent)) = (told.log.broken ≡ false) × (2 ^ 64 ≤ told.begun + 1)
-IsBeginning told (step.Begun (Err fault.NoMemory)) = told.log.broken ≡ false
+IsBeginning told (step.Begun (Err fault.NoMemory)) = (told.log.broken ≡ false) × (told.begun + 1 < 2 ^ 64)
 IsBeginning told _ = ⊥
 
 -- a call with rules begins a transaction, and another is answered
@@ -321,8 +322,7 @@ pub record IsTaken (o : Setting) (workers : ℕ) (told : Told) (event : Event) (
     pub own : IsOfOne workers (worker_of event) → IsStepOf o told event made
     pub others : (IsOfOne workers (worker_of event) → ⊥) → made ≡ None
 
--- The events are taken from the first on, of so many workers, each once, after an opening: all, or fewer, which
--- only want of memory to tell of the next may cause (tests show that).
+-- Events are taken from the first on, of so many workers, each once, after an opening.
 pub record AreTaken (o : Setting) (workers : ℕ) (events : Schedule) (steps : List (Option Step)) : Type 0
   where
     pub fewer : length steps ≤ length events

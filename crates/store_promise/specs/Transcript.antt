@@ -1,5 +1,6 @@
 -- What a run tells, as lists.
 use Rattle.std.specs.Prelude.{ℕ, zero, suc, ◌+◌, Bool, true, false, not, List, map, take, count_by, slice_get}
+use Rattle.std.specs.Prelude.{length}
 use Rattle.std.specs.Prelude.{Option, Some, None, nat_le}
 use Rattle.model.specs.Entry.{Entry}
 use Rattle.store_promise.specs.declared.events.Step.{Step}
@@ -24,6 +25,18 @@ transcript_of run = record {
   answers = run.answers.items;
   steps = run.steps.items;
 }
+
+-- how often memory was refused to a run, to tell of one more event
+abbrev pub refusals : Run → ℕ
+refusals run = length run.refused.items
+
+-- what a run hands back: what it tells, and how often memory was refused to it
+pub record Report : Type 0 where
+  pub told : Transcript
+  pub refused : ℕ
+
+abbrev pub report_of : Run → Report
+report_of run = record { told = transcript_of run; refused = refusals run }
 
 -- a committed procedure as an entry of the sequential server's history
 abbrev pub entry_of : Committed → Entry

@@ -42,10 +42,10 @@ pub use open_store::{
     the_files_stay_under_a_new_super_block, whole_groups_are_a_good_image,
 };
 pub use promises::{
-    a_failure_is_told_of_its_own_call, a_failure_that_is_told_was_counted,
-    a_run_of_no_events_keeps_the_promise, a_stop_leaves_an_image,
-    an_answer_of_io_has_its_failed_call, an_entry_was_called,
-    each_procedure_has_a_number_of_its_own, half_a_group_breaks_the_promise,
+    a_device_call_is_the_one_that_is_told, a_failure_is_told_of_its_own_call,
+    a_failure_that_is_told_was_counted, a_run_is_one_life, a_run_of_no_events_keeps_the_promise,
+    a_stop_leaves_an_image, an_answer_of_io_has_its_failed_call, an_entry_was_called,
+    each_procedure_has_a_number_of_its_own, every_event_is_taken, half_a_group_breaks_the_promise,
     no_procedure_is_answered_twice, no_stable_answer_bears_place_0,
     no_stable_answer_comes_with_its_commit, the_boot_number_stays_raised, the_history_is_in_order,
     what_a_commit_covers_is_kept, what_is_stable_is_kept, what_is_told_as_settled_is_kept,

@@ -10,6 +10,7 @@ ghost use Rattle.layout.specs.declared.geometry.Geometry.{Geometry};
 ghost use Rattle.layout.specs.Stands.{Stands};
 ghost use Rattle.procs.specs.Asks.{Asks};
 ghost use Rattle.store_promise.specs.Changes.{KeepsOthers};
+ghost use Rattle.store_promise.specs.DeviceCalls.{DoEachStep};
 ghost use Rattle.store_promise.specs.GoodImage.{IsGoodImage};
 ghost use Rattle.store_promise.specs.Headline.{IsGeometryOf, KeepsPromise};
 ghost use Rattle.store_promise.specs.OneSetAttr.{OneSetAttr, asked, ctx_in, events_of, steps_of};
@@ -20,7 +21,7 @@ ghost use Rattle.store_promise.specs.Transcript.{Transcript};
 
 use crate::promises::{no_stable_answer_comes_with_its_commit, what_is_stable_is_kept};
 
-/// A run of one SETATTR of the mode keeps the promise, where the device calls are made well: what a stop
+/// A run of one SETATTR of the mode keeps the promise, where each device call is made well and is its own: what a stop
 /// between the header's write and the barrier behind it leaves may have the old tree or the new one.
 pub fn a_run_of_one_setattr_keeps_the_promise()
     ensures { (before opened later : Device) (g : Geometry) (blocks changed : Image)
@@ -28,6 +29,7 @@ pub fn a_run_of_one_setattr_keeps_the_promise()
         → IsOpened before opened tree first one.position → IsGeometryOf opened.size tree g
         → Stands g blocks tree → Stands g changed next
         → one.position + 1 < 2 ^ 64 → WentOnByFive opened later
+        → DoEachStep later.contents (events_of one) opened.clock (steps_of one)
         → LeavesTrees opened later (first + 1) tree next blocks changed
         → KeepsOthers later.size (with_read one) blocks changed
         → sets_only_mode one.attributes ≡ true → Asks g (asked one) [] one.addr

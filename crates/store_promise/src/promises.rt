@@ -1,13 +1,17 @@
 //! Laws on the promise of a run.
 ghost use Rattle.std.specs.Prelude.{◌≡◌, ◌≢◌, ◌+◌, ◌<◌, ◌≤◌, ℕ, [], slice_get, Some, Contains};
-ghost use Rattle.std.specs.Prelude.{count_by, length, take, true, List, ◌∷◌, ◌++◌, Option};
+ghost use Rattle.std.specs.Prelude.{Bool, count_by, length, take, true, List, ◌∷◌, ◌++◌, Option};
 ghost use Rattle.disk.specs.Crash.{Image, IsCrashImage};
-ghost use Rattle.disk.specs.Device.{Device};
+ghost use Rattle.disk.specs.Device.{Device, is_on};
+ghost use Rattle.disk.specs.declared.block.BlockNo.{BlockNo};
+ghost use Rattle.disk.specs.declared.block.Side.{Side};
 ghost use Rattle.nfs_types.specs.declared.reply.Reply.{Reply};
 ghost use Rattle.procedures.specs.After.{after};
+ghost use Rattle.procedures.specs.Histories.{IsLife};
 ghost use Rattle.model.specs.Tree.{Tree};
 ghost use Rattle.layout.specs.Homes.{homes_of};
 ghost use Rattle.wal_law.specs.Overlay.{over};
+ghost use Rattle.wal_law.specs.declared.calls.IoCall.TheVariants.{Barrier, Write};
 ghost use Rattle.store_promise.specs.declared.answers.Verdict.TheVariants as verdict;
 ghost use Rattle.store_promise.specs.declared.events.Committing.TheVariants as committing;
 ghost use Rattle.store_promise.specs.declared.events.Event.TheVariants as event;
@@ -17,12 +21,12 @@ ghost use Rattle.store_promise.specs.declared.transcript.Answer.{Answer};
 ghost use Rattle.store_promise.specs.declared.transcript.Committed.{Committed};
 ghost use Rattle.store_promise.specs.CauseOfIo.{HasFailedFor, tells_io};
 ghost use Rattle.store_promise.specs.GoodImage.{IsGoodImage};
-ghost use Rattle.store_promise.specs.Headline.{KeepsPromise};
+ghost use Rattle.store_promise.specs.Headline.{EndsWell, KeepsPromise};
 ghost use Rattle.store_promise.specs.Openings.{IsOpened};
-ghost use Rattle.store_promise.specs.LogTold.{settled_told};
+ghost use Rattle.store_promise.specs.LogTold.{out, settled_told};
 ghost use Rattle.store_promise.specs.Schedule.{Schedule, told_before};
-ghost use Rattle.store_promise.specs.Transcript.{Transcript, calls_device, device_calls, entries_of, fails};
-ghost use Rattle.store_promise.specs.Transcript.{step_at};
+ghost use Rattle.store_promise.specs.Transcript.{Report, Transcript, calls_device, device_calls, entries_of};
+ghost use Rattle.store_promise.specs.Transcript.{fails, step_at};
 ghost use Rattle.store_promise.specs.Verdicts.{IsCoveredWrite, IsStableAnswer};
 
 /// A run of no events keeps the promise, where its opening is one that leaves the same homes at each stop.
@@ -36,6 +40,49 @@ pub fn a_run_of_no_events_keeps_the_promise()
           answers = [];
           steps = [];
         }) }
+{}
+
+/// A run that takes fewer events than there are, and to which no memory was refused, breaks the promise.
+pub fn every_event_is_taken()
+    ensures { (before later : Device) (tree : Tree) (first workers : ℕ) (events : Schedule) (report : Report)
+        → length report.told.steps < length events → report.refused ≡ 0
+        → EndsWell before later tree first workers events report → ⊥ }
+{}
+
+/// A device call that isn't the one that its step names breaks the promise: a barrier that leaves two contents
+/// of a block of its side, a write that changes another block, one that was made well and brings no content,
+/// and a read that changes a block.
+pub fn a_device_call_is_the_one_that_is_told()
+    ensures barrier { (before later : Device) (tree : Tree) (first workers start index block : ℕ)
+        (events : Schedule) (t : Transcript) (side : Side)
+        → later.clock ≡ start + device_calls t (length t.steps)
+        → slice_get t.steps index ≡ Some (Some (step.LogIo true))
+        → (told_before events t.steps index).log.log_call ≡ out (Barrier side)
+        → is_on side block ≡ true → 1 < length (later.contents (start + device_calls t index + 1) block)
+        → KeepsPromise before later tree first workers events t → ⊥ }
+    ensures write { (before later : Device) (tree : Tree) (first workers start index block : ℕ)
+        (events : Schedule) (t : Transcript) (written : BlockNo) (ok : Bool)
+        → later.clock ≡ start + device_calls t (length t.steps)
+        → slice_get t.steps index ≡ Some (Some (step.LogIo ok))
+        → (told_before events t.steps index).log.log_call ≡ out (Write written) → block ≢ written.0
+        → later.contents (start + device_calls t index + 1) block
+        ≢ later.contents (start + device_calls t index) block
+        → KeepsPromise before later tree first workers events t → ⊥ }
+    ensures content { (before later : Device) (tree : Tree) (first workers start index : ℕ)
+        (events : Schedule) (t : Transcript) (written : BlockNo)
+        → later.clock ≡ start + device_calls t (length t.steps)
+        → slice_get t.steps index ≡ Some (Some (step.LogIo true))
+        → (told_before events t.steps index).log.log_call ≡ out (Write written)
+        → length (later.contents (start + device_calls t index + 1) written.0)
+        ≤ length (later.contents (start + device_calls t index) written.0)
+        → KeepsPromise before later tree first workers events t → ⊥ }
+    ensures read { (before later : Device) (tree : Tree) (first workers start index block : ℕ)
+        (events : Schedule) (t : Transcript) (of : BlockNo) (ok : Bool)
+        → later.clock ≡ start + device_calls t (length t.steps)
+        → slice_get t.steps index ≡ Some (Some (step.Read of ok))
+        → later.contents (start + device_calls t index + 1) block
+        ≢ later.contents (start + device_calls t index) block
+        → KeepsPromise before later tree first workers events t → ⊥ }
 {}
 
 /// A procedure for a call that no event hands its worker breaks the promise.
@@ -165,6 +212,13 @@ pub fn the_history_is_in_order()
         → slice_get t.history one ≡ Some a → slice_get t.history other ≡ Some b → one < other
         → b.event ≤ a.event
         → KeepsPromise before later tree first workers events t → ⊥ }
+{}
+
+/// What a run commits is one life of its boot: no two procedures have one stamp, in whatever order they were
+/// committed. So a handle that was stale names no file again, from boot to boot.
+pub fn a_run_is_one_life()
+    ensures { (before later : Device) (tree : Tree) (first workers : ℕ) (events : Schedule) (t : Transcript)
+        → KeepsPromise before later tree first workers events t → IsLife (first + 1) (entries_of t) }
 {}
 
 /// Two procedures of one transaction number break the promise: a call that begins anew takes another.

@@ -1,8 +1,11 @@
 //! What a run tells.
-ghost use Rattle.std.specs.Prelude.{◌≡◌, ◌<◌, [], ◌∷◌, ◌++◌, length, OnOk, vec_len, vec_capacity};
+ghost use Rattle.std.specs.Prelude.{◌≡◌, ◌+◌, ◌<◌, [], ◌∷◌, ◌++◌, length, OnOk, vec_len, vec_capacity};
+ghost use Rattle.std.specs.Prelude.{if◌then◌else◌, is_ok};
+ghost use Rattle.store_promise.specs.Transcript.{refusals};
 
 use crate::answers::{CallAnswer, Entry, Verdict};
 use crate::events::Step;
+use http_server::Log;
 use nfs_types::{Call, Ctx, Reply};
 use std::alloc::{AllocError, Global};
 use txn::Seq;
@@ -30,13 +33,16 @@ pub struct Answer {
 }
 
 /// A run: the boot number, the committed procedures in the order of their places, the answers in their order,
-/// and for each event that was taken the step that it made, if it made one.
+/// and for each event that was taken the step that it made, if it made one. Each time that memory was refused
+/// to tell of an event is noted for proofs alone, in `http_server`'s `Log`, and takes no memory: who has a run
+/// can't note a refusal but by being refused.
 #[derive(Drop)]
 pub struct Run {
     pub boot: u64,
     pub history: Vec<Committed>,
     pub answers: Vec<Answer>,
     pub steps: Vec<Option<Step>>,
+    refused: Log<AllocError, ()>,
 }
 
 impl Run {
@@ -47,22 +53,42 @@ impl Run {
         ensures boot { result.boot ≡ boot }
         ensures empty { (result.history.items ≡ []) × (result.answers.items ≡ [])
             × (result.steps.items ≡ []) }
+        ensures unrefused { refusals result ≡ 0 }
     {
         Run {
             boot,
             history: Vec::new(alloc),
             answers: Vec::new(alloc),
             steps: Vec::new(alloc),
+            refused: Log::new(),
         }
     }
 
-    /// Makes room to tell of one more event.
+    /// Makes room to tell of one more event. Where memory was refused it is noted.
     pub fn make_room(&mut self) -> Result<(), AllocError>
         ensures room { OnOk result (HasRoom self.new) }
         ensures boot { self.new.boot ≡ self.old.boot }
         ensures history { self.new.history.items ≡ self.old.history.items }
         ensures answers { self.new.answers.items ≡ self.old.answers.items }
         ensures steps { self.new.steps.items ≡ self.old.steps.items }
+        ensures refused { refusals self.new
+            ≡ (if is_ok result then refusals self.old else refusals self.old + 1) }
+    {
+        let result = self.reserve();
+        if let Err(error) = &result {
+            self.refused = self.refused.and(error, &());
+        }
+        result
+    }
+
+    // Makes room to tell of one more event.
+    fn reserve(&mut self) -> Result<(), AllocError>
+        ensures room { OnOk result (HasRoom self.new) }
+        ensures boot { self.new.boot ≡ self.old.boot }
+        ensures history { self.new.history.items ≡ self.old.history.items }
+        ensures answers { self.new.answers.items ≡ self.old.answers.items }
+        ensures steps { self.new.steps.items ≡ self.old.steps.items }
+        ensures refused { self.new.refused ≡ self.old.refused }
     {
         self.history.reserve(1)?;
         self.answers.reserve(1)?;
@@ -83,6 +109,7 @@ impl Run {
         ensures boot { self.new.boot ≡ self.old.boot }
         ensures steps { self.new.steps ≡ self.old.steps }
         ensures answers { self.new.answers ≡ self.old.answers }
+        ensures refused { self.new.refused ≡ self.old.refused }
     {
         let committed = Committed {
             worker,
@@ -108,6 +135,7 @@ impl Run {
         ensures boot { self.new.boot ≡ self.old.boot }
         ensures steps { self.new.steps ≡ self.old.steps }
         ensures history { self.new.history ≡ self.old.history }
+        ensures refused { self.new.refused ≡ self.old.refused }
     {
         let answer = Answer {
             worker,
@@ -126,6 +154,7 @@ impl Run {
         ensures boot { self.new.boot ≡ self.old.boot }
         ensures history { self.new.history ≡ self.old.history }
         ensures answers { self.new.answers ≡ self.old.answers }
+        ensures refused { self.new.refused ≡ self.old.refused }
     {
         push(&mut self.steps, step);
     }

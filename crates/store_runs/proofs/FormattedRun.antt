@@ -7,13 +7,13 @@ use Rattle.store_promise.specs.declared.fault.OpenFault.{OpenFault}
 use Rattle.store_promise.specs.declared.transcript.Run.{Run}
 use Rattle.store_promise.specs.Headline.{IsAnswered, IsPromised, MayRun}
 use Rattle.store_promise.specs.Schedule.{Schedule}
-use Rattle.store_promise.specs.Transcript.{transcript_of}
+use Rattle.store_promise.specs.Transcript.{report_of}
 use Rattle.store_runs.specs.FormattedRun.{answer_of}
 
 pub is_answered : (keeps_model : Type 0) (before later : Device) (tree : Tree) (first workers : ℕ)
     (events : Schedule) (answer : Result Run OpenFault)
     → MatchResult answer
-    (λ told. IsPromised keeps_model before later tree first workers events (Ok (transcript_of told)))
+    (λ told. IsPromised keeps_model before later tree first workers events (Ok (report_of told)))
     (λ fault. IsPromised keeps_model before later tree first workers events (Err fault))
     → MayRun keeps_model before tree first workers events
     → IsAnswered before later tree first workers events (answer_of answer)

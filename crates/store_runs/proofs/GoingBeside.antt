@@ -1,12 +1,14 @@
 -- A run goes on with an event that commits nothing and ends no call: its step is all that is told with it.
 use Rattle.std.proofs.Common.{◌≡◌, refl, sym, subst, ◌+◌, List, Option, None, take}
 use Rattle.disk.specs.Crash.{Image}
+use Rattle.disk.specs.Device.{current}
 use Rattle.model.specs.Entry.{Entry}
 use Rattle.procedures.specs.After.{after as leads_to}
 use Rattle.model.specs.Tree.{Tree}
 use Rattle.store_promise.specs.declared.events.Event.{Event}
 use Rattle.store_promise.specs.declared.events.Step.{Step}
 use Rattle.store_promise.specs.declared.transcript.Run.{Run}
+use Rattle.store_promise.specs.DeviceCalls.{DoesStepBy}
 use Rattle.store_promise.specs.Headline.{StandsAfter}
 use Rattle.store_promise.specs.Running.{IsMovedBy, IsRunningOver, IsTold, StoreSide}
 use Rattle.store_promise.specs.Schedule.{IsOfOne, IsTaken, Setting, told_after, worker_of}
@@ -24,6 +26,7 @@ pub record Leaves (b : Beginning) (now : Event) (o : Setting) (base : Image) (la
     (old new : StoreSide) (made : Option Step) (worker : State) : Type 0 where
   pub taken : IsTaken o b.workers (told_now b.events t) now made
   pub device : IsMovedBy old.device made new.device
+  pub does : DoesStepBy (told_now b.events t).log made (current old.device) (current new.device)
   pub running : IsRunningOver o base new (fetches_of worker) (b.first + 1) b.tree (entries_of t) last
   pub told : IsTold o (told_after (told_now b.events t) now made) new
   pub stands : IsWorkerAt (b.first + 1) (entries_of t) worker
@@ -38,6 +41,7 @@ pub left_alone : (b : Beginning) (now : Event) (store : StoreSide) (worker : Sta
 left_alone b now store worker before going absent still = record {
   taken = record { own = λ one. absurd (absent one); others = λ none. refl };
   device = still;
+  does = λ block. refl;
   running = going.run.running;
   told = going.run.told;
   stands = going.stands;
@@ -63,6 +67,7 @@ module _ (b : Beginning) (now : Event) (old new : StoreSide) (made : Option Step
     taken = left.taken;
     notes = tells;
     device = left.device;
+    does = left.does;
     same = refl;
     blocks = λ place within. refl;
     running = subst (λ (es : List Entry). IsRunningOver o going.base new (fetches_of later)

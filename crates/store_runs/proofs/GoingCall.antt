@@ -4,6 +4,7 @@ use Rattle.nfs_types.specs.declared.call.Call.{Call}
 use Rattle.nfs_types.specs.declared.ctx.Credential.{Credential}
 use Rattle.nfs_types.specs.declared.ctx.Ctx.{Ctx}
 use Rattle.nfs_types.specs.declared.ctx.Moment.{Moment}
+use Rattle.disk.specs.Device.{current}
 use Rattle.store_promise.specs.declared.events.Event.TheVariants as event
 use Rattle.store_promise.specs.declared.events.Step.{Step}
 use Rattle.store_promise.specs.declared.transcript.Run.{Run}
@@ -11,6 +12,7 @@ use Rattle.store_promise.specs.Progress.{Job, Progress}
 use Rattle.store_promise.specs.Running.{IsMovedBy, IsRunningOver, IsTold, StoreSide}
 use Rattle.store_promise.specs.Schedule.{IsOfOne, IsStepOfCall, Setting, Told, told_after}
 use Rattle.store_promise.specs.Transcript.{Transcript, calls_device, entries_of, transcript_of}
+use Rattle.store_promise.proofs.DeviceCalls.{does_nothing}
 use Rattle.run_law.specs.Noting.{told_now}
 use Rattle.run_law.specs.Run.{Beginning}
 use Rattle.store_runs.specs.AtWork.{IsCoreAtWork, fetches_of}
@@ -84,6 +86,8 @@ module _ (b : Beginning) (credential : Credential) (moment : Moment) (call : Cal
       others = λ none. absurd (none (is_there b.workers alone));
     };
     device = still made (calls_none 0 ctx call worker new made takes);
+    does = does_nothing told.log.log_call told.log.inst_call made (current store.device) (current store.device)
+        (calls_none 0 ctx call worker new made takes) (λ block. refl);
     running = subst (λ fetches. IsRunningOver o going.base store fetches (b.first + 1) b.tree
         (entries_of t) going.last) (sym fetches) going.run.running;
     told = told_then;

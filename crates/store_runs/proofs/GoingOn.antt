@@ -5,6 +5,7 @@ use Rattle.std.specs.Prelude.{IsSomeAnd}
 use Rattle.std.proofs.lemmas.List.{append-nil}
 use Rattle.std.proofs.lemmas.List.Elements.{All-weaker}
 use Rattle.disk.specs.Crash.{Image}
+use Rattle.disk.specs.Device.{current}
 use Rattle.model.specs.Entry.{Entry}
 use Rattle.procedures.specs.After.{after as leads_to}
 use Rattle.model.specs.Tree.{Tree}
@@ -16,6 +17,7 @@ use Rattle.store_promise.specs.declared.events.Event.TheVariants as event
 use Rattle.store_promise.specs.declared.events.Step.{Step}
 use Rattle.store_promise.specs.declared.events.Step.TheVariants as step
 use Rattle.store_promise.specs.declared.transcript.Run.{Run}
+use Rattle.store_promise.specs.DeviceCalls.{DoesStepBy}
 use Rattle.store_promise.specs.Headline.{StandsAfter}
 use Rattle.store_promise.specs.LogTold.{CallTold, LogTold, idle, may_install_told, may_log_told, out, was_made}
 use Rattle.store_promise.specs.NextCall.{IsNextOfInstalling, next_log_call}
@@ -32,6 +34,7 @@ use Rattle.store_workers.specs.Asked.{Asking}
 use Rattle.store_runs.specs.AtWork.{AreLoadedFor, FetchesFor, IsCoreAtWork, IsLoadedFor, LoadsFor, fetches_of}
 use Rattle.store_runs.specs.AtWork.{has_taken}
 use Rattle.store_runs.specs.Going.{IsGoing, IsNextEvent, NotesStep, may_make}
+use Rattle.store_runs.specs.Running.{DoesItsStep}
 use Rattle.store_workers.specs.Seen.{Seen, seen_in}
 use Rattle.store_workers.specs.Stages.{IsWorkerAt, progress_of}
 use Rattle.store_workers.specs.Worker.{GoesWith}
@@ -301,6 +304,7 @@ told_log told now (Some one) = refl
 module _ (b : Beginning) (now : Event) (old new : StoreSide) (made : Option Step) (worker : State)
     (before after : Run)
     (is_next : IsNextEvent b now before) (is : IsLogStep (may_make now) old made new)
+    (does : DoesItsStep old made new)
     (with : GoesWith worker new.core)
     (notes : NotesStep made before after) (going : IsGoing b old worker before) where
   abbrev pub t : Transcript
@@ -340,6 +344,8 @@ module _ (b : Beginning) (now : Event) (old new : StoreSide) (made : Option Step
     taken = of_side.taken;
     notes = record { entry = beside.no_commit; answer = no_answer (worker_of now) of_side.of_none };
     device = is.device;
+    does = subst (λ (log : LogTold). DoesStepBy log made (current old.device) (current new.device))
+        (sym going.run.told.log) does;
     same = refl;
     blocks = λ place within. refl;
     running = subst (λ (es : List Entry). IsRunningOver o home new (fetches_of worker) (b.first + 1) b.tree

@@ -92,6 +92,7 @@ module _ (b : Beginning) (keeps_model : Type 0) (store : StoreSide) (device : De
   none_due same at tells = unmoved 0 same at (record {
     taken = taken None tells.may;
     device = still;
+    does = λ block. refl;
     running = going.run.running;
     told = going.run.told;
     stands = going.stands;
@@ -121,6 +122,7 @@ module _ (b : Beginning) (keeps_model : Type 0) (store : StoreSide) (device : De
         (Some one) s) (sym read.worker) (record {
           taken = taken (Some one) tells.may;
           device = moved;
+          does = read.call.contents;
           running = running;
           told = told_then;
           stands = tells.stands;

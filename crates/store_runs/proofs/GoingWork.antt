@@ -7,6 +7,7 @@ use Rattle.std.proofs.lemmas.Bool.{le-leb, lt-leb, leb-true, leb-false}
 use Rattle.std.proofs.lemmas.List.{append-nil, length-map, map-append, take-append-le, take_all}
 use Rattle.std.specs.Prelude.{All, IsSomeAnd}
 use Rattle.disk.specs.Crash.{Image}
+use Rattle.disk.specs.Device.{current}
 use Rattle.limits.specs.declared.TheConstants.{BLOCK_BYTES}
 use Rattle.layout.specs.declared.geometry.Geometry.{Geometry}
 use Rattle.layout.specs.Stands.{Stands}
@@ -34,6 +35,7 @@ use Rattle.model.specs.Calls.{has_rules}
 use Rattle.store_promise.specs.Schedule.{IsStepOfCalled, IsStepOfWork, IsTaken, Setting, Told, told_after}
 use Rattle.store_promise.specs.ToldOf.{log_told}
 use Rattle.store_promise.specs.Transcript.{Transcript, calls_device, entries_of, entry_of, transcript_of}
+use Rattle.store_promise.proofs.DeviceCalls.{does_nothing}
 use Rattle.run_law.specs.Noting.{IsAnswerOf, IsEntryOf, Noted, TellsOfEvent, clock_now}
 use Rattle.run_law.specs.Noting.{commits, ends, listed, progress_now, told_now, with_noted}
 use Rattle.run_law.specs.Run.{Beginning, ChangesOwn, ChangesOwnIn, GoesOn, IsRun}
@@ -315,6 +317,9 @@ module _ (b : Beginning) (clock : ℕ) (store : StoreSide) (worker new : State) 
       taken = taken;
       notes = tells;
       device = moved (work_calls_nothing o so_far 0 (progress_of worker) made may);
+      does = does_nothing so_far.log.log_call so_far.log.inst_call made (current store.device)
+          (current store.device) (work_calls_nothing o so_far 0 (progress_of worker) made may)
+          (λ block. refl);
       same = left.setting;
       blocks = left.blocks;
       running = subst (λ (es : List Entry). IsRunningOver left.later going.base then_store (fetches_of new)

@@ -1,10 +1,12 @@
 -- What is true of a run that goes on.
 use Rattle.std.specs.Prelude.{◌≡◌, ℕ, ◌+◌, ◌-◌, ◌^◌, Bool, Option, Some, None, IfSome, if◌then◌else◌, min}
-use Rattle.disk.specs.Device.{Device}
+use Rattle.disk.specs.Device.{Device, current}
 use Rattle.txn.specs.Core.{CoreState}
 use Rattle.wal.specs.Io.{Io, IsCallWithin}
 use Rattle.store_promise.specs.declared.events.Step.{Step}
+use Rattle.store_promise.specs.DeviceCalls.{DoesStep}
 use Rattle.store_promise.specs.Running.{StoreSide}
+use Rattle.store_promise.specs.ToldOf.{call_told}
 use Rattle.store_promise.specs.Transcript.{calls_device}
 use Rattle.store_images.specs.LogSide.{pending_of}
 use Rattle.store_workers.specs.Worker.{Fits}
@@ -19,6 +21,11 @@ side_of device core calls = record {
   logging = pending_of calls.log calls.log_made;
   installing = pending_of calls.inst calls.inst_made;
 }
+
+-- a step does the call that the log, or the installer, has out, or nothing
+abbrev pub DoesItsStep : StoreSide → Option Step → StoreSide → Type 0
+DoesItsStep old made new = DoesStep (call_told old.logging) (call_told old.installing) made
+    (current old.device) (current new.device)
 
 -- a device call that is out goes to a block of the image
 abbrev pub IsWithin : ℕ → Option Io → Type 0

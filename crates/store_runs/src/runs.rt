@@ -2,7 +2,7 @@
 ghost use Rattle.std.specs.Prelude.{◌≡◌, ℕ, MatchResult, Ok, Err};
 ghost use Rattle.model.specs.Tree.{Tree};
 ghost use Rattle.store_promise.specs.Headline.{IsPromised};
-ghost use Rattle.store_promise.specs.Transcript.{transcript_of};
+ghost use Rattle.store_promise.specs.Transcript.{report_of};
 
 mod going;
 mod going_workers;
@@ -16,7 +16,7 @@ use store_promise::{Event, OpenFault, Run};
 
 /// Opens a store and takes events one by one, with one worker for now. An event that doesn't apply does
 /// nothing; each other makes one step. All events are taken, or fewer where there was no memory to tell of
-/// the next. The disk comes back as the run left it. What it promises of a device that keeps its model is
+/// the next, which is noted. The disk comes back as the run left it. What it promises of a device that keeps its model is
 /// `promised`: it holds at each stop of the run, its opening included.
 pub fn run<D: CrashDisk>(
     alloc: Global,
@@ -28,7 +28,7 @@ pub fn run<D: CrashDisk>(
     ensures promised { (tree : Tree) (first : ℕ) → MatchResult result.1
         (λ told. IsPromised (D.keeps_model result.0) (D.device disk) (D.device result.0) tree first
         workers events.items
-        (Ok (transcript_of told)))
+        (Ok (report_of told)))
         (λ fault. IsPromised (D.keeps_model result.0) (D.device disk) (D.device result.0) tree first
         workers events.items
         (Err fault)) }

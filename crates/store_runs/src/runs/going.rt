@@ -10,6 +10,7 @@ ghost use Rattle.run_law.specs.Run.{Beginning};
 ghost use Rattle.store_promise.specs.Transcript.{transcript_of};
 ghost use Rattle.run_law.specs.Noting.{clock_now};
 ghost use Rattle.store_runs.specs.Going.{IsGoing, IsNextEvent, KeepsCore, NotesStep, may_make};
+ghost use Rattle.store_runs.specs.Running.{DoesItsStep};
 ghost use Rattle.store_workers.specs.Telling.{HasWorked};
 ghost use Rattle.store_workers.specs.WorkerSteps.{side};
 ghost use Rattle.store_workers.specs.Worker.{GoesWith};
@@ -19,6 +20,7 @@ ghost use Rattle.store_workers.specs.declared.workers.parts.State.{State};
 pub(super) fn a_log_event_leaves_a_run_going()
     ensures { (b : Beginning) (now : Event) (old new : StoreSide) (made : Option Step) (worker : State)
         (before after : Run) → IsNextEvent b now before → IsLogStep (may_make now) old made new
+        → DoesItsStep old made new
         → GoesWith worker new.core → NotesStep made before after
         → IsGoing b old worker before → IsGoing b new worker after }
 {

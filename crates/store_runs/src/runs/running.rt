@@ -1,16 +1,16 @@
 //! The events of a run.
 ghost use Rattle.std.specs.Prelude.{◌≡◌, ℕ, ◌+◌, ◌^◌, ◌<◌, ◌++◌, IsTrue, List, [], None, length, vec_len};
-ghost use Rattle.std.specs.Prelude.{vec_capacity};
+ghost use Rattle.std.specs.Prelude.{IsFalse, false, vec_capacity};
 ghost use Rattle.model.specs.Entry.{Entry as ToldEntry};
 ghost use Rattle.model.specs.Sound.{SoundTime};
 ghost use Rattle.txn.specs.Core.{CoreState};
 ghost use Rattle.store_promise.specs.Room.{HasRoom};
 ghost use Rattle.store_promise.specs.Running.{IsLogStep};
-ghost use Rattle.store_promise.specs.Transcript.{entries_of, transcript_of};
+ghost use Rattle.store_promise.specs.Transcript.{calls_device, entries_of, refusals, transcript_of};
 ghost use Rattle.store_images.specs.LogSide.{MayInstIo, MayInstall, MayLog, MayLogIo};
 ghost use Rattle.store_runs.specs.Going.{KeepsCore, LeavesGoing, run_side};
 ghost use Rattle.store_workers.specs.Noting.{NotesWork};
-ghost use Rattle.store_runs.specs.Running.{RunsWell, counted, one_more, side_of};
+ghost use Rattle.store_runs.specs.Running.{DoesItsStep, RunsWell, counted, one_more, side_of};
 ghost use Rattle.store_images.specs.Settling.{IsIdle};
 ghost use Rattle.store_workers.specs.Telling.{HasWorked, TakesCall, TellsWork, answers_told};
 ghost use Rattle.store_workers.specs.Telling.{entries_told, told};
@@ -90,6 +90,7 @@ impl<D: CrashDisk> Running<D> {
             (run_side (D.device self.new.store.disk) self.new.store.core self.new.calls self.new.worker.state
             self.new.clock) run.new }
         ensures told { IsTrue result → length run.new.steps.items ≡ length run.old.steps.items + 1 }
+        ensures refused { IsFalse result → 0 < refusals run.new }
     {
         if run.make_room().is_err() {
             return false;
@@ -259,6 +260,7 @@ impl<D: CrashDisk> Running<D> {
         requires { RunsWell self.old.worker self.old.store.core self.old.calls }
         ensures well { RunsWell self.new.worker self.new.store.core self.new.calls }
         ensures model { D.keeps_model self.new.store.disk → D.keeps_model self.old.store.disk }
+        ensures quiet { calls_device result ≡ false }
         ensures step { IsLogStep MayLog
             (side_of (D.device self.old.store.disk) self.old.store.core self.old.calls) result
             (side_of (D.device self.new.store.disk) self.new.store.core self.new.calls) }
@@ -296,6 +298,9 @@ impl<D: CrashDisk> Running<D> {
         requires { RunsWell self.old.worker self.old.store.core self.old.calls }
         ensures well { RunsWell self.new.worker self.new.store.core self.new.calls }
         ensures model { D.keeps_model self.new.store.disk → D.keeps_model self.old.store.disk }
+        ensures does { DoesItsStep
+            (side_of (D.device self.old.store.disk) self.old.store.core self.old.calls) result
+            (side_of (D.device self.new.store.disk) self.new.store.core self.new.calls) }
         ensures step { IsLogStep MayLogIo
             (side_of (D.device self.old.store.disk) self.old.store.core self.old.calls) result
             (side_of (D.device self.new.store.disk) self.new.store.core self.new.calls) }
@@ -321,6 +326,7 @@ impl<D: CrashDisk> Running<D> {
         requires { RunsWell self.old.worker self.old.store.core self.old.calls }
         ensures well { RunsWell self.new.worker self.new.store.core self.new.calls }
         ensures model { D.keeps_model self.new.store.disk → D.keeps_model self.old.store.disk }
+        ensures quiet { calls_device result ≡ false }
         ensures step { IsLogStep MayInstall
             (side_of (D.device self.old.store.disk) self.old.store.core self.old.calls) result
             (side_of (D.device self.new.store.disk) self.new.store.core self.new.calls) }
@@ -358,6 +364,9 @@ impl<D: CrashDisk> Running<D> {
         requires { RunsWell self.old.worker self.old.store.core self.old.calls }
         ensures well { RunsWell self.new.worker self.new.store.core self.new.calls }
         ensures model { D.keeps_model self.new.store.disk → D.keeps_model self.old.store.disk }
+        ensures does { DoesItsStep
+            (side_of (D.device self.old.store.disk) self.old.store.core self.old.calls) result
+            (side_of (D.device self.new.store.disk) self.new.store.core self.new.calls) }
         ensures step { IsLogStep MayInstIo
             (side_of (D.device self.old.store.disk) self.old.store.core self.old.calls) result
             (side_of (D.device self.new.store.disk) self.new.store.core self.new.calls) }

@@ -68,6 +68,7 @@ returns c = λ b base core position opens new.
             (has.blocks ∙ sym size) has.inodes (λ place. refl);
         told = c.an_opening_begins_a_run.ensures.told b.before b.opened base core b.tree b.first o opens new;
         moved = c.a_device_counts_the_calls_of_its_steps.ensures.first b.opened;
+        did = λ index made same. absurd (no_some made same);
         boot = refl;
         leads = refl;
         files = λ place. record { left = b.tree; leads = no_entry_after b.tree place; stands = has.stands };

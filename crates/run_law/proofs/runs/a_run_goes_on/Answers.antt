@@ -7,6 +7,7 @@ use Rattle.store_promise.specs.Running.{IsTold}
 use Rattle.store_promise.specs.Schedule.{Setting, Told}
 use Rattle.run_law.proofs.Before.{told_stays}
 use Rattle.run_law.proofs.ChangesGrow.{changes_on}
+use Rattle.run_law.proofs.Did.{did_on}
 use Rattle.run_law.proofs.Stops.{left_now, past_then}
 use Rattle.run_law.proofs.runs.a_run_goes_on.Goals as goal
 
@@ -26,6 +27,8 @@ returns c = λ b o later t base home side new fetches left last next noted run g
           (sym (notes.told b t goes.event noted goes.next)) goes.told;
       moved = c.a_device_counts_the_calls_of_its_steps.ensures.step b.opened side.device new.device
           t.steps noted.made run.moved goes.device;
+      did = did_on b.events t noted b.opened.clock side.device new.device run.moved.calls goes.device.past
+          goes.device.calls run.did goes.does;
       boot = run.boot;
       leads = goes.leads;
       files = goes.files;

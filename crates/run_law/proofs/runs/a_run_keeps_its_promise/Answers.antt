@@ -79,6 +79,7 @@ returns c = λ b o t base side fetches last run left.
       calls = run.moved.calls ∙ ap (λ (n : ℕ). b.opened.clock + n) (sym (clock_is t));
       failures = run.moved.failures;
       told = run.moved.told;
+      did = run.did;
       left = left;
       stops = each_stop b o t base side fetches last run settled_is now
           (λ clock place was. was_told o b.workers b.events t b.tree last run.well.taken run.well.history

@@ -10,7 +10,7 @@ use Rattle.store_promise.proofs.one_setattr.a_run_of_one_setattr_keeps_the_promi
 
 pub returns : goal.returns
 returns c =
-    λ before opened later g blocks changed tree next first one reply opens geometry stands after_it room went trees
+    λ before opened later g blocks changed tree next first one reply opens geometry stands after_it room went did trees
     others rules asks steps.
     record {
       opened = opened;
@@ -22,6 +22,7 @@ returns c =
       failures = omega (arith, went.failures);
       told = none_is_told opened later (told_of (first + 1) one reply).steps went.past went.failures
           went.clock refl;
+      did = did;
       left = left before opened later tree next first one.position one reply opens went blocks
           changed trees steps;
       stops = stops before opened later tree next first one.position one reply opens went blocks

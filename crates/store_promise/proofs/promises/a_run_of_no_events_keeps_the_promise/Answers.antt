@@ -126,6 +126,7 @@ returns c = λ before later tree first position workers blocks opened whole.
       calls = omega arith;
       failures = omega arith;
       told = tt;
+      did = λ index made same. absurd (no-some made same);
       left = opened.left;
       stops = λ clock image from to crash. either before later tree first position clock image blocks
           opened whole from to crash (cases_lt clock later.clock);

@@ -1,10 +1,10 @@
-use Rattle.std.proofs.Common.{rules, refl, ◌∙◌, ap, sym, subst, ◌++◌, ◌∷◌, [], length, length-append, arith}
+use Rattle.std.proofs.Common.{rules, refl, ◌∙◌, ap, sym, subst, ◌<◌, ◌++◌, ◌∷◌, [], length, length-append, arith}
 use Rattle.std.proofs.lemmas.List.{append_assoc}
 use Rattle.std.specs.Vec.Iter.{into_iter_items}
-use Rattle.store_promise.specs.Headline.{KeepsPromise}
+use Rattle.store_promise.specs.Headline.{EndsWell, KeepsPromise}
 use Rattle.store_promise.specs.OpenSince.{file_blocks}
 use Rattle.store_promise.specs.Schedule.{Setting}
-use Rattle.store_promise.specs.Transcript.{transcript_of}
+use Rattle.store_promise.specs.Transcript.{refusals, report_of, transcript_of}
 use Rattle.store_runs.specs.Going.{HasGone, begins, run_side}
 use Rattle.store_workers.specs.Worker.{Fits}
 use Rattle.store_runs.proofs.RunTaken.{goes_with}
@@ -123,9 +123,25 @@ returns-clause-promised g c = λ tree first may.
           items invariant.3
           (so_far (w.take.ensures.model kept)) w.take.ensures.goes))
     ] in
-    subst (λ disk. KeepsPromise before (g.D.CrashDisk.device disk) tree first c.args.workers events
-    (transcript_of told)) (sym disk_is)
-    (subst (λ n. KeepsPromise before (g.D.CrashDisk.device last.store.disk) tree first n events
-    (transcript_of told)) (sym may.alone)
-    (promise_kept before tree first events side told (g.met.D.CrashDisk.whole last.store.disk keeps) gone
-    c.a_run_keeps_its_promise.ensures))
+    let all : length told.steps.items < length events → 0 < refusals told = λ short. elim c.match-next.branch [
+      | in-None w ↦
+          let it = c.events.event-iterator in
+          let none = w.in-None.ensures.steps.0 in
+          let left = it.rest.ok.0 in
+          let steps_are = ap (λ run. length run.steps.items) w.run-is in
+          let so_far = invariant.3 in
+          let events_are = ap (λ es. length es) invariant.2 in
+          let sum = length-append c.events.yielded (into_iter_items it) in
+          absurd (omega (arith, none, left, steps_are, so_far, events_are, sum, short))
+      | in-Some+then-not-take w ↦
+          subst (λ run. 0 < refusals run) (sym w.run-is) (w.take.ensures.refused w.if-not-take.true)
+    ] in
+    record {
+      keeps = subst (λ disk. KeepsPromise before (g.D.CrashDisk.device disk) tree first c.args.workers events
+          (transcript_of told)) (sym disk_is)
+          (subst (λ n. KeepsPromise before (g.D.CrashDisk.device last.store.disk) tree first n events
+          (transcript_of told)) (sym may.alone)
+          (promise_kept before tree first events side told (g.met.D.CrashDisk.whole last.store.disk keeps) gone
+          c.a_run_keeps_its_promise.ensures));
+      all = all;
+    }

@@ -8,7 +8,11 @@ use Rattle.store_images.proofs.LogSteps.{failed_is, goes_on, of_installer, same_
 use Rattle.store_images.proofs.LogSteps.{same_transactions, some_made, some_out}
 use Rattle.store_images.proofs.Made.{made_later}
 use Rattle.store_images.specs.LogSide.{MayInstIo, pending_of}
-use Rattle.store_runs.specs.Running.{side_of}
+use Rattle.disk.specs.Device.{current}
+use Rattle.store_promise.specs.DeviceCalls.{DoesCallOut}
+use Rattle.store_promise.specs.ToldOf.{call_told}
+use Rattle.store_promise.proofs.DeviceCalls.{does_call}
+use Rattle.store_runs.specs.Running.{DoesItsStep, side_of}
 use Rattle.store_runs.proofs.runs.running.Running.inst_io.Goals as goal
 
 pub returns-clause-step : goal.returns-clause-step
@@ -42,3 +46,20 @@ returns-clause-step g c =
     (law base d e core io answer beside boot first last entries since c.perform.ensures.call))
     (λ base boot first last entries fetches since all. all)
     (λ base boot first last entries since. same_core_places base core)))
+
+pub returns-clause-does : goal.returns-clause-does
+returns-clause-does g c =
+    let d = g.D.CrashDisk.device c.args.self.now.store.disk in
+    let e = g.D.CrashDisk.device c.perform.new.disk in
+    let calls = c.args.self.now.calls in
+    let core = c.args.self.now.store.core in
+    let io = c.in_ok-io.io.now in
+    let ok = c.is_ok-ok.result in
+    let answer = c.perform.result in
+    let ok_is : ok ≡ is_ok answer = search rules in
+    let some : calls.inst ≡ Some io = search rules in
+    let unmade : calls.inst_made ≡ None = search rules in
+    subst (λ r. DoesItsStep (side_of d core calls) (Some (step.InstIo ok))
+    (side_of (g.D.CrashDisk.device r.store.disk) r.store.core r.calls)) (sym c.count.ensures)
+    (subst (λ (p : Pending). DoesCallOut (call_told p) ok (current d) (current e))
+    (sym (some_out calls.inst calls.inst_made io some unmade)) (does_call d e io answer ok ok_is c.perform.ensures.call))

@@ -1,12 +1,16 @@
-use Rattle.std.proofs.Common.{◌≡◌, ap, sym, subst, refl, arith, ℕ, zero, suc, Option, None}
+use Rattle.std.proofs.Common.{◌≡◌, ap, sym, subst, refl, arith, ℕ, zero, suc, false, Option, None}
+use Rattle.disk.specs.Device.{current}
 use Rattle.store_promise.specs.declared.events.Event.{Event}
 use Rattle.store_promise.specs.declared.events.Event.TheVariants as event
 use Rattle.store_promise.specs.declared.events.Step.{Step}
 use Rattle.store_promise.specs.declared.transcript.Run.{Run}
-use Rattle.store_promise.specs.Running.{StoreSide}
+use Rattle.store_promise.specs.Running.{IsMovedBy, StoreSide}
+use Rattle.store_promise.specs.ToldOf.{call_told}
+use Rattle.store_promise.specs.Transcript.{calls_device}
+use Rattle.store_promise.proofs.DeviceCalls.{does_nothing, not_called}
 use Rattle.run_law.specs.Run.{Beginning}
 use Rattle.store_runs.specs.Going.{IsGoing, IsNextEvent, NotesStep}
-use Rattle.store_runs.specs.Running.{side_of}
+use Rattle.store_runs.specs.Running.{DoesItsStep, side_of}
 use Rattle.txn.specs.Core.{CoreState}
 use Rattle.store_workers.specs.Worker.{GoesWith}
 use Rattle.store_workers.specs.declared.workers.Worker.{Worker}
@@ -16,6 +20,13 @@ use Rattle.store_workers.specs.WorkerSteps.{side}
 use Rattle.store_runs.proofs.GoingRead.{with_model}
 use Rattle.store_runs.proofs.RunTaken.{clock_told, goes_with, has_contents, read_on, taken_on, worked_on}
 use Rattle.store_runs.proofs.runs.running.Running.make.Goals as goal
+
+-- a step that is no call of the device does nothing to it
+is_quiet : (old new : StoreSide) (made : Option Step) → IsMovedBy old.device made new.device
+    → calls_device made ≡ false → DoesItsStep old made new
+is_quiet old new made moved none =
+    does_nothing (call_told old.logging) (call_told old.installing) made (current old.device) (current new.device)
+    none (not_called old.device new.device made moved none)
 
 -- by whether it is the one worker
 by_number : (b : Beginning) (number : ℕ) (old new : StoreSide) (worker later : State) (made : Option Step)
@@ -44,6 +55,7 @@ returns-in-Log-clause-goes g c = λ b keeps next at.
     c.args.run.now
     c.note_step-in-Log.new.self (subst (λ (e : Event). IsNextEvent b e c.args.run.now) c.in-Log.is next)
     c.log-step.ensures.step
+    (is_quiet old new c.log-step.result c.log-step.ensures.step.device c.log-step.ensures.quiet)
     (subst (λ (w : Worker). GoesWith w.state after.store.core) c.log-step.ensures.worker with)
     (record {
       steps = notes.steps;
@@ -69,7 +81,7 @@ returns-in-LogIo-clause-goes g c = λ b keeps next at.
     (c.a_log_event_leaves_a_run_going.ensures b event.LogIo old new c.log_io-step.result before.worker.state
     c.args.run.now
     c.note_step-in-LogIo.new.self (subst (λ (e : Event). IsNextEvent b e c.args.run.now) c.in-LogIo.is next)
-    c.log_io-step.ensures.step
+    c.log_io-step.ensures.step c.log_io-step.ensures.does
     (subst (λ (w : Worker). GoesWith w.state after.store.core) c.log_io-step.ensures.worker with)
     (record {
       steps = notes.steps;
@@ -96,6 +108,7 @@ returns-in-Install-clause-goes g c = λ b keeps next at.
     before.worker.state c.args.run.now
     c.note_step-in-Install.new.self (subst (λ (e : Event). IsNextEvent b e c.args.run.now) c.in-Install.is next)
     c.install-step.ensures.step
+    (is_quiet old new c.install-step.result c.install-step.ensures.step.device c.install-step.ensures.quiet)
     (subst (λ (w : Worker). GoesWith w.state after.store.core) c.install-step.ensures.worker with)
     (record {
       steps = notes.steps;
@@ -121,7 +134,7 @@ returns-in-InstIo-clause-goes g c = λ b keeps next at.
     (c.a_log_event_leaves_a_run_going.ensures b event.InstIo old new c.inst_io-step.result before.worker.state
     c.args.run.now
     c.note_step-in-InstIo.new.self (subst (λ (e : Event). IsNextEvent b e c.args.run.now) c.in-InstIo.is next)
-    c.inst_io-step.ensures.step
+    c.inst_io-step.ensures.step c.inst_io-step.ensures.does
     (subst (λ (w : Worker). GoesWith w.state after.store.core) c.inst_io-step.ensures.worker with)
     (record {
       steps = notes.steps;
