@@ -21,10 +21,11 @@ def holds(what, is_true):
 
 
 class Reader:
-    """The blocks of an image with its log laid over them, and the files of its tree by their numbers."""
+    """The blocks of an image, given by its bytes, with its log laid over them, and the files of its tree by their
+    numbers."""
 
-    def __init__(self, path):
-        self.bytes = contents(path)
+    def __init__(self, image):
+        self.bytes = image
         _, _, self.blocks, self.inodes, _, self.boot = struct.unpack_from("<8sIIIIQ", self.bytes)
         holds("block 0", self.bytes[:BLOCK_BYTES] == wire.super_block(self.blocks, self.inodes, self.boot))
         holds("the file's length", len(self.bytes) == BLOCK_BYTES * self.blocks)
@@ -175,7 +176,7 @@ class Reader:
 
 def tree_of(path):
     """The root of a good image's tree."""
-    return Reader(path).files[ROOT]
+    return Reader(contents(path)).files[ROOT]
 
 
 def described(root):
@@ -190,7 +191,7 @@ def described(root):
 def why_bad(path):
     """What shows that an image isn't good, or None."""
     try:
-        Reader(path)
+        Reader(contents(path))
     except Bad as error:
         return str(error)
     return None

@@ -1,5 +1,6 @@
 """Streams of calls that are drawn by a seed: the server answers each byte for byte as the plain program does, over an
-image that is made new, and goes on so where the image is opened again.
+image that is made new, and goes on so where the image is opened again. What it leaves is a good image with the tree
+that the plain program tells of.
 
 A stream is drawn call by call, from what the plain program answered to those before: the handles and names that it
 told of. FIRST_SEED in the environment begins with another seed than 0. The list `nfs.SERVED` says which procedures are
@@ -239,6 +240,7 @@ def assert_compared(place, seed):
     stream.weights = {it: weight for it, weight in served.items() if it not in OF_A_BOOT}
     stream.grow(drawn.randrange(CALLS // 2))
     what = f"seed {seed}, {blocks} blocks and {inodes} inodes"
+    told = client.tree()
     same(f"{what}: the plain program's end", client.end(), (b"", b"", 0))
     ran = place.run(["format", "image", "--blocks", str(blocks), "--inodes", str(inodes), "--time", str(MADE)])
     same(f"{what}: format", (ran.status, ran.errors), (0, b""))
@@ -249,7 +251,7 @@ def assert_compared(place, seed):
     ran = place.once(place.path("image"), b"".join(second), NOW)
     assert_same(f"{what}, opened again", stream, opened_again, ran.output)
     expect(f"{what}, opened again", ran, 0, ran.output, b"")
-    same(f"{what}: why the image is bad", checking.why_bad(place.path("image")), None)
+    same(f"{what}: the image's tree", conversing.tree_on(checking.tree_of(place.path("image"))), told)
 
 
 def case_of(seeds):

@@ -1,0 +1,269 @@
+"""Crashes of the built program, at each call that it makes of its image's file, and with each choice of what a crash
+leaves of the writes that weren't settled; and calls of the file that fail, each in turn.
+
+A library before the C library notes each write and each settling of the file and each reply, in their order. From these
+every image is made that a crash may leave, and `checking` reads it: it is good, and has the tree that a prefix of the
+calls leads to, which holds every call that was answered as stable.
+"""
+
+import itertools
+import os
+import random
+import struct
+
+from cases import checking, compared, conversing, images, nfs, plain, wire
+from cases.allocations import library
+from cases.running import BLOCKS, INODES, MADE, contents, expect, is_so, same
+
+# What is noted: a kind, a number and a count of bytes behind it. The call of the file whose number is in FAILED_CALL
+# fails, and with HALF_DONE a write is made all the same.
+LIBRARY = r"""
+#define _GNU_SOURCE
+#include <dlfcn.h>
+#include <errno.h>
+#include <fcntl.h>
+#include <stdlib.h>
+#include <unistd.h>
+
+typedef ssize_t reads(int, void *, size_t, off_t);
+typedef ssize_t positioned(int, const void *, size_t, off_t);
+typedef ssize_t writes(int, const void *, size_t);
+typedef int settles(int);
+static unsigned long called;
+
+static void note(char kind, unsigned long number, const void *bytes, unsigned long count) {
+    unsigned long head[3] = {kind, number, count};
+    int file = open(getenv("NOTED_CALLS"), O_WRONLY | O_CREAT | O_APPEND, 0600);
+    writes *next = (writes *)dlsym(RTLD_NEXT, "write");
+    if (next(file, head, sizeof head) < 0 || next(file, bytes, count) < 0)
+        _exit(99);
+    close(file);
+}
+static int is_due(void) {
+    const char *failed = getenv("FAILED_CALL");
+    return failed && ++called == strtoul(failed, 0, 10);
+}
+ssize_t pread(int file, void *bytes, size_t count, off_t at) {
+    if (is_due()) {
+        errno = EIO;
+        return -1;
+    }
+    note('r', at / 4096, "", 0);
+    return ((reads *)dlsym(RTLD_NEXT, "pread"))(file, bytes, count, at);
+}
+ssize_t pwrite(int file, const void *bytes, size_t count, off_t at) {
+    int fails = is_due();
+    if (!fails || getenv("HALF_DONE")) {
+        note('w', at / 4096, bytes, count);
+        if (((positioned *)dlsym(RTLD_NEXT, "pwrite"))(file, bytes, count, at) != (ssize_t)count)
+            _exit(99);
+    }
+    if (fails) {
+        errno = EIO;
+        return -1;
+    }
+    return count;
+}
+ssize_t pread64(int file, void *bytes, size_t count, off_t at) {
+    return pread(file, bytes, count, at);
+}
+ssize_t pwrite64(int file, const void *bytes, size_t count, off_t at) {
+    return pwrite(file, bytes, count, at);
+}
+int fdatasync(int file) {
+    if (is_due()) {
+        errno = EIO;
+        return -1;
+    }
+    note('s', 0, "", 0);
+    return ((settles *)dlsym(RTLD_NEXT, "fdatasync"))(file);
+}
+ssize_t write(int file, const void *bytes, size_t count) {
+    ssize_t done = ((writes *)dlsym(RTLD_NEXT, "write"))(file, bytes, count);
+    if (file == 1 && done > 0)
+        note('a', 0, bytes, done);
+    return done;
+}
+"""
+BLOCK, NOW = 4096, 2000
+# How a session may end in which a call of the file fails: where the call was one of the opening, and behind it.
+ENDS = [(0, b""), (1, b"nfsd: 5 Device\n"), (1, b"nfsd: 6 Device\n")]
+# How many images are looked at, of those that one stop may leave.
+MOST_CHOICES = 40
+
+
+def run_noted(place, shared, arguments, data=b"", **given):
+    """Runs the program, and gives what came of it and what it noted: kind, number and bytes of each."""
+    noted = place.path("noted")
+    if os.path.exists(noted):
+        os.remove(noted)
+    ran = place.run(arguments, data, env={**os.environ, "LD_PRELOAD": shared, "NOTED_CALLS": noted, **given})
+    found, at, events = contents(noted) if os.path.exists(noted) else b"", 0, []
+    while at < len(found):
+        kind, number, count = struct.unpack_from("<QQQ", found, at)
+        events.append((chr(kind), number, found[at + 24 : at + 24 + count]))
+        at += 24 + count
+    return ran, events
+
+
+def left_by_a_crash(before, events, drawn):
+    """The images that a crash behind these events may leave of the one before them: of each block that was written
+    since the last settling any content since then."""
+    settled, open_blocks = dict(enumerate_blocks(before)), {}
+    for kind, number, data in events:
+        if kind == "w":
+            open_blocks.setdefault(number, [settled[number]]).append(data)
+        elif kind == "s":
+            settled.update({it: found[-1] for it, found in open_blocks.items()})
+            open_blocks = {}
+    choices = itertools.product(*(range(len(it)) for it in open_blocks.values()))
+    count = 1
+    for it in open_blocks.values():
+        count *= len(it)
+    if count > MOST_CHOICES:
+        some = [[drawn.randrange(len(it)) for it in open_blocks.values()] for _ in range(MOST_CHOICES)]
+        choices = [[0] * len(open_blocks), [len(it) - 1 for it in open_blocks.values()], *some]
+    for choice in choices:
+        left = dict(settled)
+        left.update({number: found[it] for (number, found), it in zip(open_blocks.items(), choice)})
+        yield b"".join(left.values())
+
+
+def enumerate_blocks(image):
+    return ((at // BLOCK, image[at : at + BLOCK]) for at in range(0, len(image), BLOCK))
+
+
+def answered_by(events):
+    """How many calls were answered whole."""
+    return len(wire.records(b"".join(data for kind, _, data in events if kind == "a")))
+
+
+def tree_of(image):
+    return conversing.tree_on(checking.Reader(image).files[images.ROOT])
+
+
+class Stream:
+    """Calls by a seed, the tree behind each, and which of them are answered as stable."""
+
+    def __init__(self, place, seed, calls):
+        drawn = random.Random(seed)
+        command = plain.command_of(place)
+        client = conversing.with_plain(place, command, BLOCKS, INODES, NOW)
+        weights = {it: weight for it, weight in compared.WEIGHTS.items() if it in nfs.SERVED}
+        grown = compared.Stream(client, drawn, weights)
+        grown.grow(calls)
+        client.end()
+        self.records, self.replies, self.asked = grown.records, grown.replies, grown.asked
+        self.trees = [self.tree_behind(place, command, count) for count in range(calls + 1)]
+        self.is_stable = [self.changes(it) and not self.is_unstable(it) for it in range(calls)]
+
+    def tree_behind(self, place, command, count):
+        client = conversing.with_plain(place, command, BLOCKS, INODES, NOW)
+        for record in self.records[:count]:
+            client.reply(record)
+        found = client.tree()
+        client.end()
+        return found
+
+    def changes(self, call):
+        return self.trees[call] != self.trees[call + 1]
+
+    def is_unstable(self, call):
+        """An UNSTABLE WRITE, which is answered before it is settled."""
+        return self.asked[call].startswith("WRITE")
+
+    def least(self, answered):
+        """The least prefix that may be left once so many calls were answered."""
+        stable = [it + 1 for it in range(answered) if self.is_stable[it] or self.asked[it].startswith("COMMIT")]
+        return max(stable, default=0)
+
+    def assert_prefix(self, what, tree, answered):
+        lawful = self.trees[self.least(answered) :]
+        told = f"{what}: after {answered} answers the tree is that of no lawful prefix: {list(tree.items())[:3]}"
+        is_so(told, tree in lawful)
+
+
+def shared_library(place):
+    return library(place, LIBRARY)
+
+
+def assert_kept_in_crashes(place, seed, calls):
+    shared, image, stream = shared_library(place), place.image(), Stream(place, seed, calls)
+    before, drawn = contents(image), random.Random(seed)
+    ran, events = run_noted(place, shared, ["once", image, "--time", str(NOW)], b"".join(stream.records))
+    expect(f"seed {seed}", ran, 0, b"".join(stream.replies), b"")
+    same(f"seed {seed}: the answers that were noted", answered_by(events), len(stream.records))
+    seen = {}
+    for stop in range(len(events) + 1):
+        if stop < len(events) and events[stop][0] == "r":
+            continue
+        answered = answered_by(events[:stop])
+        for left in left_by_a_crash(before, events[:stop], drawn):
+            stream.assert_prefix(f"seed {seed}, stop {stop}", tree_of(left), answered)
+            seen[hash(left)] = left
+    return list(seen.values())
+
+
+def assert_opened_in_crashes(place, image, what, drawn):
+    """An opening of this image that is stopped at each of its calls leaves its tree."""
+    wanted = tree_of(image)
+    with open(place.path("image"), "wb") as file:
+        file.write(image)
+    ran, events = run_noted(place, place.path("fails.so"), ["once", place.path("image"), "--time", str(NOW)])
+    expect(what, ran, 0, b"", b"")
+    for stop in range(len(events) + 1):
+        for left in left_by_a_crash(image, events[:stop], drawn):
+            same(f"{what}, stop {stop} of an opening", tree_of(left), wanted)
+
+
+def case_of(seed):
+    def crash(place):
+        drawn = random.Random(seed)
+        left = assert_kept_in_crashes(place, seed, 16)
+        for image in drawn.sample(left, min(6, len(left))):
+            assert_opened_in_crashes(place, image, f"seed {seed}", drawn)
+
+    return crash
+
+
+for number in range(compared.FIRST_SEED, compared.FIRST_SEED + 3):
+    globals()[f"test_a_crash_keeps_a_prefix_with_all_that_was_answered_as_stable_by_seed_{number}"] = case_of(number)
+
+
+def test_a_crash_of_format_leaves_the_old_image_none_or_the_new_one(place):
+    shared, image, drawn = shared_library(place), place.image(), random.Random(5)
+    ran = place.once(image, wire.setattr_call(4, 0o700))
+    same("SETATTR", (ran.status, ran.errors), (0, b""))
+    old, before = contents(image), tree_of(contents(image))
+    counts = ["--blocks", str(BLOCKS), "--inodes", str(INODES), "--time", str(MADE + 1)]
+    ran, events = run_noted(place, shared, ["format", image, *counts])
+    same("format", (ran.status, ran.errors), (0, b""))
+    after, seen = tree_of(contents(image)), set()
+    for stop in range(len(events) + 1):
+        for left in left_by_a_crash(old, events[:stop], drawn):
+            # Without its super block it is no image.
+            seen.add("none" if not any(left[:BLOCK]) else "old" if tree_of(left) == before else "new")
+            is_so(f"stop {stop} leaves another image", not any(left[:BLOCK]) or tree_of(left) in (before, after))
+    same("which were seen", seen, {"old", "none", "new"})
+
+
+def test_a_call_of_the_file_that_fails_loses_nothing_that_was_answered(place):
+    shared, image, stream = shared_library(place), place.image(), Stream(place, 11, 12)
+    fresh, data = contents(image), b"".join(stream.records)
+    arguments = ["once", image, "--time", str(NOW)]
+    _, events = run_noted(place, shared, arguments, data)
+    calls = sum(kind != "a" for kind, _, _ in events)
+    for failed, half_done in itertools.product(range(1, calls + 1), ({}, {"HALF_DONE": "1"})):
+        with open(image, "wb") as file:
+            file.write(fresh)
+        what = f"call {failed} fails{', but is done' if half_done else ''}"
+        ran, _ = run_noted(place, shared, arguments, data, FAILED_CALL=str(failed), **half_done)
+        is_so(f"{what}: status {ran.status} and {ran.errors!r}", (ran.status, ran.errors) in ENDS)
+        answered = 0
+        for at, message in enumerate(wire.records(ran.output)):
+            # The first call that isn't answered as it would be is answered IO.
+            if wire.record(message) != stream.replies[at]:
+                same(f"{what}: status of {stream.asked[at]}", nfs.result_of(message)[:4], wire.words(nfs.IO))
+                break
+            answered = at + 1
+        stream.assert_prefix(what, tree_of(contents(image)), answered)
