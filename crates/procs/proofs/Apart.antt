@@ -15,9 +15,10 @@ use Rattle.layout.specs.Geometry.{data_at}
 use Rattle.layout.specs.Places.{inode_block, inode_offset}
 use Rattle.model.specs.Find.{number_in}
 use Rattle.txn.specs.Object.{ObjectBytes}
-use Rattle.procs.specs.Asks.{Asks, AsksOfFile, IsInodeAddr, NamesInode, WereAsked}
+use Rattle.procs.specs.Asks.{Asks, AsksOfFile, NamesInode, WereAsked}
+use Rattle.inode.specs.Read.{IsInodeAddr}
 use Rattle.procs.specs.Asks.{inode, indirect}
-use Rattle.procs.specs.Snap.{is_seen, same_addr}
+use Rattle.inode.specs.Snap.{is_seen, same_addr}
 use Rattle.procs.proofs.AskedFor.{is_data_block}
 
 -- ---- addresses

@@ -21,15 +21,16 @@ use Rattle.layout.specs.Fields.{four_at, is_zeros}
 use Rattle.txn.specs.Object.{ObjectBytes}
 use Rattle.txn.specs.Wishes.{IsWhole}
 use Rattle.layout.specs.declared.inode.Inode.{Inode}
-use Rattle.procs.proofs.AllTests.{all_two, is_less, no_more}
+use Rattle.inode.proofs.AllTests.{all_two, is_less, no_more}
 use Rattle.layout.proofs.AllNumbers.{map_is}
-use Rattle.procs.proofs.InodeThere.{data_of}
-use Rattle.procs.specs.Asks.{Asks, AsksOfFile, IsAskedInode, IsAskedOfFile, IsAskedWhole, NamesInode}
-use Rattle.procs.specs.Asks.{WasReadInode}
+use Rattle.inode.proofs.InodeThere.{data_of}
+use Rattle.procs.specs.Asks.{Asks, AsksOfFile, IsAskedOfFile, NamesInode}
+use Rattle.inode.specs.Read.{IsAskedInode, IsAskedWhole}
+use Rattle.inode.specs.Read.{WasReadInode}
 use Rattle.procs.specs.Asks.{inode, indirect}
-use Rattle.procs.specs.declared.snap.Snap.{Snap}
-use Rattle.procs.specs.declared.stop.Stop.{Stop}
-use Rattle.procs.specs.declared.stop.Stop.TheVariants.{Need, Io, NoMemory}
+use Rattle.inode.specs.declared.snap.Snap.{Snap}
+use Rattle.inode.specs.declared.stop.Stop.{Stop}
+use Rattle.inode.specs.declared.stop.Stop.TheVariants.{Need, Io, NoMemory}
 
 module _ (snap : Snap) (handle : List ℕ) (number : ℕ) (stamp : Stamp)
     (spelled : handle ≡ handle_bytes number stamp) (some : number ≢ 0) (within : number < snap.geometry.inodes)

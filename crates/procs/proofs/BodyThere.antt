@@ -13,9 +13,9 @@ use Rattle.layout.specs.InodeForm.{is_sound_kind, is_sound_file, is_sound_map, i
 use Rattle.layout.specs.InodeForm.{is_sound_directory, is_sound_link, names_first}
 use Rattle.procs.specs.declared.attributes.FoundFile.{FoundFile}
 use Rattle.procs.specs.FoundFile.{IsBodyOf, file_kind}
-use Rattle.procs.proofs.AllTests.{all_three, all_two, all_five, all_seven, no_more, same_number}
+use Rattle.inode.proofs.AllTests.{all_three, all_two, all_five, all_seven, no_more, same_number}
 use Rattle.procs.proofs.FileSizes.{regular_size, directory_size, link_size}
-use Rattle.procs.proofs.UsedBlocks.{counted, regular_counted, directory_counted, link_counted}
+use Rattle.inode.proofs.UsedBlocks.{counted, regular_counted, directory_counted, link_counted}
 
 module _ (g : Geometry) (content : Image) (found : FoundFile)
     (long : (number : ℕ) → length (content number) ≡ BLOCK_BYTES)

@@ -13,12 +13,12 @@ use Rattle.layout.specs.Fields.{numbers_at}
 use Rattle.layout.specs.InodeForm.{is_data_block_or_none, is_sound_kind, is_sound_file, is_sound_map}
 use Rattle.layout.specs.InodeForm.{is_sound_link, names_first}
 use Rattle.layout.specs.Parts.{content_in}
-use Rattle.procs.specs.declared.snap.Snap.{Snap}
-use Rattle.procs.specs.declared.stop.Stop.{Stop}
-use Rattle.procs.specs.declared.stop.Stop.TheVariants as stop
-use Rattle.procs.specs.Steps.{Saw, NamesOthers, NoneStand}
-use Rattle.procs.proofs.AllTests.{all_three, all_five, all_two}
-use Rattle.procs.proofs.InodeThere.{is_sound, is_of_kind, indirect_is, indirect_long}
+use Rattle.inode.specs.declared.snap.Snap.{Snap}
+use Rattle.inode.specs.declared.stop.Stop.{Stop}
+use Rattle.inode.specs.declared.stop.Stop.TheVariants as stop
+use Rattle.inode.specs.Read.{Saw, NamesOthers, NoneStand}
+use Rattle.inode.proofs.AllTests.{all_three, all_five, all_two}
+use Rattle.inode.proofs.InodeThere.{is_sound, is_of_kind, indirect_is, indirect_long}
 
 -- a test that all pass is passed by the last ones
 last_pass : (test : ℕ → Bool) (xs ys : List ℕ) → list_all test (xs ++ ys) ≡ true → list_all test ys ≡ true

@@ -13,13 +13,14 @@ use Rattle.layout.specs.declared.inode.Inode.{Inode}
 use Rattle.layout.specs.InodeForm.{read_inode}
 use Rattle.txn.specs.Object.{ObjectBytes}
 use Rattle.txn.specs.Wishes.{IsWhole}
-use Rattle.procs.specs.Asks.{Asks, AsksOfFile, IsInodeAddr, NamesInode, WasRead, WasReadInode, WereAsked}
+use Rattle.procs.specs.Asks.{Asks, AsksOfFile, NamesInode, WereAsked}
+use Rattle.inode.specs.Read.{IsInodeAddr, WasRead, WasReadInode}
 use Rattle.procs.specs.Asks.{WereAskedOnce}
 use Rattle.procs.specs.Asks.{inode, indirect}
 use Rattle.procs.specs.MostAsked.{most_asked}
-use Rattle.procs.specs.Snap.{is_seen, same_addr}
+use Rattle.inode.specs.Snap.{is_seen, same_addr}
 use Rattle.layout.proofs.Respelled.{same_number}
-use Rattle.procs.proofs.AllTests.{all_three}
+use Rattle.inode.proofs.AllTests.{all_three}
 use Rattle.procs.proofs.Apart.{is_same, neither, never, one_inode, one_number}
 
 -- ---- more that is read

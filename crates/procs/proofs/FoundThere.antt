@@ -20,8 +20,8 @@ use Rattle.layout.specs.Stands.{Stands}
 use Rattle.procs.specs.Steps.{IsFoundIn}
 use Rattle.procs.proofs.BodyThere.{has_body}
 use Rattle.model.proofs.Handled.{handled, stamped_ok}
-use Rattle.procs.proofs.InodeThere.{is_read, is_sound, is_of_kind, long, same_counted}
-use Rattle.procs.proofs.UsedBlocks.{counted}
+use Rattle.inode.proofs.InodeThere.{is_read, is_sound, is_of_kind, long, same_counted}
+use Rattle.inode.proofs.UsedBlocks.{counted}
 
 module _ (g : Geometry) (blocks : Image) (tree : Tree) (number : ℕ) (stamp : Stamp) (handle : List ℕ)
     (stands : Stands g blocks tree) (is : handle ≡ handle_bytes number stamp)

@@ -1,12 +1,8 @@
 pub mod AskedFor
-pub mod AllTests
-pub mod InodeThere
 pub mod FileSizes
-pub mod UsedBlocks
 pub mod BodyThere
 pub mod OnlyMode
 pub mod WrittenMode
-pub mod ReadThere
 pub mod FoundThere
 pub mod FarThere
 pub mod StepsOf

@@ -19,7 +19,7 @@ use Rattle.layout.specs.Fields.{numbers_at}
 use Rattle.layout.specs.InodeForm.{is_data_block_or_none}
 use Rattle.procs.specs.declared.next.Plan.{Plan}
 use Rattle.procs.specs.declared.next.Plan.TheVariants as plan
-use Rattle.procs.specs.declared.snap.Snap.{Snap}
+use Rattle.inode.specs.declared.snap.Snap.{Snap}
 use Rattle.procs.specs.Outcome.{Outcome}
 use Rattle.procs.specs.Refused.{IsDoneWith, IsIoWhereRefused, IsRefusedFile, NamesNoData, NoneRefusedIn}
 use Rattle.procs.proofs.Apart.{number_read}

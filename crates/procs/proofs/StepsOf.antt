@@ -2,7 +2,7 @@
 use Rattle.std.proofs.Common.{◌≡◌, ℕ, sym, ap, ◌∙◌, refl, subst, true, List, [], ◌∷◌, Option, Some, None}
 use Rattle.std.proofs.Common.{Result, Ok, Err, IfOk}
 use Rattle.std.specs.declared.alloc.AllocError.{AllocError}
-use Rattle.procs.specs.declared.stop.Stop.{Stop}
+use Rattle.inode.specs.declared.stop.Stop.{Stop}
 use Rattle.disk.specs.Crash.{Image}
 use Rattle.nfs_types.specs.declared.attributes.Attributes.{Attributes}
 use Rattle.nfs_types.specs.declared.attributes.NewAttributes.{NewAttributes}
@@ -36,7 +36,8 @@ use Rattle.txn.specs.Window.{with_objects}
 use Rattle.procs.specs.declared.attributes.FoundFile.{FoundFile}
 use Rattle.procs.specs.Outcome.{Outcome}
 use Rattle.procs.specs.FoundFile.{IsBodyOf, file_kind}
-use Rattle.procs.specs.Steps.{AreAsRead, IsFoundIn, IsInodeObject, IsSetFrom, IsStepOf, IsTold}
+use Rattle.inode.specs.Read.{AreAsRead}
+use Rattle.procs.specs.Steps.{IsFoundIn, IsInodeObject, IsSetFrom, IsStepOf, IsTold}
 use Rattle.procs.proofs.WrittenMode.{is_step}
 
 -- a step that writes nothing leads to the same tree

@@ -1,6 +1,5 @@
 -- What a call may ask to read, and to claim, by what was read for it so far.
-use Rattle.std.specs.Prelude.{◌≡◌, ◌≢◌, ℕ, ◌<◌, true, false, ◌⊎◌, Contains, List, Some, Ok, slice_get, take}
-use Rattle.limits.specs.declared.TheConstants.{INODE_BYTES}
+use Rattle.std.specs.Prelude.{◌≡◌, ◌≢◌, ℕ, ◌<◌, true, false, ◌⊎◌, List, Some, slice_get, take}
 use Rattle.nfs_types.specs.Handle.{handle_bytes}
 use Rattle.nfs_types.specs.declared.call.Call.{Call}
 use Rattle.nfs_types.specs.declared.call.Call.TheVariants as call
@@ -9,20 +8,13 @@ use Rattle.disk.specs.declared.block.BlockNo.{BlockNo}
 use Rattle.objects.specs.declared.addr.Addr.{Addr}
 use Rattle.layout.specs.declared.geometry.Geometry.{Geometry}
 use Rattle.layout.specs.declared.inode.Inode.{Inode}
-use Rattle.layout.specs.Places.{inode_block, inode_offset}
-use Rattle.layout.specs.InodeForm.{read_inode}
 use Rattle.txn.specs.Object.{ObjectBytes}
 use Rattle.txn.specs.Wishes.{IsWhole}
-use Rattle.procs.specs.declared.snap.Snap.{Snap}
-use Rattle.procs.specs.declared.stop.Stop.{Stop}
-use Rattle.procs.specs.declared.stop.Stop.TheVariants as stop
-use Rattle.procs.specs.Snap.{is_seen, is_claimed, same_addr}
-
--- the address is that of an inode
-pub record IsInodeAddr (g : Geometry) (number : ℕ) (addr : Addr) : Type 0 where
-  pub block : addr.block.0 ≡ inode_block g number
-  pub offset : addr.offset ≡ inode_offset number
-  pub len : addr.len ≡ INODE_BYTES
+use Rattle.inode.specs.declared.snap.Snap.{Snap}
+use Rattle.inode.specs.declared.stop.Stop.{Stop}
+use Rattle.inode.specs.declared.stop.Stop.TheVariants as stop
+use Rattle.inode.specs.Read.{IsInodeAddr, WasReadInode}
+use Rattle.inode.specs.Snap.{is_seen, is_claimed}
 
 -- the handle has the form of one that names the inode of this number; no inode has the number 0
 pub record NamesInode (g : Geometry) (handle : List ℕ) (number : ℕ) : Type 0 where
@@ -30,22 +22,6 @@ pub record NamesInode (g : Geometry) (handle : List ℕ) (number : ℕ) : Type 0
   pub spelled : handle ≡ handle_bytes number stamp
   pub some : number ≢ 0
   pub within : number < g.inodes
-
--- these bytes were read at the address
-pub record WasRead (objects : List ObjectBytes) (addr : Addr) (bytes : List ℕ) : Type 0 where
-  pub object : ObjectBytes
-  pub there : Contains objects object
-  pub at : same_addr addr object.addr ≡ true
-  pub bytes_are : object.bytes ≡ bytes
-
--- this inode was read under the number
-pub record WasReadInode (g : Geometry) (objects : List ObjectBytes) (number : ℕ) (inode : Inode) : Type 0
-  where
-    pub addr : Addr
-    pub at : IsInodeAddr g number addr
-    pub bytes : List ℕ
-    pub read : WasRead objects addr bytes
-    pub is_inode : read_inode g bytes ≡ Ok (Some inode)
 
 -- Of the file that a handle names, the inode is asked for, and then the indirect block that the inode names, if
 -- the inode bears the stamp of the handle.
@@ -95,18 +71,6 @@ pub record WereAskedOnce (g : Geometry) (call : Call) (objects : List ObjectByte
 -- what a call may ask to claim: no call with rules claims a block yet
 abbrev pub Claims : Geometry → Call → List ObjectBytes → BlockNo → Type 0
 Claims g asked objects block = ⊥
-
--- a plan stops for the inode of a number, for a whole block, and for what the file of a handle asks for
-abbrev pub IsAskedInode : Geometry → ℕ → Stop → Type 0
-IsAskedInode g number (stop.Need addr) = IsInodeAddr g number addr
-IsAskedInode g number stop.Io = Unit {0}
-IsAskedInode g number stop.NoMemory = Unit {0}
-
-abbrev pub IsAskedWhole : ℕ → Stop → Type 0
-IsAskedWhole number (stop.Need addr) = (block : BlockNo) × (block.0 ≡ number) × (number ≢ 0)
-    × IsWhole block addr
-IsAskedWhole number stop.Io = Unit {0}
-IsAskedWhole number stop.NoMemory = Unit {0}
 
 abbrev pub IsAskedOfFile : Snap → List ℕ → Stop → Type 0
 IsAskedOfFile snap handle (stop.Need addr) = AsksOfFile snap.geometry handle snap.objects.items addr

@@ -7,10 +7,10 @@ use Rattle.nfs_types.specs.declared.reply.Reply.{Reply}
 use Rattle.model.specs.Calls.{has_rules}
 use Rattle.txn.specs.Group.{blocks_of}
 use Rattle.txn.specs.Object.{ObjectBytes}
-use Rattle.procs.specs.declared.snap.Snap.{Snap}
+use Rattle.inode.specs.declared.snap.Snap.{Snap}
 use Rattle.procs.specs.Asks.{IsWritable}
 use Rattle.procs.specs.Outcome.{Outcome}
-use Rattle.procs.specs.Snap.{IsDoneFor}
+use Rattle.procs.specs.Outcome.{IsDoneFor}
 use Rattle.procs.specs.Steps.{IsStepOf}
 
 -- what is done names all that was read, and writes nothing else than that and what was claimed

@@ -1,5 +1,4 @@
 pub mod Outcome
-pub mod Snap
 pub mod FoundFile
 pub mod Steps
 pub mod Asks

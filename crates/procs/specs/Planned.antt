@@ -5,11 +5,11 @@ use Rattle.nfs_types.specs.declared.ctx.Ctx.{Ctx}
 use Rattle.layout.specs.declared.geometry.Geometry.{Geometry}
 use Rattle.procs.specs.declared.next.Plan.{Plan}
 use Rattle.procs.specs.declared.next.Plan.TheVariants as plan
-use Rattle.procs.specs.declared.snap.Snap.{Snap}
+use Rattle.inode.specs.declared.snap.Snap.{Snap}
 use Rattle.procs.specs.Asks.{Asks, Claims}
 use Rattle.procs.specs.Finished.{ChangesFew, EndsFrom}
 use Rattle.procs.specs.MostChanged.{most_changed}
-use Rattle.procs.specs.Snap.{is_claimed, is_seen}
+use Rattle.inode.specs.Snap.{is_claimed, is_seen}
 use Rattle.procs.specs.Steps.{IsStepOf}
 
 -- a plan asks for something new that its call asks for, or is done with what was read, and changes no more

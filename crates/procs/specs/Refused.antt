@@ -16,9 +16,9 @@ use Rattle.model.specs.Find.{number_in, stamp_in}
 use Rattle.model.specs.Refused.{refused}
 use Rattle.procs.specs.declared.next.Plan.{Plan}
 use Rattle.procs.specs.declared.next.Plan.TheVariants as plan
-use Rattle.procs.specs.declared.snap.Snap.{Snap}
+use Rattle.inode.specs.declared.snap.Snap.{Snap}
 use Rattle.procs.specs.Outcome.{Outcome}
-use Rattle.procs.specs.Steps.{Saw}
+use Rattle.inode.specs.Read.{Saw}
 
 -- the inode has an indirect block, and this names what is no data block
 pub record NamesNoData (g : Geometry) (blocks : Image) (inode : Inode) : Type 0 where

@@ -1,14 +1,11 @@
 -- What a plan writes.
-use Rattle.std.specs.Prelude.{◌≡◌, ℕ, Contains, List, Some, Result, Ok, Err, false, nat_eq, length}
-use Rattle.std.specs.List.{list_all}
-use Rattle.limits.specs.declared.TheConstants.{BLOCK_BYTES, INDIRECT_INDEXES}
+use Rattle.std.specs.Prelude.{◌≡◌, ℕ, List, Some, Result, Ok, Err}
 use Rattle.nfs_types.specs.declared.attributes.Attributes.{Attributes}
 use Rattle.nfs_types.specs.declared.call.Call.{Call}
 use Rattle.nfs_types.specs.declared.ctx.Ctx.{Ctx}
 use Rattle.model.specs.Attributes.{attributes_of}
 use Rattle.model.specs.Sound.{SoundTime}
 use Rattle.procedures.specs.Step.{step}
-use Rattle.layout.specs.Fields.{numbers_at}
 use Rattle.disk.specs.Crash.{Image}
 use Rattle.nfs_types.specs.declared.attributes.NewAttributes.{NewAttributes}
 use Rattle.nfs_types.specs.declared.ctx.Moment.{Moment}
@@ -19,17 +16,15 @@ use Rattle.model.specs.SetAttr.{with_attributes}
 use Rattle.layout.specs.declared.geometry.Geometry.{Geometry}
 use Rattle.layout.specs.declared.inode.Inode.{Inode}
 use Rattle.layout.specs.Decode.{inode_at, node_with}
-use Rattle.layout.specs.InodeForm.{inode_bytes, is_data_block_or_none}
+use Rattle.layout.specs.InodeForm.{inode_bytes}
 use Rattle.layout.specs.Places.{inode_block, inode_offset}
 use Rattle.layout.specs.Stands.{Stands}
 use Rattle.model.specs.Tree.{Tree}
 use Rattle.txn.specs.Object.{ObjectBytes}
-use Rattle.txn.specs.Window.{IsAsRead, with_objects}
+use Rattle.txn.specs.Window.{with_objects}
 use Rattle.procs.specs.declared.attributes.FoundFile.{FoundFile}
 use Rattle.procs.specs.Outcome.{Outcome}
-use Rattle.procs.specs.declared.snap.Snap.{Snap}
-use Rattle.procs.specs.declared.stop.Stop.{Stop}
-use Rattle.procs.specs.declared.stop.Stop.TheVariants as stop
+use Rattle.inode.specs.Read.{AreAsRead}
 use Rattle.procs.specs.FoundFile.{IsBodyOf}
 
 -- the inode has the attributes that are wanted, and else is the old one
@@ -47,37 +42,12 @@ pub record IsInodeObject (g : Geometry) (number : ℕ) (inode : Inode) (object :
   pub offset : object.addr.offset ≡ inode_offset number
   pub bytes : object.bytes ≡ inode_bytes inode
 
--- these blocks have what was read
-abbrev pub AreAsRead : Image → List ObjectBytes → Type 0
-AreAsRead blocks objects = (object : ObjectBytes) → Contains objects object → IsAsRead blocks object
-
--- what was read so far is what these blocks have
-abbrev pub Saw : Image → Snap → Type 0
-Saw blocks snap = AreAsRead blocks snap.objects.items
-
--- the plan failed, which it does for no blocks that stand for a tree
-abbrev pub NoneStand : Snap → Stop → Type 0
-NoneStand snap stop.Io = (blocks : Image) (tree : Tree) → Stands snap.geometry blocks tree → Saw blocks snap
-    → ⊥
-NoneStand snap stop.NoMemory = Unit {0}
-NoneStand snap (stop.Need addr) = Unit {0}
-
 -- what was found is the tree's file with its inode and the blocks that it uses, or why the tree has none
 abbrev pub IsFoundIn : Geometry → Image → Tree → List ℕ → Result FoundFile Status → Type 0
 IsFoundIn g blocks tree handle (Ok found) =
     (node : Node) × (find_file tree handle ≡ Ok (found.number, node))
     × (inode_at g blocks found.number ≡ Ok (Some found.inode)) × IsBodyOf found node.body
 IsFoundIn g blocks tree handle (Err status) = find_file tree handle ≡ Err status
-
--- the plan failed as the indirect block of this number names what is no data block
-abbrev pub NamesOthers : Snap → ℕ → Stop → Type 0
-NamesOthers snap indirect stop.Io = (blocks : Image) → Saw blocks snap
-    → length (blocks indirect) ≡ BLOCK_BYTES
-    → (nat_eq indirect 0 ≡ false)
-    × (list_all (is_data_block_or_none snap.geometry)
-    (numbers_at INDIRECT_INDEXES 0 (blocks indirect)) ≡ false)
-NamesOthers snap indirect stop.NoMemory = Unit {0}
-NamesOthers snap indirect (stop.Need addr) = Unit {0}
 
 -- the attributes that are told are those of what was found, or it is told why nothing was
 abbrev pub IsTold : Result FoundFile Status → Result Attributes Status → Type 0

@@ -8,7 +8,7 @@ ghost use Rattle.txn.specs.Object.{ObjectBytes};
 ghost use Rattle.wal_law.specs.Log.{IsHomeOn};
 ghost use Rattle.procs.specs.Asks.{Asks, WereAsked, WereAskedOnce};
 ghost use Rattle.procs.specs.MostAsked.{most_asked};
-ghost use Rattle.procs.specs.Snap.{is_seen};
+ghost use Rattle.inode.specs.Snap.{is_seen};
 
 /// What a call may ask to read lies behind the log and within the image.
 pub fn what_is_asked_for_is_home()

@@ -3,7 +3,7 @@ ghost use Rattle.std.specs.Prelude.{◌≡◌, ◌≤◌, length, IfOk};
 ghost use Rattle.limits.specs.declared.TheConstants.{CHANGED_BLOCKS};
 ghost use Rattle.txn.specs.Group.{blocks_of};
 
-use crate::Snap;
+use inode::Snap;
 use nfs_types::Reply;
 use std::alloc::AllocError;
 use std::marker::Model;
@@ -40,7 +40,7 @@ impl Model for Draft {
 }
 
 impl Draft {
-    ghost use Rattle.procs.specs.Snap.{IsDoneFor};
+    ghost use Rattle.procs.specs.Outcome.{IsDoneFor};
 
     /// What comes of a call, worked out from all that was read.
     pub(crate) fn new(snap: &Snap, reply: Reply, written: Vec<Object>) -> Result<Draft, AllocError>

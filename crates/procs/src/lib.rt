@@ -10,9 +10,7 @@ mod next;
 mod refused;
 mod rules;
 mod set_attr;
-mod snap;
 mod steps;
-mod stop;
 mod work;
 
 pub use asks::{
@@ -20,9 +18,9 @@ pub use asks::{
     what_is_asked_for_stays, what_is_read_was_asked_for,
 };
 pub use done::Done;
+pub use inode::Snap;
 pub use next::Plan;
 pub use refused::refused_reply;
 pub use rules::{has_rules, is_answered_stable};
-pub use snap::Snap;
 pub use steps::a_written_mode_is_a_step;
 pub use work::plan;

@@ -8,14 +8,17 @@ ghost use Rattle.model.specs.Attributes.{change_of};
 ghost use Rattle.model.specs.Node.{Body};
 ghost use Rattle.txn.specs.Object.{ObjectBytes};
 ghost use Rattle.procs.specs.FoundFile.{IsBodyOf};
-ghost use Rattle.procs.specs.Steps.{IsTold, IsStepOf, IsInodeObject, NoneStand};
+ghost use Rattle.procs.specs.Steps.{IsTold, IsStepOf, IsInodeObject};
+ghost use Rattle.inode.specs.Read.{NoneStand};
 ghost use Rattle.model.specs.Calls.{has_rules, sets_only_mode};
-ghost use Rattle.procs.specs.Asks.{IsAsked, IsAskedOfFile, IsWritable, WasReadInode};
+ghost use Rattle.procs.specs.Asks.{IsAsked, IsAskedOfFile, IsWritable};
+ghost use Rattle.inode.specs.Read.{WasReadInode};
 ghost use Rattle.procs.specs.Finished.{ChangesFew, EndsFrom};
 ghost use Rattle.procs.specs.MostChanged.{most_changed};
 ghost use Rattle.procs.specs.Planned.{IsPlanFor, IsStepPlan};
 ghost use Rattle.procs.specs.Refused.{IsDoneWith, IsIoWhereRefused, NoneRefused, NoneRefusedIn};
-ghost use Rattle.procs.specs.Snap.{IsNew, IsDoneFor};
+ghost use Rattle.inode.specs.Snap.{IsNew};
+ghost use Rattle.procs.specs.Outcome.{IsDoneFor};
 
 use crate::attributes::FoundFile;
 use crate::done::Done;
@@ -24,8 +27,7 @@ use crate::find::find;
 use crate::next::Plan;
 use crate::refused::{UNTOLD, refused_reply};
 use crate::set_attr::{refusal, with_mode};
-use crate::snap::Snap;
-use crate::stop::Stop;
+use inode::{Snap, Stop};
 use nfs_types::{
     Attributes, Call, Ctx, Handle, Moment, NewAttributes, Reply, Status, WeakCacheData,
 };

@@ -20,7 +20,7 @@ use Rattle.procedures.proofs.Joined.{push}
 use Rattle.layout.specs.declared.geometry.Geometry.{Geometry}
 use Rattle.layout.specs.Homes.{homes_of}
 use Rattle.layout.specs.Stands.{Stands}
-use Rattle.procs.specs.Steps.{AreAsRead}
+use Rattle.inode.specs.Read.{AreAsRead}
 use Rattle.txn.specs.Outcomes.{TakesPlace}
 use Rattle.wal_law.specs.declared.change.LogChange.{LogChange}
 use Rattle.wal_law.specs.Calls.{Pending}

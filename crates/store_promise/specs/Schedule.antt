@@ -14,7 +14,7 @@ use Rattle.model.specs.Calls.{has_rules}
 use Rattle.model.specs.Sound.{SoundTime}
 use Rattle.procs.specs.Asks.{Asks, Claims}
 use Rattle.procs.specs.MostChanged.{most_changed}
-use Rattle.procs.specs.Snap.{is_claimed, same_addr}
+use Rattle.inode.specs.Snap.{is_claimed, same_addr}
 use Rattle.txn.specs.Object.{ObjectBytes}
 use Rattle.txn.specs.Window.{object_at}
 use Rattle.txn.specs.declared.outcomes.BeginFault.TheVariants as fault

@@ -13,7 +13,7 @@ use Rattle.procs.specs.Asks.{IsWritable}
 use Rattle.procs.specs.Outcome.{Outcome}
 use Rattle.procs.specs.Steps.{IsStepOf}
 use Rattle.procs.specs.declared.next.Plan.TheVariants as plan
-use Rattle.procs.specs.declared.snap.Snap.{Snap}
+use Rattle.inode.specs.declared.snap.Snap.{Snap}
 use Rattle.wal_law.specs.Log.{IsLawful, added_blocks}
 use Rattle.wal_law.specs.declared.outcomes.Seq.{Seq}
 use Rattle.txn.specs.Outcomes.{IsCommit}

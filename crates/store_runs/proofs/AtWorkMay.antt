@@ -22,8 +22,8 @@ use Rattle.procs.specs.Asks.{Asks}
 use Rattle.procs.specs.MostChanged.{most_changed}
 use Rattle.procs.specs.Outcome.{Outcome}
 use Rattle.procs.specs.declared.next.Plan.TheVariants as plan
-use Rattle.procs.specs.declared.snap.Snap.{Snap}
-use Rattle.procs.specs.Snap.{is_seen, same_addr}
+use Rattle.inode.specs.declared.snap.Snap.{Snap}
+use Rattle.inode.specs.Snap.{is_seen, same_addr}
 use Rattle.procs.proofs.AskedFor.{is_home}
 use Rattle.txn.specs.Outcomes.{IsCommit, IsWanted}
 use Rattle.txn.specs.declared.outcomes.BeginFault.{BeginFault}

@@ -11,7 +11,7 @@ use Rattle.limits.specs.declared.TheConstants.{BLOCK_BYTES}
 use Rattle.objects.specs.Addr.{Overlap}
 use Rattle.objects.specs.declared.addr.Addr.{Addr}
 use Rattle.objects.specs.declared.mode.Mode.TheVariants as modes
-use Rattle.procs.specs.Snap.{is_claimed, is_seen, same_addr}
+use Rattle.inode.specs.Snap.{is_claimed, is_seen, same_addr}
 use Rattle.txn_law.specs.Object.{ObjectBytes}
 use Rattle.txn_law.specs.Window.{with_objects}
 use Rattle.txn_law.proofs.Beside.{stays_beside}

@@ -8,7 +8,7 @@ use Rattle.objects.specs.declared.addr.Addr.{Addr}
 use Rattle.model.specs.Entry.{Entry as Committed}
 use Rattle.procedures.specs.Step as procedures
 use Rattle.model.specs.Tree.{Tree}
-use Rattle.procs.specs.Snap.{is_claimed, is_seen}
+use Rattle.inode.specs.Snap.{is_claimed, is_seen}
 use Rattle.txn.specs.Outcomes.{TakesPlace}
 use Rattle.txn_law.specs.Commit.{Planned}
 use Rattle.txn_law.specs.Core.{CoreState}

@@ -10,7 +10,8 @@ use Rattle.layout.specs.Places.{inode_block, inode_offset}
 use Rattle.layout.specs.declared.geometry.Geometry.{Geometry}
 use Rattle.txn.specs.Object.{ObjectBytes}
 use Rattle.txn_law.proofs.Again.{same_addr}
-use Rattle.procs.specs.Asks.{Asks, AsksOfFile, IsInodeAddr}
+use Rattle.procs.specs.Asks.{Asks, AsksOfFile}
+use Rattle.inode.specs.Read.{IsInodeAddr}
 use Rattle.procs.specs.Asks.{inode, indirect}
 use Rattle.procs.proofs.Apart.{one_number}
 use Rattle.procs.proofs.AskedFor.{is_data_block}

@@ -6,15 +6,15 @@ use Rattle.std.proofs.lemmas.List.Elements.{All-contains}
 use Rattle.disk.specs.declared.block.BlockNo.{BlockNo}
 use Rattle.objects.specs.declared.addr.Addr.{Addr}
 use Rattle.objects.specs.declared.mode.Mode.TheVariants as modes
-use Rattle.procs.proofs.AllTests.{all_three, same_number}
+use Rattle.inode.proofs.AllTests.{all_three, same_number}
 use Rattle.procs.specs.Asks.{Asks, IsWritable}
 use Rattle.procs.specs.Finished.{EndsFrom}
 use Rattle.procs.specs.Outcome.{Outcome}
 use Rattle.procs.specs.Planned.{IsPlanFor}
-use Rattle.procs.specs.Snap.{is_claimed, is_seen, same_addr}
+use Rattle.inode.specs.Snap.{is_claimed, is_seen, same_addr}
 use Rattle.procs.specs.declared.next.Plan.{Plan}
 use Rattle.procs.specs.declared.next.Plan.TheVariants as plan
-use Rattle.procs.specs.declared.snap.Snap.{Snap}
+use Rattle.inode.specs.declared.snap.Snap.{Snap}
 use Rattle.txn.specs.Commit.{IsOwn, IsReadBy}
 use Rattle.txn.specs.Core.{CoreState}
 use Rattle.txn.specs.Fetch.{Fetch}

@@ -17,7 +17,7 @@ use Rattle.procs.specs.Outcome.{Outcome}
 use Rattle.procs.specs.Planned.{IsPlanFor}
 use Rattle.procs.specs.declared.next.Plan.{Plan}
 use Rattle.procs.specs.declared.next.Plan.TheVariants as plan
-use Rattle.procs.specs.declared.snap.Snap.{Snap}
+use Rattle.inode.specs.declared.snap.Snap.{Snap}
 use Rattle.txn.specs.Commit.{IsReadBy}
 use Rattle.txn.specs.Core.{CoreState}
 use Rattle.txn.specs.CoreWindow.{KeepsReads}

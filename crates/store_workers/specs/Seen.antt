@@ -3,7 +3,7 @@ use Rattle.std.specs.Prelude.{ℕ, Option, Some, None, List, [], ◌∷◌, ◌+
 use Rattle.disk.specs.declared.block.BlockNo.{BlockNo}
 use Rattle.objects.specs.declared.addr.Addr.{Addr}
 use Rattle.layout.specs.declared.geometry.Geometry.{Geometry}
-use Rattle.procs.specs.declared.snap.Snap.{Snap}
+use Rattle.inode.specs.declared.snap.Snap.{Snap}
 use Rattle.txn.specs.Object.{ObjectBytes}
 
 -- the geometry of the image, the objects that were read, and the blocks that were claimed

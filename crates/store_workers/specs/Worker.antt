@@ -5,7 +5,7 @@ use Rattle.nfs_types.specs.declared.ctx.Credential.{Credential}
 use Rattle.nfs_types.specs.declared.ctx.Ctx.{Ctx}
 use Rattle.nfs_types.specs.declared.ctx.Moment.{Moment}
 use Rattle.layout.specs.Geometry.{IsLawful}
-use Rattle.procs.specs.Snap as seen
+use Rattle.inode.specs.Snap as seen
 use Rattle.procs.specs.declared.next.Plan.{Plan}
 use Rattle.procs.specs.declared.next.Plan.TheVariants as plan
 use Rattle.txn.specs.Core.{CoreState}

@@ -14,7 +14,7 @@ use Rattle.procs.specs.Outcome.{Outcome}
 use Rattle.procs.specs.Planned.{IsPlanFor, IsStepPlan}
 use Rattle.procs.specs.declared.next.Plan.{Plan}
 use Rattle.procs.specs.declared.next.Plan.TheVariants as plan
-use Rattle.procs.specs.declared.snap.Snap.{Snap}
+use Rattle.inode.specs.declared.snap.Snap.{Snap}
 use Rattle.txn.specs.Commit.{Planned}
 use Rattle.txn.specs.Core.{CoreState, without}
 use Rattle.txn.specs.CoreWindow.{IsHomeOf, IsPending, KeepsReads}

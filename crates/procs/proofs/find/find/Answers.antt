@@ -1,11 +1,11 @@
 use Rattle.std.proofs.Common.{rules, ◌≡◌, sym, ◌∙◌, ◌+◌, arith, subst, Err, IfErr}
 use Rattle.procs.specs.Asks.{IsAskedOfFile}
-use Rattle.procs.specs.Steps.{NoneStand}
+use Rattle.inode.specs.Read.{NoneStand}
 use Rattle.procs.proofs.AskedFor.{asks_inode, asks_indirect}
 use Rattle.procs.proofs.FoundThere.{stale_free, stale_stamp, found, stamps_same}
 use Rattle.procs.proofs.FoundThere.{stamps_differ}
 use Rattle.procs.proofs.FarThere.{none_name_others}
-use Rattle.procs.proofs.InodeThere.{indirect_long}
+use Rattle.inode.proofs.InodeThere.{indirect_long}
 use Rattle.procs.proofs.RefusedThere.{inside, not_free, not_stale, not_found}
 use Rattle.procs.proofs.find.find.Goals as goal
 use Rattle.procs.proofs.find.find.Goals.{then-number-eq0-via-then-number-eq0}

@@ -1,6 +1,6 @@
 use Rattle.std.proofs.Common.{rules, ◌≡◌, subst}
-use Rattle.procs.specs.declared.stop.Stop.TheVariants as stop
-use Rattle.procs.specs.Steps.{AreAsRead, NoneStand}
+use Rattle.inode.specs.declared.stop.Stop.TheVariants as stop
+use Rattle.inode.specs.Read.{AreAsRead, NoneStand}
 use Rattle.procs.proofs.RefusedThere.{io_by_none, io_by_reply}
 use Rattle.procs.proofs.work.plan.Goals as goal
 

@@ -4,10 +4,9 @@ use Rattle.std.specs.List.{list_any}
 use Rattle.objects.specs.declared.addr.Addr.{Addr}
 use Rattle.disk.specs.declared.block.BlockNo.{BlockNo}
 use Rattle.txn.specs.Object.{ObjectBytes}
-use Rattle.procs.specs.Outcome.{Outcome}
-use Rattle.procs.specs.declared.snap.Snap.{Snap}
-use Rattle.procs.specs.declared.stop.Stop.{Stop}
-use Rattle.procs.specs.declared.stop.Stop.TheVariants as stop
+use Rattle.inode.specs.declared.snap.Snap.{Snap}
+use Rattle.inode.specs.declared.stop.Stop.{Stop}
+use Rattle.inode.specs.declared.stop.Stop.TheVariants as stop
 
 -- two addresses are one
 abbrev pub same_addr : Addr → Addr → Bool
@@ -31,9 +30,3 @@ abbrev pub IsNew : Snap → Stop → Type 0
 IsNew snap (stop.Need addr) = is_seen addr snap.objects.items ≡ false
 IsNew snap stop.Io = Unit {0}
 IsNew snap stop.NoMemory = Unit {0}
-
--- what is done names all that was read, and the image's counts
-pub record IsDoneFor (snap : Snap) (done : Outcome) : Type 0 where
-  pub read : done.read ≡ snap.objects.items
-  pub blocks : done.blocks ≡ snap.geometry.blocks
-  pub inodes : done.inodes ≡ snap.geometry.inodes

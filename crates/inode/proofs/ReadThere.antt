@@ -21,7 +21,7 @@ use Rattle.layout.specs.Stands.{Stands}
 use Rattle.layout.specs.declared.inode.Inode.{Inode}
 use Rattle.txn.specs.Object.{ObjectBytes}
 use Rattle.txn.specs.Window.{object_at}
-use Rattle.procs.specs.Asks.{IsInodeAddr, WasRead, WasReadInode}
+use Rattle.inode.specs.Read.{IsInodeAddr, WasRead, WasReadInode}
 
 pub read_there : (g : Geometry) (blocks : Image) (number : ℕ) (addr : Addr) (bytes : List ℕ)
     → addr.block.0 ≡ inode_block g number → addr.offset ≡ inode_offset number

@@ -22,8 +22,8 @@ use Rattle.layout.specs.Stands.{Stands}
 use Rattle.layout.proofs.AllNumbers.{map_is}
 use Rattle.layout.proofs.Fits.{read_fits, part-length}
 use Rattle.layout.proofs.WrittenBytes.{taken, dropped}
-use Rattle.procs.proofs.AllTests.{all_two, is_less, same_number}
-use Rattle.procs.proofs.UsedBlocks.{counted}
+use Rattle.inode.proofs.AllTests.{all_two, is_less, same_number}
+use Rattle.inode.proofs.UsedBlocks.{counted}
 use Rattle.layout.specs.Fields.{numbers_at, count_of}
 
 filled : (is : Bool) (block : List ℕ) → (is ≡ true → length block ≡ BLOCK_BYTES)

@@ -1,11 +1,11 @@
 use Rattle.std.proofs.Common.{rules, sym, ap, ◌∙◌}
 use Rattle.disk.specs.declared.block.BlockNo.{BlockNo}
-use Rattle.procs.proofs.ReadThere.{held_there, whole_there}
+use Rattle.inode.proofs.ReadThere.{held_there, whole_there}
 use Rattle.std.specs.List.{list_all}
 use Rattle.limits.specs.declared.TheConstants.{INDIRECT_INDEXES}
 use Rattle.layout.specs.Fields.{numbers_at}
 use Rattle.layout.specs.InodeForm.{is_data_block_or_none}
-use Rattle.procs.proofs.find.used_by.Goals as goal
+use Rattle.inode.proofs.read.used_by.Goals as goal
 
 pub returns-in-Ok-clause-used : goal.returns-in-Ok-clause-used
 returns-in-Ok-clause-used c = λ blocks saw long.

@@ -13,7 +13,7 @@ use Rattle.layout.specs.Fields.{numbers_at, count_of}
 use Rattle.layout.specs.InodeForm.{names_first}
 use Rattle.layout.proofs.Mapped.{is_some}
 use Rattle.layout.proofs.Used.{regular_held, first_count}
-use Rattle.procs.proofs.AllTests.{all_two}
+use Rattle.inode.proofs.AllTests.{all_two}
 use Rattle.layout.proofs.AllNumbers.{all-length}
 
 -- what is counted of an inode: what it names directly, and, where it has one, the indirect block and what

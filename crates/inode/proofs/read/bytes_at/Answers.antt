@@ -1,5 +1,5 @@
 use Rattle.std.proofs.Common.{sym}
-use Rattle.procs.proofs.find.bytes_at.Goals as goal
+use Rattle.inode.proofs.read.bytes_at.Goals as goal
 
 pub returns-in-Some-clause-read : goal.returns-in-Some-clause-read
 returns-in-Some-clause-read c = record {

@@ -1,6 +1,6 @@
 use Rattle.std.proofs.Common.{sym, ◌∙◌}
-use Rattle.procs.proofs.ReadThere.{read_there, no_fault, was_read}
-use Rattle.procs.proofs.find.inode_of.Goals as goal
+use Rattle.inode.proofs.ReadThere.{read_there, no_fault, was_read}
+use Rattle.inode.proofs.read.inode_of.Goals as goal
 
 pub returns-in-Ok-clause-there : goal.returns-in-Ok-clause-there
 returns-in-Ok-clause-there c = λ blocks saw.

@@ -1,6 +1,6 @@
 //! What has been read for a call so far.
 ghost use Rattle.std.specs.Prelude.{◌≡◌, false, true, ◌∷◌, [], ◌++◌, length, Contains, IfSome, IfNone, OnOk};
-ghost use Rattle.procs.specs.Snap.{HasRoom, is_seen, same_addr};
+ghost use Rattle.inode.specs.Snap.{HasRoom, is_seen, same_addr};
 
 use disk::BlockNo;
 use layout::Geometry;
@@ -12,9 +12,9 @@ use txn::Object;
 /// claimed.
 #[derive(Drop)]
 pub struct Snap {
-    pub(crate) geometry: Geometry,
-    pub(crate) objects: Vec<Object>,
-    pub(crate) claims: Vec<BlockNo>,
+    pub geometry: Geometry,
+    pub objects: Vec<Object>,
+    pub claims: Vec<BlockNo>,
 }
 
 impl Snap {

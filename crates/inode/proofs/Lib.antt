@@ -1,0 +1,4 @@
+pub mod AllTests
+pub mod UsedBlocks
+pub mod InodeThere
+pub mod ReadThere

@@ -1,0 +1,2 @@
+pub mod Snap
+pub mod Read

@@ -1,0 +1,80 @@
+-- What was read of an image's blocks, and why a reading stops.
+use Rattle.std.specs.Prelude.{◌≡◌, ◌≢◌, ℕ, Contains, List, Some, Ok, true, false, nat_eq, length}
+use Rattle.std.specs.List.{list_all}
+use Rattle.limits.specs.declared.TheConstants.{BLOCK_BYTES, INDIRECT_INDEXES, INODE_BYTES}
+use Rattle.disk.specs.Crash.{Image}
+use Rattle.disk.specs.declared.block.BlockNo.{BlockNo}
+use Rattle.objects.specs.declared.addr.Addr.{Addr}
+use Rattle.model.specs.Tree.{Tree}
+use Rattle.layout.specs.declared.geometry.Geometry.{Geometry}
+use Rattle.layout.specs.declared.inode.Inode.{Inode}
+use Rattle.layout.specs.Fields.{numbers_at}
+use Rattle.layout.specs.InodeForm.{is_data_block_or_none, read_inode}
+use Rattle.layout.specs.Places.{inode_block, inode_offset}
+use Rattle.layout.specs.Stands.{Stands}
+use Rattle.txn.specs.Object.{ObjectBytes}
+use Rattle.txn.specs.Window.{IsAsRead}
+use Rattle.txn.specs.Wishes.{IsWhole}
+use Rattle.inode.specs.declared.snap.Snap.{Snap}
+use Rattle.inode.specs.declared.stop.Stop.{Stop}
+use Rattle.inode.specs.declared.stop.Stop.TheVariants as stop
+use Rattle.inode.specs.Snap.{same_addr}
+
+-- the address is that of an inode
+pub record IsInodeAddr (g : Geometry) (number : ℕ) (addr : Addr) : Type 0 where
+  pub block : addr.block.0 ≡ inode_block g number
+  pub offset : addr.offset ≡ inode_offset number
+  pub len : addr.len ≡ INODE_BYTES
+
+-- these bytes were read at the address
+pub record WasRead (objects : List ObjectBytes) (addr : Addr) (bytes : List ℕ) : Type 0 where
+  pub object : ObjectBytes
+  pub there : Contains objects object
+  pub at : same_addr addr object.addr ≡ true
+  pub bytes_are : object.bytes ≡ bytes
+
+-- this inode was read under the number
+pub record WasReadInode (g : Geometry) (objects : List ObjectBytes) (number : ℕ) (inode : Inode) : Type 0
+  where
+    pub addr : Addr
+    pub at : IsInodeAddr g number addr
+    pub bytes : List ℕ
+    pub read : WasRead objects addr bytes
+    pub is_inode : read_inode g bytes ≡ Ok (Some inode)
+
+-- a plan stops for the inode of a number, for a whole block, and for what the file of a handle asks for
+abbrev pub IsAskedInode : Geometry → ℕ → Stop → Type 0
+IsAskedInode g number (stop.Need addr) = IsInodeAddr g number addr
+IsAskedInode g number stop.Io = Unit {0}
+IsAskedInode g number stop.NoMemory = Unit {0}
+
+abbrev pub IsAskedWhole : ℕ → Stop → Type 0
+IsAskedWhole number (stop.Need addr) = (block : BlockNo) × (block.0 ≡ number) × (number ≢ 0)
+    × IsWhole block addr
+IsAskedWhole number stop.Io = Unit {0}
+IsAskedWhole number stop.NoMemory = Unit {0}
+
+-- these blocks have what was read
+abbrev pub AreAsRead : Image → List ObjectBytes → Type 0
+AreAsRead blocks objects = (object : ObjectBytes) → Contains objects object → IsAsRead blocks object
+
+-- what was read so far is what these blocks have
+abbrev pub Saw : Image → Snap → Type 0
+Saw blocks snap = AreAsRead blocks snap.objects.items
+
+-- the plan failed, which it does for no blocks that stand for a tree
+abbrev pub NoneStand : Snap → Stop → Type 0
+NoneStand snap stop.Io = (blocks : Image) (tree : Tree) → Stands snap.geometry blocks tree → Saw blocks snap
+    → ⊥
+NoneStand snap stop.NoMemory = Unit {0}
+NoneStand snap (stop.Need addr) = Unit {0}
+
+-- the plan failed as the indirect block of this number names what is no data block
+abbrev pub NamesOthers : Snap → ℕ → Stop → Type 0
+NamesOthers snap indirect stop.Io = (blocks : Image) → Saw blocks snap
+    → length (blocks indirect) ≡ BLOCK_BYTES
+    → (nat_eq indirect 0 ≡ false)
+    × (list_all (is_data_block_or_none snap.geometry)
+    (numbers_at INDIRECT_INDEXES 0 (blocks indirect)) ≡ false)
+NamesOthers snap indirect stop.NoMemory = Unit {0}
+NamesOthers snap indirect (stop.Need addr) = Unit {0}
