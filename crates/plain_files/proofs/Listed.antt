@@ -1,11 +1,11 @@
 -- What is listed of a directory from a slot on, one slot after another.
-use Rattle.std.proofs.Common.{◌≡◌, ◌≢◌, ℕ, zero, suc, ◌+◌, ◌<◌, ◌≤◌, sym, ap, ◌∙◌, refl, Bool, true, false, cond}
-use Rattle.std.proofs.Common.{rules, arith, nat_le, List, [], ◌∷◌, Option, Some, None, inl, inr}
+use Rattle.std.proofs.Common.{◌≡◌, ℕ, zero, suc, ◌+◌, ◌<◌, ◌≤◌, sym, ap, ◌∙◌, refl, Bool, true, false, cond}
+use Rattle.std.proofs.Common.{rules, arith, nat_le, List, [], ◌∷◌, Some, None, inl, inr}
 use Rattle.std.specs.List.{cons_option, filter, filter_map, range_with_len}
 use Rattle.nfs_types.specs.declared.entries.ListedEntry.{ListedEntry}
 use Rattle.model.specs.Node.{Body, Regular, Directory, Link}
 use Rattle.procedures.proofs.Lacking.{equal_or_not}
-use Rattle.procedures.specs.Listing.{listed_in, slots_of}
+use Rattle.procedures.specs.Listing.{listed_in}
 use Rattle.files.specs.Heads.{listed_from}
 use Rattle.plain_files.specs.Slots.{count_slots}
 
