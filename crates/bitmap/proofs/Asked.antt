@@ -1,0 +1,13 @@
+-- A piece of a bitmap is an object of the image.
+use Rattle.std.proofs.Common.{◌≡◌, ℕ, ◌+◌, ◌*◌, ◌/◌, ◌%◌, ◌<◌, ◌≤◌, arith}
+use Rattle.limits.specs.declared.TheConstants.{FIRST_HOME_BLOCK}
+use Rattle.objects.specs.declared.addr.Addr.{Addr}
+use Rattle.layout.specs.declared.geometry.Geometry.{Geometry}
+use Rattle.layout.specs.Geometry.{table_at}
+use Rattle.layout.specs.Objects.{IsObject, bits}
+
+pub is_object : (g : Geometry) (first piece : ℕ) (addr : Addr) → FIRST_HOME_BLOCK ≤ first
+    → first + piece / 8 < table_at g.blocks g.inodes → addr.block.0 ≡ first + piece / 8
+    → addr.offset ≡ 512 * (piece % 8) → addr.len ≡ 512 → IsObject g addr
+is_object g first piece addr from to block offset len =
+    bits (piece % 8) (omega arith) (omega (arith, from, block)) (omega (arith, to, block)) offset len

@@ -1,0 +1,96 @@
+//! The bitmaps of what was read, piece by piece.
+ghost use Rattle.std.specs.Prelude.{ℕ, ◌≡◌, ◌+◌, ◌*◌, ◌/◌, ◌%◌, ◌<◌, ◌≤◌, length, IfErr, IfOk};
+ghost use Rattle.limits.specs.declared.TheConstants.{BLOCK_BYTES, FIRST_HOME_BLOCK};
+ghost use Rattle.disk.specs.Crash.{Image};
+ghost use Rattle.layout.specs.Geometry.{bitmap_blocks, inode_bitmap_at, table_at};
+ghost use Rattle.layout.specs.Stands.{Stands};
+ghost use Rattle.model.specs.Tree.{Tree, free};
+ghost use Rattle.procedures.specs.FsStat.{unused_numbers};
+ghost use Rattle.inode.specs.Read.{NoneStand, Saw};
+ghost use Rattle.inode.specs.Snap.{IsNew};
+ghost use Rattle.bitmap.specs.Clear.{clear_in, clear_of};
+ghost use Rattle.bitmap.specs.Pieces.{IsAskedObject, piece_in};
+
+use crate::counting::clear_in;
+use disk::BlockNo;
+use inode::{Snap, Stop, bytes_at};
+use limits::FIRST_HOME_BLOCK;
+use objects::Addr;
+
+const PIECE_BYTES: usize = 512;
+
+const PIECES_PER_BLOCK: u32 = 8;
+
+// Where a piece of the bitmap lies that begins with this block.
+fn piece_addr(first: u32, piece: u32) -> Addr
+    requires { first + piece / 8 < 4096 }
+    ensures block { result.block.0 ≡ first + piece / 8 }
+    ensures offset { result.offset ≡ 512 * (piece % 8) }
+    ensures len { result.len ≡ 512 }
+{
+    Addr {
+        block: BlockNo(first + piece / PIECES_PER_BLOCK),
+        offset: PIECE_BYTES * (piece % PIECES_PER_BLOCK) as usize,
+        len: PIECE_BYTES,
+    }
+}
+
+// How many bits are clear in a piece.
+fn clear_at(snap: &Snap, first: u32, piece: u32) -> Result<u32, Stop>
+    requires from { FIRST_HOME_BLOCK ≤ first }
+    requires to { first + piece / 8 < table_at snap.now.geometry.blocks snap.now.geometry.inodes }
+    ensures few { IfOk result (λ clear. clear ≤ 4096) }
+    ensures ok { IfOk result (λ clear. (blocks : Image) → Saw blocks snap.now
+        → clear ≡ clear_in (piece_in blocks first piece)) }
+    ensures err { IfErr result (λ stop. IsNew snap.now stop) }
+    ensures asks { IfErr result (λ stop. IsAskedObject snap.now.geometry stop) }
+    ensures io { IfErr result (λ stop. NoneStand snap.now stop) }
+{
+    match bytes_at(snap, piece_addr(first, piece)) {
+        Ok(bytes) => Ok(clear_in(bytes)),
+        Err(stop) => Err(stop),
+    }
+}
+
+// How many bits are clear in the bitmap of so many blocks that begins with this one.
+fn clear_of(snap: &Snap, first: u32, count: u32) -> Result<u32, Stop>
+    requires from { FIRST_HOME_BLOCK ≤ first }
+    requires to { first + count ≤ table_at snap.now.geometry.blocks snap.now.geometry.inodes }
+    ensures ok { IfOk result (λ clear. (blocks : Image) → Saw blocks snap.now
+        → ((number : ℕ) → number < first + count → length (blocks number) ≡ BLOCK_BYTES)
+        → clear ≡ clear_of blocks first count) }
+    ensures err { IfErr result (λ stop. IsNew snap.now stop) }
+    ensures asks { IfErr result (λ stop. IsAskedObject snap.now.geometry stop) }
+    ensures io { IfErr result (λ stop. NoneStand snap.now stop) }
+{
+    let mut clear = 0;
+    for piece in 0..PIECES_PER_BLOCK * count {
+        clear += clear_at(snap, first, piece)?;
+    }
+    Ok(clear)
+}
+
+/// How many data blocks are free.
+pub fn free_blocks(snap: &Snap) -> Result<u32, Stop>
+    ensures ok { IfOk result (λ clear. (blocks : Image) (tree : Tree) → Saw blocks snap.now
+        → Stands snap.now.geometry blocks tree → clear ≡ free tree) }
+    ensures err { IfErr result (λ stop. IsNew snap.now stop) }
+    ensures asks { IfErr result (λ stop. IsAskedObject snap.now.geometry stop) }
+    ensures io { IfErr result (λ stop. NoneStand snap.now stop) }
+{
+    let first = snap.geometry.inode_bitmap();
+    clear_of(snap, FIRST_HOME_BLOCK, first.0 - FIRST_HOME_BLOCK)
+}
+
+/// How many numbers no file has.
+pub fn free_numbers(snap: &Snap) -> Result<u32, Stop>
+    ensures ok { IfOk result (λ clear. (blocks : Image) (tree : Tree) → Saw blocks snap.now
+        → Stands snap.now.geometry blocks tree → clear ≡ unused_numbers tree) }
+    ensures err { IfErr result (λ stop. IsNew snap.now stop) }
+    ensures asks { IfErr result (λ stop. IsAskedObject snap.now.geometry stop) }
+    ensures io { IfErr result (λ stop. NoneStand snap.now stop) }
+{
+    let first = snap.geometry.inode_bitmap();
+    let end = snap.geometry.inode_table();
+    clear_of(snap, first.0, end.0 - first.0)
+}
