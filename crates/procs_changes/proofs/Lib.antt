@@ -1,0 +1,6 @@
+pub mod Doing
+pub mod Entered
+pub mod Needs
+pub mod Roomy
+pub mod Shaped
+pub mod SoundShapes
