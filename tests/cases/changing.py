@@ -435,7 +435,7 @@ def full_file(**more):
 
 def assert_room_behind(place, files, blocks):
     """So many largest files lie before all that is free, and new blocks come from there."""
-    root = images.directory({b"%d" % it: full_file() for it in range(files)})
+    root = images.directory({b"%d" % it: full_file() for it in range(files)}, span=2)
     image, client = on_image(place, root, blocks, 64)
     same("what is free", free(client)[0], image.free_blocks)
     data = os.urandom(9 * BLOCK)
@@ -470,7 +470,7 @@ def test_a_file_with_as_many_names_as_it_may_have(place):
     client.refuse(MLINK, nfs.LINK, handle, names, b"31999")
     same("its links", client.attributes(handle).nlink, 32_000)
     same("what it is found under", client.find(names, b"31998"), handle)
-    client.end()
+    same("the end", client.end(), (b"", b"", 0))
     same("why the image is bad", checking.why_bad(place.path("image")), None)
 
 
@@ -488,7 +488,7 @@ def test_a_directory_without_a_free_slot(place):
     same("what it is found under", client.find(names, b"8"), file)
     client.do(nfs.REMOVE, names, b"33023")
     client.do(nfs.CREATE, names, b"one more", GUARDED)
-    client.end()
+    same("the end", client.end(), (b"", b"", 0))
     same("why the image is bad", checking.why_bad(place.path("image")), None)
 
 
@@ -505,7 +505,7 @@ def test_a_directory_with_as_many_links_as_it_may_have(place):
     client.create(full, b"a file is no link of it")
     client.do(nfs.RMDIR, full, b"31997")
     client.do(nfs.MKDIR, full, b"one more", NONE)
-    client.end()
+    same("the end", client.end(), (b"", b"", 0))
     same("why the image is bad", checking.why_bad(place.path("image")), None)
 
 

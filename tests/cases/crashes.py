@@ -13,7 +13,7 @@ import struct
 
 from cases import checking, compared, conversing, images, nfs, plain, wire
 from cases.allocations import library
-from cases.running import BLOCKS, INODES, MADE, contents, expect, is_so, same
+from cases.running import BLOCKS, INODES, MADE, NEW_MODE, contents, expect, is_so, same
 
 # What is noted: a kind, a number and a count of bytes behind it. The call of the file whose number is in FAILED_CALL
 # fails, and with HALF_DONE a write is made all the same.
@@ -204,24 +204,33 @@ def assert_kept_in_crashes(place, seed, calls):
     return list(seen.values())
 
 
-def assert_opened_in_crashes(place, image, what, drawn):
-    """An opening of this image that is stopped at each of its calls leaves its tree."""
-    wanted = tree_of(image)
+def set_image(place, image):
     with open(place.path("image"), "wb") as file:
         file.write(image)
-    ran, events = run_noted(place, place.path("fails.so"), ["once", place.path("image"), "--time", str(NOW)])
+    return place.path("image")
+
+
+def opened_in_crashes(place, image, what, drawn):
+    """The images that an opening of this one leaves that is stopped at any of its calls: each has its tree."""
+    wanted, found = tree_of(image), {}
+    ran, events = run_noted(place, place.path("fails.so"), ["once", set_image(place, image), "--time", str(NOW)])
     expect(what, ran, 0, b"", b"")
     for stop in range(len(events) + 1):
         for left in left_by_a_crash(image, events[:stop], drawn):
-            same(f"{what}, stop {stop} of an opening", tree_of(left), wanted)
+            if left not in found:
+                same(f"{what}, stop {stop} of an opening", tree_of(left), wanted)
+                found[left] = None
+    return list(found)
 
 
 def case_of(seed):
     def crash(place):
         drawn = random.Random(seed)
         left = assert_kept_in_crashes(place, seed, 16)
-        for image in drawn.sample(left, min(6, len(left))):
-            assert_opened_in_crashes(place, image, f"seed {seed}", drawn)
+        for image in drawn.sample(left, min(4, len(left))):
+            # Another opening is stopped in what a stopped one left.
+            again = opened_in_crashes(place, image, f"seed {seed}", drawn)
+            opened_in_crashes(place, drawn.choice(again), f"seed {seed}, once more", drawn)
 
     return crash
 
@@ -230,21 +239,95 @@ for number in range(compared.FIRST_SEED, compared.FIRST_SEED + 3):
     globals()[f"test_a_crash_keeps_a_prefix_with_all_that_was_answered_as_stable_by_seed_{number}"] = case_of(number)
 
 
-def test_a_crash_of_format_leaves_the_old_image_none_or_the_new_one(place):
-    shared, image, drawn = shared_library(place), place.image(), random.Random(5)
-    ran = place.once(image, wire.setattr_call(4, 0o700))
+# An image whose root has another mode by a SETATTR, which lies in the log.
+OLD_MODE = 0o700
+COUNTS = ["--blocks", str(BLOCKS), "--inodes", str(INODES), "--time", str(MADE + 1)]
+
+
+def logged_image(place):
+    image = place.image()
+    ran = place.once(image, wire.setattr_call(4, OLD_MODE))
     same("SETATTR", (ran.status, ran.errors), (0, b""))
-    old, before = contents(image), tree_of(contents(image))
-    counts = ["--blocks", str(BLOCKS), "--inodes", str(INODES), "--time", str(MADE + 1)]
-    ran, events = run_noted(place, shared, ["format", image, *counts])
+    return contents(image)
+
+
+def kind_of(image, old, new):
+    """Which image was left where one was made over another: without a super block it is none."""
+    if not any(image[:BLOCK]):
+        return "none"
+    found = tree_of(image)
+    is_so("it is neither the old image nor the new one", found in (old, new))
+    return "old" if found == old else "new"
+
+
+def left_by_format(place, shared, old, drawn, **given):
+    """What came of a format over an image, and which images a crash may leave behind each of its calls."""
+    ran, events = run_noted(place, shared, ["format", set_image(place, old), *COUNTS], **given)
+    events = [it for it in events if it[0] != "a"]
+    return ran, [list(left_by_a_crash(old, events[:stop], drawn)) for stop in range(len(events) + 1)]
+
+
+def test_a_crash_of_format_leaves_the_old_image_none_or_the_new_one(place):
+    shared, old, drawn = shared_library(place), logged_image(place), random.Random(5)
+    ran, left = left_by_format(place, shared, old, drawn)
     same("format", (ran.status, ran.errors), (0, b""))
-    after, seen = tree_of(contents(image)), set()
-    for stop in range(len(events) + 1):
-        for left in left_by_a_crash(old, events[:stop], drawn):
-            # Without its super block it is no image.
-            seen.add("none" if not any(left[:BLOCK]) else "old" if tree_of(left) == before else "new")
-            is_so(f"stop {stop} leaves another image", not any(left[:BLOCK]) or tree_of(left) in (before, after))
-    same("which were seen", seen, {"old", "none", "new"})
+    before, after = tree_of(old), tree_of(left[-1][0])
+    kinds = [sorted({kind_of(image, before, after) for image in images_left}) for images_left in left]
+    # Block 0 is emptied and settled first, and written and settled last.
+    between = len(kinds) - 4
+    same("the images", kinds, [["old"], ["none", "old"], *[["none"]] * between, ["new", "none"], ["new"]])
+
+
+def test_each_call_of_format_that_fails_leaves_the_old_image_none_or_the_new_one(place):
+    shared, old, drawn = shared_library(place), logged_image(place), random.Random(6)
+    _, left = left_by_format(place, shared, old, drawn)
+    before, after = tree_of(old), tree_of(left[-1][0])
+    for failed in range(1, len(left)):
+        for given in {}, {"HALF_DONE": "1"}:
+            ran, found = left_by_format(place, shared, old, drawn, FAILED_CALL=str(failed), **given)
+            expect(f"call {failed} fails", ran, 1, b"", b"nfsd: 3 Device\n")
+            kinds = {kind_of(image, before, after) for image in found[-1]}
+            lawful = {"old", "none"} if failed <= 2 else {"none"} if failed < len(left) - 2 else {"none", "new"}
+            is_so(f"call {failed} fails, and what is left is {kinds}", kinds <= lawful)
+
+
+def test_each_call_of_an_opening_that_fails_loses_nothing(place):
+    shared, drawn = shared_library(place), random.Random(7)
+    for image in contents(place.image()), logged_image(place):
+        arguments = ["once", place.path("image"), "--time", str(NOW)]
+        set_image(place, image)
+        _, events = run_noted(place, shared, arguments)
+        for failed, given in itertools.product(range(1, len(events) + 1), ({}, {"HALF_DONE": "1"})):
+            set_image(place, image)
+            ran, events = run_noted(place, shared, arguments, wire.null_call(1), FAILED_CALL=str(failed), **given)
+            expect(f"call {failed} fails", ran, 1, b"", b"nfsd: 5 Device\n")
+            for left in left_by_a_crash(image, events, drawn):
+                same(f"the tree behind call {failed}", tree_of(left), tree_of(image))
+
+
+# Calls on a fresh image: of the session's calls of the file the first reads the root's inode.
+FIRST_CALLS = wire.setattr_call(1, OLD_MODE) + wire.getattr_call(2) + wire.null_call(3)
+
+
+def failing(place, shared, image, behind):
+    """Has the call of the file fail that is the so manieth behind the opening."""
+    _, opening = run_noted(place, shared, ["once", set_image(place, image), "--time", str(NOW)])
+    arguments = ["once", set_image(place, image), "--time", str(NOW)]
+    return run_noted(place, shared, arguments, FIRST_CALLS, FAILED_CALL=str(len(opening) + behind))[0]
+
+
+def test_a_read_that_fails_breaks_nothing(place):
+    shared, image = shared_library(place), contents(place.image())
+    told = [wire.setattr_failed(1), wire.getattr_reply(2, NEW_MODE, MADE, MADE), wire.null_reply(3)]
+    expect("once", failing(place, shared, image, 1), 0, b"".join(told), b"")
+
+
+def test_a_write_that_fails_breaks_the_store(place):
+    shared, image = shared_library(place), contents(place.image())
+    told = [wire.setattr_failed(1), wire.getattr_failed(2), wire.null_reply(3)]
+    for behind in 2, 3, 4, 5:
+        ran = failing(place, shared, image, behind)
+        expect(f"call {behind} of the session", ran, 1, b"".join(told), b"nfsd: 6 Device\n")
 
 
 def test_a_call_of_the_file_that_fails_loses_nothing_that_was_answered(place):
