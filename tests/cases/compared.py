@@ -61,7 +61,7 @@ class Stream:
         self.client, self.drawn, self.weights = client, drawn, weights
         # The kinds of the files that were told of, by their handles, and names with their directories.
         self.kinds, self.places = {ROOT: nfs.DIRECTORY}, [(ROOT, b"a")]
-        self.records, self.replies, self.asked = [], [], []
+        self.records, self.replies, self.asked, self.calls = [], [], [], []
 
     def grow(self, calls):
         for _ in range(calls):
@@ -74,6 +74,7 @@ class Stream:
             message = self.client.reply(record)
             self.records.append(record)
             self.replies.append(wire.record(message))
+            self.calls.append((procedure, procedure.arguments(*arguments)))
             self.asked.append(f"{procedure.title}{tuple(arguments)!r:.150} by {caller}")
             self.learn(procedure, procedure.arguments(*arguments), message)
 

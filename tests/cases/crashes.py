@@ -88,6 +88,9 @@ ssize_t write(int file, const void *bytes, size_t count) {
 BLOCK, NOW = 4096, 2000
 # How a session may end in which a call of the file fails: where the call was one of the opening, and behind it.
 ENDS = [(0, b""), (1, b"nfsd: 5 Device\n"), (1, b"nfsd: 6 Device\n")]
+# The calls that are drawn.
+CHANGING = {nfs.SETATTR, nfs.WRITE, nfs.CREATE, nfs.MKDIR, nfs.SYMLINK, nfs.REMOVE, nfs.RMDIR, nfs.RENAME, nfs.LINK,
+            nfs.COMMIT}
 # How many images are looked at, of those that one stop may leave.
 MOST_CHOICES = 40
 
@@ -149,13 +152,13 @@ class Stream:
         drawn = random.Random(seed)
         command = plain.command_of(place)
         client = conversing.with_plain(place, command, BLOCKS, INODES, NOW)
-        weights = {it: weight for it, weight in compared.WEIGHTS.items() if it in nfs.SERVED}
+        weights = {it: weight for it, weight in compared.WEIGHTS.items() if it in nfs.SERVED and it in CHANGING}
         grown = compared.Stream(client, drawn, weights)
         grown.grow(calls)
         client.end()
-        self.records, self.replies, self.asked = grown.records, grown.replies, grown.asked
+        self.records, self.replies, self.asked, self.calls = grown.records, grown.replies, grown.asked, grown.calls
         self.trees = [self.tree_behind(place, command, count) for count in range(calls + 1)]
-        self.is_stable = [self.changes(it) and not self.is_unstable(it) for it in range(calls)]
+        self.stable = [it for it in range(calls) if self.is_stable(it)]
 
     def tree_behind(self, place, command, count):
         client = conversing.with_plain(place, command, BLOCKS, INODES, NOW)
@@ -165,17 +168,18 @@ class Stream:
         client.end()
         return found
 
-    def changes(self, call):
-        return self.trees[call] != self.trees[call + 1]
-
-    def is_unstable(self, call):
-        """An UNSTABLE WRITE, which is answered before it is settled."""
-        return self.asked[call].startswith("WRITE")
+    def is_stable(self, call):
+        """Its answer says that all before it is settled, and it too: a change that isn't an UNSTABLE WRITE, or a COMMIT
+        that was done."""
+        procedure, arguments = self.calls[call]
+        if procedure is nfs.COMMIT:
+            return self.replies[call][4:][nfs.DONE_HEADER :][:4] == wire.words(nfs.OK)
+        is_unstable = procedure is nfs.WRITE and arguments.stable == nfs.UNSTABLE
+        return self.trees[call] != self.trees[call + 1] and not is_unstable
 
     def least(self, answered):
         """The least prefix that may be left once so many calls were answered."""
-        stable = [it + 1 for it in range(answered) if self.is_stable[it] or self.asked[it].startswith("COMMIT")]
-        return max(stable, default=0)
+        return max([it + 1 for it in self.stable if it < answered], default=0)
 
     def assert_prefix(self, what, tree, answered):
         lawful = self.trees[self.least(answered) :]
