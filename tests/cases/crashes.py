@@ -89,8 +89,8 @@ BLOCK, NOW = 4096, 2000
 # How a session may end in which a call of the file fails: where the call was one of the opening, and behind it.
 ENDS = [(0, b""), (1, b"nfsd: 5 Device\n"), (1, b"nfsd: 6 Device\n")]
 # The calls that are drawn.
-CHANGING = {nfs.SETATTR, nfs.WRITE, nfs.CREATE, nfs.MKDIR, nfs.SYMLINK, nfs.REMOVE, nfs.RMDIR, nfs.RENAME, nfs.LINK,
-            nfs.COMMIT}
+CHANGING = [nfs.SETATTR, nfs.WRITE, nfs.CREATE, nfs.MKDIR, nfs.SYMLINK, nfs.REMOVE, nfs.RMDIR, nfs.RENAME, nfs.LINK,
+            nfs.COMMIT]
 # How many images are looked at, of those that one stop may leave.
 MOST_CHOICES = 40
 
@@ -152,7 +152,7 @@ class Stream:
         drawn = random.Random(seed)
         command = plain.command_of(place)
         client = conversing.with_plain(place, command, BLOCKS, INODES, NOW)
-        weights = {it: weight for it, weight in compared.WEIGHTS.items() if it in nfs.SERVED and it in CHANGING}
+        weights = {it: compared.WEIGHTS[it] * compared.FILLING.get(it, 1) for it in CHANGING if it in nfs.SERVED}
         grown = compared.Stream(client, drawn, weights)
         grown.grow(calls)
         client.end()
@@ -230,7 +230,7 @@ def opened_in_crashes(place, image, what, drawn):
 def case_of(seed):
     def crash(place):
         drawn = random.Random(seed)
-        left = assert_kept_in_crashes(place, seed, 16)
+        left = assert_kept_in_crashes(place, seed, 20)
         for image in drawn.sample(left, min(4, len(left))):
             # Another opening is stopped in what a stopped one left.
             again = opened_in_crashes(place, image, f"seed {seed}", drawn)
