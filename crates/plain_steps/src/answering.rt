@@ -3,33 +3,13 @@ ghost use Rattle.std.specs.Prelude.{◌≡◌, IfOk, IfSome, IfNone, OnErr, is_s
 ghost use Rattle.procedures.specs.Step.{step, numbered_step};
 ghost use Rattle.plain_server.specs.Plain.{tree_of};
 ghost use Rattle.plain_procedures.specs.Listed.{least_unused};
-ghost use Rattle.plain_steps.specs.Computed.{is_change, is_null, is_read};
+ghost use Rattle.plain_steps.specs.Computed.{is_change, is_null};
 
 use crate::changing::{change_file, change_name, make_file};
-use crate::telling::{tell_of_directory, tell_of_file, tell_of_system};
+use crate::telling::answer_telling;
 use nfs_types::{Call, Ctx, Reply};
 use plain_server::PlainTree;
 use std::alloc::{AllocError, Global};
-
-// What a call that only tells something is answered. The other calls and NULL have no answer here.
-fn answer_reading(
-    alloc: Global,
-    tree: &PlainTree,
-    ctx: &Ctx,
-    call: &Call,
-) -> Result<Option<Reply>, AllocError>
-    ensures step { IfOk result (λ r. IfSome r (λ reply. numbered_step (tree_of tree.now) ctx.now
-        (least_unused (tree_of tree.now)) call.now reply (tree_of tree.now))) }
-    ensures known { IfOk result (λ r. is_some r ≡ is_read call.now) }
-{
-    if let Some(reply) = tell_of_file(alloc, tree, ctx, call)? {
-        return Ok(Some(reply));
-    }
-    if let Some(reply) = tell_of_directory(alloc, tree, ctx, call)? {
-        return Ok(Some(reply));
-    }
-    Ok(tell_of_system(tree, call))
-}
 
 // What a call that may change the tree is answered, and its change. The other calls have no answer here. An
 // error leaves the tree as it was.
@@ -71,5 +51,5 @@ pub fn answer(
     if let Some(reply) = answer_changing(alloc, tree, ctx, call)? {
         return Ok(Some(reply));
     }
-    answer_reading(alloc, tree, ctx, call)
+    answer_telling(alloc, tree, ctx, call)
 }

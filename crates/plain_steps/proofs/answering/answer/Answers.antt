@@ -1,4 +1,4 @@
-use Rattle.std.proofs.Common.{◌≡◌, refl, subst, Option, Some, None, Result, Ok, Err, IfOk, IfSome, IfNone}
+use Rattle.std.proofs.Common.{◌≡◌, refl, subst, sym, Option, Some, None, Result, Ok, Err, IfOk, IfSome, IfNone}
 use Rattle.procedures.specs.Step.{step, numbered_step}
 use Rattle.nfs_types.specs.declared.call.Call.{Call}
 use Rattle.nfs_types.specs.declared.ctx.Ctx.{Ctx}
@@ -7,6 +7,7 @@ use Rattle.model.specs.Tree.{Tree}
 use Rattle.plain_server.specs.Plain.{tree_of}
 use Rattle.plain_procedures.specs.Listed.{least_unused}
 use Rattle.plain_procedures.proofs.Ranges.{least_is_new}
+use Rattle.plain_steps.proofs.Given.{ok_some_then}
 use Rattle.plain_steps.proofs.answering.answer.Goals as goal
 
 is_step : (tree next : Tree) (ctx : Ctx) (asked : Call) (reply : Reply)
@@ -23,24 +24,16 @@ told given x P is all = subst (λ o. IfSome o P) is all
 untold : {A : Type 0} (given : Option A) (P : Type 0) → given ≡ None → IfNone given P → P
 untold given P is all = subst (λ o. IfNone o P) is all
 
-some_then : {A : Type 0} (given : Option A) (P Q : A → Type 0) → IfSome given P → ((x : A) → P x → Q x)
-    → IfSome given Q
-some_then (Some x) P Q holds then = then x holds
-some_then None P Q holds then = tt
-
-ok_some_then : {A E : Type 0} (r : Result (Option A) E) (P Q : A → Type 0) → IfOk r (λ given. IfSome given P)
-    → ((x : A) → P x → Q x) → IfOk r (λ given. IfSome given Q)
-ok_some_then (Ok given) P Q holds then = some_then given P Q holds then
-ok_some_then (Err e) P Q holds then = tt
-
 pub returns-in-Some-clause-step : goal.returns-in-Some-clause-step
 returns-in-Some-clause-step c =
     is_step _ _ _ _ _ (told c.in_ok-reply.field-0 c.in-Some.reply _ c.in-Some.is c.in_ok-reply.ensures.step)
 
 pub returns-clause-step : goal.returns-clause-step
 returns-clause-step c =
-    let next = tree_of c.answer_changing.new.tree in
+    let middle = tree_of c.answer_changing.new.tree in
+    let next = tree_of c.answer_telling.new.tree in
     let same = untold c.in_ok-reply.field-0 _ c.in_default.is c.in_ok-reply.ensures.unknown in
-    ok_some_then c.answer_reading.result _ _ c.answer_reading.ensures.step
+    ok_some_then c.answer_telling.result _ _ c.answer_telling.ensures.step
     (λ reply leads. subst (λ tree. step tree c.args.ctx.now c.args.call.now reply next) same
-    (is_step next next c.args.ctx.now c.args.call.now reply leads))
+    (subst (λ after. step middle c.args.ctx.now c.args.call.now reply after) (sym c.answer_telling.ensures.same)
+    (is_step middle middle c.args.ctx.now c.args.call.now reply (leads (least_unused middle)))))
