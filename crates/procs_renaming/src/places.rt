@@ -1,0 +1,76 @@
+//! The tests of two directories and of a name in each.
+ghost use Rattle.std.specs.Prelude.{◌≡◌};
+ghost use Rattle.model.specs.SetAttr.{first_of_tests};
+ghost use Rattle.files.specs.Heads.{bare, barely, first_of};
+ghost use Rattle.procs_renaming.specs.Moves.{path_tests, right_tests};
+
+use files::{Head, first_of, is_no_name, is_own_name, may_change};
+use limits::NAME_BYTES;
+use nfs_types::{Credential, FileKind, Status};
+
+// The tests of both directories and of both names.
+fn path_refusal(source: &Head, name: &[u8], target: &Head, new_name: &[u8]) -> Option<Status>
+    ensures { result ≡ first_of_tests (path_tests (bare source.now) name.now (bare target.now)
+        new_name.now) }
+{
+    if !matches!(source.kind, FileKind::Directory) {
+        Some(Status::NotDir)
+    } else if !matches!(target.kind, FileKind::Directory) {
+        Some(Status::NotDir)
+    } else if is_no_name(name) {
+        Some(Status::Acces)
+    } else if name.len() > NAME_BYTES {
+        Some(Status::NameTooLong)
+    } else if is_no_name(new_name) {
+        Some(Status::Acces)
+    } else if new_name.len() > NAME_BYTES {
+        Some(Status::NameTooLong)
+    } else {
+        None
+    }
+}
+
+// The tests of what the caller may do in both directories, and of what the first name leads to.
+fn right_refusal(
+    caller: &Credential,
+    source: &Head,
+    name: &[u8],
+    target: &Head,
+    new_name: &[u8],
+    file: &Option<Head>,
+) -> Option<Status>
+    ensures { result ≡ first_of_tests (right_tests caller.now (bare source.now) name.now (bare target.now)
+        new_name.now (barely file.now)) }
+{
+    if !may_change(caller, source) {
+        Some(Status::Acces)
+    } else if !may_change(caller, target) {
+        Some(Status::Acces)
+    } else if is_own_name(name) || is_own_name(new_name) {
+        Some(Status::Inval)
+    } else if file.is_none() {
+        Some(Status::NoEnt)
+    } else {
+        None
+    }
+}
+
+/// Why what the names lead to isn't looked at; the file is what the first of them leads to.
+pub fn places_refusal(
+    caller: &Credential,
+    source: &Head,
+    name: &[u8],
+    target: &Head,
+    new_name: &[u8],
+    file: &Option<Head>,
+) -> Option<Status>
+    ensures { result ≡ first_of
+        (first_of_tests (path_tests (bare source.now) name.now (bare target.now) new_name.now))
+        (first_of_tests (right_tests caller.now (bare source.now) name.now (bare target.now) new_name.now
+        (barely file.now))) }
+{
+    first_of(
+        path_refusal(source, name, target, new_name),
+        right_refusal(caller, source, name, target, new_name, file),
+    )
+}
