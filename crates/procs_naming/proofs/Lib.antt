@@ -1,1 +1,3 @@
+pub mod LinkSteps
+pub mod Linked
 pub mod Removed
