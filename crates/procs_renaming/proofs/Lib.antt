@@ -1,3 +1,4 @@
 pub mod Agreeing
 pub mod Parents
 pub mod Placed
+pub mod Sought

@@ -8,5 +8,5 @@ mod refusals;
 
 pub use ancestors::is_within;
 pub use moving::move_file;
-pub use places::places_refusal;
+pub use places::{places_refusal, sought_file};
 pub use refusals::{is_named, move_refusal};

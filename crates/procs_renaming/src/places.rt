@@ -1,10 +1,12 @@
 //! The tests of two directories and of a name in each.
-ghost use Rattle.std.specs.Prelude.{◌≡◌};
+ghost use Rattle.std.specs.Prelude.{◌≡◌, IfErr, IfOk};
+ghost use Rattle.model.specs.Node.{Body};
 ghost use Rattle.model.specs.SetAttr.{first_of_tests};
-ghost use Rattle.files.specs.Heads.{bare, barely, first_of};
-ghost use Rattle.procs_renaming.specs.Moves.{path_tests, right_tests};
+ghost use Rattle.model.specs.Tree.{Tree};
+ghost use Rattle.files.specs.Heads.{IsFileIn, bare, barely, first_of};
+ghost use Rattle.procs_renaming.specs.Moves.{IsSoughtFile, path_tests, place_of, right_tests};
 
-use files::{Head, first_of, is_no_name, is_own_name, may_change};
+use files::{Files, Head, first_of, is_no_name, is_own_name, may_change, named_file};
 use limits::NAME_BYTES;
 use nfs_types::{Credential, FileKind, Status};
 
@@ -73,4 +75,31 @@ pub fn places_refusal(
         path_refusal(source, name, target, new_name),
         right_refusal(caller, source, name, target, new_name, file),
     )
+}
+
+/// The file that the first name leads to, where no test of the two places refuses the call.
+pub fn sought_file<F: Files>(
+    files: &F,
+    caller: &Credential,
+    source: &Head,
+    name: &[u8],
+    target: &Head,
+    new_name: &[u8],
+) -> Result<Result<Head, Status>, F::Stop>
+    ensures err { IfErr result (λ stop. F.may_stop (F.source files.now) stop) }
+    ensures pause { IfErr result (λ stop. (world : F.World) (tree : Tree) → F.stands files.now world tree
+        → F.is_pause stop) }
+    ensures ok { IfOk result (λ sought. (world : F.World) (tree : Tree) (body other : Body)
+        → F.stands files.now world tree → IsFileIn tree source.now body → IsFileIn tree target.now other
+        → IsSoughtFile tree caller.now (place_of source.now body name.now)
+        (place_of target.now other new_name.now) sought) }
+{
+    let found = named_file(files, source, name)?;
+    match places_refusal(caller, source, name, target, new_name, &found) {
+        Some(status) => Ok(Err(status)),
+        None => match found {
+            Some(file) => Ok(Ok(file)),
+            None => Ok(Err(Status::NoEnt)),
+        },
+    }
 }
