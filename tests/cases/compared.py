@@ -21,7 +21,7 @@ SEEDS, SEEDS_OF_A_CASE, CALLS, NOW = 200, 10, 80, 2000
 # Counts of blocks and inodes: enough of both; and few numbers, or few data blocks, which are soon used up.
 ROOMY, NARROW = (1024, 64), [(1024, 32), (1024, 14_208)]
 BLOCK, LARGEST = 4096, 1032 * 4096
-ROOT = nfs.handle(1, 0, 0)
+ROOT, MOUNT = nfs.handle(1, 0, 0), 100005
 
 # How often each procedure is drawn, of those that are served.
 WEIGHTS = {
@@ -54,6 +54,10 @@ SIZES = [0, 0, 1, 5, 100, BLOCK - 1, BLOCK, BLOCK + 1, 5 * BLOCK, 8 * BLOCK, 8 *
 FAR_SIZES = [LARGEST + 1, 2**32, 2**64 - 1]
 
 
+def credential_of(caller):
+    return wire.AUTH_NONE if caller is None else nfs.credential(*caller)
+
+
 class Stream:
     """A stream that grows call by call, by what the plain program answers."""
 
@@ -65,22 +69,37 @@ class Stream:
 
     def grow(self, calls):
         for _ in range(calls):
-            procedure = self.drawn.choices(list(self.weights), list(self.weights.values()))[0]
-            arguments = self.arguments(procedure)
             self.client.xid += 1
+            if self.is_likely(0.03):
+                self.send(self.without_files(), None, None, "a call that asks nothing of files")
+                continue
+            procedure = self.drawn.choices(list(self.weights), list(self.weights.values()))[0]
+            arguments = procedure.arguments(*self.arguments(procedure))
             caller = self.drawn.choice(CALLERS)
-            credential = wire.AUTH_NONE if caller is None else nfs.credential(*caller)
-            record = self.spoiled(procedure, procedure.call(self.client.xid, credential, *arguments))
-            message = self.client.reply(record)
-            self.records.append(record)
-            self.replies.append(wire.record(message))
-            self.calls.append((procedure, procedure.arguments(*arguments)))
-            self.asked.append(f"{procedure.title}{tuple(arguments)!r:.150} by {caller}")
-            self.learn(procedure, procedure.arguments(*arguments), message)
+            record = self.spoiled(procedure, procedure.call(self.client.xid, credential_of(caller), *arguments))
+            message = self.send(record, procedure, arguments, f"{procedure.title}{tuple(arguments)!r:.150} by {caller}")
+            self.learn(procedure, arguments, message)
+
+    def send(self, record, procedure, arguments, asked):
+        message = self.client.reply(record)
+        self.records.append(record)
+        self.replies.append(wire.record(message))
+        self.calls.append((procedure, arguments))
+        self.asked.append(asked)
+        return message
+
+    def without_files(self):
+        """NULL, or a call of MOUNT."""
+        if self.is_likely(0.3):
+            return wire.null_call(self.client.xid)
+        header = wire.words(self.client.xid, 0, 2, MOUNT, 3, self.drawn.choice([0, 1, 1, 2, 3, 4, 5, 6]))
+        path = self.drawn.choice([b"", *map(wire.opaque, (b"/", b"/", b"", b"/a", b"/" * 1025))])
+        return wire.record(header + credential_of(self.drawn.choice(CALLERS)) + wire.AUTH_NONE + path)
 
     # What a call asks, field by field.
 
     def arguments(self, procedure):
+        """The values of a call's arguments."""
         fields = procedure.arguments._fields
         values = {it: self.field(procedure, it) for it in fields}
         if procedure is nfs.WRITE and self.is_likely(0.9):

@@ -101,9 +101,9 @@ def guarded():
 
 
 def crowd(most):
-    """Names of all lengths, with free slots between them, and so many in one directory."""
+    """Names of many lengths, with free slots between them, and so many in one directory."""
     same_file = regular((0, b"same"))
-    lengths = {bytes([0x61 + it % 26]) * it: same_file for it in range(1, NAME_BYTES + 1)}
+    lengths = {bytes([0x61 + it % 26]) * it: same_file for it in range(NAME_BYTES, 0, -1 if most > 100 else -3)}
     many = {b"%d" % it + b"-" * (it * 5 % 60): same_file for it in range(most)}
     return directory({
         b"lengths": directory(lengths, free={0, 3, 4, 31, 32, 64, 100}),
