@@ -2,15 +2,15 @@
 use Rattle.std.proofs.Common.{◌≡◌, ℕ, ◌+◌, ◌<◌, ◌^◌, List, ◌++◌, length, subst, sym, ap, arith, refl}
 use Rattle.std.proofs.Common.{Option, IfNone, length-append}
 use Rattle.std.proofs.Common.{None as Nothing}
-use Rattle.plain_items.specs.Items.{spelled_word}
 use Rattle.plain_session.specs.Answering.{Files}
 use Rattle.plain_session.specs.Records.{IsRecord}
 use Rattle.plain_session.specs.Serving.{AreAnswered, BeginsAnswered, Fails, IsCutOff, IsFirst, More}
 use Rattle.plain_session.specs.declared.session.Progress.{Progress}
+use Rattle.xdr.specs.Items.{word}
 
 -- a record takes bytes
-pub word-length : (number : ℕ) → length (spelled_word number) ≡ 4
-unfolding spelled_word
+pub word-length : (number : ℕ) → length (word number) ≡ 4
+unfolding word
 word-length number = refl
 
 takes_bytes : (text message : List ℕ) → IsRecord text message → 0 < length text

@@ -1,44 +1,39 @@
--- A message on which the connection closes is heard so, and each other one is answered.
-use Rattle.std.proofs.Common.{◌≡◌, Bool, true, false, List, ℕ, drop, inl, inr, refl}
+-- A message is answered by what it was taken for, also where memory failed for that.
+use Rattle.std.proofs.Common.{◌≡◌, ℕ, List, inl, inr, refl, subst}
 use Rattle.nfs_types.specs.declared.ctx.Credential.{Credential}
 use Rattle.nfs_types.specs.declared.program.ProgramCall.{ProgramCall}
-use Rattle.plain_hearing.specs.Headers.{Hears, IsNumbered, has_header, is_call}
-use Rattle.plain_hearing.specs.declared.hearing.Heard.{Heard}
-use Rattle.plain_hearing.specs.declared.hearing.Heard.TheVariants as heard
-use Rattle.plain_items.specs.Items.{word_at}
-use Rattle.plain_messages.specs.declared.refusal.PlainRefusal.{PlainRefusal}
-use Rattle.plain_session.specs.Answering.{Closes, Files, IsAnswered, IsHeardAnswered}
+use Rattle.plain_session.specs.Answering.{Files, IsCallAnswered, IsVerdictAnswered, Unread, refusal_record}
+use Rattle.rpc.specs.declared.refusal.Refusal.{Refusal}
+use Rattle.session_wire.specs.Judging.{Judges}
+use Rattle.session_wire.specs.declared.message.Judged.{Judged}
+use Rattle.session_wire.specs.declared.message.Judged.TheVariants.{Call, Closed, Refused}
 
-at_either : {P : Type 0} (b : Bool) → (b ≡ false → P) → (b ≡ true → P) → P
-at_either false at_false at_true = at_false refl
-at_either true at_false at_true = at_true refl
+-- it closes where it was taken for none
+pub closes : (told is : Judged) → Judges told is → is ≡ Closed → told ≡ Closed
+closes told Closed judges same = judges
+closes told (Refused xid why) judges same = cc
+closes told (Call xid caller call) judges same = cc
 
--- what `hear` says of a message on which the connection closes
-heard_closed : (message : List ℕ) (told : Heard) → (is_call message ≡ false → told ≡ heard.Closed)
-    → (is_call message ≡ true → word_at (drop 8 message) ≡ 2 → has_header (drop 12 message) ≡ false
-    → told ≡ heard.Closed) → Closes message → told ≡ heard.Closed
-heard_closed message told none headless (inl h) = none h
-heard_closed message told none headless (inr h) =
-    at_either (is_call message) none (λ is. headless is h.0 h.1)
+pub closed : (is : Judged) → Judges Closed is → is ≡ Closed
+closed Closed judges = refl
+closed (Refused xid why) judges = cc
+closed (Call xid caller call) (inl same) = cc
+closed (Call xid caller call) (inr same) = cc
 
--- so what isn't heard so is answered
-pub is_answered : (before : Files) (message bytes : List ℕ) (after : Files) (told : Heard)
-    → (is_call message ≡ false → told ≡ heard.Closed)
-    → (is_call message ≡ true → word_at (drop 8 message) ≡ 2 → has_header (drop 12 message) ≡ false
-    → told ≡ heard.Closed)
-    → (told ≡ heard.Closed → ⊥) → Hears message told → IsNumbered message told
-    → IsHeardAnswered before told bytes after → IsAnswered before message bytes after
-is_answered before message bytes after told none headless goes_on hears numbered answered = record {
-  heard_as = told;
-  hears = hears;
-  numbered = numbered;
-  goes_on = λ h. goes_on (heard_closed message told none headless h);
-  answered = answered;
-}
+-- its refusal, or that memory failed for what it calls for
+pub refusal : (before : Files) (xid : ℕ) (why : Refusal) (is : Judged) (bytes : List ℕ)
+    → Judges (Refused xid why) is → bytes ≡ refusal_record xid why → IsVerdictAnswered before is bytes before
+refusal before xid why Closed bytes judges spelled = cc
+refusal before xid why (Refused number cause) bytes judges spelled = (cc, refl)
+refusal before xid why (Call number caller call) bytes (inl same) spelled = cc
+refusal before xid why (Call number caller call) bytes (inr same) spelled = Unread refl cc
 
-pub refused_goes_on : (xid : ℕ) (why : PlainRefusal) → heard.Refused xid why ≡ heard.Closed → ⊥
-refused_goes_on xid why is = cc
-
-pub call_goes_on : (xid : ℕ) (caller : Credential) (call : ProgramCall)
-    → heard.Call xid caller call ≡ heard.Closed → ⊥
-call_goes_on xid caller call is = cc
+-- what it calls for
+pub called : (before after : Files) (xid : ℕ) (caller : Credential) (call : ProgramCall) (is : Judged)
+    (bytes : List ℕ) → Judges (Call xid caller call) is → IsCallAnswered before xid caller call bytes after
+    → IsVerdictAnswered before is bytes after
+called before after xid caller call Closed bytes judges answered = cc
+called before after xid caller call (Refused number cause) bytes judges answered = cc
+called before after xid caller call (Call number other another) bytes (inl same) answered =
+    subst (λ (v : Judged). IsVerdictAnswered before v bytes after) same answered
+called before after xid caller call (Call number other another) bytes (inr same) answered = cc

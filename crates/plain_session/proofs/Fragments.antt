@@ -4,14 +4,14 @@ use Rattle.std.proofs.Common.{ap, sym, ◌∙◌, append_assoc, arith}
 use Rattle.std.proofs.lemmas.Grind.{common_steps}
 use Rattle.std.proofs.lemmas.List.{flat_map_more}
 use Rattle.limits.specs.declared.TheConstants.{RECORD_BYTES}
-use Rattle.plain_items.specs.Items.{spelled_word}
 use Rattle.plain_session.specs.Records.{Begins, IsRecord, fragment, fragments, joined, mark}
+use Rattle.xdr.specs.Items.{word}
 
 -- a mark, and the bytes that it announces, are a fragment
-pub one_fragment : (now rest new part : List ℕ) (last : Bool) (word count : ℕ)
-    → now ≡ spelled_word word ++ rest → spelled_word word ≡ mark last count → rest ≡ part ++ new
+pub one_fragment : (now rest new part : List ℕ) (last : Bool) (number count : ℕ)
+    → now ≡ word number ++ rest → word number ≡ mark last count → rest ≡ part ++ new
     → length part ≡ count → now ≡ fragment last part ++ new
-one_fragment now rest new part last word count marked is behind counted =
+one_fragment now rest new part last number count marked is behind counted =
     marked ∙ ap (λ (l : List ℕ). l ++ rest) (is ∙ ap (λ n. mark last n) (sym counted))
     ∙ ap (λ (l : List ℕ). mark last (length part) ++ l) behind
     ∙ sym (append_assoc (mark last (length part)) part new)

@@ -6,11 +6,11 @@ use Rattle.std.proofs.lemmas.List.{take_at, drop_at}
 use Rattle.std.proofs.lemmas.List.Concat.{flat_map-cons}
 use Rattle.std.proofs.lemmas.Nat.{from_be_bytes-to_be_bytes_4}
 use Rattle.limits.specs.declared.TheConstants.{RECORD_BYTES}
-use Rattle.plain_items.specs.Items.{spelled_word}
 use Rattle.plain_session.specs.Records.{Begins, EndsInFragment, EndsInMark, IsMarked, IsTooLong, NeedsMore}
 use Rattle.plain_session.specs.Records.{fragment, fragments, joined, mark}
 use Rattle.plain_session.specs.Serving.{IsFirst}
 use Rattle.plain_session.proofs.Answered.{word-length}
+use Rattle.xdr.specs.Items.{word}
 
 -- ---- marks and fragments
 
@@ -20,16 +20,16 @@ texts_alike a b x y same e = (
   sym (drop_at a x (length a) refl) ∙ ap (drop (length a)) e ∙ drop_at b y (length a) (sym same),
 )
 
-same_number : (m n : ℕ) → m < 2 ^ 32 → n < 2 ^ 32 → spelled_word m ≡ spelled_word n → m ≡ n
-unfolding spelled_word
+same_number : (m n : ℕ) → m < 2 ^ 32 → n < 2 ^ 32 → word m ≡ word n → m ≡ n
+unfolding word
 same_number m n p q e =
     sym (from_be_bytes-to_be_bytes_4 m p) ∙ ap (λ (l : List ℕ). from_be_bytes w32 l) e
     ∙ from_be_bytes-to_be_bytes_4 n q
 
-words_alike : (m n : ℕ) (x y : List ℕ) → m < 2 ^ 32 → n < 2 ^ 32 → spelled_word m ++ x ≡ spelled_word n ++ y
+words_alike : (m n : ℕ) (x y : List ℕ) → m < 2 ^ 32 → n < 2 ^ 32 → word m ++ x ≡ word n ++ y
     → (m ≡ n) × (x ≡ y)
 words_alike m n x y p q e =
-    let t = texts_alike (spelled_word m) (spelled_word n) x y (word-length m ∙ sym (word-length n)) e in
+    let t = texts_alike (word m) (word n) x y (word-length m ∙ sym (word-length n)) e in
     (same_number m n p q t.0, t.1)
 
 marks_alike : (l k : Bool) (m n : ℕ) (x y : List ℕ) → m < 2 ^ 31 → n < 2 ^ 31 → mark l m ++ x ≡ mark k n ++ y

@@ -14,16 +14,18 @@ use Rattle.nfs_types.specs.declared.program.ProgramReply.TheVariants as replied
 use Rattle.nfs_types.specs.declared.reply.Reply.{Reply}
 use Rattle.nfs_types.specs.declared.reply.Reply.TheVariants as reply
 use Rattle.procedures.specs.Step.{step}
-use Rattle.plain_hearing.specs.Headers.{Hears, IsNumbered}
-use Rattle.plain_hearing.specs.declared.hearing.Heard.{Heard}
-use Rattle.plain_hearing.specs.declared.hearing.Heard.TheVariants as heard
-use Rattle.plain_messages.specs.Refused.{accepted, recorded, refusing, words}
-use Rattle.plain_messages.specs.Results.{result_of}
-use Rattle.plain_messages.specs.declared.refusal.PlainRefusal.{PlainRefusal}
-use Rattle.plain_messages.specs.declared.refusal.PlainRefusal.TheVariants as refusal
 use Rattle.plain_server.specs.Plain.{tree_of}
 use Rattle.plain_session.specs.declared.answers.PlainFiles.{PlainFiles}
 use Rattle.plain_steps.specs.Computed.{is_null}
+use Rattle.rpc.specs.Records.{fragment}
+use Rattle.rpc.specs.Refused.{refused}
+use Rattle.rpc.specs.declared.refusal.Refusal.{Refusal}
+use Rattle.rpc.specs.declared.refusal.Refusal.TheVariants.{SystemError}
+use Rattle.session_wire.specs.Judging.{judged}
+use Rattle.session_wire.specs.Replies.{IsTooLong, reply_bytes}
+use Rattle.session_wire.specs.declared.message.Judged.{Judged}
+use Rattle.session_wire.specs.declared.message.Judged.TheVariants as verdict
+use Rattle.session_wire.specs.declared.message.ReplyBody.TheVariants as body
 
 -- the files of a session: their tree, the moment of each call, and how many calls took a number
 pub record Files : Type 0 where
@@ -80,43 +82,41 @@ IsUndone before (programs.Nfs call) after =
     (is_null call ≡ false) × (after ≡ next_files before before.tree)
 IsUndone before (programs.Mount call) after = after ≡ before
 
--- the message that tells a result, and the record that refuses a call
-abbrev pub result_message : ℕ → ProgramReply → List ℕ
-result_message xid told = words (xid ∷ accepted (0 ∷ [])) ++ result_of told
+-- the records that tell a result, and that a call is refused
+abbrev pub result_record : ℕ → ProgramReply → List ℕ
+result_record xid told = fragment true (reply_bytes xid (body.Done told))
 
-abbrev pub refusal_record : ℕ → PlainRefusal → List ℕ
-refusal_record xid why = recorded (words (xid ∷ refusing why))
+abbrev pub refusal_record : ℕ → Refusal → List ℕ
+refusal_record xid why = fragment true (refused xid why)
 
--- a result is told, or where no record holds it, that the system failed
+-- a result is told, or where it is too long for a record, that the system failed
 abbrev pub IsTold : ℕ → ProgramReply → List ℕ → Type 0
-IsTold xid told bytes =
-    (length (result_message xid told) < 2 ^ 31) × (bytes ≡ recorded (result_message xid told))
-    ⊎ (2 ^ 31 ≤ length (result_message xid told)) × (bytes ≡ refusal_record xid refusal.System)
+IsTold xid told bytes = ((IsTooLong xid (body.Done told) → ⊥) × (bytes ≡ result_record xid told))
+    ⊎ (IsTooLong xid (body.Done told) × (bytes ≡ refusal_record xid SystemError))
 
--- What a call is answered: its result; or, where memory fails before it is done, that the system failed.
+-- What a call is answered: its result; or, where memory fails before it is done, that the system failed: before
+-- or behind its number was taken.
 pub data IsCallAnswered (before : Files) (xid : ℕ) (caller : Credential) (call : ProgramCall)
     (bytes : List ℕ) (after : Files) : Type 0 where
   Done : (told : ProgramReply) → IsReply before caller call told after → IsTold xid told bytes
       → IsCallAnswered before xid caller call bytes after
-  Undone : IsUndone before call after → bytes ≡ refusal_record xid refusal.System
+  Undone : IsUndone before call after → bytes ≡ refusal_record xid SystemError
+      → IsCallAnswered before xid caller call bytes after
+  Unread : after ≡ before → bytes ≡ refusal_record xid SystemError
       → IsCallAnswered before xid caller call bytes after
 
--- what is answered, by what is heard
-abbrev pub IsHeardAnswered : Files → Heard → List ℕ → Files → Type 0
-IsHeardAnswered before heard.Closed bytes after = ⊥
-IsHeardAnswered before (heard.Refused xid why) bytes after =
+-- what is answered, by what the message is
+abbrev pub IsVerdictAnswered : Files → Judged → List ℕ → Files → Type 0
+IsVerdictAnswered before verdict.Closed bytes after = ⊥
+IsVerdictAnswered before (verdict.Refused xid why) bytes after =
     (bytes ≡ refusal_record xid why) × (after ≡ before)
-IsHeardAnswered before (heard.Call xid caller call) bytes after =
+IsVerdictAnswered before (verdict.Call xid caller call) bytes after =
     IsCallAnswered before xid caller call bytes after
 
 -- the connection closes on this message
 abbrev pub Closes : List ℕ → Type 0
-Closes message = Hears message heard.Closed
+Closes message = judged message ≡ verdict.Closed
 
 -- a message on which it doesn't close, and the record of the reply to it
-pub record IsAnswered (before : Files) (message bytes : List ℕ) (after : Files) : Type 0 where
-  pub heard_as : Heard
-  pub hears : Hears message heard_as
-  pub numbered : IsNumbered message heard_as
-  pub goes_on : Closes message → ⊥
-  pub answered : IsHeardAnswered before heard_as bytes after
+abbrev pub IsAnswered : Files → List ℕ → List ℕ → Files → Type 0
+IsAnswered before message bytes after = IsVerdictAnswered before (judged message) bytes after

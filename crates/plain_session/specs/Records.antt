@@ -2,14 +2,14 @@
 use Rattle.std.specs.Prelude.{◌≡◌, ℕ, ◌+◌, ◌<◌, ◌≤◌, ◌^◌, ◌⊎◌, Bool, true, false, List, ◌++◌, length, take}
 use Rattle.std.specs.Prelude.{flat_map}
 use Rattle.limits.specs.declared.TheConstants.{RECORD_BYTES}
-use Rattle.plain_items.specs.Items.{spelled_word}
 use Rattle.plain_session.specs.declared.records.Cut.{Cut}
 use Rattle.plain_session.specs.declared.records.Cut.TheVariants as cuts
+use Rattle.xdr.specs.Items.{word}
 
 -- the mark of a fragment: its length, with the highest bit in the last fragment of a record
 abbrev pub mark : Bool → ℕ → List ℕ
-mark false count = spelled_word count
-mark true count = spelled_word (2 ^ 31 + count)
+mark false count = word count
+mark true count = word (2 ^ 31 + count)
 
 -- a fragment stands behind its mark
 abbrev pub fragment : Bool → List ℕ → List ℕ

@@ -2,16 +2,19 @@
 ghost use Rattle.std.specs.Prelude.{◌≡◌, ℕ, List, Ok, None, false, IfOk, IfSome, OnErr};
 ghost use Rattle.plain_session.specs.Answering.{Closes, IsAnswered, IsCallAnswered, IsNfsReply, IsReply};
 ghost use Rattle.plain_session.specs.Answering.{IsStep, IsTold, IsUndone, files_of, next_files};
+ghost use Rattle.plain_session.specs.Answering.{refusal_record};
 ghost use Rattle.plain_steps.specs.Computed.{is_null as is_null_call};
+ghost use Rattle.session_wire.specs.Replies.{body_of};
+ghost use Rattle.session_wire.specs.declared.message.ReplyBody.TheVariants as body;
 
 use crate::mounted::mount;
 use nfs_types::{Call, Credential, Ctx, Moment, ProgramCall, ProgramReply, Reply};
-use plain_hearing::{Heard, hear};
-use plain_items::PutFault;
-use plain_messages::{PlainRefusal, done, refused};
 use plain_server::PlainTree;
 use plain_steps::answer;
+use rpc::Refusal;
+use session_wire::{Judged, RpcReply, judge, reply_bytes};
 use std::alloc::{AllocError, Global};
+use xdr::XdrFault;
 
 /// The files, when calls come, and how many of them took a number.
 #[derive(Drop)]
@@ -35,10 +38,10 @@ pub fn answer_record(
     ensures lost { OnErr result ((bytes : List ℕ) × IsAnswered (files_of files.old) message.now bytes
         (files_of files.new)) }
 {
-    match hear(alloc, message) {
-        Heard::Closed => Ok(None),
-        Heard::Refused { xid, refusal } => Ok(Some(refused(alloc, xid, refusal)?)),
-        Heard::Call {
+    match judge(alloc, message) {
+        Judged::Closed => Ok(None),
+        Judged::Refused { xid, refusal } => Ok(Some(refused(alloc, xid, refusal)?)),
+        Judged::Call {
             xid,
             credential,
             call,
@@ -61,19 +64,39 @@ fn answer_call(
 {
     match reply_to(alloc, files, credential, call) {
         Ok(reply) => tell(alloc, xid, &reply),
-        Err(_) => refused(alloc, xid, PlainRefusal::System),
+        Err(_) => refused(alloc, xid, Refusal::SystemError),
     }
 }
 
-// The record that tells a result. Where no record holds the result, that is told. The call is done by now, so
-// where memory fails nothing is told.
+// The record that tells a result. Where it is too long for one, that the system failed is told. The call is done
+// by now, so where memory fails nothing is told.
 fn tell(alloc: Global, xid: u32, reply: &ProgramReply) -> Result<Vec<u8>, AllocError>
     ensures { IfOk result (λ whole. IsTold xid reply.now whole.items) }
 {
-    match done(alloc, xid, reply) {
+    match reply_bytes(alloc, xid, told(reply)) {
         Ok(record) => Ok(record),
-        Err(PutFault::NoMemory) => Err(AllocError),
-        Err(PutFault::TooLong) => refused(alloc, xid, PlainRefusal::System),
+        Err(XdrFault::Length) => refused(alloc, xid, Refusal::SystemError),
+        Err(_) => Err(AllocError),
+    }
+}
+
+// A result as what a call is answered.
+fn told(reply: &ProgramReply) -> RpcReply<'_>
+    ensures { body_of result ≡ body.Done reply.now }
+{
+    match reply {
+        ProgramReply::Nfs(reply) => RpcReply::Nfs(reply),
+        ProgramReply::Mount(reply) => RpcReply::Mount(reply),
+    }
+}
+
+// The record that refuses a call. It is short, so what fails is an allocation.
+fn refused(alloc: Global, xid: u32, refusal: Refusal) -> Result<Vec<u8>, AllocError>
+    ensures { IfOk result (λ whole. whole.items ≡ refusal_record xid refusal) }
+{
+    match reply_bytes(alloc, xid, RpcReply::Refused(refusal)) {
+        Ok(record) => Ok(record),
+        Err(_) => Err(AllocError),
     }
 }
 

@@ -1,11 +1,12 @@
-//! A session over a fresh tree in memory by plain code: bytes in, in any pieces, and the bytes of the
-//! replies out. It shares nothing with the server's wire.
+//! A session over a fresh tree in memory: bytes in, in any pieces, and the bytes of the replies out. It judges
+//! messages and spells replies as the server's wire does, and shares nothing else with the server.
 #![tactic(auto)]
 
 mod answers;
 mod image;
 mod laws;
 mod mounted;
+mod reader;
 mod records;
 mod session;
 

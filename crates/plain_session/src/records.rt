@@ -1,10 +1,10 @@
 //! Cutting records out of a stream (RFC 5531, section 11).
 ghost use Rattle.std.specs.Prelude.{◌≡◌, ◌<◌, ◌^◌, IfOk};
-ghost use Rattle.plain_items.specs.Items.{spelled_word};
 ghost use Rattle.plain_session.specs.Records.{Cuts, mark as mark_of};
+ghost use Rattle.xdr.specs.Items.{word};
 
+use crate::reader::StreamReader;
 use limits::RECORD_BYTES;
-use plain_items::ItemReader;
 use std::alloc::{AllocError, Global};
 
 /// What stands at the beginning of a stream.
@@ -26,7 +26,7 @@ pub fn first_record(alloc: Global, stream: &[u8]) -> Result<Cut, AllocError>
     ensures { IfOk result (λ cut. Cuts stream.now cut) }
 {
     let mut record: Vec<u8> = Vec::new(alloc);
-    let mut reader = ItemReader::new(stream);
+    let mut reader = StreamReader::new(stream);
     // Each fragment takes four bytes at least.
     for _taken in 0..stream.len() {
         let Ok(mark) = reader.word() else {
@@ -50,7 +50,7 @@ pub fn first_record(alloc: Global, stream: &[u8]) -> Result<Cut, AllocError>
 
 // Whether a mark is that of a last fragment, and the length that it announces.
 fn announced(mark: u32) -> (bool, usize)
-    ensures is { spelled_word mark ≡ mark_of result.0 result.1 }
+    ensures is { word mark ≡ mark_of result.0 result.1 }
     ensures bound { result.1 < 2 ^ 31 }
 {
     if mark < LAST_FRAGMENT {

@@ -3,8 +3,6 @@
 mod arguments;
 mod compared;
 mod damage;
-mod headers;
 mod items;
-mod messages;
 mod results;
 mod tape;

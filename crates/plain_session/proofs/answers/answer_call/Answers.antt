@@ -1,6 +1,6 @@
 use Rattle.std.proofs.Common.{refl}
 use Rattle.std.proofs.lemmas.Result.{IfOk-weaker}
-use Rattle.plain_messages.specs.declared.refusal.PlainRefusal.TheVariants.{System}
+use Rattle.rpc.specs.declared.refusal.Refusal.TheVariants.{SystemError}
 use Rattle.plain_session.specs.Answering.{Done, Undone, refusal_record}
 use Rattle.plain_session.proofs.Lost.{on_err, some_told}
 use Rattle.plain_session.proofs.answers.answer_call.Goals as goal
@@ -16,4 +16,4 @@ returns-in-Ok-clause-lost c =
 
 pub returns-in-Err-clause-lost : goal.returns-in-Err-clause-lost
 returns-in-Err-clause-lost c =
-    on_err c.refused.result (refusal_record c.args.xid System, Undone c.in-Err.ensures.err refl)
+    on_err c.refused.result (refusal_record c.args.xid SystemError, Undone c.in-Err.ensures.err refl)
