@@ -157,11 +157,12 @@ def test_format_refuses_unlawful_counts(place):
 def test_a_file_that_another_has_locked_is_left(place):
     image = place.image()
     before = contents(image)
-    with open(image, "rb") as other:
-        fcntl.flock(other, fcntl.LOCK_EX)
-        expect("once", place.once(image, wire.null_call(1)), 1, NOTHING, REFUSED)
-        expect("format", place.run(["format", image, "--blocks", "2048"]), 1, NOTHING, REFUSED)
-        is_so("the image was changed", contents(image) == before)
+    for lock in fcntl.LOCK_EX, fcntl.LOCK_SH:
+        with open(image, "rb") as other:
+            fcntl.flock(other, lock)
+            expect("once", place.once(image, wire.null_call(1)), 1, NOTHING, REFUSED)
+            expect("format", place.run(["format", image, "--blocks", "2048"]), 1, NOTHING, REFUSED)
+            is_so("the image was changed", contents(image) == before)
     # It is free again once a program has ended, also by a fault.
     expect("format", place.run(["format", image, "--blocks", "1024", "--inodes", "33"]), 1, NOTHING, b"nfsd: 2 Inodes\n")
     place.attributes(place.image(), NEW_MODE, MADE)

@@ -105,23 +105,3 @@ pub const REJECTED_CREDENTIAL: [u32; 6] = [0x8000_0014, 1, 1, 1, 1, 2];
 
 /// A mark that announces 40,961 bytes.
 pub const TOO_LONG: [u32; 1] = [0x8000_a001];
-
-/// A message whose type is neither call nor reply, as one that replies would be.
-pub const NO_CALL: [u32; 11] = [0x8000_0028, 1, 1, 2, 100_003, 3, 0, 0, 0, 0, 0];
-
-/// A call that ends before the version of RPC.
-pub const NO_VERSION: [u32; 3] = [0x8000_0008, 1, 0];
-
-/// The calls that are refused, each with its reply.
-pub const REFUSED: [(&[u32], &[u32]); 10] = [
-    (&ANOTHER_RPC_VERSION, &RPC_MISMATCH),
-    (&NOTHING_RIGHT, &RPC_MISMATCH),
-    (&SEVENTEEN_GIDS, &BAD_CREDENTIAL),
-    (&ANOTHER_FLAVOR, &REJECTED_CREDENTIAL),
-    (&ANOTHER_PROGRAM, &PROGRAM_UNAVAILABLE),
-    (&ANOTHER_VERSION, &PROGRAM_MISMATCH),
-    (&ANOTHER_PROCEDURE, &PROCEDURE_UNAVAILABLE),
-    (&MOUNT_DUMP, &PROCEDURE_UNAVAILABLE),
-    (&MOUNT_PADDED, &GARBAGE_ARGUMENTS),
-    (&ARGUMENTS_LEFT, &GARBAGE_ARGUMENTS),
-];

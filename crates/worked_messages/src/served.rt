@@ -190,9 +190,3 @@ pub const SETATTR_DONE: [u32; 37] = [
 
 /// The reply where the store is broken: IO, with both optional parts absent.
 pub const SETATTR_IO: [u32; 10] = [0x8000_0024, 4, 1, 0, 0, 0, 0, 5, 0, 0];
-
-/// The reply where a counter is spent: SERVERFAULT (10006), with both optional parts absent.
-pub const SETATTR_SERVER_FAULT: [u32; 10] = [0x8000_0024, 4, 1, 0, 0, 0, 0, 10006, 0, 0];
-
-/// The reply where an allocation failed: SYSTEM_ERR.
-pub const SETATTR_NO_MEMORY: [u32; 7] = [0x8000_0018, 4, 1, 0, 0, 0, 5];

@@ -44,12 +44,6 @@ const BEFORE: WeakCacheAttributes = WeakCacheAttributes {
     ctime: MADE,
 };
 
-/// What is told of the root as it is made, where it was left so.
-pub const ROOT_IS_LEFT: WeakCacheData = WeakCacheData {
-    before: Some(BEFORE),
-    after: Some(FRESH_ROOT),
-};
-
 /// What is told where its mode was set.
 pub const ROOT_IS_CHANGED: WeakCacheData = WeakCacheData {
     before: Some(BEFORE),

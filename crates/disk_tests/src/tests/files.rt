@@ -1,11 +1,9 @@
-//! Files of the system: what they keep, their lengths, their locks and their modes.
+//! Files of the system: what they keep. Their lengths, locks and modes are asked of the built program.
 
 use crate::tests::{Call, block, make};
 use disk::{Block, BlockNo, CrashDisk, Failed, FileDisk, Side};
 use limits::BLOCK_BYTES;
-use std::fs;
-use std::fs::{File, OpenOptions, Permissions};
-use std::os::unix::fs::PermissionsExt;
+use std::fs::OpenOptions;
 use std::test::Fail;
 
 // Makes a file of three blocks, of which the last begins with 1.
@@ -44,63 +42,5 @@ fn a_file_is_cut_short(rt: HostRuntime) -> Result<(), Fail> {
     let after = make(&mut longer, Call::Read(BlockNo(4)), &mut out);
     assert!(rt; (before, after) == (Ok(0), Err(Failed)));
     std::fs::remove_file(&rt, path)?;
-    Ok(())
-}
-
-// A part of a block at the end isn't looked at.
-#[test]
-fn a_file_ends_within_a_block(rt: HostRuntime) -> Result<(), Fail> {
-    let path = "part.tmp";
-    assert!(rt; make_file(&rt, path)?);
-    let file = OpenOptions::new().write(true).open(&rt, path)?;
-    file.set_len(BLOCK_BYTES as u64 * 2 + 1)?;
-    let opened = FileDisk::open(&rt, path)?;
-    assert!(rt; opened.blocks() == 2);
-    std::fs::remove_file(&rt, path)?;
-    Ok(())
-}
-
-// A device has its file alone, until it is dropped: no other is opened over it, and it keeps its length.
-#[test]
-fn a_file_has_one_device(rt: HostRuntime) -> Result<(), Fail> {
-    let path = "alone.tmp";
-    {
-        let _first = FileDisk::create(&rt, path, 3)?;
-        assert!(rt; FileDisk::create(&rt, path, 2).is_err() && FileDisk::open(&rt, path).is_err());
-        assert_eq!(rt; fs::metadata(&rt, path)?.len(), BLOCK_BYTES as u64 * 3);
-    }
-    assert!(rt; FileDisk::open(&rt, path)?.blocks() == 3);
-    fs::remove_file(&rt, path)?;
-    Ok(())
-}
-
-// Another program that reads the file has it too.
-#[test]
-fn a_file_that_is_read_has_no_device(rt: HostRuntime) -> Result<(), Fail> {
-    let path = "read.tmp";
-    assert!(rt; make_file(&rt, path)?);
-    let reader = File::open(&rt, path)?;
-    reader.lock_shared()?;
-    assert!(rt; FileDisk::open(&rt, path).is_err() && FileDisk::create(&rt, path, 2).is_err());
-    reader.unlock()?;
-    assert!(rt; FileDisk::open(&rt, path)?.blocks() == 3);
-    fs::remove_file(&rt, path)?;
-    Ok(())
-}
-
-// The permission bits of a file.
-fn mode(rt: &HostRuntime, path: &str) -> Result<u32, Fail> {
-    Ok(fs::metadata(rt, path)?.permissions().mode() & 0o7777)
-}
-
-#[test]
-fn a_new_file_is_its_owners_alone(rt: HostRuntime) -> Result<(), Fail> {
-    let path = "mode.tmp";
-    assert!(rt; make_file(&rt, path)?);
-    assert_eq!(rt; mode(&rt, path)?, 0o600);
-    fs::set_permissions(&rt, path, Permissions::from_mode(0o640))?;
-    assert!(rt; make_file(&rt, path)?);
-    assert_eq!(rt; mode(&rt, path)?, 0o640);
-    fs::remove_file(&rt, path)?;
     Ok(())
 }
