@@ -1,6 +1,6 @@
 -- What follows from what the program did.
 use Rattle.std.proofs.Common.{◌≡◌, ◌∙◌, ℕ, ◌-◌, ◌⊎◌, ap, inl, inr, List, Option, Ok, Err, arith, refl, subst}
-use Rattle.std.proofs.Common.{Result, sym}
+use Rattle.std.proofs.Common.{Result, Some, sym}
 use Rattle.std.specs.Prelude.{IfErr, OnOk}
 use Rattle.std.specs.Io.KnownBytes.{Appends}
 use Rattle.clap.specs.Words.{Text}
@@ -23,18 +23,19 @@ use Rattle.nfsd.specs.Faults.{status_of_outcome}
 
 -- the command that was asked for was done, so the arguments were obeyed
 pub obeys_command : (first : FirstContents) (words : List Text) (args : Args) (client : Client)
-    (outcome : Outcome) (later : Client) → WordsAsk words args → DoesCommand first args client outcome later
-    → Obeys first words client outcome later
-obeys_command first words (Format image blocks inodes time) client (Err fault.NotText) later asks does =
-    absurd does.2
-obeys_command first words (Once image time) client (Err fault.NotText) later asks does = absurd does.2
-obeys_command first words (Format image blocks inodes time) client (Err fault.Memory) later asks does =
-    absurd does.2
-obeys_command first words (Once image time) client (Err fault.Memory) later asks does = absurd does.2
-obeys_command first words (Format image blocks inodes time) client (Err (fault.Words e)) later asks does =
-    absurd does.2
-obeys_command first words (Once image time) client (Err (fault.Words e)) later asks does = absurd does.2
-obeys_command first words args client outcome later asks does = (args, asks, does)
+    (outcome : Outcome) (device : Option Device) (later : Client) → WordsAsk words args
+    → DoesCommand first args client outcome device later → Obeys first words client outcome device later
+obeys_command first words (Format image blocks inodes time) client (Err fault.NotText) device later asks does =
+    absurd does.3
+obeys_command first words (Once image time) client (Err fault.NotText) device later asks does = absurd does.3
+obeys_command first words (Format image blocks inodes time) client (Err fault.Memory) device later asks does =
+    absurd does.3
+obeys_command first words (Once image time) client (Err fault.Memory) device later asks does = absurd does.3
+obeys_command first words (Format image blocks inodes time) client (Err (fault.Words e)) device later asks
+    does = absurd does.3
+obeys_command first words (Once image time) client (Err (fault.Words e)) device later asks does =
+    absurd does.3
+obeys_command first words args client outcome device later asks does = (args, asks, does)
 
 -- a device was made an image, and the line of its counts was printed or wasn't
 pub prints : (old new : Device) (inodes time count : ℕ) (written written' : Option (List ℕ)) (outcome : Outcome)
@@ -75,46 +76,51 @@ serves old new time client later opened store moment result outcome opens at ser
 
 -- the device of the image's file was formatted, so the command was done
 pub formats_command : (first : FirstContents) (image : _) (blocks inodes time : ℕ) (new : Device)
-    (client : Client) (outcome : Outcome) (later : Client) → later.unread ≡ client.unread
+    (client : Client) (outcome : Outcome) (device : Option Device) (later : Client) → device ≡ Some new
+    → later.unread ≡ client.unread
     → FormatsDevice (device_of first blocks) inodes time client.written outcome new later.written
-    → DoesCommand first (Format image blocks inodes time) client outcome later
-formats_command first image blocks inodes time new client (Err fault.File) later unread formats = absurd formats
-formats_command first image blocks inodes time new client outcome later unread formats = (new, unread, formats)
+    → DoesCommand first (Format image blocks inodes time) client outcome device later
+formats_command first image blocks inodes time new client (Err fault.File) device later back unread formats =
+    absurd formats
+formats_command first image blocks inodes time new client outcome device later back unread formats =
+    (new, back, unread, formats)
 
 -- the device of the image's file was served from, so the command was done
 pub serves_command : (first : FirstContents) (image : _) (size time : ℕ) (new : Device) (client : Client)
-    (outcome : Outcome) (later : Client) → ServesDevice (device_of first size) time client outcome new later
-    → DoesCommand first (Once image time) client outcome later
-serves_command first image size time new client (Err fault.File) later serves = absurd serves
-serves_command first image size time new client outcome later serves = (size, new, serves)
+    (outcome : Outcome) (device : Option Device) (later : Client) → device ≡ Some new
+    → ServesDevice (device_of first size) time client outcome new later
+    → DoesCommand first (Once image time) client outcome device later
+serves_command first image size time new client (Err fault.File) device later back serves = absurd serves
+serves_command first image size time new client outcome device later back serves = (size, new, back, serves)
 
 -- with status 2 the arguments have no meaning
 obeys_two : (first : FirstContents) (words : List Text) (client : Client) (outcome : Outcome)
-    (later : Client) → Obeys first words client outcome later → status_of_outcome outcome ≡ 2
-    → ¬ HasMeaning words
-obeys_two first words client (Err fault.NotText) later obeys status = absurd obeys
-obeys_two first words client (Err (fault.Words e)) later obeys status = obeys.0
-obeys_two first words client outcome later obeys status = absurd (omega arith)
+    (device : Option Device) (later : Client) → Obeys first words client outcome device later
+    → status_of_outcome outcome ≡ 2 → ¬ HasMeaning words
+obeys_two first words client (Err fault.NotText) device later obeys status = absurd obeys
+obeys_two first words client (Err (fault.Words e)) device later obeys status = obeys.0
+obeys_two first words client outcome device later obeys status = absurd (omega arith)
 
 -- arguments without a meaning end with status 2, or there was no memory to read them
 obeys_none : (first : FirstContents) (words : List Text) (client : Client) (outcome : Outcome)
-    (later : Client) → Obeys first words client outcome later → ¬ HasMeaning words
-    → (status_of_outcome outcome ≡ 2) ⊎ (outcome ≡ Err fault.Memory)
-obeys_none first words client (Err fault.NotText) later obeys none = absurd obeys
-obeys_none first words client (Err fault.Memory) later obeys none = inr refl
-obeys_none first words client (Err (fault.Words e)) later obeys none = inl refl
-obeys_none first words client outcome later obeys none = absurd (none (obeys.0, obeys.1))
+    (device : Option Device) (later : Client) → Obeys first words client outcome device later
+    → ¬ HasMeaning words → (status_of_outcome outcome ≡ 2) ⊎ (outcome ≡ Err fault.Memory)
+obeys_none first words client (Err fault.NotText) device later obeys none = absurd obeys
+obeys_none first words client (Err fault.Memory) device later obeys none = inr refl
+obeys_none first words client (Err (fault.Words e)) device later obeys none = inl refl
+obeys_none first words client outcome device later obeys none = absurd (none (obeys.0, obeys.1))
 
 module _ {first : FirstContents} {words : List Text} {client : Client} {told : Told}
-    {written : Option (List ℕ)} {status : ℕ} {later : Client} {told' : Told} {written' : Option (List ℕ)} where
-  pub refused : Answers first words client told written status later told' written' → status ≡ 2
+    {written : Option (List ℕ)} {status : ℕ} {device : Option Device} {later : Client} {told' : Told}
+    {written' : Option (List ℕ)} where
+  pub refused : Answers first words client told written status device later told' written' → status ≡ 2
       → ¬ HasMeaning words
   refused answers two =
-      obeys_two first words client answers.outcome later answers.obeys (sym answers.ends ∙ two)
+      obeys_two first words client answers.outcome device later answers.obeys (sym answers.ends ∙ two)
 
-  pub refuses : Answers first words client told written status later told' written' → ¬ HasMeaning words
+  pub refuses : Answers first words client told written status device later told' written' → ¬ HasMeaning words
       → (status ≡ 2) ⊎ IsWithoutMemory told written status told' written'
-  refuses answers none = elim (obeys_none first words client answers.outcome later answers.obeys none) [
+  refuses answers none = elim (obeys_none first words client answers.outcome device later answers.obeys none) [
     | inl two ↦ inl (answers.ends ∙ two)
     | inr memory ↦ inr (record {
       ends = answers.ends ∙ ap status_of_outcome memory;

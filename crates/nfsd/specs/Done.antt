@@ -1,10 +1,11 @@
 -- What the program does for its arguments: what it prints, and which fault it tells.
-use Rattle.std.specs.Prelude.{◌≡◌, ℕ, ◌-◌, List, ◌++◌, [], ◌∷◌, Option, Result, Ok, Err, OnOk, IfSome, codes}
+use Rattle.std.specs.Prelude.{◌≡◌, ℕ, ◌-◌, List, ◌++◌, [], ◌∷◌, Option, Some, None, Result, Ok, Err, OnOk, IfSome, codes}
 use Rattle.std.specs.Fmt.{decimal}
 use Rattle.std.specs.Io.KnownBytes.{Appends}
 use Rattle.std.specs.declared.io.Error.{Error}
 use Rattle.clap.specs.Words.{Text}
 use Rattle.disk.specs.declared.file.FirstContents.{FirstContents}
+use Rattle.disk.specs.declared.file_disk.FileDisk.{FileDisk}
 use Rattle.disk.specs.Device.{Device}
 use Rattle.disk.specs.File.{file_device, first_in}
 use Rattle.nfs_types.specs.declared.ctx.Moment.{Moment}
@@ -61,24 +62,31 @@ ServesDevice old time client (Err other) new later = ⊥
 abbrev pub device_of : FirstContents → ℕ → Device
 device_of first size = file_device (first_in first.blocks.items) size []
 
--- The command that is asked for was done to the device of a file that held this, and this came of it; or there
--- is no device, and the fault is that of the file.
-abbrev pub DoesCommand : FirstContents → Args → Client → Outcome → Client → Type 0
-DoesCommand first args client (Err fault.File) later = later ≡ client
-DoesCommand first (Format image blocks inodes time) client outcome later = (new : Device)
-    × (later.unread ≡ client.unread)
+-- the device that is handed back
+abbrev pub device_in : {F : Type 0} → Option (FileDisk F) → Option Device
+device_in None = None
+device_in (Some disk) =
+    Some (file_device (first_in disk.first.blocks.items) disk.blocks disk.file.calls.items)
+
+-- The command that is asked for was done to the device of a file that held this, this came of it, and the device
+-- is handed back as that left it; or there is no device, and the fault is that of the file.
+abbrev pub DoesCommand : FirstContents → Args → Client → Outcome → Option Device → Client → Type 0
+DoesCommand first args client (Err fault.File) device later = (later ≡ client) × (device ≡ None)
+DoesCommand first (Format image blocks inodes time) client outcome device later = (new : Device)
+    × (device ≡ Some new) × (later.unread ≡ client.unread)
     × FormatsDevice (device_of first blocks) inodes time client.written outcome new later.written
-DoesCommand first (Once image time) client outcome later = (size : ℕ) × (new : Device)
-    × ServesDevice (device_of first size) time client outcome new later
+DoesCommand first (Once image time) client outcome device later = (size : ℕ) × (new : Device)
+    × (device ≡ Some new) × ServesDevice (device_of first size) time client outcome new later
 
 -- The arguments were obeyed: the command that they ask for was done to a file that held this, or they have no
 -- meaning, or there was no memory to read them.
-abbrev pub Obeys : FirstContents → List Text → Client → Outcome → Client → Type 0
-Obeys first words client (Err fault.NotText) later = ⊥
-Obeys first words client (Err fault.Memory) later = later ≡ client
-Obeys first words client (Err (fault.Words error)) later = (¬ HasMeaning words) × (later ≡ client)
-Obeys first words client outcome later = (args : Args) × WordsAsk words args
-    × DoesCommand first args client outcome later
+abbrev pub Obeys : FirstContents → List Text → Client → Outcome → Option Device → Client → Type 0
+Obeys first words client (Err fault.NotText) device later = ⊥
+Obeys first words client (Err fault.Memory) device later = (later ≡ client) × (device ≡ None)
+Obeys first words client (Err (fault.Words error)) device later = (¬ HasMeaning words) × (later ≡ client)
+    × (device ≡ None)
+Obeys first words client outcome device later = (args : Args) × WordsAsk words args
+    × DoesCommand first args client outcome device later
 
 -- the faults that were told on a stream, each with the stream's answer
 abbrev pub Told : Type 0
@@ -95,13 +103,13 @@ abbrev pub TellsOutcome : Told → Option (List ℕ) → Outcome → Told → Op
 TellsOutcome told written (Ok done) told' written' = (told' ≡ told) × (written' ≡ written)
 TellsOutcome told written (Err why) told' written' = TellsFault told written why told' written'
 
--- what the program answers its arguments, where the image's file held this: it obeyed them, told what came of
--- it, and ended with its status
+-- what the program answers its arguments, where the image's file held this: it obeyed them, which left the
+-- device so, told what came of it, and ended with its status
 pub record Answers (first : FirstContents) (words : List Text) (client : Client) (told : Told)
-    (written : Option (List ℕ)) (status : ℕ) (later : Client) (told' : Told) (written' : Option (List ℕ))
-    : Type 0 where
+    (written : Option (List ℕ)) (status : ℕ) (device : Option Device) (later : Client) (told' : Told)
+    (written' : Option (List ℕ)) : Type 0 where
   pub outcome : Outcome
-  pub obeys : Obeys first words client outcome later
+  pub obeys : Obeys first words client outcome device later
   pub ends : status ≡ status_of_outcome outcome
   pub tells : TellsOutcome told written outcome told' written'
 

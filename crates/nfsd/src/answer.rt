@@ -1,8 +1,9 @@
 //! What the program does for its arguments.
 ghost use Rattle.std.specs.Prelude.{◌≡◌, ◌⊎◌, map};
 ghost use Rattle.nfsd_words.specs.Words.{HasMeaning};
+ghost use Rattle.session.specs.Reading.{unread_of};
 ghost use Rattle.session.specs.Serving.{client_of};
-ghost use Rattle.nfsd.specs.Done.{Answers, DoesCommand, IsWithoutMemory, Obeys, TellsOutcome};
+ghost use Rattle.nfsd.specs.Done.{Answers, DoesCommand, IsWithoutMemory, Obeys, TellsOutcome, device_in};
 ghost use Rattle.nfsd.specs.Faults.{status_of_outcome};
 
 use crate::device::{format_device, serve_device};
@@ -11,6 +12,7 @@ use crate::fault_stream::FaultStream;
 use crate::streams::{Streams, fill};
 use disk::{BlockFile, FileDisk, FirstContents};
 use nfsd_words::{Args, words};
+use session::Input;
 use std::fs::Files;
 use std::io::{Read, Write};
 
@@ -29,15 +31,16 @@ pub fn conclude<E: Write>(faults: &mut FaultStream<E>, outcome: &Result<(), Faul
 
 /// Does what the arguments ask for, of which the first is the program's name, tells a fault on `faults`, and
 /// gives the exit status: 0 where it is done, 2 where the arguments have no meaning, and else 1. `first` is
-/// what the image's file holds when it is opened: no code reads it, and the clauses hold of each.
+/// what the image's file holds when it is opened: no code reads it, and the clauses hold of each. The device of
+/// the image is handed back as the command left it.
 pub fn answer<R, I, O, E>(
     rt: &R,
     line: &[&str],
     first: FirstContents,
-    reader: &mut I,
+    reader: &mut Input<I>,
     writer: &mut O,
     faults: &mut FaultStream<E>,
-) -> u8
+) -> (u8, Option<FileDisk<R::File>>)
 where
     R: Files + Streams + AllocGlobal,
     R::File: BlockFile,
@@ -45,17 +48,17 @@ where
     O: Write,
     E: Write,
     ensures answers { Answers first (map (λ word. word.now) line.now)
-        (client_of (I.remaining reader.old) (O.contents writer.old))
-        faults.old.told.items (E.contents faults.old.stream) result
-        (client_of (I.remaining reader.new) (O.contents writer.new))
+        (client_of (unread_of I.remaining reader.old) (O.contents writer.old))
+        faults.old.told.items (E.contents faults.old.stream) result.0 (device_in result.1)
+        (client_of (unread_of I.remaining reader.new) (O.contents writer.new))
         faults.new.told.items (E.contents faults.new.stream) }
-    ensures refused { result ≡ 2 → ¬ HasMeaning (map (λ word. word.now) line.now) }
-    ensures refuses { (¬ HasMeaning (map (λ word. word.now) line.now)) → (result ≡ 2)
-        ⊎ IsWithoutMemory faults.old.told.items (E.contents faults.old.stream) result
+    ensures refused { result.0 ≡ 2 → ¬ HasMeaning (map (λ word. word.now) line.now) }
+    ensures refuses { (¬ HasMeaning (map (λ word. word.now) line.now)) → (result.0 ≡ 2)
+        ⊎ IsWithoutMemory faults.old.told.items (E.contents faults.old.stream) result.0
         faults.new.told.items (E.contents faults.new.stream) }
 {
-    let outcome = obey(rt, line, first, reader, writer);
-    conclude(faults, &outcome)
+    let (disk, outcome) = obey(rt, line, first, reader, writer);
+    (conclude(faults, &outcome), disk)
 }
 
 // Does what the arguments ask for. No image is opened before each standard stream's descriptor is taken.
@@ -64,39 +67,46 @@ fn obey<R, I, O>(
     rt: &R,
     line: &[&str],
     first: FirstContents,
-    reader: &mut I,
+    reader: &mut Input<I>,
     writer: &mut O,
-) -> Result<(), Fault>
+) -> (Option<FileDisk<R::File>>, Result<(), Fault>)
 where
     R: Files + Streams + AllocGlobal,
     R::File: BlockFile,
     I: Read,
     O: Write,
     ensures { Obeys first (map (λ word. word.now) line.now)
-        (client_of (I.remaining reader.old) (O.contents writer.old)) result
-        (client_of (I.remaining reader.new) (O.contents writer.new)) }
+        (client_of (unread_of I.remaining reader.old) (O.contents writer.old)) result.1 (device_in result.0)
+        (client_of (unread_of I.remaining reader.new) (O.contents writer.new)) }
 {
-    let args = words(rt.alloc(), line).map_err(Fault::of_words)?;
-    let _fillers = fill(rt).or(Err(Fault::File))?;
+    let args = match words(rt.alloc(), line) {
+        Ok(args) => args,
+        Err(error) => return (None, Err(Fault::of_words(error))),
+    };
+    let _fillers = match fill(rt) {
+        Ok(fillers) => fillers,
+        Err(_) => return (None, Err(Fault::File)),
+    };
     command(rt, args, first, reader, writer)
 }
 
-// Does a command to the device of the image's file. A refusal to format leaves the file with its new length.
+// Does a command to the device of the image's file, and hands it back. A refusal to format leaves the file with
+// its new length.
 fn command<R, I, O>(
     rt: &R,
     args: Args<'_>,
     first: FirstContents,
-    reader: &mut I,
+    reader: &mut Input<I>,
     writer: &mut O,
-) -> Result<(), Fault>
+) -> (Option<FileDisk<R::File>>, Result<(), Fault>)
 where
     R: Files + AllocGlobal,
     R::File: BlockFile,
     I: Read,
     O: Write,
     ensures { DoesCommand first args.entry
-        (client_of (I.remaining reader.old) (O.contents writer.old)) result
-        (client_of (I.remaining reader.new) (O.contents writer.new)) }
+        (client_of (unread_of I.remaining reader.old) (O.contents writer.old)) result.1 (device_in result.0)
+        (client_of (unread_of I.remaining reader.new) (O.contents writer.new)) }
 {
     match args {
         Args::Format {
@@ -105,15 +115,22 @@ where
             inodes,
             time,
         } => {
-            let made = FileDisk::create(rt, image, blocks).or(Err(Fault::File))?;
+            let made = match FileDisk::create(rt, image, blocks) {
+                Ok(made) => made,
+                Err(_) => return (None, Err(Fault::File)),
+            };
             let mut disk = made.beginning_with(first);
-            format_device(rt.alloc(), &mut disk, inodes, time, writer)
+            let outcome = format_device(rt.alloc(), &mut disk, inodes, time, writer);
+            (Some(disk), outcome)
         }
         Args::Once { image, time } => {
-            let opened = FileDisk::open(rt, image).or(Err(Fault::File))?;
+            let opened = match FileDisk::open(rt, image) {
+                Ok(opened) => opened,
+                Err(_) => return (None, Err(Fault::File)),
+            };
             let disk = opened.beginning_with(first);
-            let (_disk, outcome) = serve_device(rt.alloc(), disk, time, reader, writer);
-            outcome
+            let (disk, outcome) = serve_device(rt.alloc(), disk, time, reader, writer);
+            (Some(disk), outcome)
         }
     }
 }

@@ -2,12 +2,14 @@
 ghost use Rattle.std.specs.Prelude.{◌≡◌, ◌-◌, IfErr, OnOk};
 ghost use Rattle.std.specs.Io.KnownBytes.{Appends};
 ghost use Rattle.layout.specs.Geometry.{data_at};
+ghost use Rattle.session.specs.Reading.{unread_of};
 ghost use Rattle.session.specs.Serving.{client_of};
 ghost use Rattle.nfsd.specs.Done.{FormatsDevice, ServesDevice, formatted_line, moment_at};
 
 use crate::fault::Fault;
 use disk::CrashDisk;
 use nfs_types::Moment;
+use session::Input;
 use std::alloc::Global;
 use std::io::{Read, Write};
 
@@ -46,13 +48,13 @@ pub fn serve_device<D: CrashDisk, I: Read, O: Write>(
     alloc: Global,
     disk: D,
     time: u32,
-    reader: &mut I,
+    reader: &mut Input<I>,
     writer: &mut O,
 ) -> (D, Result<(), Fault>)
     ensures { ServesDevice (D.device disk) time
-        (client_of (I.remaining reader.old) (O.contents writer.old)) result.1
+        (client_of (unread_of I.remaining reader.old) (O.contents writer.old)) result.1
         (D.device result.0)
-        (client_of (I.remaining reader.new) (O.contents writer.new)) }
+        (client_of (unread_of I.remaining reader.new) (O.contents writer.new)) }
 {
     let mut store = match store::open(alloc, disk) {
         Ok(store) => store,

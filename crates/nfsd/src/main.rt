@@ -14,6 +14,7 @@ use crate::arguments::arguments;
 use crate::fault::Fault;
 use crate::fault_stream::FaultStream;
 use disk::FirstContents;
+use session::Input;
 use std::alloc::AllocError;
 use std::process::ExitCode;
 
@@ -33,14 +34,17 @@ fn attend(rt: &HostRuntime) -> u8 {
         .map(|word| word.as_str())
         .collect(rt.alloc());
     match line {
-        Ok(line) => answer(
-            rt,
-            line.as_slice(),
-            FirstContents::whatever(),
-            &mut rt.reader(),
-            &mut rt.stdout(),
-            &mut faults,
-        ),
+        Ok(line) => {
+            let (status, _disk) = answer(
+                rt,
+                line.as_slice(),
+                FirstContents::whatever(),
+                &mut Input::new(rt.reader()),
+                &mut rt.stdout(),
+                &mut faults,
+            );
+            status
+        }
         Err(_) => conclude(&mut faults, &Err(Fault::Memory)),
     }
 }

@@ -1,3 +1,4 @@
+pub mod Noted
 pub mod Courses
 pub mod Filed
 pub mod ShortReplies

@@ -3,3 +3,4 @@ pub mod Filing
 pub mod Replying
 pub mod Serving
 pub mod Streaming
+pub mod Reading

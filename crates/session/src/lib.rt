@@ -4,11 +4,13 @@
 
 mod answering;
 mod mounting;
+mod noting;
 mod serving;
 mod writing;
 
 pub use answering::reply_to;
 pub use mounting::mount_reply;
+pub use noting::Input;
 pub use serving::{SessionFault, serve};
 pub use session_wire::{
     CallMessage, Judged, MessageCredential, MessageVerifier, ReplyBody, ReplyMessage, RpcReply,

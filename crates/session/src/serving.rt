@@ -1,5 +1,5 @@
 //! Serving a stream: the calls of its records, one after the other, and their replies.
-ghost use Rattle.std.specs.Prelude.{◌≡◌, ◌<◌, ◌≤◌, ◌⊎◌, ◌++◌, [], ℕ, List, Option, IfOk, IfErr, IfSome, IfNone};
+ghost use Rattle.std.specs.Prelude.{◌≡◌, ◌<◌, ◌≤◌, ◌⊎◌, ◌++◌, [], ◌∷◌, ℕ, List, Option, IfOk, IfErr, IfSome, IfNone};
 ghost use Rattle.std.specs.Prelude.{OnOk, OnErr, IsErrOf, length, take};
 ghost use Rattle.std.specs.Io.KnownBytes.{Consumes, IsAtEnd, Keeps};
 ghost use Rattle.store_images.specs.Opening.{Opened, store_of};
@@ -8,8 +8,10 @@ ghost use Rattle.rpc.specs.Records.{HasBegun, IsRecord, IsTooLong};
 ghost use Rattle.session.specs.Serving.{HasServed, client_of};
 ghost use Rattle.session.specs.Filing.{IsServed};
 ghost use Rattle.session.specs.Streaming.{Going, IsCourse, IsStream, IsUnfinished};
+ghost use Rattle.session.specs.Reading.{IsTakenFor, ReadAnswer, ReadsTo};
 
 use crate::answering::serve_record;
+use crate::noting::Input;
 use bytes::Bytes;
 use disk::CrashDisk;
 use limits::{MOST_READS, PIECE_BYTES};
@@ -27,7 +29,7 @@ pub enum SessionFault {
     /// A record announces too much, or is no call whose header can be read.
     #[error("Record")]
     Record,
-    /// A read failed and wasn't interrupted, or there were too many of them.
+    /// A read failed and wasn't interrupted, or there were `MOST_READS` of them.
     #[error("Input")]
     Input,
     /// A write of a reply or the flush behind it failed.
@@ -51,7 +53,7 @@ pub enum SessionFault {
 pub fn serve<D: CrashDisk, R: Read, W: Write>(
     alloc: Global,
     store: &mut Store<D>,
-    reader: &mut R,
+    reader: &mut Input<R>,
     writer: &mut W,
     moment: Moment,
 ) -> Result<u64, SessionFault>
@@ -61,13 +63,14 @@ pub fn serve<D: CrashDisk, R: Read, W: Write>(
     ensures model { D.keeps_model store.new.disk → D.keeps_model store.old.disk }
     ensures served { HasServed
         (store_of (D.device store.old.disk) store.old.core store.old.boot)
-        (client_of (R.remaining reader.old) (W.contents writer.old)) moment result
+        (client_of (R.remaining reader.old.reader) (W.contents writer.old)) moment result
         (store_of (D.device store.new.disk) store.new.core store.new.boot)
-        (client_of (R.remaining reader.new) (W.contents writer.new)) }
+        (client_of (R.remaining reader.new.reader) (W.contents writer.new)) }
     ensures stream { IsServed (D.keeps_model store.new.disk) moment
         (store_of (D.device store.old.disk) store.old.core store.old.boot)
-        (R.remaining reader.old) (W.contents writer.old) result (R.remaining reader.new) (W.contents writer.new)
-        (store_of (D.device store.new.disk) store.new.core store.new.boot) }
+        (R.remaining reader.old.reader) (W.contents writer.old) result (R.remaining reader.new.reader)
+        (W.contents writer.new) (store_of (D.device store.new.disk) store.new.core store.new.boot) }
+    ensures reads { ReadsTo result reader.old.answers.items reader.new.answers.items }
 {
     a_settled_store_stays_open();
     a_stop_leaves_a_beginning();
@@ -91,7 +94,7 @@ pub fn serve<D: CrashDisk, R: Read, W: Write>(
 fn serve_all<D: CrashDisk, R: Read, W: Write>(
     alloc: Global,
     store: &mut Store<D>,
-    reader: &mut R,
+    reader: &mut Input<R>,
     writer: &mut W,
     moment: Moment,
 ) -> Result<u64, SessionFault>
@@ -99,12 +102,13 @@ fn serve_all<D: CrashDisk, R: Read, W: Write>(
     ensures idle { IsIdle store.new.core }
     ensures boot { store.new.boot ≡ store.old.boot }
     ensures model { D.keeps_model store.new.disk → D.keeps_model store.old.disk }
-    ensures end { OnOk result (IsAtEnd (R.remaining reader.new)) }
+    ensures end { OnOk result (IsAtEnd (R.remaining reader.new.reader)) }
     ensures device { IsErrOf result SessionFault.Device → ⊥ }
     ensures stream { IsStream (D.keeps_model store.new.disk) moment
         (store_of (D.device store.old.disk) store.old.core store.old.boot)
-        (R.remaining reader.old) (W.contents writer.old) result (R.remaining reader.new) (W.contents writer.new)
-        (store_of (D.device store.new.disk) store.new.core store.new.boot) }
+        (R.remaining reader.old.reader) (W.contents writer.old) result (R.remaining reader.new.reader)
+        (W.contents writer.new) (store_of (D.device store.new.disk) store.new.core store.new.boot) }
+    ensures reads { ReadsTo result reader.old.answers.items reader.new.answers.items }
 {
     let mut records = Records::new(alloc);
     let mut piece = [0; PIECE_BYTES];
@@ -166,16 +170,21 @@ fn serve_piece<D: CrashDisk, W: Write>(
 
 // Reads bytes of the input, and tells how many. None is told where the read was interrupted: the next one
 // goes on.
-fn read_piece<R: Read>(reader: &mut R, piece: &mut [u8]) -> Result<Option<usize>, SessionFault>
+fn read_piece<R: Read>(
+    reader: &mut Input<R>,
+    piece: &mut [u8],
+) -> Result<Option<usize>, SessionFault>
     requires { 0 < length piece.old }
     ensures count { IfOk result (λ o. IfSome o (λ count. count ≤ length piece.new)) }
-    ensures end { IfOk result (λ o. IfSome o (λ count. count ≡ 0 → IsAtEnd (R.remaining reader.new))) }
+    ensures end { IfOk result (λ o. IfSome o (λ count. count ≡ 0 → IsAtEnd (R.remaining reader.new.reader))) }
     ensures some { IfOk result (λ o. IfSome o
-        (λ count. Consumes (R.remaining reader.old) (R.remaining reader.new)
+        (λ count. Consumes (R.remaining reader.old.reader) (R.remaining reader.new.reader)
         (take count piece.new))) }
-    ensures none { IfOk result (λ o. IfNone o (Keeps (R.remaining reader.old) (R.remaining reader.new))) }
+    ensures none { IfOk result (λ o. IfNone o (Keeps (R.remaining reader.old.reader) (R.remaining reader.new.reader))) }
+    ensures noted { (answer : ReadAnswer) × IsTakenFor answer result
+        × (reader.new.answers.items ≡ reader.old.answers.items ++ (answer, tt) ∷ []) }
     ensures failed { IfErr result (λ e. (e ≡ SessionFault.Input)
-        × Keeps (R.remaining reader.old) (R.remaining reader.new)) }
+        × Keeps (R.remaining reader.old.reader) (R.remaining reader.new.reader)) }
 {
     match reader.read(piece) {
         Ok(count) => Ok(Some(count)),

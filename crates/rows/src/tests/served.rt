@@ -41,7 +41,7 @@ pub fn reopened(alloc: Global, disk: MemDisk) -> Result<MemDisk, Fail> {
 pub fn serve_bytes(alloc: Global, disk: MemDisk, input: &[u8]) -> Result<Served, Fail> {
     let mut store = store::open(alloc, disk).map_err(|refused| refused.1)?;
     let boot = store.boot();
-    let mut reader = input;
+    let mut reader = session::Input::new(input);
     let mut output = Vec::new(alloc);
     let result = session::serve(alloc, &mut store, &mut reader, &mut output, NOW);
     Ok(Served {

@@ -3,8 +3,8 @@ use Rattle.nfsd.proofs.answer.answer.Goals as goal
 
 pub returns-clause-answers : goal.returns-clause-answers
 returns-clause-answers g c = record {
-  outcome = c.obey-outcome.result;
-  obeys = c.obey-outcome.ensures;
+  outcome = c.obey-disk.result.1;
+  obeys = c.obey-disk.ensures;
   ends = c.conclude.ensures.status;
   tells = c.conclude.ensures.told;
 }

@@ -10,6 +10,7 @@ use Rattle.session.specs.declared.serving.SessionFault.{SessionFault}
 use Rattle.session.specs.declared.serving.SessionFault.TheVariants as faults
 use Rattle.session.proofs.Courses.{failed_behind}
 use Rattle.session.proofs.Filed.{served_behind, settled_after}
+use Rattle.session.proofs.Noted.{behind}
 use Rattle.session.proofs.serving.serve.Goals as goal
 
 pub returns-in-Err-Output-clause-stream : goal.returns-in-Err-Output-clause-stream
@@ -24,8 +25,8 @@ returns-in-Err-Output-clause-stream g c =
     c.a_stop_leaves_a_beginning.ensures.whole
     c.an_open_store_keeps_its_files.ensures.longer keeps keeps
     (λ kept. kept) c.args.moment (store_of (device was.disk) was.core was.boot)
-    (g.R.Read.remaining c.args.reader.now) (g.W.Write.contents c.args.writer.now) c.serve_all-served.result
-    (g.R.Read.remaining c.serve_all-served.new.reader) (g.W.Write.contents c.serve_all-served.new.writer)
+    (g.R.Read.remaining c.args.reader.now.reader) (g.W.Write.contents c.args.writer.now) c.serve_all-served.result
+    (g.R.Read.remaining c.serve_all-served.new.reader.reader) (g.W.Write.contents c.serve_all-served.new.writer)
     (store_of (device served.disk) served.core served.boot) (device served.disk) served.core served.boot
     (same_open d served.core) refl (λ later is. is)
     (λ kept. prefixes_kept d d served.core served.core (g.met.D.CrashDisk.whole served.disk kept)
@@ -43,17 +44,18 @@ returns-in-Err g c =
     record {
       idle = idle;
       boot = c.settle.ensures.boot ∙ c.serve_all-served.ensures.boot;
+      reads = c.serve_all-served.ensures.reads;
       model = λ kept. c.serve_all-served.ensures.model (c.settle.ensures.model kept);
       served = has_served (store_of (device was.disk) was.core was.boot)
-          (client_of (g.R.Read.remaining c.args.reader.now)
+          (client_of (g.R.Read.remaining c.args.reader.now.reader)
           (g.W.Write.contents c.args.writer.now)) c.args.moment
           c.serve_all-served.result (store_of (device now.disk) now.core now.boot)
-          (client_of (g.R.Read.remaining c.serve_all-served.new.reader)
+          (client_of (g.R.Read.remaining c.serve_all-served.new.reader.reader)
           (g.W.Write.contents c.serve_all-served.new.writer))
           (record {
             idle = idle;
             ended = subst (λ r. IsEnded r (store_of (device now.disk) now.core now.boot)
-                (client_of (g.R.Read.remaining c.serve_all-served.new.reader)
+                (client_of (g.R.Read.remaining c.serve_all-served.new.reader.reader)
                 (g.W.Write.contents c.serve_all-served.new.writer))) (sym c.in-Err.is) tt;
           });
       stream =
@@ -63,9 +65,9 @@ returns-in-Err g c =
           served_behind c.a_stop_leaves_a_beginning.ensures.files
           c.a_stop_leaves_a_beginning.ensures.whole c.an_open_store_keeps_its_files.ensures.longer
           (keeps served.disk) (keeps now.disk) c.settle.ensures.model c.args.moment
-          (store_of (device was.disk) was.core was.boot) (g.R.Read.remaining c.args.reader.now)
+          (store_of (device was.disk) was.core was.boot) (g.R.Read.remaining c.args.reader.now.reader)
           (g.W.Write.contents c.args.writer.now) c.serve_all-served.result
-          (g.R.Read.remaining c.serve_all-served.new.reader) (g.W.Write.contents c.serve_all-served.new.writer)
+          (g.R.Read.remaining c.serve_all-served.new.reader.reader) (g.W.Write.contents c.serve_all-served.new.writer)
           (store_of (device served.disk) served.core served.boot) (device now.disk) now.core now.boot
           c.settle.ensures.open c.settle.ensures.boot
           (λ later is. c.a_settled_store_stays_open.ensures
@@ -89,9 +91,9 @@ returns-in-Ok-settle-clause-stream g c =
     served_behind c.a_stop_leaves_a_beginning.ensures.files
     c.a_stop_leaves_a_beginning.ensures.whole c.an_open_store_keeps_its_files.ensures.longer
     (keeps served.disk) (keeps now.disk) c.settle-in-Ok.ensures.model c.args.moment
-    (store_of (device was.disk) was.core was.boot) (g.R.Read.remaining c.args.reader.now)
+    (store_of (device was.disk) was.core was.boot) (g.R.Read.remaining c.args.reader.now.reader)
     (g.W.Write.contents c.args.writer.now) c.serve_all-served.result
-    (g.R.Read.remaining c.serve_all-served.new.reader) (g.W.Write.contents c.serve_all-served.new.writer)
+    (g.R.Read.remaining c.serve_all-served.new.reader.reader) (g.W.Write.contents c.serve_all-served.new.writer)
     (store_of (device served.disk) served.core served.boot) (device now.disk) now.core now.boot
     c.settle-in-Ok.ensures.open c.settle-in-Ok.ensures.boot
     (λ later is. c.a_settled_store_stays_open.ensures (store_of (device served.disk) served.core served.boot)
@@ -109,9 +111,9 @@ returns-in-Err-settle-clause-stream g c =
     let keeps = g.D.CrashDisk.keeps_model in
     let old = store_of (device was.disk) was.core was.boot in
     let mid = store_of (device served.disk) served.core served.boot in
-    let unread = g.R.Read.remaining c.args.reader.now in
+    let unread = g.R.Read.remaining c.args.reader.now.reader in
     let first = g.W.Write.contents c.args.writer.now in
-    let rest = g.R.Read.remaining c.serve_all-served.new.reader in
+    let rest = g.R.Read.remaining c.serve_all-served.new.reader.reader in
     let written = g.W.Write.contents c.serve_all-served.new.writer in
     served_behind c.a_stop_leaves_a_beginning.ensures.files
     c.a_stop_leaves_a_beginning.ensures.whole c.an_open_store_keeps_its_files.ensures.longer
@@ -124,3 +126,8 @@ returns-in-Err-settle-clause-stream g c =
     c.settle-in-Ok.ensures.keeps (λ kept. g.met.D.CrashDisk.whole now.disk kept)
     (failed_behind (keeps served.disk) c.args.moment old unread first c.in-Ok.field-0 rest written mid
     c.in-Ok.ensures.stream) c.in-Err-settle.ensures.broken
+
+pub returns-in-Err-settle-clause-reads : goal.returns-in-Err-settle-clause-reads
+returns-in-Err-settle-clause-reads g c =
+    behind c.in-Ok.field-0 c.args.reader.now.answers.items c.serve_all-served.new.reader.answers.items
+    c.in-Ok.ensures.reads

@@ -1,6 +1,7 @@
 -- Before each read the bytes so far are messages that were answered and what is left; so they are where it
 -- ends.
-use Rattle.std.proofs.Common.{◌≡◌, ◌∙◌, ◌++◌, [], ℕ, List, Err, IfSome, IfNone, refl, subst, sym, inl, take}
+use Rattle.std.proofs.Common.{◌≡◌, ◌∙◌, ◌++◌, [], ℕ, List, Ok, Err, IfSome, IfNone, refl, subst, sym, inl, take}
+use Rattle.std.proofs.Common.{ap, arith, ◌<◌}
 use Rattle.std.proofs.lemmas.List.{append-nil}
 use Rattle.std.specs.Io.KnownBytes.{Consumes, IsAtEnd, Keeps}
 use Rattle.store_images.specs.Opening.{store_of}
@@ -8,6 +9,9 @@ use Rattle.session.specs.Streaming.{IsCourse, IsStream, StopsAt}
 use Rattle.session.specs.declared.serving.SessionFault.{SessionFault}
 use Rattle.session.specs.declared.serving.SessionFault.TheVariants as faults
 use Rattle.session.proofs.Courses.{begins, begun_of, ends_between, read_kept, read_more, read_none, stopped}
+use Rattle.session.specs.Reading.{IsTakenFor}
+use Rattle.session.proofs.Noted.{at_most, ended, goes_on, none_read, one_more, stops_by, taken_failed, taken_none}
+use Rattle.session.proofs.Noted.{taken_some}
 use Rattle.session.proofs.serving.serve_all.Goals as goal
 
 pub reads-init : goal.reads-init
@@ -22,10 +26,11 @@ reads-init g c =
       λ keeps. keeps,
       (
         [],
-        read_none (g.R.Read.remaining c.args.reader.now),
+        read_none (g.R.Read.remaining c.args.reader.now.reader),
         subst (λ (left : List ℕ). IsCourse keeps c.args.moment old written [] left 0 old written)
             (sym c.new-records.ensures) (begins keeps c.args.moment old written),
       ),
+      none_read c.args.reader.now.answers.items,
     )
 
 pub returns-in-Err-clause-stream : goal.returns-in-Err-clause-stream
@@ -35,8 +40,8 @@ returns-in-Err-clause-stream g c =
     let keeps = g.D.CrashDisk.keeps_model now.disk in
     let old = store_of (g.D.CrashDisk.device was.disk) was.core was.boot in
     let new = store_of (g.D.CrashDisk.device now.disk) now.core now.boot in
-    let unread = g.R.Read.remaining c.args.reader.now in
-    let rest = g.R.Read.remaining c.read_piece.new.reader in
+    let unread = g.R.Read.remaining c.args.reader.now.reader in
+    let rest = g.R.Read.remaining c.read_piece.new.reader.reader in
     let first = g.W.Write.contents c.args.writer.now in
     let written = g.W.Write.contents c.reads.writer in
     let failed = c.in-Err.ensures.failed in
@@ -45,7 +50,7 @@ returns-in-Err-clause-stream g c =
     (sym failed.0)
     (ends_between keeps c.args.moment old unread first (Err faults.Input) rest written new c.reads.invariant.4.0
     c.reads.records c.reads.count
-    (read_kept unread (g.R.Read.remaining c.reads.reader) rest c.reads.invariant.4.0 c.reads.invariant.4.1
+    (read_kept unread (g.R.Read.remaining c.reads.reader.reader) rest c.reads.invariant.4.0 c.reads.invariant.4.1
     failed.1) course
     (c.reads.invariant.1, course.told))
 
@@ -68,15 +73,15 @@ returns-in-Err-serve_piece-clause-stream g c =
     let now = c.serve_piece.new.store in
     let old = store_of (g.D.CrashDisk.device was.disk) was.core was.boot in
     let new = store_of (g.D.CrashDisk.device now.disk) now.core now.boot in
-    let unread = g.R.Read.remaining c.args.reader.now in
-    let rest = g.R.Read.remaining c.read_piece.new.reader in
+    let unread = g.R.Read.remaining c.args.reader.now.reader in
+    let rest = g.R.Read.remaining c.read_piece.new.reader.reader in
     let first = g.W.Write.contents c.args.writer.now in
     let read = c.reads.invariant.4.0 in
     let going = c.in-Err-serve_piece.ensures.going old first read c.reads.invariant.4.2 in
     stopped (g.D.CrashDisk.keeps_model now.disk) c.args.moment old unread first c.in-Err-serve_piece.fault rest
     (g.W.Write.contents c.serve_piece.new.writer) new _ going.0 going.1 going.2 going.3
-    (read_more unread (g.R.Read.remaining c.reads.reader) rest read _ c.reads.invariant.4.1
-    (subst (λ o. IfSome o (λ count. Consumes (g.R.Read.remaining c.reads.reader) rest
+    (read_more unread (g.R.Read.remaining c.reads.reader.reader) rest read _ c.reads.invariant.4.1
+    (subst (λ o. IfSome o (λ count. Consumes (g.R.Read.remaining c.reads.reader.reader) rest
     (take count c.read_piece.new.piece))) c.in-Ok-Some.field-0-is c.in-Ok-Some.ensures.some)) going.4 going.5
 
 pub reads-preserved-in-Ok-None : goal.reads-preserved-in-Ok-None
@@ -87,20 +92,24 @@ reads-preserved-in-Ok-None g c = (
   c.reads.invariant.3,
   (
     c.reads.invariant.4.0,
-    read_kept (g.R.Read.remaining c.args.reader.now) (g.R.Read.remaining c.reads.reader)
-        (g.R.Read.remaining c.read_piece.new.reader) c.reads.invariant.4.0 c.reads.invariant.4.1
-        (subst (λ o. IfNone o (Keeps (g.R.Read.remaining c.reads.reader)
-        (g.R.Read.remaining c.read_piece.new.reader))) c.in-Ok-None.field-0-is c.in-Ok-None.ensures.none),
+    read_kept (g.R.Read.remaining c.args.reader.now.reader) (g.R.Read.remaining c.reads.reader.reader)
+        (g.R.Read.remaining c.read_piece.new.reader.reader) c.reads.invariant.4.0 c.reads.invariant.4.1
+        (subst (λ o. IfNone o (Keeps (g.R.Read.remaining c.reads.reader.reader)
+        (g.R.Read.remaining c.read_piece.new.reader.reader))) c.in-Ok-None.field-0-is c.in-Ok-None.ensures.none),
     c.reads.invariant.4.2,
   ),
+  (let noted = c.in-Ok-None.ensures.noted in
+      one_more c.args.reader.now.answers.items c.reads.reader.answers.items
+      c.read_piece.new.reader.answers.items c.reads.counter noted.0 c.reads.invariant.5 noted.2 c.reads-test.true
+      (taken_none noted.0 (subst (λ o. IsTakenFor noted.0 (Ok o)) c.in-Ok-None.field-0-is noted.1))),
 )
 
 pub reads-preserved : goal.reads-preserved
 reads-preserved g c =
     let was = c.args.store.now in
     let old = store_of (g.D.CrashDisk.device was.disk) was.core was.boot in
-    let mid = g.R.Read.remaining c.reads.reader in
-    let rest = g.R.Read.remaining c.read_piece.new.reader in
+    let mid = g.R.Read.remaining c.reads.reader.reader in
+    let rest = g.R.Read.remaining c.read_piece.new.reader.reader in
     let read = c.reads.invariant.4.0 in
     let going = c.in-Ok.ensures.going old (g.W.Write.contents c.args.writer.now) read c.reads.invariant.4.2 in (
       c.serve_piece.ensures.idle,
@@ -109,11 +118,18 @@ reads-preserved g c =
       λ keeps. c.reads.invariant.3 (c.serve_piece.ensures.model keeps),
       (
         read ++ take c.in-Ok-Some.read c.read_piece.new.piece,
-        read_more (g.R.Read.remaining c.args.reader.now) mid rest read _ c.reads.invariant.4.1
+        read_more (g.R.Read.remaining c.args.reader.now.reader) mid rest read _ c.reads.invariant.4.1
             (subst (λ o. IfSome o (λ count. Consumes mid rest (take count c.read_piece.new.piece)))
             c.in-Ok-Some.field-0-is c.in-Ok-Some.ensures.some),
         going.0,
       ),
+      (let noted = c.in-Ok-Some.ensures.noted in
+          let is = taken_some noted.0 c.in-Ok-Some.read
+          (subst (λ o. IsTakenFor noted.0 (Ok o)) c.in-Ok-Some.field-0-is noted.1) in
+          let some = c.if-read-eq0.false in
+          one_more c.args.reader.now.answers.items c.reads.reader.answers.items
+          c.read_piece.new.reader.answers.items c.reads.counter noted.0 c.reads.invariant.5 noted.2
+          c.reads-test.true (goes_on noted.0 c.in-Ok-Some.read is (omega (arith, some)))),
     )
 
 pub returns-then-read-eq0-clause-stream : goal.returns-then-read-eq0-clause-stream
@@ -123,9 +139,9 @@ returns-then-read-eq0-clause-stream g c =
     let keeps = g.D.CrashDisk.keeps_model now.disk in
     let old = store_of (g.D.CrashDisk.device was.disk) was.core was.boot in
     let new = store_of (g.D.CrashDisk.device now.disk) now.core now.boot in
-    let unread = g.R.Read.remaining c.args.reader.now in
-    let mid = g.R.Read.remaining c.reads.reader in
-    let rest = g.R.Read.remaining c.read_piece.new.reader in
+    let unread = g.R.Read.remaining c.args.reader.now.reader in
+    let mid = g.R.Read.remaining c.reads.reader.reader in
+    let rest = g.R.Read.remaining c.read_piece.new.reader.reader in
     let piece = c.read_piece.new.piece in
     let read = c.reads.invariant.4.0 in
     let course = c.reads.invariant.4.2 in
@@ -152,8 +168,60 @@ returns-clause-stream g c =
     let old = store_of (g.D.CrashDisk.device was.disk) was.core was.boot in
     let new = store_of (g.D.CrashDisk.device now.disk) now.core now.boot in
     let course = c.reads.invariant.4.2 in
-    ends_between keeps c.args.moment old (g.R.Read.remaining c.args.reader.now)
-    (g.W.Write.contents c.args.writer.now) (Err faults.Input) (g.R.Read.remaining c.reads.reader)
+    ends_between keeps c.args.moment old (g.R.Read.remaining c.args.reader.now.reader)
+    (g.W.Write.contents c.args.writer.now) (Err faults.Input) (g.R.Read.remaining c.reads.reader.reader)
     (g.W.Write.contents c.reads.writer) new c.reads.invariant.4.0 c.reads.records c.reads.count
     c.reads.invariant.4.1 course
     (c.reads.invariant.1, course.told)
+
+pub returns-in-Err-clause-reads : goal.returns-in-Err-clause-reads
+returns-in-Err-clause-reads g c =
+    let noted = c.in-Err.ensures.noted in
+    ended c.args.reader.now.answers.items c.reads.reader.answers.items c.read_piece.new.reader.answers.items
+    c.reads.counter noted.0 c.reads.invariant.5 noted.2 (Err c.in-Err.fault)
+    (taken_failed noted.0 c.in-Err.fault noted.1)
+
+pub returns-in-Err-serve_piece-clause-reads : goal.returns-in-Err-serve_piece-clause-reads
+returns-in-Err-serve_piece-clause-reads g c =
+    let was = c.args.store.now in
+    let now = c.serve_piece.new.store in
+    let old = store_of (g.D.CrashDisk.device was.disk) was.core was.boot in
+    let going = c.in-Err-serve_piece.ensures.going old (g.W.Write.contents c.args.writer.now)
+    c.reads.invariant.4.0 c.reads.invariant.4.2 in
+    let noted = c.in-Ok-Some.ensures.noted in
+    let is = taken_some noted.0 c.in-Ok-Some.read
+    (subst (λ o. IsTakenFor noted.0 (Ok o)) c.in-Ok-Some.field-0-is noted.1) in
+    let some = c.if-read-eq0.false in
+    let stops : (fault : SessionFault) → c.in-Err-serve_piece.fault ≡ fault
+    → StopsAt (g.D.CrashDisk.keeps_model now.disk) c.args.moment fault going.0 going.2 going.3
+    (store_of (g.D.CrashDisk.device now.disk) now.core now.boot) (g.W.Write.contents c.serve_piece.new.writer) =
+    λ fault same. subst (λ (f : SessionFault). StopsAt (g.D.CrashDisk.keeps_model now.disk) c.args.moment f
+    going.0 going.2 going.3 (store_of (g.D.CrashDisk.device now.disk) now.core now.boot)
+    (g.W.Write.contents c.serve_piece.new.writer)) same going.5 in
+    ended c.args.reader.now.answers.items c.reads.reader.answers.items c.read_piece.new.reader.answers.items
+    c.reads.counter noted.0 c.reads.invariant.5 noted.2 (Err c.in-Err-serve_piece.fault)
+    (stops_by c.in-Err-serve_piece.fault noted.0 (stops faults.Input) (stops faults.Truncated)
+    (stops faults.Device) (goes_on noted.0 c.in-Ok-Some.read is (omega (arith, some))))
+
+pub returns-then-read-eq0-clause-reads : goal.returns-then-read-eq0-clause-reads
+returns-then-read-eq0-clause-reads g c =
+    let noted = c.in-Ok-Some.ensures.noted in
+    let is = taken_some noted.0 c.in-Ok-Some.read
+    (subst (λ o. IsTakenFor noted.0 (Ok o)) c.in-Ok-Some.field-0-is noted.1) in
+    ended c.args.reader.now.answers.items c.reads.reader.answers.items c.read_piece.new.reader.answers.items
+    c.reads.counter noted.0 c.reads.invariant.5 noted.2 (Err faults.Truncated)
+    (is ∙ ap (λ n. Ok n) c.if-read-eq0.true)
+
+pub returns-then-is_empty-clause-reads : goal.returns-then-is_empty-clause-reads
+returns-then-is_empty-clause-reads g c =
+    let noted = c.in-Ok-Some.ensures.noted in
+    let is = taken_some noted.0 c.in-Ok-Some.read
+    (subst (λ o. IsTakenFor noted.0 (Ok o)) c.in-Ok-Some.field-0-is noted.1) in
+    ended c.args.reader.now.answers.items c.reads.reader.answers.items c.read_piece.new.reader.answers.items
+    c.reads.counter noted.0 c.reads.invariant.5 noted.2 (Ok c.reads.count)
+    (is ∙ ap (λ n. Ok n) c.if-read-eq0.true)
+
+pub returns-clause-reads : goal.returns-clause-reads
+returns-clause-reads g c =
+    at_most c.args.reader.now.answers.items c.reads.reader.answers.items c.reads.counter c.reads.invariant.5
+    c.reads-test.false
