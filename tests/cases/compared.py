@@ -61,6 +61,8 @@ def credential_of(caller):
 class Stream:
     """A stream that grows call by call, by what the plain program answers."""
 
+    sets_the_mode_alone = SETS_THE_MODE_ALONE
+
     def __init__(self, client, drawn, weights):
         self.client, self.drawn, self.weights = client, drawn, weights
         # The kinds of the files that were told of, by their handles, and names with their directories.
@@ -142,7 +144,7 @@ class Stream:
     def attributes(self):
         """New attributes, each of which may stay."""
         one, some = self.drawn.choice, lambda values: self.drawn.choice(values) if self.is_likely(0.3) else None
-        if SETS_THE_MODE_ALONE:
+        if self.sets_the_mode_alone:
             return nfs.new_attributes(some(MODES))
         times = [one([nfs.KEPT, nfs.KEPT, nfs.SERVER_TIME, (2, self.time())]) for _ in range(2)]
         size = some(SIZES if self.is_likely(0.9) else FAR_SIZES)

@@ -2,7 +2,7 @@
 
 import struct
 
-from cases import conversing, images, nfs, plain, telling
+from cases import conversing, images, nfs, plain, setting, telling
 from cases.running import same
 
 BLOCKS, INODES, NOW = 2048, 256, 2000
@@ -60,7 +60,8 @@ def set_attributes(client, file):
     file.ctime = nfs.Time(NOW, 0)
 
 
-def assert_told(place, root, asks):
+def made(place, root):
+    """A client of a plain program that has this tree, and the image that it would have."""
     image = images.Image(root, BLOCKS, INODES)
     client = conversing.with_plain(place, plain.command_of(place), BLOCKS, INODES, NOW)
     for file in image.files:
@@ -68,10 +69,18 @@ def assert_told(place, root, asks):
     make(client, image.root)
     for file in image.files:
         set_attributes(client, file)
-    world = telling.world_of(image)
-    for question in [question for ask in asks for question in ask(world)]:
+    return client, image
+
+
+def assert_answers(client, questions):
+    for question in questions:
         client.xid += 1
         telling.assert_answered(question, client.reply(telling.record_of(client.xid, question)), client.xid)
+
+
+def assert_told(place, root, asks):
+    client, image = made(place, root)
+    assert_answers(client, [question for ask in asks for question in ask(telling.world_of(image))])
     same("what follows the end of input", client.end(), (b"", b"", 0))
 
 
@@ -84,3 +93,12 @@ def test_the_plain_program_tells_the_bytes_of_long_files(place):
     for name, file in telling.long_files(100_000).slots.values():
         root = images.directory({b"holder": images.directory({}), b"long": images.directory({name: file})})
         assert_told(place, root, [telling.ask_for_bytes, telling.ask_for_all_bytes_in_turn])
+
+
+def test_the_plain_program_sets_attributes(place):
+    root = images.directory({b"guarded": telling.guarded(), b"holder": telling.holder()})
+    (client, image), draws = made(place, root), setting.Draws(3)
+    draws.sets_the_mode_alone = False
+    assert_answers(client, [draws.question(draws.drawn.choice(image.files)) for _ in range(1500)])
+    same("the tree", client.tree(), conversing.tree_on(root))
+    same("the end", client.end(), (b"", b"", 0))
