@@ -1,54 +1,26 @@
--- What a plan stops for is what its call asks for, and lies among the homes of the image.
-use Rattle.std.proofs.Common.{◌≡◌, ◌≢◌, ℕ, ◌<◌, ◌≤◌, sym, ap, ◌∙◌, refl, subst, List, true, false}
-use Rattle.std.proofs.Common.{arith, Ok, Err, Bool, cond, ◌&&◌, Option, Some, None, nat_eq, nat_le, nat_lt}
+-- What a plan stops for is an object of the image.
+use Rattle.std.proofs.Common.{◌≡◌, ℕ, ◌<◌, ap, ◌∙◌, refl, subst, List, true, false}
+use Rattle.std.proofs.Common.{arith, Ok, Err, Bool, cond, ◌&&◌, Option, Some, None, nat_eq}
 use Rattle.std.specs.List.{list_all}
 use Rattle.std.proofs.lemmas.Bool.Decides.{nat_tests}
-use Rattle.nfs_types.specs.Handle.{handle_bytes}
-use Rattle.nfs_types.specs.declared.handle.Stamp.{Stamp}
-use Rattle.nfs_types.specs.declared.call.Call.{Call}
-use Rattle.nfs_types.specs.declared.call.Call.TheVariants as call
 use Rattle.disk.specs.declared.block.BlockNo.{BlockNo}
-use Rattle.objects.specs.declared.addr.Addr.{Addr}
-use Rattle.wal_law.specs.Log.{IsHomeOn}
 use Rattle.layout.specs.declared.fault.LayoutFault.TheVariants.{Range}
 use Rattle.layout.specs.declared.geometry.Geometry.{Geometry}
+use Rattle.layout.specs.declared.inode.Inode.{Inode}
 use Rattle.layout.specs.declared.inode.InodeKind.{InodeKind}
-use Rattle.layout.specs.Geometry.{data_at}
+use Rattle.layout.specs.Objects.{inode, whole}
 use Rattle.layout.specs.Places.{is_data}
 use Rattle.layout.specs.InodeForm.{fields_of, inode_of_kind, is_data_block_or_none, is_sound_inode}
 use Rattle.layout.specs.InodeForm.{kind_of_number, read_inode, rest_is_zero}
 use Rattle.layout.specs.Fields.{four_at, is_zeros}
-use Rattle.txn.specs.Object.{ObjectBytes}
-use Rattle.txn.specs.Wishes.{IsWhole}
-use Rattle.layout.specs.declared.inode.Inode.{Inode}
-use Rattle.inode.proofs.AllTests.{all_two, is_less, no_more}
 use Rattle.layout.proofs.AllNumbers.{map_is}
-use Rattle.inode.proofs.InodeThere.{data_of}
-use Rattle.procs.specs.Asks.{Asks, AsksOfFile, IsAskedOfFile, NamesInode}
-use Rattle.inode.specs.Read.{IsAskedInode, IsAskedWhole}
-use Rattle.inode.specs.Read.{WasReadInode}
-use Rattle.procs.specs.Asks.{inode, indirect}
 use Rattle.inode.specs.declared.snap.Snap.{Snap}
 use Rattle.inode.specs.declared.stop.Stop.{Stop}
 use Rattle.inode.specs.declared.stop.Stop.TheVariants.{Need, Io, NoMemory}
-
-module _ (snap : Snap) (handle : List ℕ) (number : ℕ) (stamp : Stamp)
-    (spelled : handle ≡ handle_bytes number stamp) (some : number ≢ 0) (within : number < snap.geometry.inodes)
-  where
-    abbrev names : NamesInode snap.geometry handle number
-    names = record { stamp = stamp; spelled = spelled; some = some; within = within }
-
-    pub asks_inode : (why : Stop) → IsAskedInode snap.geometry number why → IsAskedOfFile snap handle why
-    asks_inode (Need addr) at = inode number names at
-    asks_inode Io at = tt
-    asks_inode NoMemory at = tt
-
-    pub asks_indirect : (one : Inode) → WasReadInode snap.geometry snap.objects.items number one
-        → one.stamp ≡ stamp → (why : Stop) → IsAskedWhole one.indirect why → IsAskedOfFile snap handle why
-    asks_indirect one read bears (Need addr) at =
-        indirect number one at.0 names read bears at.1 (λ none. at.2 (sym at.1 ∙ none)) at.3
-    asks_indirect one read bears Io at = tt
-    asks_indirect one read bears NoMemory at = tt
+use Rattle.inode.specs.Read.{IsAskedInode, IsAskedWhole, WasReadInode}
+use Rattle.inode.proofs.AllTests.{all_two}
+use Rattle.inode.proofs.InodeThere.{data_of}
+use Rattle.procs.specs.Asks.{IsAsked}
 
 -- ---- an inode that was read names data blocks
 
@@ -88,55 +60,20 @@ names_data g one good some =
     (all_two (list_all (is_data_block_or_none g) one.direct)
     (is_data_block_or_none g one.indirect) (map_is g one.kind one good)).1
 
--- ---- so what a call asks for is behind the log and within the image
+-- ---- so what a plan stops for is an object
 
-module _ (g : Geometry) (handle : List ℕ) (objects : List ObjectBytes) (addr : Addr) where
-  -- an indirect block is one of data
-  pub is_data_block : (number : ℕ) (one : Inode) (block : BlockNo) → WasReadInode g objects number one
-      → block.0 ≡ one.indirect → (block.0 ≡ 0 → ⊥) → IsWhole block addr
-      → (data_at g.blocks g.inodes ≤ addr.block.0) × (addr.block.0 < g.blocks)
-  is_data_block number one block read is some whole =
-      let lies = names_data g one
-      (read_sound g read.bytes one read.is_inode) (λ none. some (is ∙ none)) in
-      let both = all_two (nat_le (data_at g.blocks g.inodes) one.indirect) (nat_lt one.indirect g.blocks)
-      lies in
-      let from = no_more (data_at g.blocks g.inodes) one.indirect both.0 in
-      let below = is_less one.indirect g.blocks both.1 in
-      let same : addr.block.0 ≡ one.indirect = ap (λ (b : BlockNo). b.0) whole.0 ∙ is in
-      (omega (arith, same, from), omega (arith, same, below))
+pub asks_inode : (snap : Snap) (number : ℕ) → number < snap.geometry.inodes → (why : Stop)
+    → IsAskedInode snap.geometry number why → IsAsked snap why
+asks_inode snap number within (Need addr) at = inode number within at.block at.offset at.len
+asks_inode snap number within Io at = tt
+asks_inode snap number within NoMemory at = tt
 
-  pub of_file_is_home : AsksOfFile g handle objects addr → IsHomeOn g.blocks addr.block
-  of_file_is_home (inode number names at) =
-      let rules = g.lawful.1 in
-      (omega (arith, at.block), omega (arith, at.block, names.within, rules.2, rules.3))
-  of_file_is_home (indirect number one block names read bears is some whole) =
-      let lies = is_data_block number one block read is some whole in
-      let from = lies.0 in
-      (omega (arith, from), lies.1)
-
-pub is_home : (g : Geometry) (asked : Call) (objects : List ObjectBytes) (addr : Addr)
-    → Asks g asked objects addr → IsHomeOn g.blocks addr.block
-is_home g (call.GetAttr object) objects addr asks = of_file_is_home g object.bytes objects addr asks
-is_home g (call.SetAttr object attributes guard) objects addr asks =
-    of_file_is_home g object.bytes objects addr asks
-is_home g call.Null objects addr asks = absurd asks
-is_home g (call.Lookup name) objects addr asks = absurd asks
-is_home g (call.Access object bits) objects addr asks = absurd asks
-is_home g (call.ReadLink link) objects addr asks = absurd asks
-is_home g (call.Read file offset count) objects addr asks = absurd asks
-is_home g (call.Write file offset count stability bytes) objects addr asks = absurd asks
-is_home g (call.Create name how) objects addr asks = absurd asks
-is_home g (call.MkDir name attributes) objects addr asks = absurd asks
-is_home g (call.SymLink name attributes target) objects addr asks = absurd asks
-is_home g (call.MkNod name special) objects addr asks = absurd asks
-is_home g (call.Remove name) objects addr asks = absurd asks
-is_home g (call.RmDir name) objects addr asks = absurd asks
-is_home g (call.Rename source target) objects addr asks = absurd asks
-is_home g (call.Link file name) objects addr asks = absurd asks
-is_home g (call.ReadDir directory cookie verifier count) objects addr asks = absurd asks
-is_home g (call.ReadDirPlus directory cookie verifier directory_count greatest_count) objects addr asks =
-    absurd asks
-is_home g (call.FsStat object) objects addr asks = absurd asks
-is_home g (call.FsInfo object) objects addr asks = absurd asks
-is_home g (call.PathConf object) objects addr asks = absurd asks
-is_home g (call.Commit file offset count) objects addr asks = absurd asks
+pub asks_indirect : (snap : Snap) (number : ℕ) (one : Inode)
+    → WasReadInode snap.geometry snap.objects.items number one → (why : Stop) → IsAskedWhole one.indirect why
+    → IsAsked snap why
+asks_indirect snap number one read (Need addr) at =
+    let lies = names_data snap.geometry one (read_sound snap.geometry read.bytes one read.is_inode) at.2 in
+    let same : addr.block.0 ≡ one.indirect = ap (λ (b : BlockNo). b.0) at.3.0 ∙ at.1 in
+    whole (ap (is_data snap.geometry) same ∙ lies) at.3.1 at.3.2
+asks_indirect snap number one read Io at = tt
+asks_indirect snap number one read NoMemory at = tt

@@ -6,6 +6,5 @@ pub mod WrittenMode
 pub mod FoundThere
 pub mod FarThere
 pub mod StepsOf
-pub mod Apart
 pub mod FewAsked
 pub mod RefusedThere

@@ -22,8 +22,11 @@ use Rattle.procs.specs.declared.next.Plan.TheVariants as plan
 use Rattle.inode.specs.declared.snap.Snap.{Snap}
 use Rattle.procs.specs.Outcome.{Outcome}
 use Rattle.procs.specs.Refused.{IsDoneWith, IsIoWhereRefused, IsRefusedFile, NamesNoData, NoneRefusedIn}
-use Rattle.procs.proofs.Apart.{number_read}
 use Rattle.procs.proofs.FewAsked.{some_same}
+
+pub number_read : (number : ℕ) (stamp : Stamp) → number < 2 ^ 32
+    → number_in (handle_bytes number stamp) ≡ number
+number_read number stamp small = search rules
 
 stamp_read : (number : ℕ) (stamp : Stamp) → stamp.boot < 2 ^ 64 → stamp.transaction < 2 ^ 64
     → stamp_in (handle_bytes number stamp) ≡ stamp

@@ -2,7 +2,6 @@ pub mod Outcome
 pub mod FoundFile
 pub mod Steps
 pub mod Asks
-pub mod MostChanged
 pub mod MostAsked
 pub mod Planned
 pub mod Refused

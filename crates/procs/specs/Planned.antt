@@ -2,25 +2,23 @@
 use Rattle.std.specs.Prelude.{◌≡◌, false}
 use Rattle.nfs_types.specs.declared.call.Call.{Call}
 use Rattle.nfs_types.specs.declared.ctx.Ctx.{Ctx}
+use Rattle.limits.specs.declared.TheConstants.{CHANGED_BLOCKS}
 use Rattle.layout.specs.declared.geometry.Geometry.{Geometry}
 use Rattle.procs.specs.declared.next.Plan.{Plan}
 use Rattle.procs.specs.declared.next.Plan.TheVariants as plan
 use Rattle.inode.specs.declared.snap.Snap.{Snap}
 use Rattle.procs.specs.Asks.{Asks, Claims}
 use Rattle.procs.specs.Finished.{ChangesFew, EndsFrom}
-use Rattle.procs.specs.MostChanged.{most_changed}
 use Rattle.inode.specs.Snap.{is_claimed, is_seen}
 use Rattle.procs.specs.Steps.{IsStepOf}
 
--- a plan asks for something new that its call asks for, or is done with what was read, and changes no more
--- blocks than its call does
-abbrev pub IsPlanFor : Call → Snap → Plan → Type 0
-IsPlanFor call snap (plan.Need addr) = (is_seen addr snap.objects.items ≡ false)
-    × Asks snap.geometry call snap.objects.items addr
-IsPlanFor call snap (plan.Claim block) = (is_claimed block snap.claims.items ≡ false)
-    × Claims snap.geometry call snap.objects.items block
-IsPlanFor call snap (plan.Done done) = EndsFrom snap done × ChangesFew (most_changed call) done
-IsPlanFor call snap plan.NoMemory = Unit {0}
+-- A plan asks for something new that plans may ask for, or is done with what was read, and changes no more blocks
+-- than a transaction may.
+abbrev pub IsPlanFor : Snap → Plan → Type 0
+IsPlanFor snap (plan.Need addr) = (is_seen addr snap.objects.items ≡ false) × Asks snap.geometry addr
+IsPlanFor snap (plan.Claim block) = (is_claimed block snap.claims.items ≡ false) × Claims snap.geometry block
+IsPlanFor snap (plan.Done done) = EndsFrom snap done × ChangesFew CHANGED_BLOCKS done
+IsPlanFor snap plan.NoMemory = Unit {0}
 
 -- a plan is done only with what is a step
 abbrev pub IsStepPlan : Geometry → Ctx → Call → Plan → Type 0

@@ -11,7 +11,7 @@ ghost use Rattle.txn.specs.Window.{object_at};
 ghost use Rattle.procs.specs.Refused.{NoneRefused};
 ghost use Rattle.inode.specs.Snap.{IsNew};
 ghost use Rattle.inode.specs.Read.{WasRead, WasReadInode, IsAskedInode, IsAskedWhole};
-ghost use Rattle.procs.specs.Asks.{IsAskedOfFile};
+ghost use Rattle.procs.specs.Asks.{IsAsked};
 ghost use Rattle.layout.specs.Stands.{Stands};
 ghost use Rattle.model.specs.Tree.{Tree};
 ghost use Rattle.inode.specs.Read.{Saw, NoneStand, NamesOthers};
@@ -35,7 +35,7 @@ pub(crate) fn find(
 ) -> Result<Result<FoundFile, Status>, Stop>
     ensures err { IfErr result (λ stop. IsNew snap.now stop) }
     ensures io { IfErr result (λ stop. NoneStand snap.now stop) }
-    ensures asks { IfErr result (λ stop. IsAskedOfFile snap.now handle.now.bytes stop) }
+    ensures asks { IfErr result (λ stop. IsAsked snap.now stop) }
     ensures ok { IfOk result (λ found. IfOk found (λ f. f.number < snap.now.geometry.inodes)) }
     ensures read { IfOk result (λ found. IfOk found (λ f. WasReadInode snap.now.geometry snap.now.objects.items
         f.number f.inode)) }

@@ -13,10 +13,7 @@ mod set_attr;
 mod steps;
 mod work;
 
-pub use asks::{
-    a_call_asks_for_few, what_is_asked_for_is_home, what_is_asked_for_lies_apart,
-    what_is_asked_for_stays, what_is_read_was_asked_for,
-};
+pub use asks::{a_plan_asks_for_few, what_is_read_was_asked_for};
 pub use done::Done;
 pub use inode::Snap;
 pub use next::Plan;

@@ -11,10 +11,9 @@ ghost use Rattle.procs.specs.FoundFile.{IsBodyOf};
 ghost use Rattle.procs.specs.Steps.{IsTold, IsStepOf, IsInodeObject};
 ghost use Rattle.inode.specs.Read.{NoneStand};
 ghost use Rattle.model.specs.Calls.{has_rules, sets_only_mode};
-ghost use Rattle.procs.specs.Asks.{IsAsked, IsAskedOfFile, IsWritable};
+ghost use Rattle.procs.specs.Asks.{IsAsked, IsWritable};
 ghost use Rattle.inode.specs.Read.{WasReadInode};
 ghost use Rattle.procs.specs.Finished.{ChangesFew, EndsFrom};
-ghost use Rattle.procs.specs.MostChanged.{most_changed};
 ghost use Rattle.procs.specs.Planned.{IsPlanFor, IsStepPlan};
 ghost use Rattle.procs.specs.Refused.{IsDoneWith, IsIoWhereRefused, NoneRefused, NoneRefusedIn};
 ghost use Rattle.inode.specs.Snap.{IsNew};
@@ -56,11 +55,10 @@ fn outcome_of(found: Result<FoundFile, Status>) -> Result<Attributes, Status>
 // GETATTR (RFC 1813, section 3.3.1).
 fn get_attr(alloc: Global, snap: &Snap, object: &Handle) -> Result<Draft, Stop>
     ensures ok { IfOk result (λ done. EndsFrom snap.now done) }
-    ensures few { IfOk result (ChangesFew 0) }
     ensures step { IfOk result (λ done. (ctx : Ctx)
         → IsStepOf snap.now.geometry ctx (call.GetAttr object.now) done) }
     ensures err { IfErr result (λ stop. IsNew snap.now stop) }
-    ensures asks { IfErr result (λ stop. IsAskedOfFile snap.now object.now.bytes stop) }
+    ensures asks { IfErr result (λ stop. IsAsked snap.now stop) }
     ensures io { IfErr result (λ stop. NoneStand snap.now stop) }
     ensures sound { IfOk result (λ done. NoneRefused snap.now object.now.bytes) }
 {
@@ -124,11 +122,10 @@ fn set_attr(
 ) -> Result<Draft, Stop>
     requires { sets_only_mode wanted.now ≡ true }
     ensures ok { IfOk result (λ done. EndsFrom snap.now done) }
-    ensures few { IfOk result (ChangesFew 1) }
     ensures step { IfOk result (λ done. IsStepOf snap.now.geometry ctx.now
         (call.SetAttr object.now wanted.now guard.now) done) }
     ensures err { IfErr result (λ stop. IsNew snap.now stop) }
-    ensures asks { IfErr result (λ stop. IsAskedOfFile snap.now object.now.bytes stop) }
+    ensures asks { IfErr result (λ stop. IsAsked snap.now stop) }
     ensures io { IfErr result (λ stop. NoneStand snap.now stop) }
     ensures sound { IfOk result (λ done. NoneRefused snap.now object.now.bytes) }
 {
@@ -149,10 +146,9 @@ fn set_attr(
 fn work(alloc: Global, ctx: &Ctx, call: &Call, snap: &Snap) -> Result<Draft, Stop>
     requires { has_rules call.now ≡ true }
     ensures ok { IfOk result (λ done. EndsFrom snap.now done) }
-    ensures few { IfOk result (ChangesFew (most_changed call.now)) }
     ensures step { IfOk result (λ done. IsStepOf snap.now.geometry ctx.now call.now done) }
     ensures err { IfErr result (λ stop. IsNew snap.now stop) }
-    ensures asks { IfErr result (λ stop. IsAsked snap.now call.now stop) }
+    ensures asks { IfErr result (λ stop. IsAsked snap.now stop) }
     ensures io { IfErr result (λ stop. NoneStand snap.now stop) }
     ensures sound { IfOk result (λ done. NoneRefusedIn snap.now call.now) }
 {
@@ -190,9 +186,8 @@ fn work(alloc: Global, ctx: &Ctx, call: &Call, snap: &Snap) -> Result<Draft, Sto
 fn finish(ctx: &Ctx, call: &Call, snap: &Snap, draft: Draft) -> Plan
     requires served { has_rules call.now ≡ true }
     requires ends { EndsFrom snap.now draft }
-    requires few { ChangesFew (most_changed call.now) draft }
     requires step { IsStepOf snap.now.geometry ctx.now call.now draft }
-    ensures plan { IsPlanFor call.now snap.now result }
+    ensures plan { IsPlanFor snap.now result }
     ensures step { IsStepPlan snap.now.geometry ctx.now call.now result }
     ensures done { IsDoneWith draft result }
 {
@@ -206,7 +201,7 @@ fn finish(ctx: &Ctx, call: &Call, snap: &Snap, draft: Draft) -> Plan
 /// it is never IO there.
 pub fn plan(alloc: Global, ctx: &Ctx, call: &Call, snap: &Snap) -> Plan
     requires { has_rules call.now ≡ true }
-    ensures plan { IsPlanFor call.now snap.now result }
+    ensures plan { IsPlanFor snap.now result }
     ensures step { IsStepPlan snap.now.geometry ctx.now call.now result }
     ensures io { IsIoWhereRefused call.now snap.now result }
 {

@@ -4,6 +4,7 @@ use Rattle.std.proofs.Common.{inl, inr}
 use Rattle.std.proofs.Common.{Bool, true, false, if◌then◌else◌, List, [], ◌∷◌, length, Option, Some, None}
 use Rattle.std.proofs.lemmas.Bool.{cases_Bool, cases_lt, true≢false}
 use Rattle.std.proofs.lemmas.List.{length-append}
+use Rattle.limits.specs.declared.TheConstants.{CHANGED_BLOCKS}
 use Rattle.disk.specs.Device.{Device}
 use Rattle.disk.specs.Failures.{failures_from}
 use Rattle.model.specs.Calls.{has_rules, unsupported}
@@ -18,7 +19,6 @@ use Rattle.nfs_types.specs.declared.mount.MountCall.{MountCall}
 use Rattle.nfs_types.specs.declared.program.ProgramCall.TheVariants as calls
 use Rattle.nfs_types.specs.declared.status.Status.TheVariants as status
 use Rattle.procedures.specs.Step as procedures
-use Rattle.procs.specs.MostChanged.{most_changed}
 use Rattle.session_wire.specs.declared.message.Judged.{Judged}
 use Rattle.session_wire.specs.declared.message.Judged.TheVariants.{Closed, Refused, Call}
 use Rattle.session_wire.specs.Judging.{judged}
@@ -35,7 +35,6 @@ use Rattle.store_promise.proofs.Later.{past_more, past_none}
 use Rattle.store_images.specs.Further.{end_of}
 use Rattle.store_images.specs.Opening.{Opened}
 use Rattle.store_images.specs.Settling.{HasBroken, HasFailed, HasLost}
-use Rattle.store.proofs.LogRoom.{few_changed}
 use Rattle.store.specs.Calling as store
 use Rattle.session.specs.Filing.{AreAnswered, AreFiled, Files, IsFiled, IsOpenFor, filed, outset_of}
 use Rattle.session.specs.Replying.{IsAnswered, IsMountReply, IsSystemError}
@@ -244,12 +243,12 @@ module _ (boot : ℕ) (moment : Moment) (end : Device) where
           places = omega (arith, before, now, long);
         }
 
-    spent : store.IsSpent asked new.core → (later : Files) → wire.IsSpent (standing_of new later.last)
+    spent : store.IsSpent new.core → (later : Files) → wire.IsSpent (standing_of new later.last)
     spent (inl number) later = inl number
     spent (inr none) later = elim (cases_lt (new.core.log.places + 1) (2 ^ 64)) [
-      | inl place ↦ elim (cases_lt (end_of new.core.log + most_changed asked) (2 ^ 64)) [
+      | inl place ↦ elim (cases_lt (end_of new.core.log + CHANGED_BLOCKS) (2 ^ 64)) [
         | inl room ↦ absurd (none (place, room))
-        | inr full ↦ inr (inr (let few = few_changed asked in omega (arith, full, few)))
+        | inr full ↦ inr (inr (omega (arith, full)))
       ]
       | inr full ↦ inr (inl full)
     ]

@@ -5,12 +5,11 @@ use Rattle.std.proofs.Common.{Bool, true, false, ◌||◌, if◌then◌else◌, 
 use Rattle.std.proofs.Common.{Result, Ok, Err}
 use Rattle.std.proofs.Common.{List, [], ◌∷◌, ◌++◌, length, map, option_to_list, zero, suc, slice_get}
 use Rattle.std.proofs.lemmas.Bool.Decides.{nat_tests}
-use Rattle.limits.specs.declared.TheConstants.{MOST_KEPT_COMMITS}
+use Rattle.limits.specs.declared.TheConstants.{CHANGED_BLOCKS, MOST_KEPT_COMMITS}
 use Rattle.disk.specs.declared.block.BlockNo.{BlockNo}
 use Rattle.model.specs.Entry.{Entry}
 use Rattle.model.specs.Calls.{has_rules, is_answered_stable}
 use Rattle.model.specs.Tree.{Tree}
-use Rattle.procs.specs.MostChanged.{most_changed}
 use Rattle.txn.specs.declared.outcomes.BeginFault.{BeginFault}
 use Rattle.txn.specs.declared.outcomes.BeginFault.TheVariants as begin_fault
 use Rattle.wal_law.specs.Log.{settled_place}
@@ -105,7 +104,7 @@ module _ (o : Outset) (now new : Opened) (after : IsAfter now new) where
       → HasBroken o.store.core.log o.store.device new.device
   broken_after = broken_then o.store.core.log o.store.device now.device new.device after.past
 
-  spent_then : IsSpent o.asked.call now.core → IsSpent o.asked.call new.core
+  spent_then : IsSpent now.core → IsSpent new.core
   spent_then (inl begun) = inl (let more = after.further.begun in omega (arith, begun, more))
   spent_then (inr none) = inr (λ left.
       let place = left.0 in
@@ -209,8 +208,8 @@ pub record IsStepFrom (o : Outset) (now : Opened) (s : Setting) (t : Told) : Typ
   pub begun_is : t.begun ≡ now.core.begun
   pub more_begun : o.store.core.begun ≤ now.core.begun
   pub settled_is : settled_told t.log ≡ settled_place now.core.log
-  pub numbers : (blocks : ℕ) → blocks ≤ most_changed o.asked.call → (HasNumbers s t.log blocks → ⊥)
-      → IsSpent o.asked.call now.core
+  pub numbers : (blocks : ℕ) → blocks ≤ CHANGED_BLOCKS → (HasNumbers s t.log blocks → ⊥)
+      → IsSpent now.core
   pub past : IsLater o.store.device now.device
   pub broke : now.core.log.broken ≡ true → HasBroken o.store.core.log o.store.device now.device
 
@@ -315,7 +314,7 @@ module _ (o : Outset) (now new : Opened) (s : Setting) (t : Told) (from : IsStep
     never_claimed_outside begun block answer is same = subst (IsClaimWish t 0 begun block) same is
 
     commit_ok : (begun : Begun) (blocks : ℕ) (answer : Committing) → NoneIn begun
-        → has_committed (Some (step.Commit blocks answer)) ≡ false → blocks ≤ most_changed o.asked.call
+        → has_committed (Some (step.Commit blocks answer)) ≡ false → blocks ≤ CHANGED_BLOCKS
         → IsCommitting s t.log blocks answer → StageOk (after_commit stable begun answer)
     commit_ok begun blocks (committing.Committed place) none not few may = absurd (true≢false not)
     commit_ok begun blocks committing.Full none not few may = none
@@ -338,7 +337,7 @@ module _ (o : Outset) (now new : Opened) (s : Setting) (t : Told) (from : IsStep
     called_ok _ none may then_ = tt
 
     planning_ok : (begun : Begun) (made : Step) → has_committed (Some made) ≡ false → NoneIn begun
-        → IsStepByPlan s t 0 o.asked.call begun made → StageOk (after_planning stable begun made)
+        → IsStepByPlan s t 0 begun made → StageOk (after_planning stable begun made)
     planning_ok begun (step.Wanted addr mode answer) not none may =
         wanted_ok begun (record { addr = addr; mode = mode }) answer none
         (never_outside begun (wish_of addr mode) answer may.1)

@@ -20,8 +20,7 @@ use Rattle.nfs_types.specs.declared.ctx.Ctx.{Ctx}
 use Rattle.nfs_types.specs.declared.reply.Reply.{Reply}
 use Rattle.wal_law.specs.Log.{Log, settled_place}
 use Rattle.wal_law.specs.declared.outcomes.Seq.{Seq}
-use Rattle.procs.specs.MostAsked.{most_asked}
-use Rattle.procs.specs.MostChanged.{most_changed}
+use Rattle.procs.specs.MostAsked.{most_asked, most_claimed}
 use Rattle.procs.specs.Outcome.{Outcome}
 use Rattle.procs.specs.Planned.{IsPlanFor}
 use Rattle.procs.specs.declared.next.Plan.{Plan}
@@ -47,14 +46,14 @@ use Rattle.store_promise.specs.declared.events.Step.{Step}
 use Rattle.store_promise.specs.declared.events.Step.TheVariants as step
 use Rattle.store.proofs.AtHand.{at_most_all, fewer_away}
 use Rattle.store_workers.proofs.LoneWorker.{has_of, seen_of}
-use Rattle.store.proofs.LogRoom.{few_changed, no_room}
+use Rattle.store.proofs.LogRoom.{no_room}
 use Rattle.store_workers.proofs.StepKinds.{Beginning, IsTold, beginning, ending}
 use Rattle.store_workers.proofs.StepKinds.{begun, refused, replied, lacked, committed}
 use Rattle.store_workers.specs.Alone.{HasOfCall, HasTaken, PlansAlone, is_full, is_kept_off}
 use Rattle.store_images.specs.Fetches.{KeepsFetches}
 use Rattle.store.specs.Driving.{HasGoneOn, IsAnswered, IsNearer, IsUnder, IsUnderWay}
 use Rattle.store.specs.Driving.{away, count_of, has_room, is_at_hand}
-use Rattle.store.specs.Driving.{left_in, most_of, rounds_left, steps_left, unread}
+use Rattle.store.specs.Driving.{left_in, most_taken, rounds_left, steps_left, untaken}
 use Rattle.store.specs.Driving.{waits_for_log}
 use Rattle.store.specs.Driving.{whole_round}
 use Rattle.store_images.specs.Counts.{SameFrame}
@@ -141,7 +140,7 @@ pub record IsToRead (old new : Side) : Type 0 where
 -- a commit was refused for want of room: the call begins again once there is some
 pub record IsFull (most : ℕ) (new : Side) : Type 0 where
   pub phase : new.worker.phase ≡ Planning
-  pub less : whole_round new.worker.work.job new.core.log.blocks + 1 < most
+  pub less : whole_round new.core.log.blocks + 1 < most
 
 -- it waits for its place, which was taken
 pub record IsToSettle (old new : Side) (place : Seq) : Type 0 where
@@ -171,51 +170,40 @@ goes_by phase old made what new on is unkept none =
 
 -- ---- what was read
 
-unread_is : (work : Work) (job : Job) (seen : Seen) → work.job ≡ Some job → seen_in work.snap ≡ Some seen
-    → unread work ≡ most_asked job.call - length seen.objects
-unread_is work job seen job_is seen_is =
-    ap (λ (o : Option Job). most_of o - count_of (seen_in work.snap)) job_is
-    ∙ ap (λ (o : Option Seen). most_asked job.call - count_of o) seen_is
+untaken_is : (work : Work) (seen : Seen) (blocks : ℕ) → seen_in work.snap ≡ Some seen
+    → untaken work blocks ≡ most_taken blocks - (length seen.objects + length seen.claims)
+untaken_is work seen blocks seen_is = ap (λ (o : Option Seen). most_taken blocks - count_of o) seen_is
 
-unread_within : (work : Work) → unread work ≤ most_of work.job
-unread_within work = grind (arith)
+untaken_within : (work : Work) (blocks : ℕ) → untaken work blocks ≤ most_taken blocks
+untaken_within work blocks = within (most_taken blocks) (count_of (seen_in work.snap))
+  where
+    within : (a b : ℕ) → a - b ≤ a
+    within a b = omega arith
 
--- what a round takes, and what comes behind it, by how much the job asks for and by the log
-abbrev round_of : ℕ → Log → ℕ
-round_of most log = most * (log.blocks + 1) + log.blocks + 4
-
-same_rounds : (old new : Side) → most_of new.worker.work.job ≡ most_of old.worker.work.job
-    → new.core.log ≡ old.core.log
-    → rounds_left new.worker.work new.core ≡ rounds_left old.worker.work old.core
-same_rounds old new most log =
-    ap (λ n. if has_room new.core.log then 0 else round_of n new.core.log) most
-    ∙ ap (λ (l : Log). if has_room l then 0 else round_of (most_of old.worker.work.job) l) log
+all_taken : (objects claims blocks : ℕ) → objects ≤ most_asked blocks → claims ≤ most_claimed blocks
+    → objects + claims ≤ most_taken blocks
+unfolding most_taken
+all_taken objects claims blocks few fewer = omega (arith, few, fewer)
 
 -- ---- a transaction is begun
 
-begun_so : (old new : Side) (job : Job) (number : ℕ) → old.worker.work.job ≡ Some job
-    → HasBegun job old number new
+begun_so : (old new : Side) (job : Job) (number : ℕ) → HasBegun job old number new
     → HasGoneOn (left_in Called old.worker.work old.core) new.worker new.core
-begun_so old new job number job_is has =
+begun_so old new job number has =
     nearer (left_in Called old.worker.work old.core) new.worker new.core Planning
     (ap (λ (s : State). s.phase) has.worker) tt
-    (subst (λ r. r + (3 + (unread new.worker.work * (new.core.log.blocks + 1) + away new.core))
-    < left_in Called old.worker.work old.core) (sym (same_rounds old new most log))
-    (subst (λ n. rounds_left old.worker.work old.core + (3 + (unread new.worker.work * (n + 1) + away new.core))
-    < left_in Called old.worker.work old.core) (sym (ap (λ (l : Log). l.blocks) log)) fewer))
+    (subst (λ (l : Log). rounds_left l + (3 + (untaken new.worker.work l.blocks * (l.blocks + 1) + away new.core))
+    < left_in Called old.worker.work old.core) (sym log) fewer)
   where
     log : new.core.log ≡ old.core.log
     log = ap (λ (c : CoreState). c.log) has.core
 
-    most : most_of new.worker.work.job ≡ most_of old.worker.work.job
-    most = ap (λ (s : State). most_of s.work.job) has.worker ∙ sym (ap most_of job_is)
-
-    fewer : rounds_left old.worker.work old.core
-        + (3 + (unread new.worker.work * (old.core.log.blocks + 1) + away new.core))
+    fewer : rounds_left old.core.log
+        + (3 + (untaken new.worker.work old.core.log.blocks * (old.core.log.blocks + 1) + away new.core))
         < left_in Called old.worker.work old.core
-    fewer = round_less (rounds_left old.worker.work old.core) (most_of old.worker.work.job) old.core.log.blocks
-        (unread new.worker.work) (away new.core)
-        (subst (λ n. unread new.worker.work ≤ n) most (unread_within new.worker.work))
+    fewer = round_less (rounds_left old.core.log) (most_taken old.core.log.blocks) old.core.log.blocks
+        (untaken new.worker.work old.core.log.blocks) (away new.core)
+        (untaken_within new.worker.work old.core.log.blocks)
         (subst (λ n. away new.core ≤ n) (ap (λ (l : Log). l.blocks) log)
         (at_most_all (is_at_hand new.core) new.core.log.blocks))
 
@@ -226,7 +214,7 @@ told_so old new is =
 
 called : (old new : Side) (made : Step) → Beginning old made new → Came Called old (Some made) new
 called old new made (begun job number job_is made_is has) =
-    goes_by Called old made (step.Begun (Ok number)) new (begun_so old new job number job_is has)
+    goes_by Called old made (step.Begun (Ok number)) new (begun_so old new job number has)
     made_is refl refl
 called old new made (refused why made_is is) =
     goes_by Called old made (step.Begun (Err why)) new (told_so old new is) made_is refl refl
@@ -238,8 +226,8 @@ called old new made (replied made_is is) =
 module _ (old new : Side) (addr : Addr) (job : Job) (tx : ℕ) (snap : Snap)
     (job_is : old.worker.work.job ≡ Some job)
     (snap_is : seen_in old.worker.work.snap ≡ seen_in (Some snap))
-    (has : HasOfCall job tx old.core (seen_of snap))
-    (is_plan : IsPlanFor job.call snap (plan.Need addr))
+    (has : HasOfCall tx old.core (seen_of snap))
+    (is_plan : IsPlanFor snap (plan.Need addr))
     (same_job : new.worker.work.job ≡ old.worker.work.job) where
   abbrev left : ℕ
   left = left_in Planning old.worker.work old.core
@@ -258,33 +246,39 @@ module _ (old new : Side) (addr : Addr) (job : Job) (tx : ℕ) (snap : Snap)
       blocks : new.core.log.blocks ≡ old.core.log.blocks
       blocks = ap (λ (l : Log). l.blocks) log
 
+      b : ℕ
+      b = old.core.log.blocks
+
+      count : ℕ
+      count = length snap.objects.items + length snap.claims.items
+
+      more : count_of (Some now_seen) ≡ count + 1
+      more = let longer = length-append snap.objects.items (object ∷ []) in omega (arith, longer)
+
+      within : count + 1 ≤ most_taken b
+      within =
+          let most = few snap.geometry now_seen.objects
+          (one_asked_once snap.geometry snap.objects.items object has.were is_plan.1 is_plan.0) in
+          let none : length snap.claims.items ≡ 0 = ap length has.claims in
+          let same = has.blocks in
+          subst (λ n. n ≤ most_taken b) more
+          (all_taken (length now_seen.objects) (length snap.claims.items) b (omega (arith, most, same))
+          (omega (arith, none)))
+
       less : left_in Planning new.worker.work new.core < left
       less =
-          let count = length-append snap.objects.items (object ∷ []) in
-          let most = few snap.geometry job.call now_seen.objects
-          (one_asked_once snap.geometry job.call snap.objects.items object has.were is_plan.1 is_plan.0) in
-          let now = unread_is new.worker.work job now_seen (same_job ∙ job_is)
-          (seen ∙ ap (with_object addr bytes) snap_is) in
-          let was = unread_is old.worker.work job (seen_of snap) job_is snap_is in
-          let fewer = read_less (most_asked job.call) (length snap.objects.items) old.core.log.blocks
-          (away new.core)
-          (away old.core) (rounds_left old.worker.work old.core) (grind (arith))
+          let now : untaken new.worker.work b ≡ most_taken b - (count + 1) =
+          untaken_is new.worker.work now_seen b (seen ∙ ap (with_object addr bytes) snap_is)
+          ∙ ap (λ n. most_taken b - n) more in
+          let was = untaken_is old.worker.work (seen_of snap) b snap_is in
+          let fewer = read_less (most_taken b) count b (away new.core) (away old.core)
+          (rounds_left old.core.log) within
           (subst (λ n. away new.core ≤ n) blocks (at_most_all (is_at_hand new.core) new.core.log.blocks)) in
-          let rounds = same_rounds old new (ap most_of same_job) log in
-          let counted : unread new.worker.work ≡ most_asked job.call - (length snap.objects.items + 1) =
-          now ∙ ap (λ n. most_asked job.call - n) count in
-          subst (λ r. r + (3 + (unread new.worker.work * (new.core.log.blocks + 1) + away new.core)) <
-          left) (sym rounds)
-          (subst (λ u. rounds_left old.worker.work old.core +
-          (3 + (u * (new.core.log.blocks + 1) + away new.core)) < left) (sym counted)
-          (subst (λ b. rounds_left old.worker.work old.core
-          + (3 + ((most_asked job.call - (length snap.objects.items + 1)) * (b + 1) + away new.core)) <
-          left) (sym blocks)
-          (subst (λ u. rounds_left old.worker.work old.core +
-          (3 + ((most_asked job.call - (length snap.objects.items + 1))
-          * (old.core.log.blocks + 1) + away new.core))
-          < rounds_left old.worker.work old.core + (3 + (u * (old.core.log.blocks + 1) + away old.core)))
-          (sym was) fewer)))
+          subst (λ (l : Log). rounds_left l
+          + (3 + (untaken new.worker.work l.blocks * (l.blocks + 1) + away new.core)) < left) (sym log)
+          (subst (λ u. rounds_left old.core.log + (3 + (u * (b + 1) + away new.core)) < left) (sym now)
+          (subst (λ u. rounds_left old.core.log + (3 + ((most_taken b - (count + 1)) * (b + 1) + away new.core))
+          < rounds_left old.core.log + (3 + (u * (b + 1) + away old.core))) (sym was) fewer))
 
   wanted : (made : Step) → is_kept_off (Some made) ≡ false → (answer : Want)
       → made ≡ step.Wanted addr modes.Exclusive (wish_of answer)
@@ -347,12 +341,10 @@ module _ (old new : Side) (tx : ℕ) (job : Job) (done : Outcome) (job_is : old.
       → has_room old.core.log ≡ false → IsFull left_then new
   full_so phase same core none = record {
     phase = phase;
-    less = subst (λ n. n + 1 < left_then)
-        (sym (ap (λ (o : Option Job). whole_round o new.core.log.blocks) same
-        ∙ ap (λ (c : CoreState). whole_round old.worker.work.job c.log.blocks) core))
-        (subst (λ r. whole_round old.worker.work.job old.core.log.blocks + 1
-        < r + (3 + (unread old.worker.work * (old.core.log.blocks + 1) + away old.core)))
-        (sym (ap (λ b. if b then 0 else whole_round old.worker.work.job old.core.log.blocks) none))
+    less = subst (λ (c : CoreState). whole_round c.log.blocks + 1 < left_then) (sym core)
+        (subst (λ r. whole_round old.core.log.blocks + 1
+        < r + (3 + (untaken old.worker.work old.core.log.blocks * (old.core.log.blocks + 1) + away old.core)))
+        (sym (ap (λ b. if b then 0 else whole_round old.core.log.blocks) none))
         (grind (arith)));
   }
 
@@ -402,7 +394,7 @@ goes : (old new : Side) (tx : ℕ) (made : Step) (next : Plan) → old.worker.be
     → Came Planning old (Some made) new
 goes old new tx made next tx_is is taken free goes_so = of_next next is.plan goes_so
   where
-    of_next : (next : Plan) → IsPlanFor is.job.call is.snap next → GoesByNext next tx old made new
+    of_next : (next : Plan) → IsPlanFor is.snap next → GoesByNext next tx old made new
         → Came Planning old (Some made) new
     of_next (plan.Need addr) planned wish =
         wanted old new addr is.job tx is.snap is.job_is is.snap_is
@@ -415,14 +407,9 @@ goes old new tx made next tx_is is taken free goes_so = of_next next is.plan goe
       | lacked has ↦ lacked_so old new tx made has
       | committed job job_is has ↦
           committed_so old new tx job done job_is
-          (few_of (most_changed is.job.call) planned.1 (few_changed is.job.call))
-          made (record (with_snap new.worker old.worker) { begun = none_begun }) has.answer _ refl
+          planned.1 made (record (with_snap new.worker old.worker) { begun = none_begun }) has.answer _ refl
           free has.made_is has.core has.worker
     ]
-      where
-        few_of : (most : ℕ) → length (blocks_of done.written) ≤ most → most ≤ CHANGED_BLOCKS
-            → length (blocks_of done.written) ≤ CHANGED_BLOCKS
-        few_of most fewer all = omega (arith, fewer, all)
     of_next plan.NoMemory planned lack = lacked_so old new tx made lack
 
 -- ---- any step
@@ -495,22 +482,12 @@ again old new made has = by old.worker.begun.tx has
         goes_by Again old made _ new (nearer (left_in Again old.worker.work old.core) new.worker new.core Called
         (ap (λ (s : State). s.phase) has.worker) tt less) has.made_is refl refl
       where
-        job : new.worker.work.job ≡ old.worker.work.job
-        job = ap (λ (s : State). s.work.job) has.worker
-
         log : new.core.log ≡ old.core.log
         log = ap (λ (c : CoreState). c.log) has.core.only
 
-        whole : whole_round new.worker.work.job new.core.log.blocks
-            ≡ whole_round old.worker.work.job old.core.log.blocks
-        whole = ap (λ (o : Option Job). whole_round o new.core.log.blocks) job
-            ∙ ap (λ (l : Log). whole_round old.worker.work.job l.blocks) log
-
         less : left_in Called new.worker.work new.core < left_in Again old.worker.work old.core
-        less = subst (λ r. r + whole_round new.worker.work.job new.core.log.blocks
-            < left_in Again old.worker.work old.core) (sym (same_rounds old new (ap most_of job) log))
-            (subst (λ w. rounds_left old.worker.work old.core + w < left_in Again old.worker.work
-            old.core) (sym whole) (grind (arith)))
+        less = subst (λ (l : Log). rounds_left l + whole_round l.blocks < left_in Again old.worker.work old.core)
+            (sym log) (grind (arith))
 
 pub stepped : (phase : Phase) (old new : Side) (made : Option Step) → IsUnder phase old.core
     → PlansAlone phase old.worker old.core → is_kept_off made ≡ false → GoesOn phase old made new
@@ -545,9 +522,6 @@ given old mid new is read back made same work true has =
     left : ℕ
     left = left_in Planning old.worker.work old.core
 
-    job : new.worker.work.job ≡ old.worker.work.job
-    job = ap (λ (s : State). s.work.job) has.worker ∙ ap (λ (w : Work). w.job) work ∙ is.job
-
     seen : seen_in new.worker.work.snap ≡ seen_in old.worker.work.snap
     seen = ap (λ (s : State). seen_in s.work.snap) has.worker ∙ ap (λ (w : Work). seen_in w.snap) work ∙ is.seen
 
@@ -557,15 +531,11 @@ given old mid new is read back made same work true has =
     blocks : new.core.log.blocks ≡ old.core.log.blocks
     blocks = ap (λ (l : Log). l.blocks) log
 
-    count : Option Job → Option Seen → Log → ℕ
-    count j s l = (if has_room l then 0 else whole_round j l.blocks)
-        + (3 + ((most_of j - count_of s) * (l.blocks + 1) + away new.core))
+    count : Option Seen → Log → ℕ
+    count s l = rounds_left l + (3 + ((most_taken l.blocks - count_of s) * (l.blocks + 1) + away new.core))
 
-    now : left_in Planning new.worker.work new.core
-        ≡ count old.worker.work.job (seen_in old.worker.work.snap) old.core.log
-    now = ap (λ j. count j (seen_in new.worker.work.snap) new.core.log) job
-        ∙ ap (λ s. count old.worker.work.job s new.core.log) seen
-        ∙ ap (λ l. count old.worker.work.job (seen_in old.worker.work.snap) l) log
+    now : left_in Planning new.worker.work new.core ≡ count (seen_in old.worker.work.snap) old.core.log
+    now = ap (λ s. count s new.core.log) seen ∙ ap (λ l. count (seen_in old.worker.work.snap) l) log
 
     less : left_in Planning new.worker.work new.core < left
     less =
@@ -720,16 +690,12 @@ module _ (phase : Phase) (old : Side) (made : Option Step) (mid : Side) (at : ol
           nearer most state core Again (ap (λ (s : State). s.phase) (set is.phase)) tt
           (subst (λ n. n < most) (sym now) is.less)
         where
-          whole : whole_round state.work.job core.log.blocks
-              ≡ whole_round mid.worker.work.job mid.core.log.blocks
-          whole = ap (λ (s : State). whole_round s.work.job core.log.blocks) (set is.phase)
-              ∙ ap (λ n. whole_round mid.worker.work.job n) blocks
+          whole : whole_round core.log.blocks ≡ whole_round mid.core.log.blocks
+          whole = ap whole_round blocks
 
-          now : left_in Again state.work core ≡ whole_round mid.worker.work.job mid.core.log.blocks + 1
-          now = ap (λ b. (if b then 0 else whole_round state.work.job core.log.blocks)
-              + (whole_round state.work.job core.log.blocks + 1)) room
-              ∙ none_more (whole_round state.work.job core.log.blocks)
-              (whole_round mid.worker.work.job mid.core.log.blocks) whole
+          now : left_in Again state.work core ≡ whole_round mid.core.log.blocks + 1
+          now = ap (λ b. (if b then 0 else whole_round core.log.blocks) + (whole_round core.log.blocks + 1)) room
+              ∙ none_more (whole_round core.log.blocks) (whole_round mid.core.log.blocks) whole
             where
               none_more : (a b : ℕ) → a ≡ b → 0 + (a + 1) ≡ b + 1
               none_more a b same = grind (arith)

@@ -12,7 +12,6 @@ use Rattle.wal_law.specs.Log.{tail_count}
 use Rattle.wal_law.specs.declared.change.LogChange.{LogChange}
 use Rattle.wal_law.specs.declared.outcomes.Room.TheVariants as room
 use Rattle.wal_law.proofs.Places.{rising-drop}
-use Rattle.procs.specs.MostChanged.{most_changed}
 use Rattle.txn.specs.Commit.{Planned}
 use Rattle.txn.specs.Core.{CoreState}
 use Rattle.txn.specs.Group.{blocks_of}
@@ -71,27 +70,3 @@ no_room core tx plan tried few =
     too_many : (tail more : ℕ) → more ≤ CHANGED_BLOCKS → LOG_SLOTS < tail + more
         → nat_le (tail + CHANGED_BLOCKS) LOG_SLOTS ≡ false
     too_many tail more few past = grind (arith, nat_tests)
-
-pub few_changed : (asked : Call) → most_changed asked ≤ CHANGED_BLOCKS
-few_changed (call.GetAttr file) = omega arith
-few_changed (call.SetAttr file attributes guard) = omega arith
-few_changed call.Null = omega arith
-few_changed (call.Lookup name) = omega arith
-few_changed (call.Access file bits) = omega arith
-few_changed (call.ReadLink link) = omega arith
-few_changed (call.Read file offset count) = omega arith
-few_changed (call.Write file offset count stability bytes) = omega arith
-few_changed (call.Create name how) = omega arith
-few_changed (call.MkDir name attributes) = omega arith
-few_changed (call.SymLink name attributes target) = omega arith
-few_changed (call.MkNod name special) = omega arith
-few_changed (call.Remove name) = omega arith
-few_changed (call.RmDir name) = omega arith
-few_changed (call.Rename source target) = omega arith
-few_changed (call.Link file name) = omega arith
-few_changed (call.ReadDir directory cookie verifier count) = omega arith
-few_changed (call.ReadDirPlus directory cookie verifier directory_count greatest_count) = omega arith
-few_changed (call.FsStat file) = omega arith
-few_changed (call.FsInfo file) = omega arith
-few_changed (call.PathConf file) = omega arith
-few_changed (call.Commit file offset count) = omega arith

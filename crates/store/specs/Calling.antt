@@ -1,7 +1,7 @@
 -- One call of one thread: what it begins from, what holds while it is under way, and what it answers.
 use Rattle.std.specs.Prelude.{◌≡◌, ℕ, ◌+◌, ◌^◌, ◌<◌, ◌≤◌, ◌⊎◌, true, false, Option, Some, None, IfSome, is_some}
 use Rattle.std.specs.Prelude.{Bool, List, [], ◌++◌, All, length, option_to_list}
-use Rattle.limits.specs.declared.TheConstants.{MOST_KEPT_COMMITS}
+use Rattle.limits.specs.declared.TheConstants.{CHANGED_BLOCKS, MOST_KEPT_COMMITS}
 use Rattle.disk.specs.Crash.{Image, IsCrashImage}
 use Rattle.disk.specs.Device.{Device}
 use Rattle.model.specs.Entry.{Entry}
@@ -14,7 +14,6 @@ use Rattle.nfs_types.specs.declared.call.Call.{Call}
 use Rattle.nfs_types.specs.declared.ctx.Credential.{Credential}
 use Rattle.nfs_types.specs.declared.ctx.Moment.{Moment}
 use Rattle.nfs_types.specs.declared.status.Status.TheVariants as status
-use Rattle.procs.specs.MostChanged.{most_changed}
 use Rattle.txn_law.specs.Core.{CoreState}
 use Rattle.txn_law.specs.Fetch.{Fetch}
 use Rattle.wal_law.specs.Calls.{idle}
@@ -101,16 +100,16 @@ ComesTo o now (Some entry) last = IsMadeFor o now entry last
 
 -- ---- why a call is refused
 
--- no transaction is left, or no place or too few log positions for what the call may change
-abbrev pub IsSpent : Call → CoreState → Type 0
-IsSpent call core = (2 ^ 64 ≤ core.begun + 1)
-    ⊎ ((core.log.places + 1 < 2 ^ 64) × (end_of core.log + most_changed call < 2 ^ 64) → ⊥)
+-- no transaction is left, or no place or too few log positions for what a transaction may change
+abbrev pub IsSpent : CoreState → Type 0
+IsSpent core = (2 ^ 64 ≤ core.begun + 1)
+    ⊎ ((core.log.places + 1 < 2 ^ 64) × (end_of core.log + CHANGED_BLOCKS < 2 ^ 64) → ⊥)
 
 -- the store was broken when the call began, or a device call failed since; the numbers are spent; or memory was
 -- refused
 abbrev pub HasCause : Outset → Opened → Cause → Type 0
 HasCause o now cause.Io = HasFailed o.store.core.log o.store.device now.device
-HasCause o now cause.Spent = IsSpent o.asked.call now.core
+HasCause o now cause.Spent = IsSpent now.core
 HasCause o now cause.NoMemory = Unit {0}
 
 -- ---- what it answers

@@ -5,7 +5,7 @@ use Rattle.std.specs.Prelude.{if◌then◌else◌, Option, Some, None, is_some, 
 use Rattle.limits.specs.declared.TheConstants.{CHANGED_BLOCKS, LOG_SLOTS}
 use Rattle.disk.specs.declared.block.BlockNo.{BlockNo}
 use Rattle.wal_law.specs.Log.{Log, settled_place, tail_count}
-use Rattle.procs.specs.MostAsked.{most_asked}
+use Rattle.procs.specs.MostAsked.{most_asked, most_claimed}
 use Rattle.txn.specs.Core.{CoreState}
 use Rattle.txn.specs.Leaves.{in_memory}
 use Rattle.txn_law.specs.Holds.{is_taken}
@@ -13,7 +13,6 @@ use Rattle.store_promise.specs.declared.events.Committing.TheVariants as committ
 use Rattle.store_promise.specs.declared.events.Step.{Step}
 use Rattle.store_promise.specs.declared.events.Step.TheVariants as step
 use Rattle.store_workers.specs.Seen.{Seen, seen_in}
-use Rattle.store_workers.specs.declared.workers.parts.Job.{Job}
 use Rattle.store_workers.specs.declared.workers.parts.Phase.{Phase}
 use Rattle.store_workers.specs.declared.workers.parts.Phase.TheVariants.{Idle, Called, Planning}
 use Rattle.store_workers.specs.declared.workers.parts.Phase.TheVariants.{Reading, Read}
@@ -36,29 +35,29 @@ count_away at_hand (suc number) = (if at_hand (record { 0 = number }) then 0 els
 abbrev pub away : CoreState → ℕ
 away core = count_away (is_at_hand core) core.log.blocks
 
--- ---- what a transaction has still to read
+-- ---- what a transaction has still to take
 
-abbrev pub most_of : Option Job → ℕ
-most_of None = 0
-most_of (Some job) = most_asked job.call
+-- the most that is taken of an image of so many blocks: objects that are read, and blocks that are claimed
+unfoldable pub most_taken : ℕ → ℕ
+most_taken blocks = most_asked blocks + most_claimed blocks
 
 abbrev pub count_of : Option Seen → ℕ
 count_of None = 0
-count_of (Some seen) = length seen.objects
+count_of (Some seen) = length seen.objects + length seen.claims
 
--- how many objects the call may ask for still
-abbrev pub unread : Work → ℕ
-unread work = most_of work.job - count_of (seen_in work.snap)
+-- how much more may be taken
+abbrev pub untaken : Work → ℕ → ℕ
+untaken work blocks = most_taken blocks - count_of (seen_in work.snap)
 
--- Each object that is read leaves fewer to ask for, and each block that is fetched fewer that aren't at hand.
+-- What is read or claimed leaves less to take, and each block that is fetched fewer that aren't at hand.
 abbrev pub reads_left : Work → CoreState → ℕ
-reads_left work core = unread work * (core.log.blocks + 1) + away core
+reads_left work core = untaken work core.log.blocks * (core.log.blocks + 1) + away core
 
 -- ---- what is left of a call
 
 -- more than a transaction takes, in an image of so many blocks
-abbrev pub whole_round : Option Job → ℕ → ℕ
-whole_round job blocks = most_of job * (blocks + 1) + blocks + 4
+abbrev pub whole_round : ℕ → ℕ
+whole_round blocks = most_taken blocks * (blocks + 1) + blocks + 4
 
 -- The tail has room for what any call changes, or nothing is committed any more: no commit is refused for
 -- want of room then.
@@ -66,14 +65,14 @@ abbrev pub has_room : Log → Bool
 has_room log = log.broken || nat_le (tail_count log + CHANGED_BLOCKS) LOG_SLOTS
 
 -- what comes behind this transaction: another one, where its commit may be refused for want of room
-abbrev pub rounds_left : Work → CoreState → ℕ
-rounds_left work core = if has_room core.log then 0 else whole_round work.job core.log.blocks
+abbrev pub rounds_left : Log → ℕ
+rounds_left log = if has_room log then 0 else whole_round log.blocks
 
 abbrev pub left_in : Phase → Work → CoreState → ℕ
 left_in Idle work core = 0
-left_in Called work core = rounds_left work core + whole_round work.job core.log.blocks
-left_in Again work core = rounds_left work core + (whole_round work.job core.log.blocks + 1)
-left_in Planning work core = rounds_left work core + (3 + reads_left work core)
+left_in Called work core = rounds_left core.log + whole_round core.log.blocks
+left_in Again work core = rounds_left core.log + (whole_round core.log.blocks + 1)
+left_in Planning work core = rounds_left core.log + (3 + reads_left work core)
 left_in Reading work core = 0
 left_in (Read ok) work core = 0
 left_in (Refused why) work core = 1

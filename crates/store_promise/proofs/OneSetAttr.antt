@@ -39,7 +39,7 @@ is_taken : (o : Setting) (index : ℕ) (told : Told) (e : Event) (m : Option Ste
 is_taken o index told e m may = record { own = λ _. may.1; others = λ no. absurd (no may.0) }
 
 module _ (g : Geometry) (blocks changed : Image) (one : OneSetAttr) (room : one.position + 1 < 2 ^ 64)
-    (rules : sets_only_mode one.attributes ≡ true) (asks : Asks g (asked one) [] one.addr) where
+    (rules : sets_only_mode one.attributes ≡ true) (asks : Asks g one.addr) where
   abbrev o : Setting
   o = setting_of g blocks changed one
 

@@ -210,7 +210,7 @@ module _ (o : Setting) (workers : ℕ) (events : Schedule) (steps : List (Option
       → slice_get events index ≡ Some (event.Work worker) → worker < workers
       → slice_get steps index ≡ Some (Some one)
       → progress_before events steps worker index ≡ At job (Planning begun)
-      → IsStepByPlan o (told_before events steps index) worker job.call begun one
+      → IsStepByPlan o (told_before events steps index) worker begun one
   planned_step index worker job begun one is_event less is_step planning =
       subst (λ p. IsStepOfWork o (told_before events steps index) worker p (Some one)) planning
       ((taken.each index (event.Work worker) (Some one) is_event is_step).own less)

@@ -53,13 +53,13 @@ of_called : (told : Told) (ruled : Bool) (one : Step) → IsStepOfCalled told ru
 of_called told true one is = of_beginning told one is
 of_called told false one is = ap is_of_log is
 
-of_plan : (o : Setting) (told : Told) (worker : ℕ) (asked : Call) (begun : Begun) (one : Step)
-    → IsStepByPlan o told worker asked begun one → is_of_log one ≡ false
-of_plan o told worker asked begun (step.Wanted addr mode answer) is = refl
-of_plan o told worker asked begun (step.Claimed block answer) is = refl
-of_plan o told worker asked begun (step.Commit blocks answer) is = refl
-of_plan o told worker asked begun (step.Ended why) is = refl
-of_plan o told worker asked begun _ is = absurd is
+of_plan : (o : Setting) (told : Told) (worker : ℕ) (begun : Begun) (one : Step)
+    → IsStepByPlan o told worker begun one → is_of_log one ≡ false
+of_plan o told worker begun (step.Wanted addr mode answer) is = refl
+of_plan o told worker begun (step.Claimed block answer) is = refl
+of_plan o told worker begun (step.Commit blocks answer) is = refl
+of_plan o told worker begun (step.Ended why) is = refl
+of_plan o told worker begun _ is = absurd is
 
 of_waiting : (log : LogTold) (place : ℕ) (one : Step) → IsStepOfWaiting log place one → is_of_log one ≡ false
 of_waiting log place (step.Stable seq settled) is = refl
@@ -69,7 +69,7 @@ of_work : (o : Setting) (told : Told) (worker : ℕ) (so_far : Progress) (one : 
     → IsStepOfWork o told worker so_far (Some one) → is_of_log one ≡ false
 of_work o told worker Idle one is = cc
 of_work o told worker (At job Called) one is = of_called told (has_rules job.call) one is
-of_work o told worker (At job (Planning begun)) one is = of_plan o told worker job.call begun one is
+of_work o told worker (At job (Planning begun)) one is = of_plan o told worker begun one is
 of_work o told worker (At job (Reading begun taken)) one is = cc
 of_work o told worker (At job (Read begun taken true)) one is = ap is_of_log is
 of_work o told worker (At job (Read begun taken false)) one is = ap is_of_log is
@@ -115,7 +115,7 @@ module _ (o : Setting) (told : Told) (worker : ℕ) (job : Job) where
 
   module _ (begun : Begun) where
     by_wanted : (addr : Addr) (mode : Mode) (answer : Wish)
-        → IsStepByPlan o told worker job.call begun (step.Wanted addr mode answer)
+        → IsStepByPlan o told worker begun (step.Wanted addr mode answer)
         → shows (going_on job (after_planning (is_answered_stable job.call) begun
         (step.Wanted addr mode answer)))
         ≡ true → ⊥
@@ -127,7 +127,7 @@ module _ (o : Setting) (told : Told) (worker : ℕ) (job : Job) where
     by_wanted addr mode wish.NoMemory is so = cc
 
     by_claimed : (block : BlockNo) (answer : Wish)
-        → IsStepByPlan o told worker job.call begun (step.Claimed block answer)
+        → IsStepByPlan o told worker begun (step.Claimed block answer)
         → shows (going_on job (after_planning (is_answered_stable job.call) begun (step.Claimed block answer)))
         ≡ true → ⊥
     by_claimed block wish.Held is so = cc
@@ -151,7 +151,7 @@ module _ (o : Setting) (told : Told) (worker : ℕ) (job : Job) where
     by_commit stable blocks committing.Broken is so = is
     by_commit stable blocks committing.Spent is so = cc
 
-    by_plan : (one : Step) → IsStepByPlan o told worker job.call begun one
+    by_plan : (one : Step) → IsStepByPlan o told worker begun one
         → shows (going_on job (after_planning (is_answered_stable job.call) begun one)) ≡ true
         → told.log.broken ≡ true
     by_plan (step.Wanted addr mode answer) is so = absurd (by_wanted addr mode answer is so)

@@ -2,7 +2,7 @@
 use Rattle.std.specs.Prelude.{◌≡◌, ◌≢◌, ℕ, ◌+◌, ◌^◌, ◌<◌, ◌≤◌, Bool, true, false, if◌then◌else◌, nat_eq}
 use Rattle.std.specs.Prelude.{nat_le, List, [], ◌∷◌, map, take, Option, Some, None, Ok, Err, length, slice_get}
 use Rattle.std.specs.List.{zip, list_any}
-use Rattle.limits.specs.declared.TheConstants.{BLOCK_BYTES, LOG_SLOTS}
+use Rattle.limits.specs.declared.TheConstants.{BLOCK_BYTES, CHANGED_BLOCKS, LOG_SLOTS}
 use Rattle.disk.specs.Crash.{Image}
 use Rattle.disk.specs.declared.block.BlockNo.{BlockNo}
 use Rattle.objects.specs.declared.addr.Addr.{Addr}
@@ -13,7 +13,6 @@ use Rattle.layout.specs.declared.geometry.Geometry.{Geometry}
 use Rattle.model.specs.Calls.{has_rules}
 use Rattle.model.specs.Sound.{SoundTime}
 use Rattle.procs.specs.Asks.{Asks, Claims}
-use Rattle.procs.specs.MostChanged.{most_changed}
 use Rattle.inode.specs.Snap.{is_claimed, same_addr}
 use Rattle.txn.specs.Object.{ObjectBytes}
 use Rattle.txn.specs.Window.{object_at}
@@ -129,27 +128,17 @@ pub record Setting : Type 0 where
 abbrev pub is_held : Addr → List Taken → Bool
 is_held addr held = list_any (λ (other : Taken). same_addr addr other.addr) held
 
--- what blocks have at these addresses
-abbrev pub objects_at : Image → List Addr → List ObjectBytes
-objects_at blocks addrs = map (λ addr. record { addr = addr; bytes = object_at blocks addr }) addrs
-
--- what a transaction has read, after so many procedures: nobody else changes it while it is held
-abbrev pub read_of : Setting → ℕ → Begun → List ObjectBytes
-read_of o places begun = objects_at (o.blocks places) (addrs_of begun.held)
-
--- the call asks for the object, by what its transaction read, and hasn't got it
-pub record IsAskedFor (o : Setting) (places : ℕ) (call : Call) (begun : Begun) (addr : Addr)
-    (mode : Mode) : Type 0 where
+-- the object is one that plans may ask for, and the transaction hasn't got it
+pub record IsAskedFor (o : Setting) (begun : Begun) (addr : Addr) (mode : Mode) : Type 0 where
   pub unheld : is_held addr begun.held ≡ false
-  pub asks : Asks o.geometry call (read_of o places begun) addr
+  pub asks : Asks o.geometry addr
   -- a plan wants each object for its call alone
   pub alone : mode ≡ modes.Exclusive
 
--- it asks to claim the block
-pub record IsClaimAskedFor (o : Setting) (places : ℕ) (call : Call) (begun : Begun) (block : BlockNo) : Type 0
-  where
-    pub unclaimed : is_claimed block begun.claimed ≡ false
-    pub claims : Claims o.geometry call (read_of o places begun) block
+-- the block is one that plans may ask to claim, and the transaction hasn't got it
+pub record IsClaimAskedFor (o : Setting) (begun : Begun) (block : BlockNo) : Type 0 where
+  pub unclaimed : is_claimed block begun.claimed ≡ false
+  pub claims : Claims o.geometry block
 
 -- another worker is so
 pub record IsSoOfAnother (told : Told) (worker : ℕ) (is : Progress → Bool) : Type 0 where
@@ -199,17 +188,17 @@ IsCommitting o log blocks committing.Full =
 IsCommitting o log blocks committing.NoMemory =
     (log.broken ≡ false) × HasNumbers o log blocks × (log.tail + blocks ≤ LOG_SLOTS)
 
--- A worker with a transaction goes by the plan of its call: it asks for what that asks for, or commits a
--- change of no more blocks than the call changes, or finds no memory.
-abbrev pub IsStepByPlan : Setting → Told → ℕ → Call → Begun → Step → Type 0
-IsStepByPlan o told worker call begun (step.Wanted addr mode answer) =
-    IsAskedFor o told.log.places call begun addr mode × IsWish told worker begun (wish_of addr mode) answer
-IsStepByPlan o told worker call begun (step.Claimed block answer) =
-    IsClaimAskedFor o told.log.places call begun block × IsClaimWish told worker begun block answer
-IsStepByPlan o told worker call begun (step.Commit blocks answer) =
-    (blocks ≤ most_changed call) × IsCommitting o told.log blocks answer
-IsStepByPlan o told worker call begun (step.Ended ending.NoMemory) = Unit {0}
-IsStepByPlan o told worker call begun _ = ⊥
+-- A worker with a transaction goes by a plan: it asks for what plans may ask for, or commits a change of no more
+-- blocks than a transaction may change, or finds no memory.
+abbrev pub IsStepByPlan : Setting → Told → ℕ → Begun → Step → Type 0
+IsStepByPlan o told worker begun (step.Wanted addr mode answer) =
+    IsAskedFor o begun addr mode × IsWish told worker begun (wish_of addr mode) answer
+IsStepByPlan o told worker begun (step.Claimed block answer) =
+    IsClaimAskedFor o begun block × IsClaimWish told worker begun block answer
+IsStepByPlan o told worker begun (step.Commit blocks answer) =
+    (blocks ≤ CHANGED_BLOCKS) × IsCommitting o told.log blocks answer
+IsStepByPlan o told worker begun (step.Ended ending.NoMemory) = Unit {0}
+IsStepByPlan o told worker begun _ = ⊥
 
 -- the place is found settled where it is
 abbrev pub IsStepOfWaiting : LogTold → ℕ → Step → Type 0
@@ -220,7 +209,7 @@ IsStepOfWaiting log place _ = ⊥
 -- a worker with a call, of which no read is due, goes on with it
 abbrev pub IsStepWith : Setting → Told → ℕ → Call → Stage → Step → Type 0
 IsStepWith o told worker call Called made = IsStepOfCalled told (has_rules call) made
-IsStepWith o told worker call (Planning begun) made = IsStepByPlan o told worker call begun made
+IsStepWith o told worker call (Planning begun) made = IsStepByPlan o told worker begun made
 IsStepWith o told worker call (Reading begun taken) made = ⊥
 IsStepWith o told worker call (Read begun taken true) made = made ≡ step.Fetched taken.addr.block
 IsStepWith o told worker call (Read begun taken false) made = made ≡ step.FetchFailed taken.addr.block

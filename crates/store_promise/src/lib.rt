@@ -63,7 +63,7 @@ pub use steps_made::{
     a_procedure_changes_only_what_it_took, a_worker_goes_by_its_plan,
     a_worker_passes_over_no_event, nothing_is_asked_for_twice, one_worker_is_never_busy,
     the_installer_comes_to_an_end, the_log_passes_over_no_event, the_log_takes_its_next_call,
-    what_is_asked_for_goes_by_the_disk, what_is_asked_for_goes_by_the_files, what_was_made_stays,
+    what_was_made_stays,
 };
 pub use told_log::{
     the_installer_stands_at_a_home, the_installers_next_call_is_told,

@@ -32,7 +32,7 @@ pub fn a_run_of_one_setattr_keeps_the_promise()
         → DoEachStep later.contents (events_of one) opened.clock (steps_of one)
         → LeavesTrees opened later (first + 1) tree next blocks changed
         → KeepsOthers later.size (with_read one) blocks changed
-        → sets_only_mode one.attributes ≡ true → Asks g (asked one) [] one.addr
+        → sets_only_mode one.attributes ≡ true → Asks g one.addr
         → step tree (ctx_in (first + 1) one) (asked one) reply next
         → KeepsPromise before later tree first 1 (events_of one) (told_of (first + 1) one reply) }
 {}

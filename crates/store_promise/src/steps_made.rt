@@ -1,23 +1,17 @@
 //! Laws on the steps that events make, which the promise of a run pins.
 ghost use Rattle.std.specs.Prelude.{◌≡◌, ◌≢◌, ◌+◌, ◌<◌, ◌≤◌, ℕ, Bool, List, Option, slice_get, Some, None};
 ghost use Rattle.std.specs.Prelude.{true};
-ghost use Rattle.std.specs.Prelude.{[], false, take};
-ghost use Rattle.limits.specs.declared.TheConstants.{LOG_SLOTS, START_BLOCK};
-ghost use Rattle.disk.specs.Crash.{Image, IsCrashImage};
+ghost use Rattle.std.specs.Prelude.{false};
+ghost use Rattle.limits.specs.declared.TheConstants.{CHANGED_BLOCKS, LOG_SLOTS, START_BLOCK};
+ghost use Rattle.disk.specs.Crash.{Image};
 ghost use Rattle.disk.specs.Device.{Device};
 ghost use Rattle.disk.specs.declared.block.BlockNo.{BlockNo};
-ghost use Rattle.procedures.specs.After.{after};
 ghost use Rattle.model.specs.Tree.{Tree};
 ghost use Rattle.objects.specs.declared.addr.Addr.{Addr};
 ghost use Rattle.objects.specs.declared.mode.Mode.{Mode};
 ghost use Rattle.objects.specs.declared.mode.Mode.TheVariants as modes;
 ghost use Rattle.layout.specs.declared.geometry.Geometry.{Geometry};
-ghost use Rattle.layout.specs.Homes.{homes_of};
-ghost use Rattle.layout.specs.Stands.{Stands};
-ghost use Rattle.wal_law.specs.Overlay.{over};
 ghost use Rattle.procs.specs.Asks.{Asks};
-ghost use Rattle.procs.specs.MostChanged.{most_changed};
-ghost use Rattle.txn.specs.Object.{ObjectBytes};
 ghost use Rattle.txn_law.specs.Window.{object_at};
 ghost use Rattle.wal_law.specs.declared.calls.IoCall.{IoCall};
 ghost use Rattle.wal_law.specs.declared.calls.IoCall.TheVariants.{Write};
@@ -34,10 +28,10 @@ ghost use Rattle.store_promise.specs.Headline.{KeepsPromise};
 ghost use Rattle.store_promise.specs.LogTold.{idle, may_install_told, may_log_told, out};
 ghost use Rattle.store_promise.specs.NextCall.{next_log_call, taken_home};
 ghost use Rattle.store_promise.specs.Progress.{Begun, Job, At, Planning, Reading, Stage, Taken};
-ghost use Rattle.store_promise.specs.Progress.{addrs_of, takes};
-ghost use Rattle.store_promise.specs.Schedule.{IsTaken, Schedule, Setting, Told, is_held, objects_at};
+ghost use Rattle.store_promise.specs.Progress.{takes};
+ghost use Rattle.store_promise.specs.Schedule.{IsTaken, Schedule, Setting, Told, is_held};
 ghost use Rattle.store_promise.specs.Schedule.{progress_before, told_before, wish_of};
-ghost use Rattle.store_promise.specs.Transcript.{Transcript, entries_of};
+ghost use Rattle.store_promise.specs.Transcript.{Transcript};
 
 /// A log, or an installer, that passes over an event which applies breaks the promise.
 pub fn the_log_passes_over_no_event()
@@ -109,44 +103,14 @@ pub fn a_worker_passes_over_no_event()
         → KeepsPromise before later tree first workers events t → ⊥ }
 {}
 
-/// A worker that asks for what the plan of its call doesn't ask for breaks the promise.
+/// A worker that asks for what no plan may ask for, as it is no object of an image, breaks the promise.
 pub fn a_worker_goes_by_its_plan()
     ensures { (before later : Device) (tree : Tree) (first workers index worker : ℕ) (events : Schedule)
         (t : Transcript) (job : Job) (begun : Begun) (addr : Addr) (mode : Mode) (answer : Wish)
         → slice_get events index ≡ Some (event.Work worker) → worker < workers
         → slice_get t.steps index ≡ Some (Some (step.Wanted addr mode answer))
         → progress_before events t.steps worker index ≡ At job (Planning begun)
-        → ((g : Geometry) (objects : List ObjectBytes) → Asks g job.call objects addr → ⊥)
-        → KeepsPromise before later tree first workers events t → ⊥ }
-{}
-
-/// A transaction for which something is asked that its files don't lead to, as they are then, breaks the
-/// promise, whether or not it is committed later.
-pub fn what_is_asked_for_goes_by_the_files()
-    ensures { (before later : Device) (tree : Tree) (first workers index worker : ℕ) (events : Schedule)
-        (t : Transcript) (job : Job) (begun : Begun) (addr : Addr) (mode : Mode) (answer : Wish)
-        → slice_get events index ≡ Some (event.Work worker) → worker < workers
-        → slice_get t.steps index ≡ Some (Some (step.Wanted addr mode answer))
-        → progress_before events t.steps worker index ≡ At job (Planning begun)
-        → ((g : Geometry) (blocks : Image) (left : Tree)
-        → after tree (take (told_before events t.steps index).log.places (entries_of t)) left
-        → Stands g blocks left
-        → Asks g job.call (objects_at blocks (addrs_of begun.held)) addr → ⊥)
-        → KeepsPromise before later tree first workers events t → ⊥ }
-{}
-
-/// Before any commit the files are what a stop leaves: a transaction for which something is asked that these
-/// homes don't lead to breaks the promise.
-pub fn what_is_asked_for_goes_by_the_disk()
-    ensures { (before later : Device) (tree : Tree) (first workers index worker : ℕ) (events : Schedule)
-        (t : Transcript) (job : Job) (begun : Begun) (addr : Addr) (mode : Mode) (answer : Wish) (image : Image)
-        → t.history ≡ [] → (told_before events t.steps index).log.places ≡ 0
-        → slice_get events index ≡ Some (event.Work worker) → worker < workers
-        → slice_get t.steps index ≡ Some (Some (step.Wanted addr mode answer))
-        → progress_before events t.steps worker index ≡ At job (Planning begun)
-        → IsCrashImage later later.clock image
-        → ((g : Geometry) → Asks g job.call
-        (objects_at (homes_of later.size (over image)) (addrs_of begun.held)) addr → ⊥)
+        → ((g : Geometry) → Asks g addr → ⊥)
         → KeepsPromise before later tree first workers events t → ⊥ }
 {}
 
@@ -196,14 +160,14 @@ pub fn a_full_log_is_full()
         → KeepsPromise before later tree first workers events t → ⊥ }
 {}
 
-/// A commit that is told to change more blocks than its call does breaks the promise.
+/// A commit that is told to change more blocks than a transaction may breaks the promise.
 pub fn a_call_changes_no_more_than_it_may()
     ensures { (before later : Device) (tree : Tree) (first workers index worker blocks : ℕ) (events : Schedule)
         (t : Transcript) (job : Job) (begun : Begun) (answer : Committing)
         → slice_get events index ≡ Some (event.Work worker) → worker < workers
         → slice_get t.steps index ≡ Some (Some (step.Commit blocks answer))
         → progress_before events t.steps worker index ≡ At job (Planning begun)
-        → most_changed job.call < blocks
+        → CHANGED_BLOCKS < blocks
         → KeepsPromise before later tree first workers events t → ⊥ }
 {}
 

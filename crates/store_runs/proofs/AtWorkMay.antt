@@ -11,6 +11,7 @@ use Rattle.std.proofs.lemmas.List.Elements.{All-head, All-tail, All-weaker}
 use Rattle.disk.specs.Crash.{Image}
 use Rattle.disk.specs.Device.{Content}
 use Rattle.disk.specs.declared.block.BlockNo.{BlockNo}
+use Rattle.limits.specs.declared.TheConstants.{CHANGED_BLOCKS}
 use Rattle.layout.specs.declared.geometry.Geometry.{Geometry}
 use Rattle.model.specs.Entry.{Entry}
 use Rattle.model.specs.Calls.{has_rules}
@@ -19,12 +20,11 @@ use Rattle.nfs_types.specs.declared.call.Call.{Call}
 use Rattle.objects.specs.declared.addr.Addr.{Addr}
 use Rattle.objects.specs.declared.mode.Mode.TheVariants as modes
 use Rattle.procs.specs.Asks.{Asks}
-use Rattle.procs.specs.MostChanged.{most_changed}
 use Rattle.procs.specs.Outcome.{Outcome}
 use Rattle.procs.specs.declared.next.Plan.TheVariants as plan
 use Rattle.inode.specs.declared.snap.Snap.{Snap}
 use Rattle.inode.specs.Snap.{is_seen, same_addr}
-use Rattle.procs.proofs.AskedFor.{is_home}
+use Rattle.layout.proofs.OnGrid.{at_home}
 use Rattle.txn.specs.Outcomes.{IsCommit, IsWanted}
 use Rattle.txn.specs.declared.outcomes.BeginFault.{BeginFault}
 use Rattle.txn.specs.declared.outcomes.BeginFault.TheVariants as fault
@@ -50,7 +50,7 @@ use Rattle.store_promise.specs.Progress as how
 use Rattle.store_promise.specs.Running.{IsRunningOver, IsTold, StoreSide}
 use Rattle.store_promise.specs.Schedule.{HasNumbers, IsAskedFor, IsBeginning, IsCommitting, IsStepByPlan}
 use Rattle.store_promise.specs.Schedule.{IsStepOfCalled, IsStepOfWork}
-use Rattle.store_promise.specs.Schedule.{IsStepOfWaiting, IsWish, Setting, Told, is_held, objects_at, read_of}
+use Rattle.store_promise.specs.Schedule.{IsStepOfWaiting, IsWish, Setting, Told, is_held}
 use Rattle.store_promise.specs.Schedule as schedule
 use Rattle.store_promise.specs.ToldOf.{log_told}
 use Rattle.store_promise.specs.declared.events.Ending.TheVariants as ending
@@ -77,14 +77,6 @@ use Rattle.store_workers.specs.declared.workers.parts.Phase.TheVariants.{Plannin
 use Rattle.store_workers.specs.declared.workers.parts.State.{State}
 
 -- ---- what was read
-
--- what blocks have at the addresses of what was read is what was read
-read_there : (blocks : Image) (objects : List ObjectBytes) → All (IsAsRead blocks) objects
-    → objects_at blocks (addrs_of (map (λ (object : ObjectBytes). alone object.addr) objects)) ≡ objects
-read_there blocks [] as_read = refl
-read_there blocks (x ∷ xs) as_read = λ i.
-    record { addr = x.addr; bytes = All-head (IsAsRead blocks) x xs as_read i }
-    ∷ read_there blocks xs (All-tail (IsAsRead blocks) x xs as_read) i
 
 -- an address is told just where it was seen
 held_as_seen : (addr : Addr) (objects : List ObjectBytes)
@@ -131,8 +123,8 @@ module _ (o : Setting) (told : Told) (worker : ℕ) (base : Image) (store : Stor
     (first last : Tree) (entries : List Entry)
     (run : IsRunningOver o base store fetches boot first entries last)
     (is_told : IsTold o told store) (inodes : o.geometry.inodes ≡ store.core.inodes)
-    (files : o.blocks told.log.places ≡ file_blocks base store.core) (job : Job) (tx : ℕ) (seen : Seen)
-    (fetched : List Addr) (has : HasOfCall job tx store.core seen) (loaded : AreLoadedFor store.core tx fetched)
+    (tx : ℕ) (seen : Seen)
+    (fetched : List Addr) (has : HasOfCall tx store.core seen) (loaded : AreLoadedFor store.core tx fetched)
     (one_geometry : (g h : Geometry) → g.blocks ≡ h.blocks → g.inodes ≡ h.inodes → g ≡ h) where
   abbrev begun : Begun
   begun = begun_of (Some tx) (Some seen) fetched
@@ -140,23 +132,12 @@ module _ (o : Setting) (told : Told) (worker : ℕ) (base : Image) (store : Stor
   geometry_is : seen.geometry ≡ o.geometry
   geometry_is = one_geometry seen.geometry o.geometry (has.blocks ∙ sym run.blocks) (has.inodes ∙ sym inodes)
 
-  as_read : All (IsAsRead (o.blocks told.log.places)) seen.objects
-  as_read = All-weaker (IsReadBy store.core tx) (IsAsRead (o.blocks told.log.places))
-      (λ object read. ap (λ (blocks : Image). object_at blocks object.addr) files
-      ∙ held_now base store.device store.core store.logging store.installing boot first last entries
-      run.since tx object
-      read) seen.objects has.read
-
-  read_is : read_of o told.log.places begun ≡ seen.objects
-  read_is = read_there (o.blocks told.log.places) seen.objects as_read
-
-  module _ (addr : Addr) (asks : Asks seen.geometry job.call seen.objects addr)
+  module _ (addr : Addr) (asks : Asks seen.geometry addr)
       (new_to_it : is_seen addr seen.objects ≡ false) where
-    asked_for : IsAskedFor o told.log.places job.call begun addr modes.Exclusive
+    asked_for : IsAskedFor o begun addr modes.Exclusive
     asked_for = record {
       unheld = held_as_seen addr seen.objects ∙ new_to_it;
-      asks = subst (λ (g : Geometry). Asks g job.call (read_of o told.log.places begun) addr) geometry_is
-          (subst (λ (objects : List ObjectBytes). Asks seen.geometry job.call objects addr) (sym read_is) asks);
+      asks = subst (λ (g : Geometry). Asks g addr) geometry_is asks;
       alone = refl;
     }
 
@@ -180,12 +161,12 @@ module _ (o : Setting) (told : Told) (worker : ℕ) (base : Image) (store : Stor
     wish_may new (want.Busy back) is off = absurd (true≢false off)
     wish_may new (want.Loading back) is off = absurd (true≢false off)
     wish_may new (want.Outside back) is off = absurd (is.1 (subst (λ (n : ℕ). IsHomeOn n addr.block) has.blocks
-        (is_home seen.geometry job.call seen.objects addr asks)))
+        (at_home seen.geometry addr asks)))
     wish_may new (want.Fetch back io) is off = not_loaded is.2.absent
 
     pub wanted_may : (new : CoreState) (answer : Want) → IsWanted store.core tx addr modes.Exclusive answer new
         → is_kept_off (Some (step.Wanted addr modes.Exclusive (wish_of answer))) ≡ false
-        → IsStepByPlan o told worker job.call begun (step.Wanted addr modes.Exclusive (wish_of answer))
+        → IsStepByPlan o told worker begun (step.Wanted addr modes.Exclusive (wish_of answer))
     wanted_may new answer is off = (asked_for, wish_may new answer is off)
 
 -- ---- a commit
@@ -217,13 +198,13 @@ module _ (o : Setting) (base : Image) (store : StoreSide) (fetches : List Fetch)
   by_answer change (commit.Broken back same) new is off = is.1
   by_answer change (commit.Spent back same) new is off = (is.1.sound, λ has. is.1.room (numbers.0 has))
 
-  pub commit_may : {C : Type 0} (told : Told) (worker : ℕ) (call : Call) (far : Begun) (change : C)
+  pub commit_may : {C : Type 0} (told : Told) (worker : ℕ) (far : Begun) (change : C)
       (answer : Commit C) (new : CoreState) → IsTold o told store
-      → length (blocks_of plan.written) ≤ most_changed call
+      → length (blocks_of plan.written) ≤ CHANGED_BLOCKS
       → IsCommit store.core tx plan change answer new
       → is_kept_off (Some (step.Commit added (committing_of answer))) ≡ false
-      → IsStepByPlan o told worker call far (step.Commit added (committing_of answer))
-  commit_may told worker call far change answer new is_told few is off = (
+      → IsStepByPlan o told worker far (step.Commit added (committing_of answer))
+  commit_may told worker far change answer new is_told few is off = (
     few,
     subst (λ (l : LogTold). IsCommitting o l added (committing_of answer)) (sym is_told.log)
         (by_answer change answer new is off),
@@ -260,7 +241,7 @@ module _ (o : Setting) (told : Told) (number : ℕ) (base : Image) (store : Stor
     (first last : Tree) (entries : List Entry)
     (run : IsRunningOver o base store fetches boot first entries last)
     (is_told : IsTold o told store) (inodes : o.geometry.inodes ≡ store.core.inodes)
-    (files : o.blocks told.log.places ≡ file_blocks base store.core) (worker : State) (new : Side)
+    (worker : State) (new : Side)
     (one_geometry : (g h : Geometry) → g.blocks ≡ h.blocks → g.inodes ≡ h.inodes → g ≡ h) where
   abbrev old : Side
   old = side worker store.core
@@ -303,11 +284,11 @@ module _ (o : Setting) (told : Told) (number : ℕ) (base : Image) (store : Stor
   -- it goes by a plan
   from_plan : (job : Job) (tx : ℕ) (snap : Snap) (made : Step) → worker.work.job ≡ Some job
       → worker.begun.tx ≡ Some tx → seen_in worker.work.snap ≡ Some (seen_of snap)
-      → IsStepByPlan o told number job.call (begun_of (Some tx) (Some (seen_of snap)) worker.asked.fetched) made
+      → IsStepByPlan o told number (begun_of (Some tx) (Some (seen_of snap)) worker.asked.fetched) made
       → MayFrom (at_stage worker.work.job (how.Planning all_begun)) (Some made)
   from_plan job tx snap made job_is tx_is snap_is may =
       subst (λ (found : Option Job). MayFrom (at_stage found (how.Planning all_begun)) (Some made)) (sym job_is)
-      (subst (λ (begun : Begun). IsStepByPlan o told number job.call begun made)
+      (subst (λ (begun : Begun). IsStepByPlan o told number begun made)
       (λ i. begun_of (sym tx_is i) (sym snap_is i) worker.asked.fetched) may)
 
   wanted_so : (tx : ℕ) (addr : Addr) (made : Step) → worker.begun.tx ≡ Some tx → IsNext worker (plan.Need addr)
@@ -315,7 +296,7 @@ module _ (o : Setting) (told : Told) (number : ℕ) (base : Image) (store : Stor
       → May Planning (Some (step.Wanted addr modes.Exclusive (wish_of has.answer)))
   wanted_so tx addr made tx_is is has plans loads stands off =
       from_plan is.job tx is.snap _ is.job_is tx_is is.snap_is
-      (wanted_may o told number base store fetches boot first last entries run is_told inodes files is.job tx
+      (wanted_may o told number base store fetches boot first last entries run is_told inodes tx
       (seen_of is.snap) worker.asked.fetched
       (has_of worker store.core is.job tx (seen_of is.snap) is.job_is tx_is is.snap_is plans)
       (some_of (λ n. AreLoadedFor store.core n worker.asked.fetched) worker.begun.tx tx tx_is loads)
@@ -328,7 +309,7 @@ module _ (o : Setting) (told : Told) (number : ℕ) (base : Image) (store : Stor
       (committing_of has.answer)))
   committed_so job tx done made tx_is is job_is has plans loads stands off =
       from_plan is.job tx is.snap _ is.job_is tx_is is.snap_is
-      (commit_may o base store fetches boot first last entries run tx (planned_of done) told number is.job.call
+      (commit_may o base store fetches boot first last entries run tx (planned_of done) told number
       (begun_of (Some tx) (Some (seen_of is.snap)) worker.asked.fetched) done has.answer new.core
       is_told is.plan.1 has.core off)
 
@@ -337,7 +318,7 @@ module _ (o : Setting) (told : Told) (number : ℕ) (base : Image) (store : Stor
   lacked_so tx made tx_is has plans loads stands off = by worker.work.job plans
     where
       by : (job : Option Job) → IsSomeAnd job (λ job. IsSomeAnd worker.begun.tx (λ t.
-          IsSomeAnd (seen_in worker.work.snap) (λ seen. HasOfCall job t store.core seen)))
+          IsSomeAnd (seen_in worker.work.snap) (λ seen. HasOfCall t store.core seen)))
           → MayFrom (at_stage job (how.Planning all_begun)) (Some (step.Ended ending.NoMemory))
       by None plans = absurd plans
       by (Some job) plans = tt

@@ -218,13 +218,13 @@ module _ (old new : Side) where
   full_so tx job done base (commit.Full back change) added tx_is job_is snap_is core is seen room plans =
       subst (λ (p : Phase). PlansAlone p new.worker new.core) (sym (ap (λ (s : State). s.phase) is))
       (subst (λ (j : Option Job). IsSomeAnd j (λ job. IsSomeAnd new.worker.begun.tx (λ t.
-      IsSomeAnd (seen_in new.worker.work.snap) (λ s. HasOfCall job t new.core s))))
+      IsSomeAnd (seen_in new.worker.work.snap) (λ s. HasOfCall t new.core s))))
       (sym (ap (λ (s : State). s.work.job) is ∙ job_is))
       (subst (λ (t : Option ℕ). IsSomeAnd old.worker.work.job (λ job. IsSomeAnd t (λ t.
-      IsSomeAnd (seen_in new.worker.work.snap) (λ s. HasOfCall job t new.core s))))
+      IsSomeAnd (seen_in new.worker.work.snap) (λ s. HasOfCall t new.core s))))
       (tx_is ∙ ap (λ (n : ℕ). Some n) (sym core.0.transaction) ∙ sym (ap (λ (s : State). s.begun.tx) is))
       (subst (λ (found : Option Seen). IsSomeAnd old.worker.work.job (λ job. IsSomeAnd old.worker.begun.tx (λ t.
-      IsSomeAnd found (λ s. HasOfCall job t new.core s)))) (sym seen)
+      IsSomeAnd found (λ s. HasOfCall t new.core s)))) (sym seen)
       (subst (λ (c : CoreState). HasTaken old.worker c) (sym core.0.core) plans))))
   full_so tx job done base (commit.Committed place) added tx_is job_is snap_is core is seen room plans =
       absurd (true≢false (sym room))

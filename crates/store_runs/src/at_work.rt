@@ -26,7 +26,7 @@ ghost use Rattle.txn_law.specs.Wishes.{IsFetched, IsHeld};
 ghost use Rattle.wal_law.specs.Calls.{Pending};
 ghost use Rattle.wal_law.specs.Log.{IsLawful, added_blocks};
 ghost use Rattle.store_promise.specs.LogTold.{with_commit};
-ghost use Rattle.store_promise.specs.OpenSince.{IsOpenSince, IsSoundCore, StandsBeside, TellsOf, file_blocks};
+ghost use Rattle.store_promise.specs.OpenSince.{IsOpenSince, IsSoundCore, StandsBeside, TellsOf};
 ghost use Rattle.store_promise.specs.declared.events.Event.TheVariants as event;
 ghost use Rattle.store_promise.specs.declared.events.Step.{Step};
 ghost use Rattle.store_promise.specs.declared.events.Step.TheVariants as made;
@@ -85,8 +85,7 @@ pub fn a_workers_step_may_be_made()
     ensures { (o : Setting) (told : Told) (number : ℕ) (base : Image) (store : StoreSide) (fetches : List Fetch)
         (boot : ℕ) (first last : Tree) (entries : List Entry)
         → IsRunningOver o base store fetches boot first entries last → IsTold o told store
-        → o.geometry.inodes ≡ store.core.inodes → o.blocks told.log.places ≡ file_blocks base store.core
-        → (worker : State) (new : Side) (made : Option Step)
+        → o.geometry.inodes ≡ store.core.inodes → (worker : State) (new : Side) (made : Option Step)
         → GoesOn worker.phase (side worker store.core) made new
         → IsCoreAtWork worker store.core → IsWorkerAt boot entries worker
         → IsStepOfWork o told number (progress_of worker) made }

@@ -1,5 +1,4 @@
 pub mod AfterCommit
-pub mod AskedAlone
 pub mod EventTells
 pub mod HowFar
 pub mod LoneWorker

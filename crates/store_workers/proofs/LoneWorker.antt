@@ -33,7 +33,7 @@ use Rattle.wal_law.specs.Log.{added_blocks}
 use Rattle.txn.specs.Group.{blocks_of}
 use Rattle.store_promise.specs.declared.events.Step.{Step}
 use Rattle.store_promise.specs.declared.events.Step.TheVariants as step
-use Rattle.store_workers.proofs.AskedAlone.{asked_same}
+use Rattle.layout.proofs.OnGrid.{one_or_apart}
 use Rattle.store_workers.proofs.StepKinds.{Beginning, beginning, ending}
 use Rattle.store_workers.proofs.StepKinds.{begun, refused, replied, lacked, committed}
 use Rattle.store_workers.specs.Alone.{HasOfCall, HasTaken, PlansAlone, is_kept_off}
@@ -81,29 +81,29 @@ seen_there addr (x ∷ xs) some = go (seen_there addr xs) (same_addr addr x.addr
 -- what a worker has of its call, by its job, its transaction and what was read
 pub has_of : (worker : State) (core : CoreState) (job : Job) (tx : ℕ) (seen : Seen) → worker.work.job ≡ Some job
     → worker.begun.tx ≡ Some tx → seen_in worker.work.snap ≡ Some seen → HasTaken worker core
-    → HasOfCall job tx core seen
+    → HasOfCall tx core seen
 has_of worker core job tx seen job_is tx_is seen_is has =
-    subst (λ (o : Option Seen). IsSomeAnd o (λ s. HasOfCall job tx core s)) seen_is
+    subst (λ (o : Option Seen). IsSomeAnd o (λ s. HasOfCall tx core s)) seen_is
     (subst (λ (o : Option ℕ). IsSomeAnd o (λ t. IsSomeAnd (seen_in worker.work.snap)
-    (λ s. HasOfCall job t core s)))
+    (λ s. HasOfCall t core s)))
     tx_is (subst (λ (o : Option Job). IsSomeAnd o (λ j. IsSomeAnd worker.begun.tx (λ t.
-    IsSomeAnd (seen_in worker.work.snap) (λ s. HasOfCall j t core s)))) job_is has))
+    IsSomeAnd (seen_in worker.work.snap) (λ s. HasOfCall t core s)))) job_is has))
 
 pub has_so : (worker : State) (core : CoreState) (job : Job) (tx : ℕ) (seen : Seen) → worker.work.job ≡ Some job
-    → worker.begun.tx ≡ Some tx → seen_in worker.work.snap ≡ Some seen → HasOfCall job tx core seen
+    → worker.begun.tx ≡ Some tx → seen_in worker.work.snap ≡ Some seen → HasOfCall tx core seen
     → HasTaken worker core
 has_so worker core job tx seen job_is tx_is seen_is has =
     subst (λ (o : Option Job). IsSomeAnd o (λ j. IsSomeAnd worker.begun.tx (λ t.
-    IsSomeAnd (seen_in worker.work.snap) (λ s. HasOfCall j t core s)))) (sym job_is)
+    IsSomeAnd (seen_in worker.work.snap) (λ s. HasOfCall t core s)))) (sym job_is)
     (subst (λ (o : Option ℕ). IsSomeAnd o (λ t. IsSomeAnd (seen_in worker.work.snap)
-    (λ s. HasOfCall job t core s)))
-    (sym tx_is) (subst (λ (o : Option Seen). IsSomeAnd o (λ s. HasOfCall job tx core s)) (sym seen_is) has))
+    (λ s. HasOfCall t core s)))
+    (sym tx_is) (subst (λ (o : Option Seen). IsSomeAnd o (λ s. HasOfCall tx core s)) (sym seen_is) has))
 
 -- ---- a plan
 
-module _ (core : CoreState) (job : Job) (tx : ℕ) (snap : Snap) (tidy : AreTidy core) (out : core.out ≡ tx ∷ [])
-    (has : HasOfCall job tx core (seen_of snap)) (none : FetchesOnly None core) where
-  wanted_well : (new : CoreState) (addr : Addr) → Asks snap.geometry job.call snap.objects.items addr
+module _ (core : CoreState) (tx : ℕ) (snap : Snap) (tidy : AreTidy core) (out : core.out ≡ tx ∷ [])
+    (has : HasOfCall tx core (seen_of snap)) (none : FetchesOnly None core) where
+  wanted_well : (new : CoreState) (addr : Addr) → Asks snap.geometry addr
       → (answer : Want)
       → IsWanted core tx addr modes.Exclusive answer new
       → is_kept_off (Some (step.Wanted addr modes.Exclusive (wish_of answer))) ≡ false
@@ -113,8 +113,7 @@ module _ (core : CoreState) (job : Job) (tx : ℕ) (snap : Snap) (tidy : AreTidy
   wanted_well new addr asks (want.NoMemory back) is = refl
   wanted_well new addr asks (want.Busy back) is =
       absurd (never_busy core tx tidy out addr modes.Exclusive (λ other hold taken over.
-      asked_same snap.geometry job.call snap.objects.items other addr (has.asked other hold taken)
-      asks over) is.1)
+      one_or_apart snap.geometry other addr (has.asked other hold taken) asks over) is.1)
   wanted_well new addr asks (want.Loading back) is =
       absurd (never_loading core tx addr modes.Exclusive (none addr.block) is.1)
 
@@ -163,22 +162,22 @@ module _ (old new : Side) (tidy : AreTidy old.core) (fits : IsCoreOf old.worker 
       → is_kept_off (Some made) ≡ false
   by_plan tx made next tx_is is taken none goes = of_next next is.plan goes
     where
-      has : HasOfCall is.job tx old.core (seen_of is.snap)
+      has : HasOfCall tx old.core (seen_of is.snap)
       has = has_of old.worker old.core is.job tx (seen_of is.snap) is.job_is tx_is is.snap_is taken
 
       out : old.core.out ≡ tx ∷ []
       out = fits.out ∙ ap listed tx_is
 
-      of_next : (next : Plan) → IsPlanFor is.job.call is.snap next → GoesByNext next tx old made new
+      of_next : (next : Plan) → IsPlanFor is.snap next → GoesByNext next tx old made new
           → is_kept_off (Some made) ≡ false
       of_next (plan.Need addr) planned goes = ap (λ m. is_kept_off (Some m)) goes.made_is
-          ∙ wanted_well old.core is.job tx is.snap tidy out has none new.core addr planned.1
+          ∙ wanted_well old.core tx is.snap tidy out has none new.core addr planned.1
           goes.answer goes.core
       of_next (plan.Claim block) planned goes = absurd planned.1
       of_next (plan.Done done) planned goes = elim (ending old new tx done made goes) [
         | lacked has_lacked ↦ ap (λ m. is_kept_off (Some m)) has_lacked.made_is
         | committed job job_is has_committed ↦ ap (λ m. is_kept_off (Some m)) has_committed.made_is
-            ∙ committed_well old.core is.job tx is.snap tidy out has none done planned.0 new.core
+            ∙ committed_well old.core tx is.snap tidy out has none done planned.0 new.core
             (added_blocks old.core.log (blocks_of done.written)) has_committed.answer has_committed.core
       ]
       of_next plan.NoMemory planned goes = ap (λ m. is_kept_off (Some m)) goes.made_is

@@ -11,7 +11,7 @@ use Rattle.objects.specs.declared.mode.Mode.TheVariants as modes
 use Rattle.model.specs.Calls.{is_answered_stable}
 use Rattle.nfs_types.specs.declared.reply.Reply.{Reply}
 use Rattle.wal_law.specs.declared.outcomes.Seq.{Seq}
-use Rattle.procs.proofs.FewAsked.{none_read, one_asked_once, stays}
+use Rattle.procs.proofs.FewAsked.{none_read, one_asked_once}
 use Rattle.procs.specs.Asks.{Asks, WereAskedOnce}
 use Rattle.procs.specs.Outcome.{Outcome}
 use Rattle.procs.specs.Planned.{IsPlanFor}
@@ -72,10 +72,10 @@ use Rattle.store_workers.specs.declared.workers.parts.State.{State}
 -- ---- what is kept
 
 -- it has of its call what it had, where the core keeps what is taken and what is read
-pub moved : (job : Job) (tx : ℕ) (seen : Seen) (core mid : CoreState) → mid.log.blocks ≡ core.log.blocks
+pub moved : (tx : ℕ) (seen : Seen) (core mid : CoreState) → mid.log.blocks ≡ core.log.blocks
     → mid.inodes ≡ core.inodes → ((addr : Addr) → taken_by mid tx addr ≡ taken_by core tx addr)
-    → KeepsReads core mid tx → HasOfCall job tx core seen → HasOfCall job tx mid seen
-moved job tx seen core mid blocks inodes same reads has = record {
+    → KeepsReads core mid tx → HasOfCall tx core seen → HasOfCall tx mid seen
+moved tx seen core mid blocks inodes same reads has = record {
   blocks = has.blocks ∙ sym blocks;
   inodes = has.inodes ∙ sym inodes;
   claims = has.claims;
@@ -88,15 +88,15 @@ moved job tx seen core mid blocks inodes same reads has = record {
 -- a worker with the same call, transaction and reads has what it had
 pub same_taken : (was now : State) (core mid : CoreState) → now.work.job ≡ was.work.job
     → now.begun.tx ≡ was.begun.tx → seen_in now.work.snap ≡ seen_in was.work.snap
-    → ((job : Job) (tx : ℕ) (seen : Seen) → was.begun.tx ≡ Some tx → HasOfCall job tx core seen
-    → HasOfCall job tx mid seen)
+    → ((job : Job) (tx : ℕ) (seen : Seen) → was.begun.tx ≡ Some tx → HasOfCall tx core seen
+    → HasOfCall tx mid seen)
     → HasTaken was core → HasTaken now mid
 same_taken was now core mid job tx seen keeps has =
     by was.work.job refl was.begun.tx refl (seen_in was.work.snap) refl has
   where
     by : (j : Option Job) → was.work.job ≡ j → (t : Option ℕ) → was.begun.tx ≡ t → (s : Option Seen)
         → seen_in was.work.snap ≡ s
-        → IsSomeAnd j (λ j. IsSomeAnd t (λ t. IsSomeAnd s (λ s. HasOfCall j t core s))) → HasTaken now mid
+        → IsSomeAnd j (λ j. IsSomeAnd t (λ t. IsSomeAnd s (λ s. HasOfCall t core s))) → HasTaken now mid
     by None j_is t t_is s s_is has = absurd has
     by (Some j) j_is None t_is s s_is has = absurd has
     by (Some j) j_is (Some t) t_is None s_is has = absurd has
@@ -153,11 +153,11 @@ alone_for_fetching : (tx : ℕ) (addr : Addr) (had : Option Hold)
 alone_for_fetching tx addr None = refl
 alone_for_fetching tx addr (Some had) = refl
 
-module _ (core mid : CoreState) (job : Job) (tx : ℕ) (snap : Snap) (addr : Addr)
-    (has : HasOfCall job tx core (seen_of snap)) (is_plan : IsPlanFor job.call snap (plan.Need addr))
+module _ (core mid : CoreState) (tx : ℕ) (snap : Snap) (addr : Addr)
+    (has : HasOfCall tx core (seen_of snap)) (is_plan : IsPlanFor snap (plan.Need addr))
     (reads : KeepsReads core mid tx) where
   pub read_one : (bytes : List ℕ) → IsHeld core tx addr modes.Exclusive bytes mid
-      → HasOfCall job tx mid (record (seen_of snap) {
+      → HasOfCall tx mid (record (seen_of snap) {
         objects = snap.objects.items ++ record { addr = addr; bytes = bytes } ∷ [];
       })
   read_one bytes held =
@@ -167,20 +167,18 @@ module _ (core mid : CoreState) (job : Job) (tx : ℕ) (snap : Snap) (addr : Add
         blocks = has.blocks ∙ sym (ap (λ (c : CoreState). c.log.blocks) held.only);
         inodes = has.inodes ∙ sym (ap (λ (c : CoreState). c.inodes) held.only);
         claims = has.claims;
-        were = one_asked_once snap.geometry job.call snap.objects.items object has.were is_plan.1 is_plan.0;
+        were = one_asked_once snap.geometry snap.objects.items object has.were is_plan.1 is_plan.0;
         read = All-push (IsReadBy mid tx) snap.objects.items object
             (All-weaker (IsReadBy core tx) (IsReadBy mid tx) (λ object is. reads object is)
             snap.objects.items has.read) held.read;
         exclusive = all_exclusive core mid tx addr taken refl (alone_for_reading tx addr)
             (λ a. held.leaves.holds tx a) has.exclusive;
         asked = all_asked core mid tx addr taken refl (alone_for_reading tx addr) (λ a. held.leaves.holds tx a)
-            (λ a. Asks snap.geometry job.call (snap.objects.items ++ object ∷ []) a)
-            (λ a hold is. stays snap.geometry job.call snap.objects.items (object ∷ []) a (has.asked a hold is))
-            (stays snap.geometry job.call snap.objects.items (object ∷ []) addr is_plan.1);
+            (λ a. Asks snap.geometry a) has.asked is_plan.1;
       }
 
   pub fetch_one : (io : Fetch) → IsFetched core tx addr modes.Exclusive io mid
-      → HasOfCall job tx mid (seen_of snap)
+      → HasOfCall tx mid (seen_of snap)
   fetch_one io fetched =
       let taken = for_fetching tx addr modes.Exclusive in
       record {
@@ -193,7 +191,7 @@ module _ (core mid : CoreState) (job : Job) (tx : ℕ) (snap : Snap) (addr : Add
         exclusive = all_exclusive core mid tx addr taken refl (alone_for_fetching tx addr)
             (λ a. fetched.leaves.holds tx a) has.exclusive;
         asked = all_asked core mid tx addr taken refl (alone_for_fetching tx addr)
-            (λ a. fetched.leaves.holds tx a) (λ a. Asks snap.geometry job.call snap.objects.items a)
+            (λ a. fetched.leaves.holds tx a) (λ a. Asks snap.geometry a)
             has.asked is_plan.1;
       }
 
@@ -234,8 +232,8 @@ module _ (old new : Side) (tidy : AreTidy old.core) (fits : IsCoreOf old.worker 
             blocks = saw.blocks ∙ sym (ap (λ (c : CoreState). c.log.blocks) has.core);
             inodes = saw.inodes ∙ sym (ap (λ (c : CoreState). c.inodes) has.core);
             claims = saw.claims;
-            were = subst (λ (objects : List ObjectBytes). WereAskedOnce seen.geometry job.call objects)
-                (sym saw.objects) (none_read seen.geometry job.call);
+            were = subst (λ (objects : List ObjectBytes). WereAskedOnce seen.geometry objects)
+                (sym saw.objects) (none_read seen.geometry);
             read = subst (λ (objects : List ObjectBytes). All (IsReadBy new.core number) objects)
                 (sym saw.objects) (All-nil (IsReadBy new.core number));
             exclusive = λ addr hold is. absurd (nothing addr hold is);
@@ -258,9 +256,9 @@ module _ (old new : Side) (tidy : AreTidy old.core) (fits : IsCoreOf old.worker 
 
     module _ (job : Job) (snap : Snap) (job_is : old.worker.work.job ≡ Some job)
         (snap_is : seen_in old.worker.work.snap ≡ seen_in (Some snap))
-        (has : HasOfCall job tx old.core (seen_of snap))
+        (has : HasOfCall tx old.core (seen_of snap))
       where
-        wanted_so : (addr : Addr) (made : Step) → IsPlanFor job.call snap (plan.Need addr)
+        wanted_so : (addr : Addr) (made : Step) → IsPlanFor snap (plan.Need addr)
             → HasWanted tx addr old made new
             → StaysAlone (Some made) new.worker new.core
         wanted_so addr made is_plan wanted =
@@ -281,7 +279,7 @@ module _ (old new : Side) (tidy : AreTidy old.core) (fits : IsCoreOf old.worker 
                 → seen_in new.worker.work.snap ≡ seen_in old.worker.work.snap → HasTaken new.worker new.core
             same_core core new_tx seen =
                 has_so new.worker new.core job tx (seen_of snap) new_job new_tx (seen ∙ snap_is)
-                (subst (λ (c : CoreState). HasOfCall job tx c (seen_of snap)) (sym core) has)
+                (subst (λ (c : CoreState). HasOfCall tx c (seen_of snap)) (sym core) has)
 
             still : new.core ≡ old.core → FetchesOnly None new.core
             still core = subst (λ (c : CoreState). FetchesOnly None c) (sym core) none
@@ -297,7 +295,7 @@ module _ (old new : Side) (tidy : AreTidy old.core) (fits : IsCoreOf old.worker 
                 (λ block. is.2.leaves.fetches block ∙ none block)
                 (λ room. has_so new.worker new.core job tx _ new_job new_tx
                 (seen ∙ ap (with_object addr bytes.items) snap_is)
-                (read_one old.core new.core job tx snap addr has is_plan (reads new_tx) bytes.items is.2))
+                (read_one old.core new.core tx snap addr has is_plan (reads new_tx) bytes.items is.2))
             by (want.Fetch back io) is phase got seen =
                 let new_tx : new.worker.begun.tx ≡ Some tx =
                 ap (λ (b : Begun). b.tx) got ∙ ap (λ t. Some t) is.0 in
@@ -306,7 +304,7 @@ module _ (old new : Side) (tidy : AreTidy old.core) (fits : IsCoreOf old.worker 
                 ∙ or_none (nat_eq block.0 addr.block.0)
                 ∙ ap (λ (k : BlockNo). nat_eq block.0 k.0) (sym is.2.block))
                 (λ room. has_so new.worker new.core job tx (seen_of snap) new_job new_tx (seen ∙ snap_is)
-                (fetch_one old.core new.core job tx snap addr has is_plan (reads new_tx) io is.2))
+                (fetch_one old.core new.core tx snap addr has is_plan (reads new_tx) io is.2))
             by (want.Busy back) is phase got seen =
                 alone_by (Some made) new.worker new.core Planning None phase
                 (ap (λ (b : Begun). b.io) got) (still is.2)
@@ -373,10 +371,10 @@ module _ (old new : Side) (tidy : AreTidy old.core) (fits : IsCoreOf old.worker 
         → GoesByNext next tx old made new → StaysAlone (Some made) new.worker new.core
     planned_so made next is taken goes = of_next next is.plan goes
       where
-        has : HasOfCall is.job tx old.core (seen_of is.snap)
+        has : HasOfCall tx old.core (seen_of is.snap)
         has = has_of old.worker old.core is.job tx (seen_of is.snap) is.job_is tx_is is.snap_is taken
 
-        of_next : (next : Plan) → IsPlanFor is.job.call is.snap next → GoesByNext next tx old made new
+        of_next : (next : Plan) → IsPlanFor is.snap next → GoesByNext next tx old made new
             → StaysAlone (Some made) new.worker new.core
         of_next (plan.Need addr) is_plan goes =
             wanted_so is.job is.snap is.job_is is.snap_is has addr made is_plan goes
@@ -411,7 +409,7 @@ module _ (old new : Side) (tidy : AreTidy old.core) (fits : IsCoreOf old.worker 
       same : HasTaken new.worker new.core
       same = same_taken old.worker new.worker old.core new.core (ap (λ (s : State). s.work.job) has.worker)
           (ap (λ (s : State). s.begun.tx) has.worker) (ap (λ (s : State). seen_in s.work.snap) has.worker)
-          (λ job tx seen tx_is of_call. moved job tx seen old.core new.core
+          (λ job tx seen tx_is of_call. moved tx seen old.core new.core
           (ap (λ (c : CoreState). c.log.blocks) has.only) (ap (λ (c : CoreState). c.inodes) has.only)
           (λ addr. has.leaves.holds tx addr)
           (keeps tx (λ was. ap (λ (s : State). s.begun.tx) has.worker ∙ was)) of_call) taken

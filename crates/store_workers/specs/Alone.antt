@@ -23,22 +23,21 @@ use Rattle.store_workers.specs.declared.workers.parts.State.{State}
 -- ---- what was read and taken
 
 -- What a transaction has of its call, of this core's image: each object was asked for once, and is held
--- still. What is taken is taken alone, and the call asks for it by what was read. No call with rules claims a
--- block yet.
-pub record HasOfCall (job : Job) (tx : ℕ) (core : CoreState) (seen : Seen) : Type 0 where
+-- still. What is taken is taken alone, and is an object of the image. No call with rules claims a block yet.
+pub record HasOfCall (tx : ℕ) (core : CoreState) (seen : Seen) : Type 0 where
   pub blocks : seen.geometry.blocks ≡ core.log.blocks
   pub inodes : seen.geometry.inodes ≡ core.inodes
   pub claims : seen.claims ≡ []
-  pub were : WereAskedOnce seen.geometry job.call seen.objects
+  pub were : WereAskedOnce seen.geometry seen.objects
   pub read : All (IsReadBy core tx) seen.objects
   pub exclusive : (addr : Addr) (hold : Hold) → taken_by core tx addr ≡ Some hold → hold.mode ≡ modes.Exclusive
   pub asked : (addr : Addr) (hold : Hold) → taken_by core tx addr ≡ Some hold
-      → Asks seen.geometry job.call seen.objects addr
+      → Asks seen.geometry addr
 
 -- the worker has a call and a transaction, and so much of them
 abbrev pub HasTaken : State → CoreState → Type 0
 HasTaken worker core = IsSomeAnd worker.work.job (λ job. IsSomeAnd worker.begun.tx (λ tx.
-    IsSomeAnd (seen_in worker.work.snap) (λ seen. HasOfCall job tx core seen)))
+    IsSomeAnd (seen_in worker.work.snap) (λ seen. HasOfCall tx core seen)))
 
 -- and so it is while it plans
 abbrev pub PlansAlone : Phase → State → CoreState → Type 0

@@ -186,7 +186,7 @@ pub record IsNext (worker : State) (next : Plan) : Type 0 where
   pub job_is : worker.work.job ≡ Some job
   pub snap : Snap
   pub snap_is : seen_in worker.work.snap ≡ seen_in (Some snap)
-  pub plan : IsPlanFor job.call snap next
+  pub plan : IsPlanFor snap next
   pub is_step : IsStepPlan snap.geometry job.ctx job.call next
 
 -- The step is that of a plan.

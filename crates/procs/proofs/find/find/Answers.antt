@@ -1,5 +1,5 @@
 use Rattle.std.proofs.Common.{rules, ◌≡◌, sym, ◌∙◌, ◌+◌, arith, subst, Err, IfErr}
-use Rattle.procs.specs.Asks.{IsAskedOfFile}
+use Rattle.procs.specs.Asks.{IsAsked}
 use Rattle.inode.specs.Read.{NoneStand}
 use Rattle.procs.proofs.AskedFor.{asks_inode, asks_indirect}
 use Rattle.procs.proofs.FoundThere.{stale_free, stale_stamp, found, stamps_same}
@@ -51,23 +51,18 @@ returns-in_err-used-clause-io c =
 pub returns-in_err-inode-clause-asks : goal.returns-in_err-inode-clause-asks
 returns-in_err-inode-clause-asks c =
     let same : c.from_residual.result ≡ Err c.in_err-inode.field-0.0 = search rules in
-    let asks : IsAskedOfFile c.args.snap.now c.args.handle.now.bytes c.in_err-inode.field-0.0 =
-    asks_inode c.args.snap.now c.args.handle.now.bytes c.in-Some.number c.in-Some.stamp
-    c.in-Some.ensures.some (omega (arith, c.if-number-eq0.false)) (omega (arith, c.if-number-snap.false))
-    c.in_err-inode.field-0.0
-    c.in_err-inode.ensures.asks in
-    subst (λ r. IfErr r (λ why. IsAskedOfFile c.args.snap.now c.args.handle.now.bytes why)) (sym same) asks
+    let asks : IsAsked c.args.snap.now c.in_err-inode.field-0.0 =
+    asks_inode c.args.snap.now c.in-Some.number (omega (arith, c.if-number-snap.false))
+    c.in_err-inode.field-0.0 c.in_err-inode.ensures.asks in
+    subst (λ r. IfErr r (λ why. IsAsked c.args.snap.now why)) (sym same) asks
 
 pub returns-in_err-used-clause-asks : goal.returns-in_err-used-clause-asks
 returns-in_err-used-clause-asks c =
     let same : c.from_residual-in_err-used.result ≡ Err c.in_err-used.field-0.0 = search rules in
-    let asks : IsAskedOfFile c.args.snap.now c.args.handle.now.bytes c.in_err-used.field-0.0 =
-    asks_indirect c.args.snap.now c.args.handle.now.bytes c.in-Some.number c.in-Some.stamp
-    c.in-Some.ensures.some (omega (arith, c.if-number-eq0.false)) (omega (arith, c.if-number-snap.false))
-    c.in-Some-2.inode (rw c.in-Some-2.is at c.in_ok-inode.ensures.read)
-    (stamps_same c.in-Some-2.inode.stamp c.in-Some.stamp (sym c.ne.ensures ∙ c.if-ne.false))
-    c.in_err-used.field-0.0 c.in_err-used.ensures.asks in
-    subst (λ r. IfErr r (λ why. IsAskedOfFile c.args.snap.now c.args.handle.now.bytes why)) (sym same) asks
+    let asks : IsAsked c.args.snap.now c.in_err-used.field-0.0 =
+    asks_indirect c.args.snap.now c.in-Some.number c.in-Some-2.inode
+    (rw c.in-Some-2.is at c.in_ok-inode.ensures.read) c.in_err-used.field-0.0 c.in_err-used.ensures.asks in
+    subst (λ r. IfErr r (λ why. IsAsked c.args.snap.now why)) (sym same) asks
 
 pub returns-in_default-clause-sound : goal.returns-in_default-clause-sound
 returns-in_default-clause-sound c = λ blocks saw refused. c.in_default.ensures.none refused.long

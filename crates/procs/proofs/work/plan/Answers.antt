@@ -1,8 +1,17 @@
 use Rattle.std.proofs.Common.{rules, ◌≡◌, subst}
 use Rattle.inode.specs.declared.stop.Stop.TheVariants as stop
 use Rattle.inode.specs.Read.{AreAsRead, NoneStand}
+use Rattle.inode.specs.Snap.{IsNew}
+use Rattle.procs.specs.Asks.{IsAsked}
 use Rattle.procs.proofs.RefusedThere.{io_by_none, io_by_reply}
 use Rattle.procs.proofs.work.plan.Goals as goal
+
+pub returns-in-Err-Need-clause-plan : goal.returns-in-Err-Need-clause-plan
+returns-in-Err-Need-clause-plan c =
+    let is : c.in-Err-Need.field-0 ≡ stop.Need c.in-Err-Need.addr = search rules in (
+      subst (IsNew c.args.snap.now) is c.in-Err-Need.ensures.err,
+      subst (IsAsked c.args.snap.now) is c.in-Err-Need.ensures.asks,
+    )
 
 pub finish-requires-in-Ok-told-clause-step : goal.finish-requires-in-Ok-told-clause-step
 finish-requires-in-Ok-told-clause-step c = λ blocks tree now stands read.

@@ -1,8 +1,4 @@
-use Rattle.std.proofs.Common.{◌≡◌, ◌∙◌, ◌++◌, List, ap, arith, length, option_to_list, refl, subst, sym}
-use Rattle.std.proofs.lemmas.List.{take_all}
-use Rattle.layout.specs.Homes.{homes_of}
-use Rattle.txn_law.specs.Window.{Footprint, after_commits, opening}
-use Rattle.store_promise.specs.OpenSince.{file_blocks}
+use Rattle.std.proofs.Common.{◌++◌, option_to_list, refl, subst, sym}
 use Rattle.store_runs.specs.AtWork.{fetches_of}
 use Rattle.store_workers.specs.Stages.{IsWorkerAt, progress_of}
 use Rattle.store_workers.specs.WorkerSteps.{side}
@@ -22,15 +18,10 @@ returns-clause-goes c = λ o now worker new made calling goes home reads lawful 
     let tells_so = is_told setting now refl in
     let stands : IsWorkerAt now.boot entries worker =
     subst (λ n. IsWorkerAt n entries worker) (sym calling.boot) calling.stands in
-    let files : setting.blocks told.log.places ≡ file_blocks calling.base now.core =
-    ap setting.blocks (sym since.over.files.home.window.all) ∙ runs.placed (length now.core.records)
-    ∙ ap (λ (rs : List Footprint). after_commits
-    (homes_of now.core.log.blocks (opening calling.base now.core.log)) rs)
-    (take_all (length now.core.records) now.core.records (omega arith)) in
     stepped o now worker new made calling
     (c.a_workers_step_may_be_made.ensures setting told 0 calling.base so_far (fetches_of worker)
     now.boot o.first
-    calling.last entries runs tells_so runs.inodes files worker new made goes calling.at_work stands)
+    calling.last entries runs tells_so runs.inodes worker new made goes calling.at_work stands)
     (c.a_worker_tells_its_steps.ensures now.boot 0 entries old new made stands (sym since.counted) goes)
     (c.a_workers_step_is_told.ensures setting told 0 so_far tells_so worker new since.over.lawful
     lawful runs.position made goes)
@@ -51,17 +42,11 @@ returns-clause-served c = λ o now worker new made calling goes waits.
     let told = t o now worker new made calling in
     let so_far = store o now worker new made calling in
     let runs = run o now worker new made calling in
-    let since = calling.opened.since in
     let stands : IsWorkerAt now.boot entries worker =
     subst (λ n. IsWorkerAt n entries worker) (sym calling.boot) calling.stands in
-    let files : setting.blocks told.log.places ≡ file_blocks calling.base now.core =
-    ap setting.blocks (sym since.over.files.home.window.all) ∙ runs.placed (length now.core.records)
-    ∙ ap (λ (rs : List Footprint). after_commits
-    (homes_of now.core.log.blocks (opening calling.base now.core.log)) rs)
-    (take_all (length now.core.records) now.core.records (omega arith)) in
     waits_served o now setting told calling.entry calling.last calling.comes (progress_of worker) made
     calling.so_far
     (c.a_workers_step_may_be_made.ensures setting told 0 calling.base so_far (fetches_of worker)
     now.boot o.first
-    calling.last entries runs (is_told setting now refl) runs.inodes files worker new made goes
+    calling.last entries runs (is_told setting now refl) runs.inodes worker new made goes
     calling.at_work stands) waits

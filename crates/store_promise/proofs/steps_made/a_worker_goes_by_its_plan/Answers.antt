@@ -1,4 +1,3 @@
-use Rattle.store_promise.specs.Schedule.{read_of, told_before}
 use Rattle.store_promise.proofs.Told.{planned_step}
 use Rattle.store_promise.proofs.steps_made.a_worker_goes_by_its_plan.Goals as goal
 
@@ -9,5 +8,4 @@ returns c =
     let step = planned_step kept.setting workers events t.steps kept.taken index worker job begun
     _ is_event less
     is_step planning in
-    none kept.setting.geometry (read_of kept.setting (told_before events t.steps index).log.places
-    begun) step.0.asks
+    none kept.setting.geometry step.0.asks

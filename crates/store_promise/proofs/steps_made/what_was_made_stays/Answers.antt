@@ -1,8 +1,7 @@
--- Only what a plan asks for goes by the files.
+-- No step goes by the files.
 use Rattle.std.proofs.Common.{◌≡◌, ℕ, true, false, Option, Some, None, sym, subst}
 use Rattle.disk.specs.Crash.{Image}
 use Rattle.nfs_types.specs.declared.call.Call.{Call}
-use Rattle.procs.specs.Asks.{Asks, Claims}
 use Rattle.store_promise.specs.declared.events.Committing.{Committing}
 use Rattle.store_promise.specs.declared.events.Committing.TheVariants as committing
 use Rattle.store_promise.specs.declared.events.Ending.TheVariants as ending
@@ -13,14 +12,13 @@ use Rattle.store_promise.specs.declared.events.Step.TheVariants as step
 use Rattle.store_promise.specs.LogTold.{CallTold, idle, out, was_made}
 use Rattle.store_promise.specs.Progress.{Again, At, Begun, Called, Idle, Planning, Progress, Read, Reading}
 use Rattle.store_promise.specs.Progress.{Refused}
-use Rattle.store_promise.specs.Progress.{Stage, Waiting, addrs_of}
+use Rattle.store_promise.specs.Progress.{Stage, Waiting}
 use Rattle.store_promise.specs.Schedule.{HasNumbers, IsCommitting, IsStepByPlan, IsStepOf}
 use Rattle.store_promise.specs.Schedule.{IsStepOfInstaller, IsStepOfLog, IsStepOfWork}
-use Rattle.store_promise.specs.Schedule.{IsStepWith, Setting, Told, objects_at}
+use Rattle.store_promise.specs.Schedule.{IsStepWith, Setting, Told}
 use Rattle.store_promise.proofs.steps_made.what_was_made_stays.Goals as goal
 
-module _ (o : Setting) (told : Told) (later : ℕ → Image)
-    (same : later told.log.places ≡ o.blocks told.log.places) where
+module _ (o : Setting) (told : Told) (later : ℕ → Image) where
   abbrev with_later : Setting
   with_later = record o { blocks = later }
 
@@ -39,49 +37,36 @@ module _ (o : Setting) (told : Told) (later : ℕ → Image)
   commits blocks committing.Full is = (is.0, numbers blocks is.1, is.2)
   commits blocks committing.NoMemory is = (is.0, numbers blocks is.1, is.2)
 
-  by_plan : (worker : ℕ) (call : Call) (begun : Begun) (made : Step)
-      → IsStepByPlan o told worker call begun made
-      → IsStepByPlan with_later told worker call begun made
-  by_plan worker call begun (step.Wanted addr mode answer) is = (
-    record {
-      unheld = is.0.unheld;
-      asks = subst (λ (blocks : Image). Asks o.geometry call (objects_at blocks (addrs_of begun.held)) addr)
-          (sym same) is.0.asks;
-      alone = is.0.alone;
-    },
-    is.1,
-  )
-  by_plan worker call begun (step.Claimed block answer) is = (
-    record {
-      unclaimed = is.0.unclaimed;
-      claims = subst (λ (blocks : Image). Claims o.geometry call
-          (objects_at blocks (addrs_of begun.held)) block) (sym same) is.0.claims;
-    },
-    is.1,
-  )
-  by_plan worker call begun (step.Commit blocks answer) is = (is.0, commits blocks answer is.1)
-  by_plan worker call begun (step.Ended ending.NoMemory) is = is
-  by_plan worker call begun (step.Ended ending.Again) is = is
-  by_plan worker call begun (step.Ended ending.Refused) is = is
-  by_plan worker call begun step.Called is = is
-  by_plan worker call begun step.Replied is = is
-  by_plan worker call begun (step.Begun number) is = is
-  by_plan worker call begun (step.Fetched block) is = is
-  by_plan worker call begun (step.FetchFailed block) is = is
-  by_plan worker call begun (step.Stable seq settled) is = is
-  by_plan worker call begun (step.Read block ok) is = is
-  by_plan worker call begun (step.LogNext io) is = is
-  by_plan worker call begun (step.LogIo ok) is = is
-  by_plan worker call begun (step.LogDone ok) is = is
-  by_plan worker call begun (step.InstNext io) is = is
-  by_plan worker call begun (step.InstIo ok) is = is
-  by_plan worker call begun (step.InstDone ok) is = is
+  by_plan : (worker : ℕ) (begun : Begun) (made : Step)
+      → IsStepByPlan o told worker begun made
+      → IsStepByPlan with_later told worker begun made
+  by_plan worker begun (step.Wanted addr mode answer) is =
+      (record { unheld = is.0.unheld; asks = is.0.asks; alone = is.0.alone }, is.1)
+  by_plan worker begun (step.Claimed block answer) is =
+      (record { unclaimed = is.0.unclaimed; claims = is.0.claims }, is.1)
+  by_plan worker begun (step.Commit blocks answer) is = (is.0, commits blocks answer is.1)
+  by_plan worker begun (step.Ended ending.NoMemory) is = is
+  by_plan worker begun (step.Ended ending.Again) is = is
+  by_plan worker begun (step.Ended ending.Refused) is = is
+  by_plan worker begun step.Called is = is
+  by_plan worker begun step.Replied is = is
+  by_plan worker begun (step.Begun number) is = is
+  by_plan worker begun (step.Fetched block) is = is
+  by_plan worker begun (step.FetchFailed block) is = is
+  by_plan worker begun (step.Stable seq settled) is = is
+  by_plan worker begun (step.Read block ok) is = is
+  by_plan worker begun (step.LogNext io) is = is
+  by_plan worker begun (step.LogIo ok) is = is
+  by_plan worker begun (step.LogDone ok) is = is
+  by_plan worker begun (step.InstNext io) is = is
+  by_plan worker begun (step.InstIo ok) is = is
+  by_plan worker begun (step.InstDone ok) is = is
 
   with_call : (worker : ℕ) (call : Call) (stage : Stage) (made : Step)
       → IsStepWith o told worker call stage made
       → IsStepWith with_later told worker call stage made
   with_call worker call Called made is = is
-  with_call worker call (Planning begun) made is = by_plan worker call begun made is
+  with_call worker call (Planning begun) made is = by_plan worker begun made is
   with_call worker call (Reading begun addr) made is = is
   with_call worker call (Read begun addr true) made is = is
   with_call worker call (Read begun addr false) made is = is
@@ -130,6 +115,6 @@ module _ (o : Setting) (told : Told) (later : ℕ → Image)
 
 pub returns : goal.returns
 returns c = λ o workers told e made later same taken. record {
-  own = λ one. of_event o told later same e made (taken.own one);
+  own = λ one. of_event o told later e made (taken.own one);
   others = taken.others;
 }

@@ -42,11 +42,9 @@ returns-clause-goes c =
     ∙ ap (λ (rs : List Footprint). after_commits
     (homes_of store.core.log.blocks (opening going.base store.core.log)) rs)
     (take_all (length store.core.records) store.core.records (omega arith)) in
-    let places_are : o.blocks (told_now b.events t).log.places ≡ file_blocks going.base store.core =
-    ap o.blocks (ap (λ log. log.places) going.run.told.log) ∙ before_it in
     let may = c.a_workers_step_may_be_made.ensures o (told_now b.events t) 0 going.base store
     (fetches_of worker) boot
-    b.tree going.last entries run going.run.told run.inodes places_are worker step_to made
+    b.tree going.last entries run going.run.told run.inodes worker step_to made
     worked.goes going.at_work going.stands in
     let told_then = c.a_workers_step_is_told.ensures o (told_now b.events t) 0 store going.run.told
     worker step_to
