@@ -83,7 +83,7 @@ module _ (g : Geometry) (blocks : Image) (tree : Tree) (n : ℕ) (inode : Inode)
       (stands.bytes number (is_less number g.blocks
       (all_two (nat_le (data_at g.blocks g.inodes) number) (nat_lt number g.blocks) is).1)).0)
 
-  maps : (list_all (is_data_block_or_none g) inode.direct ≡ true)
+  pub maps : (list_all (is_data_block_or_none g) inode.direct ≡ true)
       × (is_data_block_or_none g inode.indirect ≡ true)
   maps = all_two (list_all (is_data_block_or_none g) inode.direct)
       (is_data_block_or_none g inode.indirect)

@@ -2,3 +2,10 @@ pub mod AllTests
 pub mod UsedBlocks
 pub mod InodeThere
 pub mod ReadThere
+pub mod FarThere
+pub mod Placed
+pub mod Pieces
+pub mod FileSizes
+pub mod BodyThere
+pub mod HeldThere
+pub mod Stops

@@ -1,2 +1,4 @@
 pub mod Snap
 pub mod Read
+pub mod Over
+pub mod Shown

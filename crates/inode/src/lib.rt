@@ -1,10 +1,16 @@
 //! What was read of an image for a call, and the inodes in it.
 #![tactic(auto)]
 
+mod bytes;
+mod inodes;
+mod map;
 mod read;
 mod snap;
 mod stop;
 
+pub use bytes::{piece, target};
+pub use inodes::{file_kind, held, used_of};
+pub use map::{block_number, data_block};
 pub use read::{bytes_at, inode_of, used_by};
 pub use snap::Snap;
 pub use stop::Stop;

@@ -1,5 +1,6 @@
 -- Numbers one behind another.
-use Rattle.std.proofs.Common.{◌≡◌, ℕ, zero, suc, ◌+◌, ◌*◌, List, [], ◌∷◌, ◌++◌, length, refl, ap, ◌∙◌, arith}
+use Rattle.std.proofs.Common.{◌≡◌, ℕ, zero, suc, ◌+◌, ◌*◌, ◌<◌, List, [], ◌∷◌, ◌++◌, length, get_or, refl}
+use Rattle.std.proofs.Common.{ap, ◌∙◌, arith}
 use Rattle.layout.specs.Fields.{four_at, numbers_at}
 
 -- one number more
@@ -28,3 +29,12 @@ one_more count bytes =
     let there : 0 + 4 * count ≡ 4 * count = omega arith in
     ap (λ n. numbers_at n 0 bytes) next ∙ more count 0 bytes
     ∙ ap (λ p. numbers_at count 0 bytes ++ four_at p bytes ∷ []) there
+
+-- the number at an index
+pub number_at : (count offset : ℕ) (bytes : List ℕ) (index : ℕ) → index < count
+    → get_or (numbers_at count offset bytes) index 0 ≡ four_at (offset + 4 * index) bytes
+unfolding numbers_at
+number_at zero offset bytes index less = absurd (omega (arith, less))
+number_at (suc count) offset bytes zero less = ap (λ p. four_at p bytes) (omega arith)
+number_at (suc count) offset bytes (suc index) less =
+    number_at count (offset + 4) bytes index (omega (arith, less)) ∙ ap (λ p. four_at p bytes) (omega arith)

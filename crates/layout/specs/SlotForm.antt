@@ -2,6 +2,8 @@
 use Rattle.std.specs.Prelude.{◌≡◌, ℕ, ◌+◌, ◌-◌, ◌^◌, ◌<◌, ◌≤◌, Bool, cond, ◌&&◌, List, ◌++◌, length, nat_eq}
 use Rattle.std.specs.Prelude.{nat_le}
 use Rattle.std.specs.Prelude.{nat_lt, take, drop, replicate, Option, Some, None, Result, Ok, Err}
+use Rattle.std.specs.Cmp.Lexicographic.{slice_cmp}
+use Rattle.std.specs.Ordering.{is_eq, nat_cmp}
 use Rattle.limits.specs.declared.TheConstants.{NAME_BYTES}
 use Rattle.layout.specs.declared.fault.LayoutFault.{LayoutFault}
 use Rattle.layout.specs.declared.fault.LayoutFault.TheVariants.{Range}
@@ -31,6 +33,12 @@ read_slot inodes bytes =
     cond (nat_eq (four_at NUMBER_AT bytes) 0)
     (cond (is_zeros bytes) (Ok None) (Err Range))
     (cond (is_sound_slot inodes bytes) (Ok (Some (slot_of bytes))) (Err Range))
+
+-- the number that what was read of a slot has under a name
+abbrev pub number_under : List ℕ → Result (Option Slot) LayoutFault → Result (Option ℕ) LayoutFault
+number_under name (Ok (Some slot)) = Ok (cond (is_eq (slice_cmp nat_cmp name slot.name)) (Some slot.number) None)
+number_under name (Ok None) = Ok None
+number_under name (Err fault) = Err fault
 
 -- the bytes that a slot in use gets: the number, the length of the name, the name, and zeros
 abbrev pub used_bytes : Slot → List ℕ

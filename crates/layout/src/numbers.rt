@@ -1,5 +1,5 @@
 //! Indirect blocks: the numbers of the blocks that an inode doesn't name itself.
-ghost use Rattle.std.specs.Prelude.{◌≡◌, ◌≤◌, true, false, length, IfOk, IfErr};
+ghost use Rattle.std.specs.Prelude.{◌≡◌, ◌<◌, ◌≤◌, true, false, get_or, length, IfOk, IfErr};
 ghost use Rattle.std.specs.List.{list_all};
 ghost use Rattle.limits.specs.declared.TheConstants.{BLOCK_BYTES, INDIRECT_INDEXES};
 ghost use Rattle.layout.specs.Fields.{numbers_at, count_of};
@@ -55,6 +55,15 @@ impl Numbers {
             return Ok(Err(LayoutFault::Range));
         }
         Ok(Ok(Numbers { numbers }))
+    }
+
+    /// The number at an index of an indirect block, as it stands there.
+    pub fn at(bytes: &[u8], index: usize) -> u32
+        requires len { length bytes.now ≡ BLOCK_BYTES }
+        requires index { index < INDIRECT_INDEXES }
+        ensures { result ≡ get_or (numbers_at INDIRECT_INDEXES 0 bytes.now) index 0 }
+    {
+        four_at(bytes, 4 * index)
     }
 
     /// How many blocks it maps.

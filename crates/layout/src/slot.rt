@@ -1,6 +1,8 @@
 //! Slots: what the disk has of a name in a directory in 128 bytes.
-ghost use Rattle.std.specs.Prelude.{◌≡◌, ◌≤◌, length, IfOk, IfErr, Option};
-ghost use Rattle.layout.specs.SlotForm.{is_sound_slot, read_slot, IsInDirectory};
+ghost use Rattle.std.specs.Prelude.{◌≡◌, ◌*◌, ◌<◌, ◌≤◌, length, take, drop, IfOk, IfErr, Option};
+ghost use Rattle.limits.specs.declared.TheConstants.{BLOCK_BYTES, NAME_BYTES, SLOTS_PER_BLOCK};
+ghost use Rattle.layout.specs.Fields.{four_at};
+ghost use Rattle.layout.specs.SlotForm.{is_sound_slot, number_under, read_slot, IsInDirectory};
 
 use crate::LayoutFault;
 use crate::fields::{four_at, is_zeros};
@@ -42,6 +44,53 @@ impl Slot {
     {
         read_slot(alloc, inodes, bytes)
     }
+
+    /// The bytes of a slot in a block of a directory.
+    pub fn bytes_in(block: &[u8], slot: u32) -> &[u8]
+        requires len { length block.now ≡ BLOCK_BYTES }
+        requires slot { slot < SLOTS_PER_BLOCK }
+        ensures bytes { result.now ≡ take SLOT_BYTES (drop (SLOT_BYTES * slot) block.now) }
+        ensures len { length result.now ≡ SLOT_BYTES }
+    {
+        let (_, behind) = block.split_at(SLOT_BYTES * slot as usize);
+        let (bytes, _) = behind.split_at(SLOT_BYTES);
+        bytes
+    }
+
+    /// The number that a slot has under a name: None where it is free or has another name. It is refused
+    /// where reading it is.
+    pub fn number_under(inodes: u32, bytes: &[u8], name: &[u8]) -> Result<Option<u32>, LayoutFault>
+        requires { length bytes.now ≡ SLOT_BYTES }
+        ensures { result ≡ number_under name.now (read_slot inodes bytes.now) }
+    {
+        let number = four_at(bytes, NUMBER_AT);
+        if number == 0 {
+            return if is_zeros(bytes) {
+                Ok(None)
+            } else {
+                Err(LayoutFault::Range)
+            };
+        }
+        if !is_sound_slot(inodes, bytes) {
+            return Err(LayoutFault::Range);
+        }
+        Ok(if name.cmp(name_in(bytes)).is_eq() {
+            Some(number)
+        } else {
+            None
+        })
+    }
+}
+
+// The name of a slot that is in use.
+fn name_in(bytes: &[u8]) -> &[u8]
+    requires len { length bytes.now ≡ SLOT_BYTES }
+    requires count { four_at COUNT_AT bytes.now ≤ NAME_BYTES }
+    ensures { result.now ≡ take (four_at COUNT_AT bytes.now) (drop NAME_AT bytes.now) }
+{
+    let (_, behind) = bytes.split_at(NAME_AT);
+    let (name, _) = behind.split_at(four_at(bytes, COUNT_AT) as usize);
+    name
 }
 
 // Reads a slot of an image of so many inodes: None where it is free.
@@ -64,9 +113,7 @@ fn read_slot(
     if !is_sound_slot(inodes, bytes) {
         return Ok(Err(LayoutFault::Range));
     }
-    let (_, behind) = bytes.split_at(NAME_AT);
-    let (name, _) = behind.split_at(four_at(bytes, COUNT_AT) as usize);
-    let name = Octets::copied(alloc, name)?;
+    let name = Octets::copied(alloc, name_in(bytes))?;
     Ok(Ok(Some(Slot { number, name })))
 }
 

@@ -18,7 +18,7 @@ use Rattle.layout.specs.Decode.{inode_at, node_with, body_of, file_of}
 use Rattle.layout.specs.Parts.{content_in}
 use Rattle.layout.specs.Stands.{Stands}
 use Rattle.procs.specs.Steps.{IsFoundIn}
-use Rattle.procs.proofs.BodyThere.{has_body}
+use Rattle.inode.proofs.BodyThere.{has_body}
 use Rattle.model.proofs.Handled.{handled, stamped_ok}
 use Rattle.inode.proofs.InodeThere.{is_read, is_sound, is_of_kind, long, same_counted}
 use Rattle.inode.proofs.UsedBlocks.{counted}
@@ -74,7 +74,7 @@ module _ (g : Geometry) (blocks : Image) (tree : Tree) (number : ℕ) (stamp : S
           ∙ stamped_ok number stamp node (ap (λ (s : Stamp). s.boot) (sym e))
           (ap (λ (s : Stamp). s.transaction) (sym e)),
       read,
-      has_body g (content_in g blocks) (record { number = number; inode = inode; used = k })
+      has_body g (content_in g blocks) inode k
           (long g blocks tree number inode stands less read)
           (is_read g blocks tree number inode stands less read).fits.count
           (count ∙ same_counted g blocks tree number inode stands less read) inode.kind refl

@@ -1,10 +1,7 @@
 pub mod AskedFor
-pub mod FileSizes
-pub mod BodyThere
 pub mod OnlyMode
 pub mod WrittenMode
 pub mod FoundThere
-pub mod FarThere
 pub mod StepsOf
 pub mod FewAsked
 pub mod RefusedThere

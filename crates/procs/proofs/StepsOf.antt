@@ -35,7 +35,8 @@ use Rattle.txn.specs.Object.{ObjectBytes}
 use Rattle.txn.specs.Window.{with_objects}
 use Rattle.procs.specs.declared.attributes.FoundFile.{FoundFile}
 use Rattle.procs.specs.Outcome.{Outcome}
-use Rattle.procs.specs.FoundFile.{IsBodyOf, file_kind}
+use Rattle.inode.specs.Shown.{file_kind}
+use Rattle.procs.specs.FoundFile.{IsBodyOf}
 use Rattle.inode.specs.Read.{AreAsRead}
 use Rattle.procs.specs.Steps.{IsFoundIn, IsInodeObject, IsSetFrom, IsStepOf, IsTold}
 use Rattle.procs.proofs.WrittenMode.{is_step}
@@ -126,6 +127,7 @@ module _ (g : Geometry) (blocks : Image) (tree : Tree) (ctx : Ctx) (object : Han
         kind = is.3.kind ∙ ap file_kind (sym set.kind);
         size = is.3.size ∙ sym set.size;
         used = is.3.used ∙ sym used_is;
+        parent = is.3.parent ∙ sym set.parent;
       } in
       let there : IsInodeObject g f.number new.inode object_is =
       subst (λ k. IsInodeObject g k new.inode object_is) number_is laid in

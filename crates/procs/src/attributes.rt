@@ -3,11 +3,12 @@ ghost use Rattle.std.specs.Prelude.{◌≡◌, ◌*◌};
 ghost use Rattle.model.specs.Attributes.{attributes_of, before_change, change_of, kind_of, size_of};
 ghost use Rattle.model.specs.Node.{Body};
 ghost use Rattle.layout.specs.Decode.{node_with};
-ghost use Rattle.procs.specs.FoundFile.{file_kind, IsBodyOf};
+ghost use Rattle.procs.specs.FoundFile.{IsBodyOf};
 
-use layout::{Inode, InodeKind};
+use inode::file_kind;
+use layout::Inode;
 use limits::{BLOCK_BYTES, FILE_SYSTEM};
-use nfs_types::{Attributes, DeviceNumber, FileKind, WeakCacheAttributes, WeakCacheData};
+use nfs_types::{Attributes, DeviceNumber, WeakCacheAttributes, WeakCacheData};
 
 /// A file that was found: its number, its inode, and how many blocks it uses.
 #[derive(Clone, Copy, Debug, PartialEq, Eq)]
@@ -15,16 +16,6 @@ pub(crate) struct FoundFile {
     pub(crate) number: u32,
     pub(crate) inode: Inode,
     pub(crate) used: u32,
-}
-
-fn file_kind(kind: InodeKind) -> FileKind
-    ensures { result ≡ file_kind kind }
-{
-    match kind {
-        InodeKind::Regular => FileKind::Regular,
-        InodeKind::Directory => FileKind::Directory,
-        InodeKind::Link => FileKind::Link,
-    }
 }
 
 impl FoundFile {

@@ -4,7 +4,7 @@ use Rattle.inode.specs.Read.{NoneStand}
 use Rattle.procs.proofs.AskedFor.{asks_inode, asks_indirect}
 use Rattle.procs.proofs.FoundThere.{stale_free, stale_stamp, found, stamps_same}
 use Rattle.procs.proofs.FoundThere.{stamps_differ}
-use Rattle.procs.proofs.FarThere.{none_name_others}
+use Rattle.inode.proofs.FarThere.{none_name_others}
 use Rattle.inode.proofs.InodeThere.{indirect_long}
 use Rattle.procs.proofs.RefusedThere.{inside, not_free, not_stale, not_found}
 use Rattle.procs.proofs.find.find.Goals as goal

@@ -1,0 +1,6 @@
+-- no slot so far has the name
+use Rattle.dir.specs.Slots.{NoneHas, block_slot}
+use Rattle.dir.proofs.block.find_in_block.Given as goal
+
+abbrev pub invariant-slots : goal.invariant-slots
+invariant-slots l = NoneHas (block_slot l.inodes l.first l.block) l.name l.first l.slot

@@ -1,0 +1,22 @@
+use Rattle.std.proofs.Common.{◌*◌, ◌+◌, arith}
+use Rattle.limits.specs.declared.TheConstants.{SLOTS_PER_BLOCK}
+use Rattle.layout.specs.Parts.{content_in}
+use Rattle.dir.specs.Slots.{block_slot, slot_at}
+use Rattle.dir.proofs.Moved.{moved_next}
+use Rattle.dir.proofs.SlotBlocks.{no_fault_there}
+use Rattle.dir.proofs.next.next_at.Goals as goal
+
+pub returns-in-Ok-clause-ok : goal.returns-in-Ok-clause-ok
+returns-in-Ok-clause-ok c = λ blocks tree file is less.
+    moved_next
+    (slot_at c.args.snap.now.geometry.inodes (content_in c.args.snap.now.geometry blocks) c.args.inode.now)
+    (block_slot c.args.snap.now.geometry.inodes (SLOTS_PER_BLOCK * c.args.index) c.in_ok-block.block.now)
+    c.args.from (SLOTS_PER_BLOCK * c.args.index + SLOTS_PER_BLOCK)
+    (λ slot low high. c.in_ok-block.ensures.ok blocks tree file is less slot
+    (let from = c.requires.from in omega (arith, from, low)) high) c.in-Ok.found (rw c.in-Ok.is at c.in_ok-found.ensures.ok)
+
+pub returns-in-Err-clause-pause : goal.returns-in-Err-clause-pause
+returns-in-Err-clause-pause c = λ blocks tree file is less.
+    no_fault_there c.args.snap.now blocks tree file c.args.inode.now c.args.index c.args.from
+    c.in_ok-block.block.now is less (c.in_ok-block.ensures.ok blocks tree file is less) c.requires.from
+    (rw c.in-Err.is at c.in_ok-found.ensures.err)

@@ -1,0 +1,31 @@
+use Rattle.std.proofs.Common.{rules, ◌≡◌, true, false, sym, ◌∙◌, nat_eq}
+use Rattle.std.proofs.lemmas.Result.{IfOk-weaker}
+use Rattle.layout.specs.Places.{is_data}
+use Rattle.inode.proofs.InodeThere.{data_of}
+use Rattle.dir.proofs.Passed.{at_err}
+use Rattle.dir.proofs.SlotBlocks.{slot_there, some_there}
+use Rattle.dir.proofs.span.directory_block.Goals as goal
+
+pub returns-then-number-eq0-clause-pause : goal.returns-then-number-eq0-clause-pause
+returns-then-number-eq0-clause-pause c = λ blocks tree file is less.
+    let none : nat_eq c.in_ok-number.number 0 ≡ true = (let h = c.if-number-eq0.true in search rules) in
+    let some = some_there c.args.snap.now blocks tree file c.args.inode.now is c.in_ok-number.number c.args.index less
+    (c.in_ok-number.ensures.ok blocks tree file is.has) in
+    let clash : true ≡ false = sym none ∙ some in cc
+
+pub data_block-requires : goal.data_block-requires
+data_block-requires c =
+    data_of (nat_eq c.in_ok-number.number 0) (is_data c.args.snap.now.geometry c.in_ok-number.number)
+    (let h = c.if-number-eq0.false in search rules) c.in_ok-number.ensures.data
+
+pub returns-clause-ok : goal.returns-clause-ok
+returns-clause-ok c =
+    IfOk-weaker c.data_block.result _ _ (λ block there blocks tree file is less slot low high.
+    slot_there c.args.snap.now blocks tree file c.args.inode.now is c.in_ok-number.number c.args.index slot
+    block.now less (c.in_ok-number.ensures.ok blocks tree file is.has) (there blocks tree is.has.over) low high)
+    c.data_block.ensures.ok
+
+pub returns-in_err-number-clause-pause : goal.returns-in_err-number-clause-pause
+returns-in_err-number-clause-pause c =
+    at_err c.from_residual.result c.in_err-number.field-0.0 _ (search rules) (λ blocks tree file is less.
+    c.in_err-number.ensures.pause blocks tree file is.has)

@@ -1,0 +1,64 @@
+-- What lies in the slots of a directory.
+use Rattle.std.specs.Prelude.{◌≡◌, ℕ, ◌-◌, ◌*◌, ◌<◌, ◌≤◌, List, take, drop, Option, Some, None, Result, Ok, Err}
+use Rattle.disk.specs.Crash.{Image}
+use Rattle.layout.specs.declared.fault.LayoutFault.{LayoutFault}
+use Rattle.layout.specs.declared.inode.Inode.{Inode}
+use Rattle.layout.specs.declared.slot.Slot.{Slot}
+use Rattle.layout.specs.declared.slot.TheConstants.{SLOT_BYTES}
+use Rattle.layout.specs.Decode.{slot_bytes}
+use Rattle.layout.specs.SlotForm.{number_under, read_slot}
+use Rattle.layout.specs.declared.inode.InodeKind.TheVariants as kinds
+use Rattle.model.specs.Tree.{Tree}
+use Rattle.inode.specs.declared.snap.Snap.{Snap}
+use Rattle.inode.specs.Over.{HasInode}
+use Rattle.files.specs.declared.entry.SlotName.{SlotName}
+use Rattle.files.specs.declared.entry.Entry.{Entry}
+
+-- the number's file in the blocks is a directory with this inode
+pub record IsDirectoryOf (snap : Snap) (blocks : Image) (tree : Tree) (file : ℕ) (inode : Inode) : Type 0 where
+  pub has : HasInode snap blocks tree file inode
+  pub kind : inode.kind ≡ kinds.Directory
+
+-- what each slot is
+abbrev pub Lying : Type 0
+Lying = ℕ → Result (Option Slot) LayoutFault
+
+-- the slots of a block, numbered from one on
+abbrev pub block_slot : ℕ → ℕ → List ℕ → Lying
+block_slot inodes first block slot =
+    read_slot inodes (take SLOT_BYTES (drop (SLOT_BYTES * (slot - first)) block))
+
+-- the slots of a directory
+abbrev pub slot_at : ℕ → Image → Inode → Lying
+slot_at inodes content inode slot = read_slot inodes (slot_bytes content inode slot)
+
+-- none of these slots has the name
+abbrev pub NoneHas : Lying → List ℕ → ℕ → ℕ → Type 0
+NoneHas lies name from end = (slot : ℕ) → from ≤ slot → slot < end → number_under name (lies slot) ≡ Ok None
+
+-- the first of these slots that has the name, or none has
+abbrev pub IsFound : Lying → List ℕ → ℕ → ℕ → Option Entry → Type 0
+IsFound lies name from end None = NoneHas lies name from end
+IsFound lies name from end (Some place) =
+    (from ≤ place.slot) × (place.slot < end) × (number_under name (lies place.slot) ≡ Ok (Some place.number))
+    × NoneHas lies name from place.slot
+
+-- each of these slots is free
+abbrev pub AreFree : Lying → ℕ → ℕ → Type 0
+AreFree lies from end = (slot : ℕ) → from ≤ slot → slot < end → lies slot ≡ Ok None
+
+-- the first of these slots in which a name lies, or each is free
+abbrev pub IsNext : Lying → ℕ → ℕ → Option SlotName → Type 0
+IsNext lies from end None = AreFree lies from end
+IsNext lies from end (Some named) =
+    (from ≤ named.slot) × (named.slot < end)
+    × (lies named.slot ≡ Ok (Some (record { number = named.number; name = named.name })))
+    × AreFree lies from named.slot
+
+-- one of these slots is refused
+pub record HasFault (lies : Lying) (from end : ℕ) : Type 0 where
+  pub slot : ℕ
+  pub low : from ≤ slot
+  pub less : slot < end
+  pub fault : LayoutFault
+  pub is : lies slot ≡ Err fault

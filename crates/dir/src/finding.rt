@@ -1,0 +1,64 @@
+//! The slot of a name.
+ghost use Rattle.std.specs.Prelude.{◌≡◌, ◌+◌, ◌*◌, ◌<◌, ℕ, IfErr, IfOk};
+ghost use Rattle.std.specs.FinMap.{get};
+ghost use Rattle.std.specs.Option.{option_map};
+ghost use Rattle.limits.specs.declared.TheConstants.{FILE_INDEXES, SLOTS_PER_BLOCK};
+ghost use Rattle.disk.specs.Crash.{Image};
+ghost use Rattle.model.specs.Tree.{Tree};
+ghost use Rattle.layout.specs.Decode.{entries_in, span_of};
+ghost use Rattle.layout.specs.Parts.{content_in};
+ghost use Rattle.inode.specs.Over.{IsPause, MayStop};
+ghost use Rattle.dir.specs.Slots.{IsDirectoryOf, IsFound, slot_at};
+ghost use Rattle.files.specs.Heads.{entry_of};
+
+use crate::block::find_in_block;
+use crate::span::{directory_block, span_of};
+use files::Entry;
+use inode::{Snap, Stop};
+use layout::Inode;
+use limits::SLOTS_PER_BLOCK;
+
+// The first slot that has a name, of those in the block at an index.
+fn find_at(snap: &Snap, inode: &Inode, index: usize, name: &[u8]) -> Result<Option<Entry>, Stop>
+    requires { index < FILE_INDEXES }
+    ensures ok { IfOk result (λ found. (blocks : Image) (tree : Tree) (file : ℕ)
+        → IsDirectoryOf snap.now blocks tree file inode.now → index < span_of inode.now
+        → IsFound (slot_at snap.now.geometry.inodes (content_in snap.now.geometry blocks) inode.now) name.now
+        (SLOTS_PER_BLOCK * index) (SLOTS_PER_BLOCK * index + SLOTS_PER_BLOCK) found) }
+    ensures err { IfErr result (λ stop. MayStop snap.now stop) }
+    ensures pause { IfErr result (λ stop. (blocks : Image) (tree : Tree) (file : ℕ)
+        → IsDirectoryOf snap.now blocks tree file inode.now → index < span_of inode.now → IsPause stop) }
+{
+    let block = directory_block(snap, inode, index)?;
+    match find_in_block(
+        snap.geometry.inodes,
+        block,
+        SLOTS_PER_BLOCK * index as u32,
+        name,
+    ) {
+        Ok(found) => Ok(found),
+        Err(_) => Err(Stop::Io),
+    }
+}
+
+/// What a name in a directory leads to, and where it lies.
+pub fn find(snap: &Snap, inode: &Inode, name: &[u8]) -> Result<Option<Entry>, Stop>
+    ensures ok { IfOk result (λ found. (blocks : Image) (tree : Tree) (file : ℕ)
+        → IsDirectoryOf snap.now blocks tree file inode.now
+        → option_map entry_of found
+        ≡ get (entries_in snap.now.geometry.inodes (content_in snap.now.geometry blocks) inode.now) name.now) }
+    ensures err { IfErr result (λ stop. MayStop snap.now stop) }
+    ensures pause { IfErr result (λ stop. (blocks : Image) (tree : Tree) (file : ℕ)
+        → IsDirectoryOf snap.now blocks tree file inode.now → IsPause stop) }
+{
+    let Some(span) = span_of(inode) else {
+        return Err(Stop::Io);
+    };
+    'indexes: for index in 0..span {
+        match find_at(snap, inode, index, name)? {
+            Some(place) => return Ok(Some(place)),
+            None => {}
+        }
+    }
+    Ok(None)
+}

@@ -1,0 +1,51 @@
+//! The blocks that a directory spans.
+ghost use Rattle.std.specs.Prelude.{◌≡◌, ◌+◌, ◌*◌, ◌<◌, ◌≤◌, ℕ, length, IfErr, IfNone, IfOk, IfSome};
+ghost use Rattle.limits.specs.declared.TheConstants.{BLOCK_BYTES, FILE_INDEXES, SLOTS_PER_BLOCK};
+ghost use Rattle.disk.specs.Crash.{Image};
+ghost use Rattle.model.specs.Tree.{Tree};
+ghost use Rattle.layout.specs.Decode.{span_of};
+ghost use Rattle.layout.specs.Parts.{content_in};
+ghost use Rattle.inode.specs.declared.snap.Snap.{Snap};
+ghost use Rattle.inode.specs.Over.{IsPause, MayStop};
+ghost use Rattle.dir.specs.Slots.{IsDirectoryOf, block_slot, slot_at};
+
+use inode::{Snap, Stop, block_number, data_block};
+use layout::Inode;
+use limits::{BLOCK_BYTES, LARGEST_DIRECTORY};
+
+/// How many blocks a directory spans: None where it is larger than one may be.
+pub(crate) fn span_of(inode: &Inode) -> Option<usize>
+    ensures few { IfSome result (λ span. span ≤ FILE_INDEXES) }
+    ensures some { IfSome result (λ span. span ≡ span_of inode.now) }
+    ensures none { IfNone result ((snap : Snap) (blocks : Image) (tree : Tree) (file : ℕ)
+        → IsDirectoryOf snap blocks tree file inode.now → ⊥) }
+{
+    if inode.size > LARGEST_DIRECTORY {
+        return None;
+    }
+    Some((inode.size / BLOCK_BYTES as u64) as usize)
+}
+
+/// The block at an index of a directory.
+pub(crate) fn directory_block<'a>(
+    snap: &'a Snap,
+    inode: &Inode,
+    index: usize,
+) -> Result<&'a [u8], Stop>
+    requires { index < FILE_INDEXES }
+    ensures len { IfOk result (λ block. length block.now ≡ BLOCK_BYTES) }
+    ensures ok { IfOk result (λ block. (blocks : Image) (tree : Tree) (file : ℕ)
+        → IsDirectoryOf snap.now blocks tree file inode.now → index < span_of inode.now
+        → (slot : ℕ) → SLOTS_PER_BLOCK * index ≤ slot → slot < SLOTS_PER_BLOCK * index + SLOTS_PER_BLOCK
+        → slot_at snap.now.geometry.inodes (content_in snap.now.geometry blocks) inode.now slot
+        ≡ block_slot snap.now.geometry.inodes (SLOTS_PER_BLOCK * index) block.now slot) }
+    ensures err { IfErr result (λ stop. MayStop snap.now stop) }
+    ensures pause { IfErr result (λ stop. (blocks : Image) (tree : Tree) (file : ℕ)
+        → IsDirectoryOf snap.now blocks tree file inode.now → index < span_of inode.now → IsPause stop) }
+{
+    let number = block_number(snap, inode, index)?;
+    if number == 0 {
+        return Err(Stop::Io);
+    }
+    data_block(snap, number)
+}

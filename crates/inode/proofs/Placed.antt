@@ -1,0 +1,110 @@
+-- Where the blocks of a file that was read lie.
+use Rattle.std.proofs.Common.{◌≡◌, ℕ, zero, suc, ◌-◌, ◌<◌, ◌≤◌, sym, ap, ◌∙◌, refl, Bool, true, false, cond}
+use Rattle.std.proofs.Common.{List, [], ◌∷◌, ◌++◌, length, get_or, replicate, nat_eq, nat_le, nat_lt, arith}
+use Rattle.std.specs.List.{list_all}
+use Rattle.limits.specs.declared.TheConstants.{BLOCK_BYTES, DIRECT_INDEXES, INDIRECT_INDEXES}
+use Rattle.disk.specs.Crash.{Image}
+use Rattle.objects.specs.declared.addr.Addr.{Addr}
+use Rattle.model.specs.Tree.{Tree}
+use Rattle.layout.specs.declared.geometry.Geometry.{Geometry}
+use Rattle.layout.specs.declared.inode.Inode.{Inode}
+use Rattle.layout.specs.Decode.{numbers_of}
+use Rattle.layout.specs.Fields.{numbers_at}
+use Rattle.layout.specs.Geometry.{data_at}
+use Rattle.layout.specs.InodeForm.{is_data_block_or_none}
+use Rattle.layout.specs.Parts.{content_in}
+use Rattle.layout.specs.Places.{is_data}
+use Rattle.layout.proofs.AllNumbers as all
+use Rattle.txn.specs.Window.{object_at}
+use Rattle.inode.specs.declared.snap.Snap.{Snap}
+use Rattle.inode.specs.Over.{HasInode, IsOver, far_at, number_at}
+use Rattle.inode.proofs.AllTests.{all_two, is_less}
+use Rattle.inode.proofs.FarThere.{far_pass}
+use Rattle.inode.proofs.InodeThere.{is_of_kind, is_read, is_sound, maps}
+use Rattle.inode.proofs.ReadThere.{whole_there}
+
+-- a data block that was read is the content of its number
+pub content_there : (snap : Snap) (number : ℕ) (addr : Addr) (bytes : List ℕ) (blocks : Image) (tree : Tree)
+    → is_data snap.geometry number ≡ true → addr.block.0 ≡ number → addr.offset ≡ 0 → addr.len ≡ BLOCK_BYTES
+    → IsOver snap blocks tree → object_at blocks addr ≡ bytes
+    → bytes ≡ content_in snap.geometry blocks number
+content_there snap number addr bytes blocks tree placed block offset len over there =
+    let both = all_two (nat_le (data_at snap.geometry.blocks snap.geometry.inodes) number)
+    (nat_lt number snap.geometry.blocks) placed in
+    whole_there blocks number addr bytes block offset len there
+    (over.stands.bytes number (is_less number snap.geometry.blocks both.1)).0
+    ∙ sym (ap (λ b. cond b (blocks number) (replicate BLOCK_BYTES 0)) placed)
+
+-- ---- the numbers of a file
+
+pub passes_at : (test : ℕ → Bool) (numbers : List ℕ) (index : ℕ) → test 0 ≡ true → list_all test numbers ≡ true
+    → test (get_or numbers index 0) ≡ true
+passes_at test [] index none all = none
+passes_at test (n ∷ numbers) zero none all = (all_two (test n) (list_all test numbers) all).0
+passes_at test (n ∷ numbers) (suc index) none all =
+    passes_at test numbers index none (all_two (test n) (list_all test numbers) all).1
+
+pub early : (xs ys : List ℕ) (index : ℕ) → index < length xs → get_or (xs ++ ys) index 0 ≡ get_or xs index 0
+early [] ys index less = absurd (omega (arith, less))
+early (x ∷ xs) ys zero less = refl
+early (x ∷ xs) ys (suc index) less = early xs ys index (omega (arith, less))
+
+pub behind : (xs ys : List ℕ) (index : ℕ) → length xs ≤ index
+    → get_or (xs ++ ys) index 0 ≡ get_or ys (index - length xs) 0
+behind [] ys index more = ap (λ k. get_or ys k 0) (omega arith)
+behind (x ∷ xs) ys zero more = absurd (omega (arith, more))
+behind (x ∷ xs) ys (suc index) more =
+    behind xs ys index (omega (arith, more)) ∙ ap (λ k. get_or ys k 0) (omega arith)
+
+module _ (g : Geometry) (blocks : Image) (inode : Inode) (index : ℕ) (direct : length inode.direct ≡ DIRECT_INDEXES)
+  where
+    abbrev content : Image
+    content = content_in g blocks
+
+    pub direct_at : index < DIRECT_INDEXES → get_or inode.direct index 0 ≡ number_at g blocks inode index
+    unfolding numbers_of
+    direct_at less = sym (early inode.direct _ index (omega (arith, less, direct)))
+
+    pub far_there : DIRECT_INDEXES ≤ index
+        → far_at content inode.indirect (index - DIRECT_INDEXES) ≡ number_at g blocks inode index
+    unfolding numbers_of
+    far_there more =
+        ap (λ k. far_at content inode.indirect (index - k)) (sym direct)
+        ∙ sym (behind inode.direct _ index (omega (arith, more, direct)))
+
+no_number : (count index : ℕ) → ◌≡◌ {A = ℕ} (get_or (replicate count 0) index 0) 0
+no_number zero index = refl
+no_number (suc count) zero = refl
+no_number (suc count) (suc index) = no_number count index
+
+pub none_far : (content : Image) (indirect index : ℕ) → nat_eq indirect 0 ≡ true
+    → 0 ≡ far_at content indirect index
+none_far content indirect index none =
+    sym (ap (λ b. get_or (cond b (replicate INDIRECT_INDEXES 0) (numbers_at INDIRECT_INDEXES 0 (content indirect)))
+    index 0) none ∙ no_number INDIRECT_INDEXES index)
+
+pub some_far : (content : Image) (indirect index : ℕ) (bytes : List ℕ) → nat_eq indirect 0 ≡ false
+    → bytes ≡ content indirect → get_or (numbers_at INDIRECT_INDEXES 0 bytes) index 0 ≡ far_at content indirect index
+some_far content indirect index bytes some is =
+    ap (λ block. get_or (numbers_at INDIRECT_INDEXES 0 block) index 0) is
+    ∙ sym (ap (λ b. get_or (cond b (replicate INDIRECT_INDEXES 0)
+    (numbers_at INDIRECT_INDEXES 0 (content indirect))) index 0) some)
+
+module _ (snap : Snap) (blocks : Image) (tree : Tree) (number : ℕ) (inode : Inode)
+    (has : HasInode snap blocks tree number inode) where
+  abbrev g : Geometry
+  g = snap.geometry
+
+  pub indirect_placed : is_data_block_or_none g inode.indirect ≡ true
+  indirect_placed = (maps g blocks tree number inode has.over.stands has.less has.there).1
+
+  pub all_placed : list_all (is_data_block_or_none g) (numbers_of (content_in g blocks) inode) ≡ true
+  all_placed =
+      all.all_placed g (content_in g blocks) inode
+      (is_read g blocks tree number inode has.over.stands has.less has.there)
+      (λ some. far_pass g (content_in g blocks) inode some inode.kind
+      (is_sound g blocks tree number inode has.over.stands has.less has.there)
+      (is_of_kind g blocks tree number inode has.over.stands has.less has.there))
+
+  pub placed_at : (index : ℕ) → is_data_block_or_none g (number_at g blocks inode index) ≡ true
+  placed_at index = passes_at (is_data_block_or_none g) (numbers_of (content_in g blocks) inode) index refl all_placed

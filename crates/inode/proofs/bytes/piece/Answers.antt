@@ -1,0 +1,42 @@
+use Rattle.std.proofs.Common.{◌∙◌, arith}
+use Rattle.std.proofs.lemmas.Result.{IfErr-weaker, IfOk-weaker}
+use Rattle.inode.specs.Over.{all_bytes}
+use Rattle.inode.proofs.Pieces.{all_that_is_left, as_many_as_asked, regular_small}
+use Rattle.inode.proofs.bytes.piece.Goals as goal
+
+pub returns-then-inode-gt-LARGEST_FILE-clause-pause : goal.returns-then-inode-gt-LARGEST_FILE-clause-pause
+returns-then-inode-gt-LARGEST_FILE-clause-pause c = λ blocks tree file has kind.
+    let small = regular_small c.args.snap.now blocks tree file c.args.inode.now has kind in
+    let large = c.if-inode-gt-LARGEST_FILE.true in
+    absurd (omega (arith, small, large))
+
+pub returns-then-rest-count-clause-ok : goal.returns-then-rest-count-clause-ok
+returns-then-rest-count-clause-ok c =
+    let inside = c.if-offset-inode.false in
+    let few = c.if-rest-count.true in
+    IfOk-weaker c.bytes_between.result _ _ (λ bytes is blocks tree file has.
+    is blocks tree file has
+    ∙ all_that_is_left c.args.inode.now.size c.args.offset c.args.count
+    (all_bytes c.args.snap.now.geometry blocks c.args.inode.now) (omega (arith, inside)) (omega (arith, few)))
+    c.bytes_between.ensures.ok
+
+pub returns-then-rest-count-clause-pause : goal.returns-then-rest-count-clause-pause
+returns-then-rest-count-clause-pause c =
+    IfErr-weaker c.bytes_between.result _ _ (λ stop pause blocks tree file has kind. pause blocks tree file has)
+    c.bytes_between.ensures.pause
+
+pub returns-else-rest-count-clause-ok : goal.returns-else-rest-count-clause-ok
+returns-else-rest-count-clause-ok c =
+    let inside = c.if-offset-inode.false in
+    let many = c.if-rest-count.false in
+    IfOk-weaker c.bytes_between-else-rest-count.result _ _ (λ bytes is blocks tree file has.
+    is blocks tree file has
+    ∙ as_many_as_asked c.args.inode.now.size c.args.offset c.args.count
+    (all_bytes c.args.snap.now.geometry blocks c.args.inode.now) (omega (arith, inside)) (omega (arith, many)))
+    c.bytes_between-else-rest-count.ensures.ok
+
+pub returns-else-rest-count-clause-pause : goal.returns-else-rest-count-clause-pause
+returns-else-rest-count-clause-pause c =
+    IfErr-weaker c.bytes_between-else-rest-count.result _ _
+    (λ stop pause blocks tree file has kind. pause blocks tree file has)
+    c.bytes_between-else-rest-count.ensures.pause

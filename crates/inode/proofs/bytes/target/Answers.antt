@@ -1,0 +1,21 @@
+use Rattle.std.proofs.Common.{◌∙◌, arith}
+use Rattle.std.proofs.lemmas.Result.{IfOk-weaker}
+use Rattle.inode.proofs.Pieces.{first_block, link_small}
+use Rattle.inode.proofs.bytes.target.Goals as goal
+
+pub returns-then-inode-clause-pause : goal.returns-then-inode-clause-pause
+returns-then-inode-clause-pause c = λ blocks tree file has kind.
+    let small = link_small c.args.snap.now blocks tree file c.args.inode.now has kind in
+    let large = c.if-inode.true in
+    absurd (omega (arith, small, large))
+
+pub returns-in-Ok-clause-ok : goal.returns-in-Ok-clause-ok
+returns-in-Ok-clause-ok c =
+    let few = c.if-inode.false in
+    IfOk-weaker c.first_bytes.result _ _ (λ bytes is blocks tree file has.
+    is blocks tree has.over
+    ∙ first_block c.args.snap.now blocks tree file c.args.inode.now has c.in-Ok.number c.args.inode.now.size
+    (omega (arith, few)) (c.in-Ok.ensures.ok blocks tree file has)) c.first_bytes.ensures.ok
+
+pub returns-in-Err-clause-pause : goal.returns-in-Err-clause-pause
+returns-in-Err-clause-pause c = λ blocks tree file has kind. c.in-Err.ensures.pause blocks tree file has

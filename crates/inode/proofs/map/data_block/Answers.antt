@@ -1,0 +1,24 @@
+use Rattle.std.proofs.Common.{ap}
+use Rattle.std.proofs.lemmas.Result.{IfErr-weaker, IfOk-weaker}
+use Rattle.disk.specs.declared.block.BlockNo.{BlockNo}
+use Rattle.inode.proofs.Placed.{content_there}
+use Rattle.inode.proofs.Stops.{block_pause, block_stop, both_err}
+use Rattle.inode.proofs.map.data_block.Goals as goal
+
+pub returns-clause-ok : goal.returns-clause-ok
+returns-clause-ok c =
+    IfOk-weaker c.bytes_at.result _ _ (λ bytes there blocks tree over.
+    content_there c.args.snap.now c.args.number c.whole.result bytes.now blocks tree c.requires
+    (ap (λ (b : BlockNo). b.0) c.whole.ensures.value.0) c.whole.ensures.value.1 c.whole.ensures.value.2 over
+    (there blocks over.saw)) c.bytes_at.ensures.there
+
+pub returns-clause-err : goal.returns-clause-err
+returns-clause-err c =
+    both_err c.bytes_at.result _ _ _ (λ why new e.
+    block_stop c.args.snap.now c.args.number c.whole.result why c.requires
+    (ap (λ (b : BlockNo). b.0) c.whole.ensures.value.0) c.whole.ensures.value.1 c.whole.ensures.value.2 new e)
+    c.bytes_at.ensures.err c.bytes_at.ensures.need
+
+pub returns-clause-pause : goal.returns-clause-pause
+returns-clause-pause c =
+    IfErr-weaker c.bytes_at.result _ _ (λ why e. block_pause c.whole.result why e) c.bytes_at.ensures.need

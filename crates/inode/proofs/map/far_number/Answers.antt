@@ -1,0 +1,21 @@
+use Rattle.std.proofs.Common.{rules, ◌∙◌}
+use Rattle.layout.specs.Parts.{content_in}
+use Rattle.inode.proofs.HeldThere.{no_data}
+use Rattle.inode.proofs.Placed.{none_far, some_far}
+use Rattle.inode.proofs.map.far_number.Goals as goal
+
+pub returns-then-indirect-eq0-clause-ok : goal.returns-then-indirect-eq0-clause-ok
+returns-then-indirect-eq0-clause-ok c = λ blocks tree over.
+    none_far (content_in c.args.snap.now.geometry blocks) c.args.indirect c.args.index
+    (let h = c.if-indirect-eq0.true in search rules)
+
+pub returns-then-not-is_data-clause-pause : goal.returns-then-not-is_data-clause-pause
+returns-then-not-is_data-clause-pause c = λ placed.
+    no_data c.args.snap.now.geometry c.args.indirect (let h = c.if-indirect-eq0.false in search rules)
+    (search rules) placed
+
+pub returns-clause-ok : goal.returns-clause-ok
+returns-clause-ok c = λ blocks tree over.
+    c.at.ensures
+    ∙ some_far (content_in c.args.snap.now.geometry blocks) c.args.indirect c.args.index c.in_ok-bytes.bytes.now
+    (let h = c.if-indirect-eq0.false in search rules) (c.in_ok-bytes.ensures.ok blocks tree over)

@@ -1,0 +1,61 @@
+-- Which blocks were read, and when a reading may stop.
+use Rattle.std.specs.Prelude.{◌≡◌, ℕ, ◌<◌, List, Some, Ok, true, false, cond, nat_eq, get_or, replicate}
+use Rattle.std.specs.List.{list_all}
+use Rattle.limits.specs.declared.TheConstants.{INDIRECT_INDEXES}
+use Rattle.disk.specs.Crash.{Image}
+use Rattle.model.specs.Tree.{Tree}
+use Rattle.layout.specs.declared.geometry.Geometry.{Geometry}
+use Rattle.layout.specs.declared.inode.Inode.{Inode}
+use Rattle.layout.specs.Decode.{bytes_of, inode_at, numbers_of}
+use Rattle.layout.specs.Fields.{numbers_at}
+use Rattle.layout.specs.InodeForm.{is_data_block_or_none}
+use Rattle.layout.specs.Objects.{IsObject}
+use Rattle.layout.specs.Parts.{content_in}
+use Rattle.layout.specs.Stands.{Stands}
+use Rattle.inode.specs.declared.snap.Snap.{Snap}
+use Rattle.inode.specs.declared.stop.Stop.{Stop}
+use Rattle.inode.specs.declared.stop.Stop.TheVariants as stop
+use Rattle.inode.specs.Read.{Saw}
+use Rattle.inode.specs.Snap.{is_seen}
+
+-- the blocks stand for the tree and have what was read
+pub record IsOver (snap : Snap) (blocks : Image) (tree : Tree) : Type 0 where
+  pub stands : Stands snap.geometry blocks tree
+  pub saw : Saw blocks snap
+
+-- and the number's inode in them is this one
+pub record HasInode (snap : Snap) (blocks : Image) (tree : Tree) (number : ℕ) (inode : Inode) : Type 0 where
+  pub over : IsOver snap blocks tree
+  pub less : number < snap.geometry.inodes
+  pub there : inode_at snap.geometry blocks number ≡ Ok (Some inode)
+
+-- a reading stops for an object of the image that wasn't read yet
+abbrev pub MayStop : Snap → Stop → Type 0
+MayStop snap (stop.Need addr) = (is_seen addr snap.objects.items ≡ false) × IsObject snap.geometry addr
+MayStop snap stop.Io = Unit {0}
+MayStop snap stop.NoMemory = Unit {0}
+
+-- and not for what the layout refuses
+abbrev pub IsPause : Stop → Type 0
+IsPause (stop.Need addr) = Unit {0}
+IsPause stop.Io = ⊥
+IsPause stop.NoMemory = Unit {0}
+
+-- the number at an index of an indirect block, 0 where there is none
+abbrev pub far_at : Image → ℕ → ℕ → ℕ
+far_at content indirect index =
+    get_or (cond (nat_eq indirect 0) (replicate INDIRECT_INDEXES 0)
+    (numbers_at INDIRECT_INDEXES 0 (content indirect))) index 0
+
+-- the number of the block at an index of a file
+abbrev pub number_at : Geometry → Image → Inode → ℕ → ℕ
+number_at g blocks inode index = get_or (numbers_of (content_in g blocks) inode) index 0
+
+-- the bytes of all indexes of a file, one behind another
+abbrev pub all_bytes : Geometry → Image → Inode → List ℕ
+all_bytes g blocks inode = bytes_of (content_in g blocks) (numbers_of (content_in g blocks) inode)
+
+-- an indirect block, if there is one, has the numbers of data blocks alone
+abbrev pub are_far_placed : Geometry → Image → ℕ → Type 0
+are_far_placed g blocks indirect = nat_eq indirect 0 ≡ false
+    → list_all (is_data_block_or_none g) (numbers_at INDIRECT_INDEXES 0 (content_in g blocks indirect)) ≡ true

@@ -1,0 +1,156 @@
+//! What is in regular files and in links.
+ghost use Rattle.std.specs.Prelude.{[], ◌≡◌, ◌+◌, ◌-◌, ◌%◌, ◌<◌, ◌≤◌, ◌++◌, ℕ, true, take, drop, length, IfOk, IfErr, OnOk};
+ghost use Rattle.limits.specs.declared.TheConstants.{BLOCK_BYTES, LARGEST_FILE};
+ghost use Rattle.disk.specs.Crash.{Image};
+ghost use Rattle.model.specs.Tree.{Tree};
+ghost use Rattle.layout.specs.declared.inode.InodeKind.TheVariants as kinds;
+ghost use Rattle.layout.specs.Decode.{bytes_of, content_of};
+ghost use Rattle.layout.specs.InodeForm.{is_data_block_or_none};
+ghost use Rattle.layout.specs.Parts.{content_in};
+ghost use Rattle.inode.specs.Over.{HasInode, IsOver, IsPause, MayStop, all_bytes};
+
+use crate::map::{block_number, data_block};
+use crate::snap::Snap;
+use crate::stop::Stop;
+use layout::Inode;
+use limits::{BLOCK_BYTES, LARGEST_FILE, TARGET_BYTES};
+use std::alloc::{AllocError, Global};
+
+// Adds a part of these bytes.
+fn add_part(bytes: &[u8], from: usize, len: usize, out: &mut Vec<u8>) -> Result<(), AllocError>
+    requires { from + len ≤ length bytes.now }
+    ensures { OnOk result (out.new.items ≡ out.old.items ++ take len (drop from bytes.now)) }
+{
+    out.extend_from_slice(&bytes[from..from + len])
+}
+
+// Adds a piece of the block of a number: zeros where there is none.
+fn add_piece(
+    snap: &Snap,
+    number: u32,
+    from: usize,
+    len: usize,
+    out: &mut Vec<u8>,
+) -> Result<(), Stop>
+    requires placed { is_data_block_or_none snap.now.geometry number ≡ true }
+    requires within { from + len ≤ BLOCK_BYTES }
+    ensures ok { OnOk result ((blocks : Image) (tree : Tree) → IsOver snap.now blocks tree
+        → out.new.items ≡ out.old.items
+        ++ take len (drop from (content_of (content_in snap.now.geometry blocks) number))) }
+    ensures err { IfErr result (λ stop. MayStop snap.now stop) }
+    ensures pause { IfErr result (λ stop. IsPause stop) }
+{
+    if number == 0 {
+        add_part(&[0; BLOCK_BYTES], from, len, out)?;
+        return Ok(());
+    }
+    let bytes = data_block(snap, number)?;
+    add_part(bytes, from, len, out)?;
+    Ok(())
+}
+
+// How many bytes from a place on lie in its block, before the end.
+fn piece_len(at: u64, end: u64) -> usize
+    requires order { at < end }
+    ensures some { 0 < result }
+    ensures within { at % BLOCK_BYTES + result ≤ BLOCK_BYTES }
+    ensures end { at + result ≤ end }
+{
+    let room = BLOCK_BYTES - (at % BLOCK_BYTES as u64) as usize;
+    if end - at < room as u64 {
+        (end - at) as usize
+    } else {
+        room
+    }
+}
+
+// The bytes of a file's blocks from one place to another.
+fn bytes_between(
+    alloc: Global,
+    snap: &Snap,
+    inode: &Inode,
+    start: u64,
+    end: u64,
+) -> Result<Vec<u8>, Stop>
+    requires order { start ≤ end }
+    requires small { end ≤ LARGEST_FILE }
+    ensures ok { IfOk result (λ bytes. (blocks : Image) (tree : Tree) (file : ℕ)
+        → HasInode snap.now blocks tree file inode.now
+        → bytes.items ≡ take (end - start) (drop start (all_bytes snap.now.geometry blocks inode.now))) }
+    ensures err { IfErr result (λ stop. MayStop snap.now stop) }
+    ensures pause { IfErr result (λ stop. (blocks : Image) (tree : Tree) (file : ℕ)
+        → HasInode snap.now blocks tree file inode.now → IsPause stop) }
+{
+    let mut bytes = Vec::new(alloc);
+    let mut at = start;
+    'pieces: while at < end {
+        let len = piece_len(at, end);
+        let number = block_number(snap, inode, (at / BLOCK_BYTES as u64) as usize)?;
+        let from = (at % BLOCK_BYTES as u64) as usize;
+        add_piece(snap, number, from, len, &mut bytes)?;
+        at += len as u64;
+    }
+    Ok(bytes)
+}
+
+/// The bytes of a regular file from an offset on: as many as are asked for, as far as there are any.
+pub fn piece(
+    alloc: Global,
+    snap: &Snap,
+    inode: &Inode,
+    offset: u64,
+    count: u32,
+) -> Result<Vec<u8>, Stop>
+    ensures ok { IfOk result (λ bytes. (blocks : Image) (tree : Tree) (file : ℕ)
+        → HasInode snap.now blocks tree file inode.now → bytes.items
+        ≡ take count (drop offset (take inode.now.size (all_bytes snap.now.geometry blocks inode.now)))) }
+    ensures err { IfErr result (λ stop. MayStop snap.now stop) }
+    ensures pause { IfErr result (λ stop. (blocks : Image) (tree : Tree) (file : ℕ)
+        → HasInode snap.now blocks tree file inode.now → inode.now.kind ≡ kinds.Regular → IsPause stop) }
+{
+    if inode.size > LARGEST_FILE {
+        return Err(Stop::Io);
+    }
+    if offset >= inode.size {
+        return Ok(Vec::new(alloc));
+    }
+    let rest = inode.size - offset;
+    if rest < count as u64 {
+        bytes_between(alloc, snap, inode, offset, inode.size)
+    } else {
+        bytes_between(alloc, snap, inode, offset, offset + count as u64)
+    }
+}
+
+// The first bytes of the block of a number: zeros where there is none.
+fn first_bytes(alloc: Global, snap: &Snap, number: u32, len: usize) -> Result<Vec<u8>, Stop>
+    requires placed { is_data_block_or_none snap.now.geometry number ≡ true }
+    requires within { len ≤ BLOCK_BYTES }
+    ensures ok { IfOk result (λ bytes. (blocks : Image) (tree : Tree) → IsOver snap.now blocks tree
+        → bytes.items ≡ [] ++ take len (drop 0 (content_of (content_in snap.now.geometry blocks) number))) }
+    ensures err { IfErr result (λ stop. MayStop snap.now stop) }
+    ensures pause { IfErr result (λ stop. IsPause stop) }
+{
+    let mut bytes = Vec::new(alloc);
+    add_piece(snap, number, 0, len, &mut bytes)?;
+    Ok(bytes)
+}
+
+/// The target of a link.
+pub fn target(alloc: Global, snap: &Snap, inode: &Inode) -> Result<Vec<u8>, Stop>
+    ensures ok { IfOk result (λ bytes. (blocks : Image) (tree : Tree) (file : ℕ)
+        → HasInode snap.now blocks tree file inode.now
+        → bytes.items ≡ take inode.now.size (bytes_of (content_in snap.now.geometry blocks)
+        (take 1 inode.now.direct))) }
+    ensures err { IfErr result (λ stop. MayStop snap.now stop) }
+    ensures pause { IfErr result (λ stop. (blocks : Image) (tree : Tree) (file : ℕ)
+        → HasInode snap.now blocks tree file inode.now → inode.now.kind ≡ kinds.Link → IsPause stop) }
+{
+    if inode.size > TARGET_BYTES as u64 {
+        return Err(Stop::Io);
+    }
+    match block_number(snap, inode, 0) {
+        Ok(number) => first_bytes(alloc, snap, number, inode.size as usize),
+        Err(stop) => Err(stop),
+    }
+}

@@ -1,0 +1,85 @@
+//! The inode of a number, and what it shows.
+ghost use Rattle.std.specs.Prelude.{◌≡◌, ◌≤◌, ◌+◌, ℕ, cond, nat_eq, true, false, IfErr, IfOk};
+ghost use Rattle.limits.specs.declared.TheConstants.{FILE_INDEXES, INDIRECT_INDEXES};
+ghost use Rattle.disk.specs.Crash.{Image};
+ghost use Rattle.std.specs.List.{list_all};
+ghost use Rattle.layout.specs.declared.inode.Inode.{Inode};
+ghost use Rattle.layout.specs.Fields.{count_of, numbers_at};
+ghost use Rattle.layout.specs.InodeForm.{is_data_block_or_none};
+ghost use Rattle.layout.specs.Parts.{content_in};
+ghost use Rattle.model.specs.Tree.{Tree};
+ghost use Rattle.inode.specs.Over.{HasInode, IsOver, IsPause, MayStop, are_far_placed};
+ghost use Rattle.inode.specs.Shown.{IsInodeOf, IsShown, body_in, file_kind};
+
+use crate::map::data_block;
+use crate::read::inode_of;
+use crate::snap::Snap;
+use crate::stop::Stop;
+use layout::{Inode, InodeKind, Numbers};
+use nfs_types::FileKind;
+use std::alloc::Global;
+
+/// The kind of file that an inode is of.
+pub fn file_kind(kind: InodeKind) -> FileKind
+    ensures { result ≡ file_kind kind }
+{
+    match kind {
+        InodeKind::Regular => FileKind::Regular,
+        InodeKind::Directory => FileKind::Directory,
+        InodeKind::Link => FileKind::Link,
+    }
+}
+
+/// The inode of a number: None where no file has it.
+pub fn held(snap: &Snap, number: u32) -> Result<Option<Inode>, Stop>
+    ensures ok { IfOk result (λ found. (blocks : Image) (tree : Tree) → IsOver snap.now blocks tree
+        → IsInodeOf snap.now blocks tree number found) }
+    ensures err { IfErr result (λ stop. MayStop snap.now stop) }
+    ensures pause { IfErr result (λ stop. (blocks : Image) (tree : Tree) → IsOver snap.now blocks tree
+        → IsPause stop) }
+{
+    if number >= snap.geometry.inodes {
+        return Ok(None);
+    }
+    inode_of(snap, number)
+}
+
+// How many blocks an indirect block maps, and itself: none where there is none.
+fn far_used(alloc: Global, snap: &Snap, indirect: u32) -> Result<u32, Stop>
+    ensures few { IfOk result (λ used. used ≤ INDIRECT_INDEXES + 1) }
+    ensures ok { IfOk result (λ used. (blocks : Image) (tree : Tree) → IsOver snap.now blocks tree
+        → used ≡ cond (nat_eq indirect 0) 0
+        (count_of (numbers_at INDIRECT_INDEXES 0 (content_in snap.now.geometry blocks indirect)) + 1)) }
+    ensures err { IfErr result (λ stop. MayStop snap.now stop) }
+    ensures pause { IfErr result (λ stop. (blocks : Image) (tree : Tree) → IsOver snap.now blocks tree
+        → is_data_block_or_none snap.now.geometry indirect ≡ true
+        → are_far_placed snap.now.geometry blocks indirect → IsPause stop) }
+{
+    if indirect == 0 {
+        return Ok(0);
+    }
+    if !snap.geometry.is_data(indirect) {
+        return Err(Stop::Io);
+    }
+    let bytes = data_block(snap, indirect)?;
+    match Numbers::read(alloc, &snap.geometry, bytes)? {
+        Ok(numbers) => Ok(numbers.mapped() + 1),
+        Err(_) => Err(Stop::Io),
+    }
+}
+
+/// How many blocks a file uses.
+pub fn used_of(alloc: Global, snap: &Snap, inode: &Inode) -> Result<u32, Stop>
+    ensures few { IfOk result (λ used. used ≤ FILE_INDEXES + 1) }
+    ensures ok { IfOk result (λ used. (blocks : Image) (tree : Tree) (file : ℕ)
+        → HasInode snap.now blocks tree file inode.now
+        → IsShown inode.now used (body_in snap.now.geometry blocks inode.now)) }
+    ensures err { IfErr result (λ stop. MayStop snap.now stop) }
+    ensures pause { IfErr result (λ stop. (blocks : Image) (tree : Tree) (file : ℕ)
+        → HasInode snap.now blocks tree file inode.now → IsPause stop) }
+{
+    match far_used(alloc, snap, inode.indirect) {
+        Ok(far) => Ok(inode.directly_used() + far),
+        Err(stop) => Err(stop),
+    }
+}

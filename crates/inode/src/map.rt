@@ -1,0 +1,91 @@
+//! Where the blocks of a file lie.
+ghost use Rattle.std.specs.Prelude.{◌≡◌, ◌<◌, ℕ, true, length, IfOk, IfErr};
+ghost use Rattle.limits.specs.declared.TheConstants.{BLOCK_BYTES, FILE_INDEXES, INDIRECT_INDEXES};
+ghost use Rattle.disk.specs.Crash.{Image};
+ghost use Rattle.model.specs.Tree.{Tree};
+ghost use Rattle.layout.specs.InodeForm.{is_data_block_or_none};
+ghost use Rattle.layout.specs.Parts.{content_in};
+ghost use Rattle.layout.specs.Places.{is_data};
+ghost use Rattle.inode.specs.Over.{HasInode, IsOver, IsPause, MayStop, far_at, number_at};
+
+use crate::read::bytes_at;
+use crate::snap::Snap;
+use crate::stop::Stop;
+use disk::BlockNo;
+use layout::{Inode, Numbers};
+use limits::DIRECT_INDEXES;
+use objects::Addr;
+
+/// The bytes of a data block, once they were read.
+pub fn data_block(snap: &Snap, number: u32) -> Result<&[u8], Stop>
+    requires { is_data snap.now.geometry number ≡ true }
+    ensures len { IfOk result (λ bytes. length bytes.now ≡ BLOCK_BYTES) }
+    ensures ok { IfOk result (λ bytes. (blocks : Image) (tree : Tree) → IsOver snap.now blocks tree
+        → bytes.now ≡ content_in snap.now.geometry blocks number) }
+    ensures err { IfErr result (λ stop. MayStop snap.now stop) }
+    ensures pause { IfErr result (λ stop. IsPause stop) }
+{
+    bytes_at(snap, Addr::whole(BlockNo(number)))
+}
+
+// The number at an index of an indirect block: 0 where there is none.
+fn far_number(snap: &Snap, indirect: u32, index: usize) -> Result<u32, Stop>
+    requires { index < INDIRECT_INDEXES }
+    ensures ok { IfOk result (λ number. (blocks : Image) (tree : Tree) → IsOver snap.now blocks tree
+        → number ≡ far_at (content_in snap.now.geometry blocks) indirect index) }
+    ensures err { IfErr result (λ stop. MayStop snap.now stop) }
+    ensures pause { IfErr result (λ stop. is_data_block_or_none snap.now.geometry indirect ≡ true → IsPause stop) }
+{
+    if indirect == 0 {
+        return Ok(0);
+    }
+    if !snap.geometry.is_data(indirect) {
+        return Err(Stop::Io);
+    }
+    let bytes = data_block(snap, indirect)?;
+    Ok(Numbers::at(bytes, index))
+}
+
+// The number at an index of a file, as it stands there.
+fn named_number(snap: &Snap, inode: &Inode, index: usize) -> Result<u32, Stop>
+    requires { index < FILE_INDEXES }
+    ensures ok { IfOk result (λ number. (blocks : Image) (tree : Tree) (file : ℕ)
+        → HasInode snap.now blocks tree file inode.now → number ≡ number_at snap.now.geometry blocks inode.now index) }
+    ensures err { IfErr result (λ stop. MayStop snap.now stop) }
+    ensures pause { IfErr result (λ stop. is_data_block_or_none snap.now.geometry inode.now.indirect ≡ true
+        → IsPause stop) }
+{
+    if index < DIRECT_INDEXES {
+        return Ok(inode.direct[index]);
+    }
+    far_number(snap, inode.indirect, index - DIRECT_INDEXES)
+}
+
+// Whether the number is that of a data block, or 0.
+fn is_data_or_none(snap: &Snap, number: u32) -> bool
+    ensures { result ≡ is_data_block_or_none snap.now.geometry number }
+{
+    number == 0 || snap.geometry.is_data(number)
+}
+
+/// The number of the block at an index of a file: 0 where none is mapped.
+pub fn block_number(snap: &Snap, inode: &Inode, index: usize) -> Result<u32, Stop>
+    requires { index < FILE_INDEXES }
+    ensures ok { IfOk result (λ number. (blocks : Image) (tree : Tree) (file : ℕ)
+        → HasInode snap.now blocks tree file inode.now → number ≡ number_at snap.now.geometry blocks inode.now index) }
+    ensures data { IfOk result (λ number. is_data_block_or_none snap.now.geometry number ≡ true) }
+    ensures err { IfErr result (λ stop. MayStop snap.now stop) }
+    ensures pause { IfErr result (λ stop. (blocks : Image) (tree : Tree) (file : ℕ)
+        → HasInode snap.now blocks tree file inode.now → IsPause stop) }
+{
+    match named_number(snap, inode, index) {
+        Ok(number) => {
+            if is_data_or_none(snap, number) {
+                Ok(number)
+            } else {
+                Err(Stop::Io)
+            }
+        }
+        Err(stop) => Err(stop),
+    }
+}
