@@ -1,0 +1,25 @@
+-- What an inode tells of its file.
+use Rattle.std.specs.Prelude.{ℕ, ◌*◌}
+use Rattle.limits.specs.declared.TheConstants.{BLOCK_BYTES}
+use Rattle.files.specs.declared.head.Head.{Head}
+use Rattle.layout.specs.declared.inode.Inode.{Inode}
+use Rattle.inode.specs.Shown.{file_kind}
+
+-- the head of the file of an inode that uses so many blocks
+abbrev pub head_of : ℕ → Inode → ℕ → Head
+head_of number inode used = record {
+  number = number;
+  kind = file_kind inode.kind;
+  mode = inode.mode;
+  uid = inode.uid;
+  gid = inode.gid;
+  nlink = inode.nlink;
+  size = inode.size;
+  used = BLOCK_BYTES * used;
+  parent = inode.parent;
+  atime = inode.atime;
+  mtime = inode.mtime;
+  ctime = inode.ctime;
+  stamp = inode.stamp;
+  verifier = inode.verifier;
+}

@@ -1,0 +1,108 @@
+//! What is in the file of an inode.
+ghost use Rattle.std.specs.Prelude.{◌≡◌, ◌≤◌, Ok, ℕ, min, IfErr, IfOk, IfSome};
+ghost use Rattle.std.specs.Option.{option_map};
+ghost use Rattle.limits.specs.declared.TheConstants.{TRANSFER_BYTES};
+ghost use Rattle.disk.specs.Crash.{Image};
+ghost use Rattle.layout.specs.declared.inode.InodeKind.TheVariants as kinds;
+ghost use Rattle.model.specs.Tree.{Tree};
+ghost use Rattle.procedures.specs.Places.{entry_at};
+ghost use Rattle.procedures.specs.Read.{bytes_of, piece};
+ghost use Rattle.procedures.specs.ReadLink.{target_of};
+ghost use Rattle.files.specs.Heads.{IsNextName, entry_of};
+ghost use Rattle.inode.specs.Over.{HasInode, IsPause, MayStop};
+ghost use Rattle.inode.specs.Shown.{body_in};
+
+use dir::{find, next_name};
+use files::{Entry, SlotName};
+use inode::{Snap, Stop, piece, target};
+use layout::{Inode, InodeKind};
+use limits::TRANSFER_BYTES;
+use nfs_types::Octets;
+use std::alloc::Global;
+
+/// What a name leads to: to nothing, but in a directory.
+pub(crate) fn entry_under(snap: &Snap, inode: &Inode, name: &[u8]) -> Result<Option<Entry>, Stop>
+    ensures ok { IfOk result (λ found. (blocks : Image) (tree : Tree) (file : ℕ)
+        → HasInode snap.now blocks tree file inode.now
+        → option_map entry_of found ≡ entry_at (body_in snap.now.geometry blocks inode.now) name.now) }
+    ensures err { IfErr result (λ stop. MayStop snap.now stop) }
+    ensures pause { IfErr result (λ stop. (blocks : Image) (tree : Tree) (file : ℕ)
+        → HasInode snap.now blocks tree file inode.now → IsPause stop) }
+{
+    match inode.kind {
+        InodeKind::Directory => find(snap, inode, name),
+        InodeKind::Regular => Ok(None),
+        InodeKind::Link => Ok(None),
+    }
+}
+
+/// The first name in a slot or past it: none, but in a directory.
+pub(crate) fn name_from(
+    alloc: Global,
+    snap: &Snap,
+    inode: &Inode,
+    from: u64,
+) -> Result<Option<SlotName>, Stop>
+    ensures ok { IfOk result (λ found. (blocks : Image) (tree : Tree) (file : ℕ)
+        → HasInode snap.now blocks tree file inode.now
+        → IsNextName (body_in snap.now.geometry blocks inode.now) from found) }
+    ensures past { IfOk result (λ found. IfSome found (λ name. from ≤ name.slot)) }
+    ensures err { IfErr result (λ stop. MayStop snap.now stop) }
+    ensures pause { IfErr result (λ stop. (blocks : Image) (tree : Tree) (file : ℕ)
+        → HasInode snap.now blocks tree file inode.now → IsPause stop) }
+{
+    match inode.kind {
+        InodeKind::Directory => next_name(alloc, snap, inode, from),
+        InodeKind::Regular => Ok(None),
+        InodeKind::Link => Ok(None),
+    }
+}
+
+/// A piece of the bytes: none, but of a regular file.
+pub(crate) fn bytes_from(
+    alloc: Global,
+    snap: &Snap,
+    inode: &Inode,
+    offset: u64,
+    count: u32,
+) -> Result<Vec<u8>, Stop>
+    ensures ok { IfOk result (λ bytes. (blocks : Image) (tree : Tree) (file : ℕ)
+        → HasInode snap.now blocks tree file inode.now
+        → bytes.items ≡ piece offset count (bytes_of (body_in snap.now.geometry blocks inode.now))) }
+    ensures err { IfErr result (λ stop. MayStop snap.now stop) }
+    ensures pause { IfErr result (λ stop. (blocks : Image) (tree : Tree) (file : ℕ)
+        → HasInode snap.now blocks tree file inode.now → IsPause stop) }
+{
+    match inode.kind {
+        InodeKind::Regular => piece(alloc, snap, inode, offset, at_most(count)),
+        InodeKind::Directory => Ok(Vec::new(alloc)),
+        InodeKind::Link => Ok(Vec::new(alloc)),
+    }
+}
+
+// So many bytes, as far as one call moves them.
+fn at_most(count: u32) -> u32
+    ensures { result ≡ min count TRANSFER_BYTES }
+{
+    if count < TRANSFER_BYTES {
+        count
+    } else {
+        TRANSFER_BYTES
+    }
+}
+
+/// The target: nothing, but of a link.
+pub(crate) fn target_in(alloc: Global, snap: &Snap, inode: &Inode) -> Result<Vec<u8>, Stop>
+    ensures ok { IfOk result (λ bytes. (blocks : Image) (tree : Tree) (file : ℕ)
+        → HasInode snap.now blocks tree file inode.now → inode.now.kind ≡ kinds.Link
+        → target_of (body_in snap.now.geometry blocks inode.now) ≡ Ok bytes.items) }
+    ensures err { IfErr result (λ stop. MayStop snap.now stop) }
+    ensures pause { IfErr result (λ stop. (blocks : Image) (tree : Tree) (file : ℕ)
+        → HasInode snap.now blocks tree file inode.now → IsPause stop) }
+{
+    match inode.kind {
+        InodeKind::Link => target(alloc, snap, inode),
+        InodeKind::Regular => Ok(Vec::new(alloc)),
+        InodeKind::Directory => Ok(Vec::new(alloc)),
+    }
+}

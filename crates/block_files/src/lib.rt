@@ -1,0 +1,9 @@
+//! The files on the blocks of an image, as far as these were read.
+#![tactic(auto)]
+
+mod asking;
+mod contents;
+mod heads;
+mod space;
+
+pub use asking::BlockFiles;

@@ -1,0 +1,43 @@
+//! How much is free.
+ghost use Rattle.std.specs.Prelude.{◌≡◌, nat_le, IfErr, IfOk};
+ghost use Rattle.disk.specs.Crash.{Image};
+ghost use Rattle.model.specs.Tree.{Tree, free};
+ghost use Rattle.procedures.specs.FsStat.{unused_numbers};
+ghost use Rattle.inode.specs.Over.{IsOver, IsPause, MayStop};
+
+use bitmap::{free_blocks, free_numbers};
+use inode::{Snap, Stop};
+
+/// The data blocks that no file uses.
+pub(crate) fn blocks_left(snap: &Snap) -> Result<u32, Stop>
+    ensures ok { IfOk result (λ left. (blocks : Image) (tree : Tree) → IsOver snap.now blocks tree
+        → left ≡ free tree) }
+    ensures err { IfErr result (λ stop. MayStop snap.now stop) }
+    ensures pause { IfErr result (λ stop. (blocks : Image) (tree : Tree) → IsOver snap.now blocks tree
+        → IsPause stop) }
+{
+    free_blocks(snap)
+}
+
+/// How many numbers no file has.
+pub(crate) fn numbers_left(snap: &Snap) -> Result<u32, Stop>
+    ensures ok { IfOk result (λ left. (blocks : Image) (tree : Tree) → IsOver snap.now blocks tree
+        → left ≡ unused_numbers tree) }
+    ensures err { IfErr result (λ stop. MayStop snap.now stop) }
+    ensures pause { IfErr result (λ stop. (blocks : Image) (tree : Tree) → IsOver snap.now blocks tree
+        → IsPause stop) }
+{
+    free_numbers(snap)
+}
+
+/// Whether so many data blocks are free.
+pub(crate) fn is_room_for(snap: &Snap, wanted: u32) -> Result<bool, Stop>
+    ensures ok { IfOk result (λ is. (blocks : Image) (tree : Tree) → IsOver snap.now blocks tree
+        → is ≡ nat_le wanted (free tree)) }
+    ensures err { IfErr result (λ stop. MayStop snap.now stop) }
+    ensures pause { IfErr result (λ stop. (blocks : Image) (tree : Tree) → IsOver snap.now blocks tree
+        → IsPause stop) }
+{
+    let left = blocks_left(snap)?;
+    Ok(wanted <= left)
+}
