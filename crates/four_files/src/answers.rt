@@ -1,6 +1,6 @@
 //! With which status a call on the tree is answered.
 
-use crate::files::tree;
+use crate::four::tree;
 use nfs_types::{Call, Credential, Ctx, NumberList, Reply, Status};
 use plain_server::PlainTree;
 use plain_steps::answer;

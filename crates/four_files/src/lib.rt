@@ -5,7 +5,7 @@
 
 mod answers;
 mod calls;
-mod files;
+mod four;
 
 pub use answers::{caller, is_answered, is_answered_once};
 pub use calls::{
@@ -13,4 +13,4 @@ pub use calls::{
     list_plus, look_up, make_directory, make_link, make_special, read, read_link, remove,
     remove_directory, rename, set, space, write,
 };
-pub use files::tree;
+pub use four::tree;

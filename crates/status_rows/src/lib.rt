@@ -3,10 +3,10 @@
 #![tactic(auto)]
 
 #[cfg(test)]
-mod files;
-#[cfg(test)]
 mod handles;
 #[cfg(test)]
 mod listings;
 #[cfg(test)]
 mod names;
+#[cfg(test)]
+mod regular;
