@@ -221,7 +221,9 @@ PATHCONF = Procedure("PATHCONF", 20, ASKED,
 COMMIT = Procedure("COMMIT", 21, {**ASKED, "offset": DOUBLE, "count": WORD}, {**CHANGED, "verifier": EIGHT}, CHANGED)
 
 # Those that the program serves, but for SETATTR of more than the mode: the others answer NOTSUPP.
-SERVED = (GETATTR, SETATTR)
+SERVED = (
+    GETATTR, SETATTR, LOOKUP, ACCESS, READLINK, READ, MKNOD, READDIR, READDIRPLUS, FSSTAT, FSINFO, PATHCONF, COMMIT,
+)
 PROCEDURES = {it.number: it for it in list(globals().values()) if isinstance(it, Procedure)}
 
 

@@ -32,26 +32,26 @@ sets_only_mode wanted =
 abbrev pub has_rules : Call → Bool
 has_rules (call.GetAttr _) = true
 has_rules (call.SetAttr _ attributes _) = sets_only_mode attributes
+has_rules (call.Lookup _) = true
+has_rules (call.Access _ _) = true
+has_rules (call.ReadLink _) = true
+has_rules (call.Read _ _ _) = true
+has_rules (call.MkNod _ _) = true
+has_rules (call.ReadDir _ _ _ _) = true
+has_rules (call.ReadDirPlus _ _ _ _ _) = true
+has_rules (call.FsStat _) = true
+has_rules (call.FsInfo _) = true
+has_rules (call.PathConf _) = true
+has_rules (call.Commit _ _ _) = true
 has_rules call.Null = false
-has_rules (call.Lookup _) = false
-has_rules (call.Access _ _) = false
-has_rules (call.ReadLink _) = false
-has_rules (call.Read _ _ _) = false
 has_rules (call.Write _ _ _ _ _) = false
 has_rules (call.Create _ _) = false
 has_rules (call.MkDir _ _) = false
 has_rules (call.SymLink _ _ _) = false
-has_rules (call.MkNod _ _) = false
 has_rules (call.Remove _) = false
 has_rules (call.RmDir _) = false
 has_rules (call.Rename _ _) = false
 has_rules (call.Link _ _) = false
-has_rules (call.ReadDir _ _ _ _) = false
-has_rules (call.ReadDirPlus _ _ _ _ _) = false
-has_rules (call.FsStat _) = false
-has_rules (call.FsInfo _) = false
-has_rules (call.PathConf _) = false
-has_rules (call.Commit _ _ _) = false
 
 -- The reply to a call that isn't served: NOTSUPP, with nothing told of any file. NULL is never refused.
 abbrev pub unsupported : Call → Reply

@@ -3,5 +3,6 @@ pub mod OnlyMode
 pub mod WrittenMode
 pub mod FoundThere
 pub mod StepsOf
+pub mod TellsOf
 pub mod FewAsked
 pub mod RefusedThere

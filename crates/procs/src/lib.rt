@@ -11,6 +11,7 @@ mod refused;
 mod rules;
 mod set_attr;
 mod steps;
+mod telling;
 mod work;
 
 pub use asks::{a_plan_asks_for_few, what_is_read_was_asked_for};

@@ -23,34 +23,34 @@ fn sets_only_mode(wanted: &NewAttributes) -> bool
         && is_unchanged(&wanted.mtime)
 }
 
-/// Whether the call is served so far: GETATTR, and SETATTR of no more than the mode (RFC 1813, sections 3.3.1
-/// and 3.3.2).
+/// Whether the call is served so far: what only tells something, MKNOD, which is refused, and SETATTR of no more
+/// than the mode (RFC 1813, section 3.3).
 pub fn has_rules(call: &Call) -> bool
     ensures { result ≡ has_rules call.now }
 {
     match call {
-        Call::GetAttr { .. } => true,
-        Call::SetAttr { attributes, .. } => sets_only_mode(attributes),
-        Call::Null
+        Call::GetAttr { .. }
         | Call::Lookup { .. }
         | Call::Access { .. }
         | Call::ReadLink { .. }
         | Call::Read { .. }
-        | Call::Write { .. }
-        | Call::Create { .. }
-        | Call::MkDir { .. }
-        | Call::SymLink { .. }
         | Call::MkNod { .. }
-        | Call::Remove { .. }
-        | Call::RmDir { .. }
-        | Call::Rename { .. }
-        | Call::Link { .. }
         | Call::ReadDir { .. }
         | Call::ReadDirPlus { .. }
         | Call::FsStat { .. }
         | Call::FsInfo { .. }
         | Call::PathConf { .. }
-        | Call::Commit { .. } => false,
+        | Call::Commit { .. } => true,
+        Call::SetAttr { attributes, .. } => sets_only_mode(attributes),
+        Call::Null
+        | Call::Write { .. }
+        | Call::Create { .. }
+        | Call::MkDir { .. }
+        | Call::SymLink { .. }
+        | Call::Remove { .. }
+        | Call::RmDir { .. }
+        | Call::Rename { .. }
+        | Call::Link { .. } => false,
     }
 }
 

@@ -26,21 +26,13 @@ use crate::find::find;
 use crate::next::Plan;
 use crate::refused::{UNTOLD, refused_reply};
 use crate::set_attr::{refusal, with_mode};
+use crate::telling::{tell_call, told};
 use inode::{Snap, Stop};
 use nfs_types::{
     Attributes, Call, Ctx, Handle, Moment, NewAttributes, Reply, Status, WeakCacheData,
 };
 use std::alloc::{AllocError, Global};
 use txn::Object;
-
-// What is done without a write.
-fn told(alloc: Global, snap: &Snap, reply: Reply) -> Result<Draft, AllocError>
-    ensures done { IfOk result (λ done. IsDoneFor snap.now done) }
-    ensures reply { IfOk result (λ done. done.reply ≡ reply) }
-    ensures written { IfOk result (λ done. done.written ≡ []) }
-{
-    Draft::new(snap, reply, Vec::new(alloc))
-}
 
 // The attributes of what was found.
 fn outcome_of(found: Result<FoundFile, Status>) -> Result<Attributes, Status>
@@ -159,26 +151,26 @@ fn work(alloc: Global, ctx: &Ctx, call: &Call, snap: &Snap) -> Result<Draft, Sto
             attributes,
             guard,
         } => set_attr(alloc, ctx, snap, object, attributes, guard),
-        Call::Null
-        | Call::Lookup { .. }
+        Call::Lookup { .. }
         | Call::Access { .. }
         | Call::ReadLink { .. }
         | Call::Read { .. }
-        | Call::Write { .. }
-        | Call::Create { .. }
-        | Call::MkDir { .. }
-        | Call::SymLink { .. }
         | Call::MkNod { .. }
-        | Call::Remove { .. }
-        | Call::RmDir { .. }
-        | Call::Rename { .. }
-        | Call::Link { .. }
         | Call::ReadDir { .. }
         | Call::ReadDirPlus { .. }
         | Call::FsStat { .. }
         | Call::FsInfo { .. }
         | Call::PathConf { .. }
-        | Call::Commit { .. } => unreachable!(),
+        | Call::Commit { .. } => tell_call(alloc, ctx, call, snap),
+        Call::Null
+        | Call::Write { .. }
+        | Call::Create { .. }
+        | Call::MkDir { .. }
+        | Call::SymLink { .. }
+        | Call::Remove { .. }
+        | Call::RmDir { .. }
+        | Call::Rename { .. }
+        | Call::Link { .. } => unreachable!(),
     }
 }
 
