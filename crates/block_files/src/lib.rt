@@ -7,3 +7,4 @@ mod heads;
 mod space;
 
 pub use asking::BlockFiles;
+pub use heads::head_of;

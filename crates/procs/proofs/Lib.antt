@@ -1,6 +1,6 @@
 pub mod AskedFor
-pub mod OnlyMode
-pub mod WrittenMode
+pub mod KeepsSize
+pub mod WrittenAttributes
 pub mod FoundThere
 pub mod StepsOf
 pub mod TellsOf

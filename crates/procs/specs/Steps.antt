@@ -4,7 +4,8 @@ use Rattle.nfs_types.specs.declared.attributes.Attributes.{Attributes}
 use Rattle.nfs_types.specs.declared.call.Call.{Call}
 use Rattle.nfs_types.specs.declared.ctx.Ctx.{Ctx}
 use Rattle.model.specs.Attributes.{attributes_of}
-use Rattle.model.specs.Sound.{SoundTime}
+use Rattle.model.specs.Sound.{SoundCtx}
+use Rattle.nfs_types.specs.Fits.{CallFits}
 use Rattle.procedures.specs.Step.{step}
 use Rattle.disk.specs.Crash.{Image}
 use Rattle.nfs_types.specs.declared.attributes.NewAttributes.{NewAttributes}
@@ -59,9 +60,9 @@ IsTold (Err status) (Ok attributes) = ⊥
 
 -- What comes of a call is a step of the sequential server: wherever blocks have what was read and stand for a
 -- tree, the reply is one that the call may get there, and the blocks with what is written stand for the tree
--- that it then leads to.
+-- that it then leads to. So it is for any call and any caller as their types have them.
 abbrev pub IsStepOf : Geometry → Ctx → Call → Outcome → Type 0
-IsStepOf g ctx call done = (blocks : Image) (tree : Tree) → SoundTime ctx.moment → Stands g blocks tree
+IsStepOf g ctx call done = (blocks : Image) (tree : Tree) → SoundCtx ctx → CallFits call → Stands g blocks tree
     → AreAsRead blocks done.read
     → (next : Tree) × step tree ctx call done.reply next
     × Stands g (with_objects blocks done.written) next

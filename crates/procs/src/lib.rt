@@ -20,5 +20,5 @@ pub use inode::Snap;
 pub use next::Plan;
 pub use refused::refused_reply;
 pub use rules::{has_rules, is_answered_stable};
-pub use steps::a_written_mode_is_a_step;
+pub use steps::written_attributes_are_a_step;
 pub use work::plan;

@@ -10,7 +10,7 @@ ghost use Rattle.txn.specs.Object.{ObjectBytes};
 ghost use Rattle.procs.specs.FoundFile.{IsBodyOf};
 ghost use Rattle.procs.specs.Steps.{IsTold, IsStepOf, IsInodeObject};
 ghost use Rattle.inode.specs.Read.{NoneStand};
-ghost use Rattle.model.specs.Calls.{has_rules, sets_only_mode};
+ghost use Rattle.model.specs.Calls.{has_rules, keeps_size};
 ghost use Rattle.procs.specs.Asks.{IsAsked, IsWritable};
 ghost use Rattle.inode.specs.Read.{WasReadInode};
 ghost use Rattle.procs.specs.Finished.{ChangesFew, EndsFrom};
@@ -25,7 +25,7 @@ use crate::draft::Draft;
 use crate::find::find;
 use crate::next::Plan;
 use crate::refused::{UNTOLD, refused_reply};
-use crate::set_attr::{refusal, with_mode};
+use crate::set_attr::{refusal, with_attributes};
 use crate::telling::{tell_call, told};
 use inode::{Snap, Stop};
 use nfs_types::{
@@ -103,7 +103,7 @@ fn changed(
     Draft::new(snap, reply, written)
 }
 
-// SETATTR of the mode (RFC 1813, section 3.3.2).
+// SETATTR but for the size (RFC 1813, section 3.3.2).
 fn set_attr(
     alloc: Global,
     ctx: &Ctx,
@@ -112,7 +112,7 @@ fn set_attr(
     wanted: &NewAttributes,
     guard: &Option<Moment>,
 ) -> Result<Draft, Stop>
-    requires { sets_only_mode wanted.now ≡ true }
+    requires { keeps_size wanted.now ≡ true }
     ensures ok { IfOk result (λ done. EndsFrom snap.now done) }
     ensures step { IfOk result (λ done. IsStepOf snap.now.geometry ctx.now
         (call.SetAttr object.now wanted.now guard.now) done) }
@@ -128,7 +128,7 @@ fn set_attr(
     match refusal(ctx, wanted, guard, &found) {
         Some(status) => Ok(left(alloc, snap, status, found.change_to(&found))?),
         None => {
-            let new = with_mode(ctx.moment, wanted, &found);
+            let new = with_attributes(&ctx.moment, wanted, &found);
             Ok(changed(alloc, snap, &found, &new)?)
         }
     }

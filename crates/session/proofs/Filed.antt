@@ -146,7 +146,7 @@ one stops K moment old files (verdicts.Refused xid refusal) bytes new keeps time
     (untouched stops moment old files (verdicts.Refused xid refusal) bytes opened (λ settled. (refl, refl)))
 one stops K moment old files (verdicts.Call xid credential (calls.Nfs call)) bytes new keeps timely
     opened (inl a) =
-    let has = a.1.answered files.first files.last files.entries keeps timely opened in
+    let has = a.1.answered files.first files.last files.entries keeps (a.1.sound timely) opened in
     record {
       later = filed files has.entry has.last;
       is = λ settled few. inl (

@@ -5,7 +5,8 @@ use Rattle.disk.specs.Crash.{Image, IsCrashImage}
 use Rattle.disk.specs.Device.{Device}
 use Rattle.model.specs.Entry.{Entry}
 use Rattle.procedures.specs.After.{after}
-use Rattle.model.specs.Sound.{SoundTime}
+use Rattle.model.specs.Sound.{SoundCtx}
+use Rattle.nfs_types.specs.Fits.{CallFits}
 use Rattle.model.specs.Tree.{Tree}
 use Rattle.layout.specs.declared.geometry.Geometry.{Geometry}
 use Rattle.layout.specs.Homes.{homes_of}
@@ -73,11 +74,12 @@ outcome_of plan reply = record {
   inodes = plan.inodes;
 }
 
--- An entry tells of this change: its call was made in this boot, at a sound time, and what comes of it is a
--- step of the sequential server, in an image of the change's counts.
+-- An entry tells of this change: its call was made in this boot, and is as its types have it, and what comes of
+-- it is a step of the sequential server, in an image of the change's counts.
 pub record TellsOf (boot : ℕ) (plan : Planned) (entry : Entry) : Type 0 where
   pub boot_is : entry.ctx.boot ≡ boot
-  pub timely : SoundTime entry.ctx.moment
+  pub sound : SoundCtx entry.ctx
+  pub fits : CallFits entry.call
   pub geometry : Geometry
   pub blocks : plan.blocks ≡ geometry.blocks
   pub inodes : plan.inodes ≡ geometry.inodes

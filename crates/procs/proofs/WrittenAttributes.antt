@@ -1,18 +1,15 @@
--- The mode is set in the tree, and the blocks with the new inode stand for that tree.
+-- The attributes are set in the tree, and the blocks with the new inode stand for that tree.
 use Rattle.std.proofs.Common.{◌≡◌, ℕ, sym, ap, ◌∙◌, refl, subst, true, if◌then◌else◌, nat_eq, [], ◌∷◌, Option}
 use Rattle.std.proofs.Common.{Some, None, Ok, IfSome, is_none, Bool, ◌&&◌, ◌<◌, ◌^◌}
 use Rattle.disk.specs.Crash.{Image}
 use Rattle.nfs_types.specs.declared.attributes.NewAttributes.{NewAttributes}
-use Rattle.nfs_types.specs.declared.attributes.SetTime.{SetTime}
-use Rattle.nfs_types.specs.declared.attributes.SetTime.TheVariants.{Unchanged, Server, Client}
 use Rattle.nfs_types.specs.declared.call.Call.TheVariants as call
 use Rattle.nfs_types.specs.declared.ctx.Ctx.{Ctx}
 use Rattle.nfs_types.specs.declared.ctx.Moment.{Moment}
 use Rattle.nfs_types.specs.declared.handle.Handle.{Handle}
 use Rattle.nfs_types.specs.declared.reply.Reply.TheVariants as reply
-use Rattle.nfs_types.specs.Fits.{SetTimeFits}
+use Rattle.nfs_types.specs.Fits.{NewAttributesFit}
 use Rattle.model.specs.Attributes.{change_of}
-use Rattle.model.specs.Calls.{sets_only_mode, is_unchanged}
 use Rattle.model.specs.Find.{find_file}
 use Rattle.model.specs.Node.{Node}
 use Rattle.model.specs.SetAttr.{refusal, with_attributes, SetFound, SetOrLeft}
@@ -34,39 +31,6 @@ use Rattle.txn.specs.Object.{ObjectBytes}
 use Rattle.txn.specs.Window.{with_objects}
 use Rattle.procs.specs.Steps.{IsSetFrom, IsInodeObject}
 
--- ---- a call that sets no more than the mode fits
-
-fits_none : (P : ℕ → Type 0) (o : Option ℕ) → is_none o ≡ true → IfSome o P
-fits_none P None e = tt
-fits_none P (Some x) e = cc
-
-fits_kept : (time : SetTime) → is_unchanged time ≡ true → SetTimeFits time
-fits_kept Unchanged e = tt
-fits_kept Server e = tt
-fits_kept (Client time) e = cc
-
-all_five : (a b c d e : Bool) → (a && b && c && d && e) ≡ true → (a ≡ true) × (b ≡ true) × (d ≡ true)
-    × (e ≡ true)
-all_five true true true true true h = (refl, refl, refl, refl)
-all_five _ _ _ _ _ h = cc
-
-record FitsUnset (wanted : NewAttributes) : Type 0 where
-  uid : IfSome wanted.uid (λ n. n < 2 ^ 32)
-  gid : IfSome wanted.gid (λ n. n < 2 ^ 32)
-  atime : SetTimeFits wanted.atime
-  mtime : SetTimeFits wanted.mtime
-
-fits : (wanted : NewAttributes) → sets_only_mode wanted ≡ true → FitsUnset wanted
-fits wanted only =
-    let five = all_five (is_none wanted.uid) (is_none wanted.gid) (is_none wanted.size)
-    (is_unchanged wanted.atime) (is_unchanged wanted.mtime) only in
-    record {
-      uid = fits_none (λ n. n < 2 ^ 32) wanted.uid five.0;
-      gid = fits_none (λ n. n < 2 ^ 32) wanted.gid five.1;
-      atime = fits_kept wanted.atime five.2;
-      mtime = fits_kept wanted.mtime five.3;
-    }
-
 -- ---- the object is the inode
 
 module _ (g : Geometry) (blocks : Image) (number : ℕ) (inode : Inode) (object : ObjectBytes)
@@ -80,7 +44,7 @@ module _ (g : Geometry) (blocks : Image) (number : ℕ) (inode : Inode) (object 
 module _ (g : Geometry) (blocks : Image) (tree : Tree) (ctx : Ctx) (object : Handle) (wanted : NewAttributes)
     (guard : Option Moment)
     (number : ℕ) (node : Node) (old new : Inode) (written : ObjectBytes)
-    (stands : Stands g blocks tree) (now : SoundTime ctx.moment) (only : sets_only_mode wanted ≡ true)
+    (stands : Stands g blocks tree) (now : SoundTime ctx.moment) (fits : NewAttributesFit wanted)
     (found : find_file tree object.bytes ≡ Ok (number, node)) (passed : refusal ctx wanted guard node ≡ None)
     (read : inode_at g blocks number ≡ Ok (Some old))
     (set : IsSetFrom ctx.moment wanted old new) (is : IsInodeObject g number new written) where
@@ -98,8 +62,7 @@ module _ (g : Geometry) (blocks : Image) (tree : Tree) (ctx : Ctx) (object : Han
 
   good : SoundNode (node_with new node.body)
   good = subst SoundNode (sym new_is)
-      (let unset = fits wanted only in
-      sound_node ctx wanted guard node passed now unset.uid unset.gid unset.atime unset.mtime
+      (sound_node ctx wanted guard node passed now fits.uid fits.gid fits.atime fits.mtime
       (stands.parts.sound.files number node was).itself)
 
   abbrev t : Touch
