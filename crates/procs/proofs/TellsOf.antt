@@ -7,6 +7,7 @@ use Rattle.nfs_types.specs.declared.reply.Reply.{Reply}
 use Rattle.model.specs.Tree.{Tree}
 use Rattle.procedures.specs.Step.{numbered_step}
 use Rattle.procedures.proofs.Numbers.{new_number}
+use Rattle.layout.proofs.Holding.{holds_of}
 use Rattle.inode.specs.declared.snap.Snap.{Snap}
 use Rattle.inode.specs.declared.stop.Stop.{Stop}
 use Rattle.inode.specs.declared.stop.Stop.TheVariants as stop
@@ -30,7 +31,8 @@ told_is_step snap ctx c done told is_done reply_is written_is leads =
     record {
       new = number.new;
       is_new = number.is;
-      leads = leads blocks tree number.new (record { stands = stands; saw = saw });
+      leads = leads blocks tree number.new
+          (record { holds = holds_of snap.geometry blocks tree stands; saw = saw });
     })
 
 -- why it stops
@@ -48,6 +50,6 @@ is_asked snap stop.NoMemory may = tt
 pub none_stand : (snap : Snap) (why : Stop)
     → ((blocks : Image) (tree : Tree) → IsOver snap blocks tree → IsPause why) → NoneStand snap why
 none_stand snap (stop.Need addr) pauses = tt
-none_stand snap stop.Io pauses = λ blocks tree stands saw.
-    pauses blocks tree (record { stands = stands; saw = saw })
+none_stand snap stop.Io pauses = λ blocks tree holds saw.
+    pauses blocks tree (record { holds = holds; saw = saw })
 none_stand snap stop.NoMemory pauses = tt
