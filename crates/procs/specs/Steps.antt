@@ -60,7 +60,7 @@ IsTold (Err status) (Ok attributes) = ⊥
 
 -- What comes of a call is a step of the sequential server: wherever blocks have what was read and stand for a
 -- tree, the reply is one that the call may get there, and the blocks with what is written stand for the tree
--- that it then leads to. So it is for any call and any caller as their types have them.
+-- that it then leads to. So it is for any call that can be spelled.
 abbrev pub IsStepOf : Geometry → Ctx → Call → Outcome → Type 0
 IsStepOf g ctx call done = (blocks : Image) (tree : Tree) → SoundCtx ctx → CallFits call → Stands g blocks tree
     → AreAsRead blocks done.read

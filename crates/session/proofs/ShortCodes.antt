@@ -1,7 +1,8 @@
 -- What is spelled in few bytes, of lengths that four bytes tell: a law for each way to make a code, and the items.
 use Rattle.std.proofs.Common.{◌≡◌, ◌∙◌, ap, ℕ, ◌+◌, ◌-◌, ◌*◌, ◌/◌, ◌%◌, ◌≤◌, Bool, true, false, List, [], ◌∷◌, ◌++◌, length}
 use Rattle.std.proofs.Common.{Option, Some, None, IfSome, Result, Ok, Err, IfOk, arith, length-append, refl}
-use Rattle.std.proofs.Common.{length-replicate, nat_lt, replicate}
+use Rattle.std.proofs.Common.{nat_lt, replicate}
+use Rattle.std.proofs.lemmas.List.{length-replicate}
 use Rattle.std.specs.Prelude.{◌||◌}
 use Rattle.std.proofs.lemmas.Bool.{le-ltb}
 use Rattle.nfs_types.specs.declared.handle.Handle.{Handle}
@@ -86,13 +87,16 @@ opaque-length : (bytes : List ℕ)
 unfolding items.opaque
 opaque-length bytes =
     let zeros : List ℕ = replicate (items.padding (length bytes)) 0 in
+    let are : length ((items.word (length bytes) ++ bytes) ++ zeros)
+    ≡ 4 + (length bytes + items.padding (length bytes)) =
     omega (
       arith,
       word-length (length bytes),
-      length-append (items.word (length bytes)) (bytes ++ zeros),
-      length-append bytes zeros,
+      length-append (items.word (length bytes) ++ bytes) zeros,
+      length-append (items.word (length bytes)) bytes,
       length-replicate {A = ℕ} (items.padding (length bytes)) 0,
-    )
+    ) in
+    are
 
 -- a name, a target or data, with the zeros behind it
 pub texts : (bytes : List ℕ) → length bytes ≤ 4294967295

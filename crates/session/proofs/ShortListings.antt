@@ -1,7 +1,8 @@
 -- What a listing tells is short, as the entries that are given have room together.
 use Rattle.std.proofs.Common.{◌≡◌, ◌∙◌, sym, subst, ap, ℕ, ◌+◌, ◌-◌, ◌*◌, ◌/◌, ◌≤◌, Bool, true, false, List, [], ◌∷◌, ◌++◌}
 use Rattle.std.proofs.Common.{length, map, Option, Some, None, IfSome, Ok, Err, arith, length-append, refl, cond, nat_le}
-use Rattle.std.proofs.Common.{nat_tests, rules}
+use Rattle.std.proofs.Common.{rules}
+use Rattle.std.proofs.lemmas.Bool.Decides.{nat_tests}
 use Rattle.std.specs.Option.{option_map}
 use Rattle.limits.specs.declared.TheConstants.{ENTRY_BYTES, ENTRY_PLUS_BYTES, LISTING_BYTES, LISTING_FRAME}
 use Rattle.nfs_types.specs.Handle.{handle_bytes}
@@ -25,33 +26,32 @@ use Rattle.session.proofs.ShortCodes.{flag-length, thens, verifiers}
 -- ---- entries that have room together
 
 -- the bytes of all of them
-total : (ListedEntry → ℕ) → List ListedEntry → ℕ
+abbrev total : (ListedEntry → ℕ) → List ListedEntry → ℕ
 total cost [] = 0
 total cost (one ∷ others) = cost one + total cost others
 
 -- those that are given have no more than there is room for
 in_room : (cost : ListedEntry → ℕ) (room : ℕ) (left : List ListedEntry) → total cost (fitting cost room left) ≤ room
 in_room cost room [] = omega arith
-in_room cost room (one ∷ others) = by (nat_le (cost one) room) refl
+in_room cost room (one ∷ others) = by (nat_le (cost one) room) refl (in_room cost (room - cost one) others)
   where
     by : (fits : Bool) → nat_le (cost one) room ≡ fits
+        → total cost (fitting cost (room - cost one) others) ≤ room - cost one
         → total cost (cond fits (one ∷ fitting cost (room - cost one) others) []) ≤ room
-    by true is =
-        let less : cost one ≤ room = grind (arith, nat_tests) in
-        let rest = in_room cost (room - cost one) others in
-        omega (arith, less, rest)
-    by false is = omega arith
+    by true is rest = let less : cost one ≤ room = grind (arith, nat_tests) in omega (arith, less, rest)
+    by false is rest = omega arith
 
 -- and no more than all that are left, by whatever room they were chosen
 no_more : (cost chosen : ListedEntry → ℕ) (room : ℕ) (left : List ListedEntry)
     → total cost (fitting chosen room left) ≤ total cost left
 no_more cost chosen room [] = omega arith
-no_more cost chosen room (one ∷ others) = by (nat_le (chosen one) room)
+no_more cost chosen room (one ∷ others) =
+    by (nat_le (chosen one) room) (no_more cost chosen (room - chosen one) others)
   where
-    by : (fits : Bool)
+    by : (fits : Bool) → total cost (fitting chosen (room - chosen one) others) ≤ total cost others
         → total cost (cond fits (one ∷ fitting chosen (room - chosen one) others) []) ≤ total cost (one ∷ others)
-    by true = let rest = no_more cost chosen (room - chosen one) others in omega (arith, rest)
-    by false = omega arith
+    by true rest = omega (arith, rest)
+    by false rest = omega arith
 
 -- each entry is spelled in no more bytes than it is counted with, behind a flag, where these can be counted
 abbrev CostsAsMuch : {E : Type 0} → Code E → (ListedEntry → E) → (ListedEntry → ℕ) → Type 0
@@ -63,9 +63,10 @@ chained : {E : Type 0} (F : Code E) (told : ListedEntry → E) (cost : ListedEnt
     → IsShort (4 + total cost given) (chain F) (map told given)
 chained F told cost as_much [] few = record { short = omega (arith, flag-length false); counts = refl }
 chained F told cost as_much (one ∷ others) few =
-    let of_one = as_much one (omega (arith, few)) in
+    let sum : cost one + total cost others ≤ LISTING_BYTES = few in
+    let of_one = as_much one (omega (arith, sum)) in
     let first = of_one.0 in
-    let behind = chained F told cost as_much others (omega (arith, few)) in
+    let behind = chained F told cost as_much others (omega (arith, sum)) in
     let rest = behind.short in
     record {
       short = omega (

@@ -1,6 +1,6 @@
 -- What a procedure may tell is short: its results in a sound tree, and each refusal.
-use Rattle.std.proofs.Common.{◌≡◌, inl, inr, ℕ, ◌+◌, ◌*◌, ◌/◌, ◌≤◌, Bool, true, false, List, ◌++◌, length, Option, Some}
-use Rattle.std.proofs.Common.{None, min, take, drop, length-take}
+use Rattle.std.proofs.Common.{◌≡◌, inl, inr, ℕ, ◌+◌, ◌*◌, ◌/◌, ◌≤◌, zero, suc, [], ◌∷◌, Bool, true, false, List, ◌++◌, length, map, Option, Some}
+use Rattle.std.proofs.Common.{None, min, take, drop}
 use Rattle.nfs_results.specs.Results.{alone, behind, before}
 use Rattle.std.proofs.Common.{IfOk, Result, Ok, Err, ◌∙◌, arith, length-append, refl, rules, subst, sym, true≢false}
 use Rattle.std.specs.Option.{ok_or, option_map}
@@ -15,11 +15,11 @@ use Rattle.model.specs.Tree.{Tree, node_at}
 use Rattle.model.proofs.Answered.{found-stands}
 use Rattle.procedures.specs.FirstTests.{found_then, unless}
 use Rattle.procedures.specs.Commit as committing
-use Rattle.procedures.specs.Listing.{entry_bytes, entry_room, fitting, is_end, listed_behind}
+use Rattle.procedures.specs.Listing.{entry_bytes, entry_room, fitting, is_end, listed_behind, listing_verifier}
 use Rattle.procedures.specs.Lookup as lookups
 use Rattle.procedures.specs.Read as reads
-use Rattle.procedures.specs.ReadDir.{list, listing_refusal}
-use Rattle.procedures.specs.ReadDirPlus.{fitting_both, list_plus}
+use Rattle.procedures.specs.ReadDir.{listing_refusal}
+use Rattle.procedures.specs.ReadDirPlus.{fitting_both, plus}
 use Rattle.procedures.specs.ReadLink.{target_of}
 use Rattle.procedures.specs.Step.{numbered_step, step}
 use Rattle.procedures.specs.Told.{Effect, answer_of, handle_of}
@@ -31,6 +31,7 @@ use Rattle.nfs_types.specs.declared.call.Call.TheVariants as call
 use Rattle.nfs_types.specs.declared.ctx.Ctx.{Ctx}
 use Rattle.nfs_types.specs.declared.handle.Stamp.{Stamp}
 use Rattle.nfs_types.specs.declared.program.ProgramReply.TheVariants as program_replies
+use Rattle.nfs_types.specs.declared.reply.Created.{Created}
 use Rattle.nfs_types.specs.declared.reply.FileSystemInfo.{FileSystemInfo}
 use Rattle.nfs_types.specs.declared.reply.FileSystemSpace.{FileSystemSpace}
 use Rattle.nfs_types.specs.declared.reply.Looked.{Looked}
@@ -40,6 +41,7 @@ use Rattle.nfs_types.specs.declared.reply.Reply.{Reply}
 use Rattle.nfs_types.specs.declared.reply.Reply.TheVariants as replies
 use Rattle.nfs_types.specs.declared.status.Status.{Status}
 use Rattle.nfs_types.specs.declared.status.Status.TheVariants as status
+use Rattle.nfs_types.specs.declared.verifier.Verifier.{Verifier}
 use Rattle.xdr.specs.Codes.{Code, nothing, word, flag, double, ◌then◌}
 use Rattle.nfs_codec.specs.Items.{attributes, handle, moment, optional_attributes, text, verifier, weak_cache}
 use Rattle.nfs_results.specs.Results.{nfs_result_bytes, nfs_too_long}
@@ -191,8 +193,19 @@ looked_short file =
     (handles one.object (twenty file.0 file.1.stamp)) (attributes_told one.attributes) in
     record { short = all.short; counts = all.counts }
 
+taken_few : (most : ℕ) (bytes : List ℕ) → length (take most bytes) ≤ most
+taken_few zero bytes = omega arith
+taken_few (suc most) [] = omega arith
+taken_few (suc most) (byte ∷ bytes) = let few = taken_few most bytes in omega (arith, few)
+
+least : (a b : ℕ) → min a b ≤ b
+least a b = search rules
+
 piece_few : (offset count : ℕ) (bytes : List ℕ) → length (reads.piece offset count bytes) ≤ TRANSFER_BYTES
-piece_few offset count bytes = search rules
+piece_few offset count bytes =
+    let few = taken_few (min count TRANSFER_BYTES) (drop offset bytes) in
+    let most = least count TRANSFER_BYTES in
+    omega (arith, few, most)
 
 read_short : (offset count : ℕ) (bytes : List ℕ)
     → IsShort 32783 read_bytes (reads.read_bytes offset bytes (reads.piece offset count bytes))
@@ -201,8 +214,8 @@ read_short offset count bytes =
     let given = reads.piece offset count bytes in
     let one = reads.read_bytes offset bytes given in
     let few = piece_few offset count bytes in
-    let data = texts given (omega (arith, few)) in
-    let behind = thens 4 (4 + (length given + 3) / 4 * 4) flag text one.eof given (flags one.eof) data in
+    let given_bytes = texts given (omega (arith, few)) in
+    let behind = thens 4 (4 + (length given + 3) / 4 * 4) flag text one.eof given (flags one.eof) given_bytes in
     let all = thens 4 (4 + (4 + (length given + 3) / 4 * 4)) word (flag then text) one.count (one.eof, given)
     (words one.count) behind in
     let short = all.short in
@@ -276,28 +289,38 @@ module _ (tree : Tree) (ctx : Ctx) (new : Option ℕ) (next : Tree) (sound : Sou
       (attributes_told told)
       (answers (IsShort 32783 read_bytes) outcome _ is.answered
       (of_found (IsShort 32783 read_bytes) tree file.bytes _ (λ number node at.
-      of_unless (IsShort 32783 read_bytes) _ _ (read_short offset count (reads.bytes_of node.body))))))
+      of_unless (IsShort 32783 read_bytes) (reads.read_refusal ctx.credential node)
+      (Ok (reads.read_bytes offset (reads.bytes_of node.body) (reads.piece offset count (reads.bytes_of node.body))))
+      (read_short offset count (reads.bytes_of node.body))))))
   numbered_is_short (call.MkNod name special) (replies.MkNod outcome told) rules is =
       reply_of _ (before_short 0 116 created weak_cache outcome told (omega arith)
       (answers (IsShort 0 created) outcome _ is.answered
       (of_effect (IsShort 0 created) _
-      (of_found (λ one. IsShort 0 created one.answer) tree name.directory.bytes _ (λ number node at. tt))))
+      (of_found (λ (one : Effect Created). IsShort 0 created one.answer) tree name.directory.bytes _ (λ number node at. tt))))
       (changes_told told))
-  numbered_is_short (call.ReadDir directory cookie verifier count) (replies.ReadDir outcome told) rules is =
+  numbered_is_short (call.ReadDir directory cookie sent count) (replies.ReadDir outcome told) rules is =
       reply_of _ (behind_short 88 (LISTING_BYTES + 16) optional_attributes listed outcome told (omega arith)
       (attributes_told told)
       (answers (IsShort (LISTING_BYTES + 16) listed) outcome _ is.answered
       (of_found (IsShort (LISTING_BYTES + 16) listed) tree directory.bytes _ (λ number node at.
-      of_unless (IsShort (LISTING_BYTES + 16) listed) _ _
-      (listing_short count (listed_behind cookie number node.body) _)))))
-  numbered_is_short (call.ReadDirPlus directory cookie verifier names_count count) (replies.ReadDirPlus outcome told)
+      let left = listed_behind cookie number node.body in
+      let given = fitting entry_bytes (entry_room count) left in
+      of_unless (IsShort (LISTING_BYTES + 16) listed)
+      (listing_refusal ctx.credential cookie sent count node left given)
+      (Ok (record { verifier = listing_verifier; entries = given; eof = is_end left given }))
+      (listing_short count left (is_end left given))))))
+  numbered_is_short (call.ReadDirPlus directory cookie sent names_count count) (replies.ReadDirPlus outcome told)
       rules is =
       reply_of _ (behind_short 88 (LISTING_BYTES + 16) optional_attributes listed_plus outcome told (omega arith)
       (attributes_told told)
       (answers (IsShort (LISTING_BYTES + 16) listed_plus) outcome _ is.answered
       (of_found (IsShort (LISTING_BYTES + 16) listed_plus) tree directory.bytes _ (λ number node at.
-      of_unless (IsShort (LISTING_BYTES + 16) listed_plus) _ _
-      (listing_plus_short tree names_count count (listed_behind cookie number node.body) _)))))
+      let left = listed_behind cookie number node.body in
+      let given = fitting_both names_count (entry_room count) left in
+      of_unless (IsShort (LISTING_BYTES + 16) listed_plus)
+      (listing_refusal ctx.credential cookie sent count node left given)
+      (Ok (record { verifier = listing_verifier; entries = map (plus tree) given; eof = is_end left given }))
+      (listing_plus_short tree names_count count left (is_end left given))))))
   numbered_is_short (call.FsStat object) (replies.FsStat outcome told) rules is =
       reply_of _ (behind_short 88 52 optional_attributes space outcome told (omega arith) (attributes_told told)
       (any_outcome 52 space spaces outcome))
@@ -311,8 +334,10 @@ module _ (tree : Tree) (ctx : Ctx) (new : Option ℕ) (next : Tree) (sound : Sou
       reply_of _ (behind_short 116 8 weak_cache verifier outcome told (omega arith) (changes_told told)
       (answers (IsShort 8 verifier) outcome _ is.answered
       (of_effect (IsShort 8 verifier) _
-      (of_found (λ one. IsShort 8 verifier one.answer) tree file.bytes _ (λ number node at.
-      of_unless (λ one. IsShort 8 verifier one.answer) _ _ (boots ctx.boot))))))
+      (of_found (λ (one : Effect Verifier). IsShort 8 verifier one.answer) tree file.bytes _ (λ number node at.
+      of_unless (λ (one : Effect Verifier). IsShort 8 verifier one.answer)
+      (committing.commit_refusal ctx.credential node)
+      (Ok (record { answer = boot_verifier ctx.boot; next = tree })) (boots ctx.boot))))))
   numbered_is_short (call.GetAttr object) _ rules is = absurd is
   numbered_is_short (call.SetAttr object wanted guard) _ rules is = absurd is
   numbered_is_short (call.Lookup name) _ rules is = absurd is

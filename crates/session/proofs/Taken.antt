@@ -1,4 +1,4 @@
--- What is taken for a call is one as its types have it.
+-- What is taken for a call is one that can be spelled.
 use Rattle.std.proofs.Common.{◌≡◌, ◌∙◌, sym, subst, ℕ, ◌<◌, List, inl, inr, arith}
 use Rattle.nfs_types.specs.declared.ctx.Credential.{Credential}
 use Rattle.nfs_types.specs.declared.program.ProgramCall.{ProgramCall}

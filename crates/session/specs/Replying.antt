@@ -29,14 +29,15 @@ abbrev pub IsSpelled : ℕ → ReplyBody → List ℕ → Type 0
 IsSpelled xid body bytes = ((bytes ≡ reply_bytes xid body) × (IsTooLong xid body → ⊥))
     ⊎ (IsTooLong xid body × (bytes ≡ refused xid SystemError))
 
--- who calls, and with what, as their types have it
+-- a caller and a call that can be spelled
 pub record TakesCall (credential : Credential) (call : ProgramCall) : Type 0 where
   pub uid : credential.uid < 2 ^ 32
   pub gid : credential.gid < 2 ^ 32
   pub fits : ProgramCallFits call
 
--- What the procedure of a call comes to, which is one as its types have it where its moment is, and what it makes
--- of the store: nothing is left out, the boot number stays, and where the device keeps its model an open store stays open, with the call's entry more or none.
+-- What the procedure of a call comes to, which can be spelled, and what it makes of the store: nothing is left
+-- out, the boot number stays, and where the device keeps its model an open store stays open, with the call's
+-- entry more or none.
 pub record IsProcedure (keeps_model : Type 0) (old : Opened) (asked : Job) (verdict : Verdict) (new : Opened)
     : Type 0 where
   pub idle : IsIdle new.core

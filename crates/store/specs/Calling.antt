@@ -169,7 +169,7 @@ pub record HasAnswered (o : Outset) (told : Verdict) (now : Opened) : Type 0 whe
   pub goes : GoesTo o.store now
   pub tells : Tells o entry told now
 
--- so it does of any call that is as its types have it, handed to a store that is open with any entries
+-- so it does of any call that can be spelled, handed to a store that is open with any entries
 abbrev pub Answers : Type 0 → Opened → Job → Verdict → Opened → Type 0
 Answers keeps_model old asked told new = (first last : Tree) (entries : List Entry) → keeps_model
     → SoundCall asked.credential asked.moment asked.call → IsOpenWith old first entries last

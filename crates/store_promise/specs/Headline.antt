@@ -98,7 +98,7 @@ pub record KeepsPromise (before later : Device) (tree : Tree) (first workers : â
   pub changes : ChangeTheirOwn later.size events t setting.blocks
 
 -- What a run stands on: the device keeps its model, is at rest, and holds a good image with this tree and this
--- boot number; there is one worker; and the calls that are handed over are as their types have them.
+-- boot number; there is one worker; and the calls that are handed over can be spelled.
 pub record MayRun (keeps_model : Type 0) (before : Device) (tree : Tree) (first workers : â„•)
     (events : Schedule) : Type 0 where
   pub model : keeps_model

@@ -74,8 +74,8 @@ outcome_of plan reply = record {
   inodes = plan.inodes;
 }
 
--- An entry tells of this change: its call was made in this boot, and is as its types have it, and what comes of
--- it is a step of the sequential server, in an image of the change's counts.
+-- An entry tells of this change: its call was made in this boot and can be spelled, and what comes of it is
+-- a step of the sequential server, in an image of the change's counts.
 pub record TellsOf (boot : ℕ) (plan : Planned) (entry : Entry) : Type 0 where
   pub boot_is : entry.ctx.boot ≡ boot
   pub sound : SoundCtx entry.ctx

@@ -41,7 +41,7 @@ use Rattle.store_promise.specs.Progress.{Taken, Wished, addrs_of, is_loaded}
 abbrev pub Schedule : Type 0
 Schedule = List Event
 
--- a call as its types have it: of whom, when, at less than a second of nanoseconds, and with what
+-- a call that can be spelled (RFC 1813, RFC 5531): of whom, when, at less than a second of nanoseconds, and which
 pub record SoundCall (credential : Credential) (moment : Moment) (call : Call) : Type 0 where
   pub uid : credential.uid < 2 ^ 32
   pub gid : credential.gid < 2 ^ 32

@@ -16,7 +16,7 @@ use store_promise::{Event, OpenFault, Run};
 /// and takes these events on it with one worker. The device lets the calls with these numbers fail, counted
 /// from 1. The faults are those of `format`; for want of memory it is refused also where there is none for
 /// the device. What a run stands on can be met so: this one keeps its promise, whatever its events are and
-/// whatever fails, where each call is as its types have it. The moment of the root is below a second, as `format`
+/// whatever fails, where each call can be spelled. The moment of the root is below a second, as `format`
 /// requires.
 pub fn format_and_run(
     alloc: Global,

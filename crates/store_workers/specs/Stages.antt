@@ -83,7 +83,7 @@ abbrev pub entry_at : List Entry → ℕ → Option Entry
 entry_at entries zero = None
 entry_at entries (suc index) = slice_get entries index
 
--- a call was handed over in this boot, as its types have it,
+-- a call that can be spelled was handed over in this boot,
 pub record IsJobOf (boot : ℕ) (job : Job) : Type 0 where
   pub boot_is : job.ctx.boot ≡ boot
   pub counted : job.ctx.boot < 2 ^ 64
