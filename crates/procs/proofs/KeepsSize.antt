@@ -1,5 +1,5 @@
 -- Where no size is given the tests and what is set look at no more of a file than its inode tells.
-use Rattle.std.proofs.Common.{◌≡◌, ◌∙◌, ap, refl, true, Option, Some, None, is_none}
+use Rattle.std.proofs.Common.{◌≡◌, ◌∙◌, ap, refl, ℕ, true, Option, Some, None, is_none}
 use Rattle.nfs_types.specs.declared.attributes.NewAttributes.{NewAttributes}
 use Rattle.nfs_types.specs.declared.ctx.Ctx.{Ctx}
 use Rattle.nfs_types.specs.declared.ctx.Moment.{Moment}
@@ -17,7 +17,7 @@ none_of : {A : Type 0} (o : Option A) → is_none o ≡ true → o ≡ None
 none_of None h = refl
 none_of (Some x) h = cc
 
-module _ (wanted : NewAttributes) (keeps : keeps_size wanted ≡ true) (number used : _) (inode : Inode)
+module _ (wanted : NewAttributes) (keeps : keeps_size wanted ≡ true) (number used : ℕ) (inode : Inode)
     (body : Body) where
   none : wanted.size ≡ None
   none = none_of wanted.size keeps

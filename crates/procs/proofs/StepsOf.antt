@@ -158,7 +158,7 @@ pub stepped : (g : Geometry) (ctx : Ctx) (object : Handle) (wanted : NewAttribut
 stepped g ctx object wanted guard f new done items read_is found passed tells number_is used_is set
     laid = λ blocks tree now fits stands read.
     let is = found blocks tree stands (subst (AreAsRead blocks) read_is read) in
-    let one = written g blocks tree ctx object wanted guard f stands is new done.reply laid.0 now.moment fits.1.0 passed
+    let one = written g blocks tree ctx object wanted guard f stands is new done.reply laid.0 now.moment fits.1 passed
     tells number_is used_is set laid.2 in (
       one.0,
       one.1,
