@@ -1,0 +1,5 @@
+pub mod Added
+pub mod Made
+pub mod MadeDirectories
+pub mod Refused
+pub mod Stops
