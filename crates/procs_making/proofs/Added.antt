@@ -62,7 +62,7 @@ made_there stands middle head target body first fits can then =
 
 -- ---- blocks
 
-no_blocks : cost (Regular [] set.empty) ≡ 0
+pub no_blocks : cost (Regular [] set.empty) ≡ 0
 no_blocks = λ i. set.len-empty nat_cmp i
     + cond (any_items (λ index. nat_le DIRECT_INDEXES index) [] i) 1 0
 

@@ -65,6 +65,15 @@ pub record CanMake (tree : Tree) (at : ℕ) (directory : Node) (name : List ℕ)
   pub verifier_fits : SoundVerifier body verifier
   pub body_sound : SoundBody body
 
+-- The tests of a new name in a directory were passed.
+pub record IsNewName (tree : Tree) (directory : Node) (name : List ℕ) : Type 0 where
+  pub directory_is : is_directory directory.body ≡ true
+  pub lawful : is_no_name name ≡ false
+  pub short : is_long name ≡ false
+  pub not_own : is_own_name name ≡ false
+  pub absent : named_file tree directory name ≡ None
+  pub bytes : AreBytes name
+
 -- A file of this head, with this in it, can be put into the tree.
 pub record CanMakeIn (tree : Tree) (head : Head) (body : Body) : Type 0 where
   pub unused : IsUnused tree head.number
