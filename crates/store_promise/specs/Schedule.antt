@@ -45,7 +45,7 @@ Schedule = List Event
 pub record SoundCall (credential : Credential) (moment : Moment) (call : Call) : Type 0 where
   pub uid : credential.uid < 2 ^ 32
   pub gid : credential.gid < 2 ^ 32
-  pub moment : SoundTime moment
+  pub timely : SoundTime moment
   pub fits : CallFits call
 
 -- so are those that are handed over

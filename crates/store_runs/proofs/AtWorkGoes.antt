@@ -151,7 +151,7 @@ module _ (old new : Side) (boot number : ℕ) (entries : List Committed) where
     sound = record {
       uid = runs.handed.sound.uid;
       gid = runs.handed.sound.gid;
-      moment = runs.handed.sound.moment;
+      moment = runs.handed.sound.timely;
       stamp = record { boot = runs.handed.counted; transaction = runs.counted };
     };
     fits = runs.handed.sound.fits;

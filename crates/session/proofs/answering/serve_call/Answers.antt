@@ -31,7 +31,7 @@ returns-in-Nfs-clause-serves g c =
         sound = λ timely. record {
           uid = c.requires.fits.uid;
           gid = c.requires.fits.gid;
-          moment = timely;
+          timely = timely;
           fits = subst ProgramCallFits c.in-Nfs.is c.requires.fits.fits;
         };
         answered = c.procedure-verdict.ensures.answered;
