@@ -4,4 +4,5 @@ pub mod WrittenMode
 pub mod FoundThere
 pub mod StepsOf
 pub mod FewAsked
+pub mod FewClaimed
 pub mod RefusedThere

@@ -13,7 +13,10 @@ mod set_attr;
 mod steps;
 mod work;
 
-pub use asks::{a_plan_asks_for_few, what_is_read_was_asked_for};
+pub use asks::{
+    a_plan_asks_for_few, a_plan_claims_few, what_is_claimed_was_asked_for,
+    what_is_read_was_asked_for,
+};
 pub use done::Done;
 pub use inode::Snap;
 pub use next::Plan;
