@@ -5,4 +5,5 @@ pub mod FoundThere
 pub mod StepsOf
 pub mod TellsOf
 pub mod FewAsked
+pub mod FewClaimed
 pub mod RefusedThere

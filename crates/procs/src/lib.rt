@@ -14,7 +14,10 @@ mod steps;
 mod telling;
 mod work;
 
-pub use asks::{a_plan_asks_for_few, what_is_read_was_asked_for};
+pub use asks::{
+    a_plan_asks_for_few, a_plan_claims_few, what_is_claimed_was_asked_for,
+    what_is_read_was_asked_for,
+};
 pub use done::Done;
 pub use inode::Snap;
 pub use next::Plan;
