@@ -4,6 +4,8 @@
 mod asking;
 mod contents;
 mod heads;
+mod setting;
 mod space;
 
 pub use asking::BlockFiles;
+pub use setting::set;
