@@ -1,0 +1,4 @@
+pub mod Without
+pub mod Cleared
+pub mod Removed
+pub mod MoreBlocks
