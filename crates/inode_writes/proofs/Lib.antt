@@ -2,3 +2,4 @@ pub mod Without
 pub mod Cleared
 pub mod Removed
 pub mod MoreBlocks
+pub mod Made

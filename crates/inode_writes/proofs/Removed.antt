@@ -63,7 +63,7 @@ none_removed g image tree n holds none = record {
       | inr not ↦ others_there tree n m not
     ]
 
-nothing_else : (content : Image) (numbers : List ℕ) → AllByRecursion (λ b. content b ≡ content b) numbers
+pub nothing_else : (content : Image) (numbers : List ℕ) → AllByRecursion (λ b. content b ≡ content b) numbers
 nothing_else content [] = tt
 nothing_else content (n ∷ numbers) = (refl, nothing_else content numbers)
 
