@@ -19,10 +19,12 @@ use objects::Addr;
 
 const PIECE_BYTES: usize = 512;
 
-const PIECES_PER_BLOCK: u32 = 8;
+pub(crate) const PIECE_BITS: u32 = 4096;
+
+pub(crate) const PIECES_PER_BLOCK: u32 = 8;
 
 // Where a piece of the bitmap lies that begins with this block.
-fn piece_addr(first: u32, piece: u32) -> Addr
+pub(crate) fn piece_addr(first: u32, piece: u32) -> Addr
     requires { first + piece / 8 < 4096 }
     ensures block { result.block.0 ≡ first + piece / 8 }
     ensures offset { result.offset ≡ 512 * (piece % 8) }

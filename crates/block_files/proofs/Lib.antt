@@ -1,2 +1,3 @@
 pub mod Told
 pub mod InFiles
+pub mod SetThere

@@ -4,7 +4,9 @@
 mod asking;
 mod contents;
 mod heads;
+mod setting;
 mod space;
 
 pub use asking::BlockFiles;
 pub use heads::head_of;
+pub use setting::set;

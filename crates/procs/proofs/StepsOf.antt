@@ -47,7 +47,7 @@ pub unwritten : (g : Geometry) (ctx : Ctx) (c : Call) (done : Outcome) (items : 
     → ((blocks : Image) (tree : Tree) → Stands g blocks tree → AreAsRead blocks items
     → step tree ctx c told tree)
     → IsStepOf g ctx c done
-unwritten g ctx c done items told read_is reply_is written_is steps = λ blocks tree now fits stands read. (
+unwritten g ctx c done items told read_is reply_is written_is steps = λ blocks tree sound stands read. (
   tree,
   subst (λ r. step tree ctx c r tree) (sym reply_is)
       (steps blocks tree stands (subst (AreAsRead blocks) read_is read)),
@@ -156,9 +156,9 @@ pub stepped : (g : Geometry) (ctx : Ctx) (object : Handle) (wanted : NewAttribut
     × IsInodeObject g new.number new.inode object_is)
     → IsStepOf g ctx (call.SetAttr object wanted guard) done
 stepped g ctx object wanted guard f new done items read_is found passed tells number_is used_is set
-    laid = λ blocks tree now fits stands read.
+    laid = λ blocks tree sound stands read.
     let is = found blocks tree stands (subst (AreAsRead blocks) read_is read) in
-    let one = written g blocks tree ctx object wanted guard f stands is new done.reply laid.0 now.moment fits.1 passed
+    let one = written g blocks tree ctx object wanted guard f stands is new done.reply laid.0 sound.timely sound.fits.1 passed
     tells number_is used_is set laid.2 in (
       one.0,
       one.1,

@@ -20,7 +20,7 @@ use Rattle.store.specs.Calling.{Answers, asked_of}
 use Rattle.store_images.specs.Opening.{Opened}
 use Rattle.store_images.specs.Settling.{IsIdle}
 use Rattle.store_promise.specs.Progress.{Job}
-use Rattle.store_promise.specs.Schedule.{SoundCall}
+use Rattle.procs.specs.SoundCalls.{SoundCall}
 use Rattle.store_promise.specs.declared.answers.Verdict.{Verdict}
 use Rattle.session.specs.Serving.{reply_for}
 

@@ -1,5 +1,5 @@
 -- A call begins, its read keeps it under way, and so does the settling that it waits for.
-use Rattle.std.proofs.Common.{arith, ◌≡◌, ◌∙◌, refl, sym, ap, subst, true≢false, ℕ, ◌^◌, ◌<◌, ◌≤◌, inl, inr, Bool}
+use Rattle.std.proofs.Common.{arith, ◌≡◌, ◌∙◌, refl, sym, ap, subst, true≢false, ℕ, ◌<◌, ◌≤◌, inl, inr, Bool}
 use Rattle.std.proofs.Common.{true, false}
 use Rattle.std.proofs.Common.{IfSome, Option, Some, None, Result, Ok, Err, is_ok, is_some, length, List, []}
 use Rattle.std.proofs.Common.{◌++◌, option_to_list}
@@ -24,7 +24,7 @@ use Rattle.store_promise.specs.Progress.{Begun, Progress, Stage, At, Idle, Calle
 use Rattle.store_promise.specs.Progress.{Refused, Again}
 use Rattle.store_promise.specs.Progress.{Waiting, is_idle, progressed}
 use Rattle.store_promise.specs.Running.{IsFetchOver, IsRunningOver, at_rest as quiet}
-use Rattle.store_promise.specs.Schedule.{IsStepOfRead, SoundCall}
+use Rattle.store_promise.specs.Schedule.{IsStepOfRead}
 use Rattle.store_promise.specs.declared.answers.CallAnswer.{CallAnswer}
 use Rattle.store_promise.specs.declared.answers.Verdict.{Verdict}
 use Rattle.store_promise.specs.declared.events.Step.{Step}
@@ -68,11 +68,10 @@ abbrev handed_to : Outset → State
 handed_to o = with_call (ctx_of o.asked.credential o.asked.moment o.store.boot) o.asked.call
     (at_rest o.store.boot)
 
-pub begins : (o : Outset) (worker : State) → o.store.boot < 2 ^ 64
-    → SoundCall o.asked.credential o.asked.moment o.asked.call → IsIdle o.store.core
+pub begins : (o : Outset) (worker : State) → SoundCall o.asked.credential o.asked.moment o.asked.call → IsIdle o.store.core
     → worker ≡ handed_to o
     → GoesWith worker o.store.core → IsOpenWith o.store o.first o.entries o.last → IsCalling o o.store worker
-begins o worker counted sound idle is with opened = record {
+begins o worker sound idle is with opened = record {
   entry = None;
   last = o.last;
   base = opened.base;
@@ -88,7 +87,7 @@ begins o worker counted sound idle is with opened = record {
     boot_is = refl;
     entry = refl;
     answer = refl;
-    stands = record { boot_is = refl; counted = counted; sound = sound };
+    stands = record { boot_is = refl; sound = sound };
   });
   at_work = subst (λ (w : State). IsCoreAtWork w o.store.core) (sym is) (record {
     with = subst (λ (w : State). GoesWith w o.store.core) is with;

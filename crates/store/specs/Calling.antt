@@ -20,7 +20,7 @@ use Rattle.wal_law.specs.Log.{settled_place}
 use Rattle.store_promise.specs.History.{ctx_of}
 use Rattle.store_promise.specs.OpenSince.{HasKeptFiles, IsOpenSince, KeepsFiles, LeavesBeginning}
 use Rattle.store_promise.specs.Openings.{IsLater, LeavesImages}
-use Rattle.store_promise.specs.Schedule.{SoundCall}
+use Rattle.procs.specs.SoundCalls.{SoundCall}
 use Rattle.store_promise.specs.Progress.{Begun, Job, Progress, Stage, At, Idle, Called, Planning, Reading, Read}
 use Rattle.store_promise.specs.Progress.{Refused, Again, Waiting, is_idle}
 use Rattle.store_promise.specs.Running.{IsFetchOver}

@@ -5,13 +5,12 @@ use Rattle.disk.specs.Crash.{Image, IsCrashImage}
 use Rattle.disk.specs.Device.{Device}
 use Rattle.model.specs.Entry.{Entry}
 use Rattle.procedures.specs.After.{after}
-use Rattle.model.specs.Sound.{SoundCtx}
-use Rattle.nfs_types.specs.Fits.{CallFits}
 use Rattle.model.specs.Tree.{Tree}
 use Rattle.layout.specs.declared.geometry.Geometry.{Geometry}
 use Rattle.layout.specs.Homes.{homes_of}
 use Rattle.layout.specs.Stands.{Stands}
 use Rattle.nfs_types.specs.declared.reply.Reply.{Reply}
+use Rattle.procs.specs.SoundCalls.{SoundCall}
 use Rattle.procs.specs.Outcome.{Outcome}
 use Rattle.procs.specs.Steps.{IsStepOf}
 use Rattle.wal_law.specs.Calls.{Pending}
@@ -78,8 +77,7 @@ outcome_of plan reply = record {
 -- a step of the sequential server, in an image of the change's counts.
 pub record TellsOf (boot : ℕ) (plan : Planned) (entry : Entry) : Type 0 where
   pub boot_is : entry.ctx.boot ≡ boot
-  pub sound : SoundCtx entry.ctx
-  pub fits : CallFits entry.call
+  pub sound : SoundCall entry.ctx.credential entry.ctx.moment entry.call
   pub geometry : Geometry
   pub blocks : plan.blocks ≡ geometry.blocks
   pub inodes : plan.inodes ≡ geometry.inodes

@@ -9,18 +9,15 @@ use Rattle.objects.specs.declared.addr.Addr.{Addr}
 use Rattle.objects.specs.declared.mode.Mode.{Mode}
 use Rattle.objects.specs.declared.mode.Mode.TheVariants as modes
 use Rattle.nfs_types.specs.declared.call.Call.{Call}
-use Rattle.nfs_types.specs.declared.ctx.Credential.{Credential}
-use Rattle.nfs_types.specs.declared.ctx.Moment.{Moment}
 use Rattle.layout.specs.declared.geometry.Geometry.{Geometry}
 use Rattle.model.specs.Calls.{has_rules}
-use Rattle.model.specs.Sound.{SoundTime}
-use Rattle.nfs_types.specs.Fits.{CallFits}
 use Rattle.procs.specs.Asks.{Asks, Claims}
 use Rattle.inode.specs.Snap.{is_claimed, same_addr}
 use Rattle.txn.specs.Object.{ObjectBytes}
 use Rattle.txn.specs.Window.{object_at}
 use Rattle.txn.specs.declared.outcomes.BeginFault.TheVariants as fault
 use Rattle.wal_law.specs.declared.calls.IoCall.{IoCall}
+use Rattle.procs.specs.SoundCalls.{SoundCall}
 use Rattle.store_promise.specs.declared.events.Committing.{Committing}
 use Rattle.store_promise.specs.declared.events.Committing.TheVariants as committing
 use Rattle.store_promise.specs.declared.events.Ending.TheVariants as ending
@@ -41,14 +38,7 @@ use Rattle.store_promise.specs.Progress.{Taken, Wished, addrs_of, is_loaded}
 abbrev pub Schedule : Type 0
 Schedule = List Event
 
--- a call that can be spelled (RFC 1813, RFC 5531): of whom, when, at less than a second of nanoseconds, and which
-pub record SoundCall (credential : Credential) (moment : Moment) (call : Call) : Type 0 where
-  pub uid : credential.uid < 2 ^ 32
-  pub gid : credential.gid < 2 ^ 32
-  pub timely : SoundTime moment
-  pub fits : CallFits call
-
--- so are those that are handed over
+-- a call that is handed over can be spelled
 abbrev pub SoundEvent : Event → Type 0
 SoundEvent (event.Call worker credential moment call) = SoundCall credential moment call
 SoundEvent (event.Work worker) = Unit {0}

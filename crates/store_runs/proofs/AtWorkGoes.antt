@@ -157,13 +157,7 @@ module _ (old new : Side) (boot number : ℕ) (entries : List Committed) where
       (entry_by number (record { ctx = job.ctx; call = job.call; reply = done.reply }))
   tells job done next same runs = record {
     boot_is = runs.handed.boot_is;
-    sound = record {
-      uid = runs.handed.sound.uid;
-      gid = runs.handed.sound.gid;
-      moment = runs.handed.sound.timely;
-      stamp = record { boot = runs.handed.counted; transaction = runs.counted };
-    };
-    fits = runs.handed.sound.fits;
+    sound = runs.handed.sound;
     geometry = next.snap.geometry;
     blocks = next.plan.0.named.blocks;
     inodes = next.plan.0.named.inodes;

@@ -1,5 +1,5 @@
 -- What is told of a call that is handed to a worker, and of its read.
-use Rattle.std.proofs.Common.{◌≡◌, ◌∙◌, refl, sym, ap, subst, ℕ, ◌^◌, ◌<◌, Bool, Option, Some, None, List}
+use Rattle.std.proofs.Common.{◌≡◌, ◌∙◌, refl, sym, ap, subst, ℕ, Bool, Option, Some, None, List}
 use Rattle.std.specs.Prelude.{IsSomeAnd}
 use Rattle.disk.specs.Device.{Content}
 use Rattle.nfs_types.specs.declared.call.Call.{Call}
@@ -10,7 +10,7 @@ use Rattle.model.specs.Entry.{Entry}
 use Rattle.txn.specs.Fetch.{Fetch}
 use Rattle.store_promise.specs.Progress.{Progress}
 use Rattle.store_promise.specs.Progress as told
-use Rattle.store_promise.specs.Schedule.{IsStepOfCall, IsStepOfRead, SoundCall}
+use Rattle.store_promise.specs.Schedule.{IsStepOfCall, IsStepOfRead}
 use Rattle.store_promise.specs.declared.events.Cause.{Cause}
 use Rattle.store_promise.specs.declared.events.Step.{Step}
 use Rattle.store_promise.specs.declared.events.Step.TheVariants as step
@@ -65,11 +65,11 @@ takes_none boot entries state phase stands busy = by phase stands busy
     by (Waiting place) stands busy = at state.asked.waiting stands.job _ stands.job_is
 
 pub call_told : (boot : ℕ) (entries : List Entry) (credential : Credential) (moment : Moment) (call : Call)
-    (old new : State) (made : Option Step) → old.boot < 2 ^ 64 → SoundCall credential moment call
+    (old new : State) (made : Option Step) → SoundCall credential moment call
     → IsWorkerAt boot entries old
     → TakesCall 0 (ctx_of credential moment old.boot) call old made new
     → TellsCall boot entries (record { credential = credential; moment = moment; call = call }) old made new
-call_told boot entries credential moment call old new (Some made) counted sound at takes = record {
+call_told boot entries credential moment call old new (Some made) sound at takes = record {
   may = subst (λ p. IsStepOfCall (progress_in p old.work.job (begun_of old.begun.tx (seen_in old.work.snap)
       old.asked.fetched) old.asked) (Some made)) (sym takes.2) (ap (λ m. Some m) takes.0);
   progress = ap progress_of takes.3;
@@ -77,10 +77,10 @@ call_told boot entries credential moment call old new (Some made) counted sound 
     boot_is = at.boot_is;
     entry = at.entry;
     answer = at.answer;
-    stands = record { boot_is = at.boot_is; counted = counted; sound = sound };
+    stands = record { boot_is = at.boot_is; sound = sound };
   });
 }
-call_told boot entries credential moment call old new None counted sound at takes = record {
+call_told boot entries credential moment call old new None sound at takes = record {
   may = takes_none boot entries old old.phase at.stands (λ idle. takes.1 (refl, idle));
   progress = ap progress_of takes.0;
   stands = subst (λ s. IsWorkerAt boot entries s) (sym takes.0) at;

@@ -229,7 +229,7 @@ module _ (boot number : ℕ) (entries : List Entry) (old new : Side) (at : IsWor
       so Called (Some (step.Begun (Ok begun))) _ has.worker
       (goes_on Called (step.Begun (Ok begun)) _ (numbered begun job) refl refl at.boot_is at.answer at.entry
       (record {
-        handed = record { boot_is = job_of.boot_is; counted = job_of.counted; sound = job_of.sound };
+        handed = record { boot_is = job_of.boot_is; sound = job_of.sound };
         transaction = refl;
         counted = has.counted;
       }))

@@ -13,7 +13,7 @@ use Rattle.wal_law.specs.declared.outcomes.Seq.{Seq}
 use Rattle.txn.specs.Fetch.{Fetch}
 use Rattle.store_promise.specs.Progress.{Progress, Stage, Taken}
 use Rattle.store_promise.specs.Progress as told
-use Rattle.store_promise.specs.Schedule.{SoundCall}
+use Rattle.procs.specs.SoundCalls.{SoundCall}
 use Rattle.store_workers.specs.Asked.{Asking}
 use Rattle.store_workers.specs.Seen.{Seen, seen_in}
 use Rattle.store_workers.specs.declared.workers.parts.Job.{Job}
@@ -86,7 +86,6 @@ entry_at entries (suc index) = slice_get entries index
 -- a call that can be spelled was handed over in this boot,
 pub record IsJobOf (boot : ℕ) (job : Job) : Type 0 where
   pub boot_is : job.ctx.boot ≡ boot
-  pub counted : job.ctx.boot < 2 ^ 64
   pub sound : SoundCall job.ctx.credential job.ctx.moment job.call
 
 -- and runs in this transaction

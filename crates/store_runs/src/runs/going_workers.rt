@@ -1,5 +1,5 @@
 //! Laws on a run as the code has it: a call that is handed to its worker, and a read of it, leave it going.
-ghost use Rattle.std.specs.Prelude.{ℕ, ◌^◌, ◌<◌, Option};
+ghost use Rattle.std.specs.Prelude.{ℕ, Option};
 ghost use Rattle.disk.specs.Device.{Device};
 ghost use Rattle.nfs_types.specs.declared.call.Call.{Call};
 ghost use Rattle.nfs_types.specs.declared.ctx.Credential.{Credential};
@@ -20,7 +20,7 @@ ghost use Rattle.store_workers.specs.declared.workers.parts.State.{State};
 pub(super) fn a_call_leaves_a_run_going()
     ensures { (b : Beginning) (number : ℕ) (credential : Credential) (moment : Moment) (call : Call)
         (store : StoreSide) (worker new : State) (made : Option Step) (before after : Run)
-        → worker.boot < 2 ^ 64 → IsNextEvent b (event.Call number credential moment call) before
+        → IsNextEvent b (event.Call number credential moment call) before
         → TakesCall number (ctx_of credential moment worker.boot) call worker made new
         → GoesWith new store.core → NotesStep made before after
         → IsGoing b store worker before → IsGoing b store new after }

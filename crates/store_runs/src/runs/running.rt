@@ -5,7 +5,7 @@ ghost use Rattle.model.specs.Entry.{Entry as ToldEntry};
 ghost use Rattle.txn.specs.Core.{CoreState};
 ghost use Rattle.store_promise.specs.Room.{HasRoom};
 ghost use Rattle.store_promise.specs.Running.{IsLogStep};
-ghost use Rattle.store_promise.specs.Schedule.{SoundCall};
+ghost use Rattle.procs.specs.SoundCalls.{SoundCall};
 ghost use Rattle.store_promise.specs.Transcript.{calls_device, entries_of, refusals, transcript_of};
 ghost use Rattle.store_images.specs.LogSide.{MayInstIo, MayInstall, MayLog, MayLogIo};
 ghost use Rattle.store_runs.specs.Going.{KeepsCore, LeavesGoing, run_side};

@@ -1,5 +1,5 @@
 //! Laws on what a worker's steps tell: what they tell is what its state says.
-ghost use Rattle.std.specs.Prelude.{◌≡◌, ℕ, ◌^◌, ◌<◌, Bool, List, Option, Some, None, length};
+ghost use Rattle.std.specs.Prelude.{◌≡◌, ℕ, Bool, List, Option, Some, None, length};
 ghost use Rattle.disk.specs.Device.{Content};
 ghost use Rattle.nfs_types.specs.declared.call.Call.{Call};
 ghost use Rattle.nfs_types.specs.declared.ctx.Credential.{Credential};
@@ -15,7 +15,7 @@ ghost use Rattle.store_workers.specs.WorkerReads.{with_read};
 ghost use Rattle.store_workers.specs.WorkerSteps.{GoesOn, Side};
 ghost use Rattle.store_workers.specs.declared.workers.parts.Phase.TheVariants.{Reading};
 ghost use Rattle.store_workers.specs.declared.workers.parts.State.{State};
-ghost use Rattle.store_promise.specs.Schedule.{SoundCall};
+ghost use Rattle.procs.specs.SoundCalls.{SoundCall};
 ghost use Rattle.store_promise.specs.Transcript.{entries_of, transcript_of};
 ghost use Rattle.store_promise.specs.declared.events.Step.{Step};
 ghost use Rattle.store_promise.specs.declared.events.Step.TheVariants as step;
@@ -40,7 +40,7 @@ pub fn a_run_notes_its_workers_steps()
 /// A worker takes a call where it has none, and then has just that call.
 pub fn a_worker_tells_its_call()
     ensures { (boot : ℕ) (entries : List Entry) (credential : Credential) (moment : Moment) (call : Call)
-        (old new : State) (made : Option Step) → old.boot < 2 ^ 64 → SoundCall credential moment call
+        (old new : State) (made : Option Step) → SoundCall credential moment call
         → IsWorkerAt boot entries old
         → TakesCall 0 (ctx_of credential moment old.boot) call old made new
         → TellsCall boot entries (record { credential = credential; moment = moment; call = call })

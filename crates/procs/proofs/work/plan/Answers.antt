@@ -15,7 +15,7 @@ returns-in-Err-Need-clause-plan c =
     )
 
 pub finish-requires-in-Ok-told-clause-step : goal.finish-requires-in-Ok-told-clause-step
-finish-requires-in-Ok-told-clause-step c = λ blocks tree now fits stands read.
+finish-requires-in-Ok-told-clause-step c = λ blocks tree sound stands read.
     let is : c.in-Err-Io.field-0 ≡ stop.Io = search rules in
     absurd (subst (NoneStand c.args.snap.now) is c.in-Err-Io.ensures.io blocks tree
     (holds_of c.args.snap.now.geometry blocks tree stands)
