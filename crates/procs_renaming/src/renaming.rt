@@ -119,9 +119,11 @@ fn renamed<F: Files>(
         → F.is_pause stop) }
     ensures answer { IfOk result (λ r. r.outcome ≡ outcome) }
     ensures source { IfOk result (λ r. (world : F.World) (tree : Tree) (body : Body)
-        → F.stands files.now world tree → IsBodyOf source.now body → IsToldSince tree source.now body r.source) }
+        → F.stands files.now world tree → IsBodyOf source.now body
+        → IsToldSince tree source.now body r.source) }
     ensures target { IfOk result (λ r. (world : F.World) (tree : Tree) (body : Body)
-        → F.stands files.now world tree → IsBodyOf target.now body → IsToldSince tree target.now body r.target) }
+        → F.stands files.now world tree → IsBodyOf target.now body
+        → IsToldSince tree target.now body r.target) }
 {
     let source = told_of(files, source)?;
     let target = told_of(files, target)?;

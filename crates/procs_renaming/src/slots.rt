@@ -26,8 +26,8 @@ fn slot_of<F: Files>(files: &F, directory: &Head, name: &[u8]) -> Result<Option<
     }
 }
 
-// The slot of a new name: that of the name that it replaces, that of the old name within its directory, or else
-// the least that is free.
+// The slot of a new name: that of the name that it replaces, that of the old name within its directory, or
+// else the least that is free.
 fn new_slot<F: ChangingFiles>(
     files: &F,
     source: &Head,
