@@ -28,10 +28,12 @@ fn set_size<F: ChangingFiles>(
     ensures spent { F.spent files.new ≤ F.spent files.old + 3 }
     ensures pause { IfErr result (λ stop. (world : F.World) (tree : Tree) → F.stands files.old world tree
         → F.is_pause stop) }
-    ensures ok { IfOk result (λ last. (world : F.World) (tree : Tree) (body : Body) → F.stands files.old world tree
-        → IsFileIn tree head.now body → SoundHead tree.geometry.inodes head.now
+    ensures ok { IfOk result (λ last. (world : F.World) (tree : Tree) (body : Body)
+        → F.stands files.old world tree → IsFileIn tree head.now body
+        → SoundHead tree.geometry.inodes head.now
         → (last ≡ headed head.now (with_length size body))
-        × F.stands files.new world (with_node tree head.now.number (node_of head.now (with_length size body)))) }
+        × F.stands files.new world
+        (with_node tree head.now.number (node_of head.now (with_length size body)))) }
 {
     match size {
         Some(size) => files.resize(head, size),
@@ -39,8 +41,8 @@ fn set_size<F: ChangingFiles>(
     }
 }
 
-/// A name in the directory of a number, and under the number to which it leads the new file of this head, with
-/// the size that is given: its head then.
+/// A name in the directory of a number, and under the number to which it leads the new file of this head,
+/// with the size that is given: its head then.
 pub fn add<F: ChangingFiles>(
     alloc: Global,
     files: &mut F,

@@ -1,4 +1,5 @@
-//! What a new file is before its number is known and its attributes are set (RFC 1813, sections 3.3.8 to 3.3.10).
+//! What a new file is before its number is known and its attributes are set (RFC 1813, sections 3.3.8 to
+//! 3.3.10).
 ghost use Rattle.std.specs.Prelude.{◌≡◌, ◌≤◌, ℕ, List, None};
 ghost use Rattle.std.specs.FinMap as map;
 ghost use Rattle.limits.specs.declared.TheConstants.{NEW_DIRECTORY_MODE, NEW_LINK_MODE};
@@ -50,7 +51,8 @@ fn blank_head(ctx: &Ctx, kind: FileKind, mode: u32, verifier: Option<Verifier>, 
 
 /// A directory without names in the directory of this number.
 pub fn blank_directory(ctx: &Ctx, parent: u32) -> Head
-    ensures { (target : List ℕ) → IsFresh ctx.now result target NEW_DIRECTORY_MODE None (Directory map.empty 0 parent) }
+    ensures { (target : List ℕ) → IsFresh ctx.now result target NEW_DIRECTORY_MODE None
+        (Directory map.empty 0 parent) }
 {
     Head {
         parent,

@@ -37,8 +37,8 @@ fn create_new<F: ChangingFiles>(
         → F.stands files.old world tree → IsFileIn tree directory.now inside → Sound tree → SoundCtx ctx.now
         → IsNewName tree (node_of directory.now inside) name.now → CreateHowFits how.now
         → IsMade (F.stands files.new world) tree
-        (λ new. create_new tree ctx.now new directory.now.number (node_of directory.now inside) name.now how.now)
-        r) }
+        (λ new. create_new tree ctx.now new directory.now.number (node_of directory.now inside) name.now
+        how.now) r) }
 {
     match how {
         CreateHow::Unchecked(wanted) => {
@@ -82,7 +82,8 @@ fn create_in<F: ChangingFiles>(
     ensures ok { IfOk result (λ r. (world : F.World) (tree : Tree) (inside : Body)
         → F.stands files.old world tree → IsFileIn tree directory.now inside → Sound tree → SoundCtx ctx.now
         → AreBytes name.now → CreateHowFits how.now → IsMade (F.stands files.new world) tree
-        (λ new. create tree ctx.now name.now how.now new directory.now.number (node_of directory.now inside)) r) }
+        (λ new. create tree ctx.now name.now how.now new directory.now.number
+        (node_of directory.now inside)) r) }
 {
     let found = match sought(files, &ctx.credential, directory, name)? {
         Err(status) => return Ok(Err(status)),

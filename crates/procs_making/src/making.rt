@@ -16,8 +16,8 @@ use procs_changes::slot_with_room;
 use procs_writing::{set_head, set_refusal};
 use std::alloc::Global;
 
-/// A new file, where its attributes may be set so, and there are a number, a slot and the blocks for it. All of
-/// these are asked for before the first change.
+/// A new file, where its attributes may be set so, and there are a number, a slot and the blocks for it. All
+/// of these are asked for before the first change.
 pub fn make<F: ChangingFiles>(
     alloc: Global,
     files: &mut F,
@@ -35,13 +35,15 @@ pub fn make<F: ChangingFiles>(
         (verifier : Option Verifier) (body : Body)
         → F.stands files.old world tree → IsFileIn tree directory.now inside → Sound tree → SoundCtx ctx.now
         → IsFresh ctx.now blank.now target.now mode verifier body
-        → CanMake tree directory.now.number (node_of directory.now inside) name.now wanted.now mode verifier body
+        → CanMake tree directory.now.number (node_of directory.now inside) name.now wanted.now mode verifier
+        body
         → F.is_pause stop) }
     ensures ok { IfOk result (λ r. (world : F.World) (tree : Tree) (inside : Body) (mode : ℕ)
         (verifier : Option Verifier) (body : Body)
         → F.stands files.old world tree → IsFileIn tree directory.now inside → Sound tree → SoundCtx ctx.now
         → IsFresh ctx.now blank.now target.now mode verifier body
-        → CanMake tree directory.now.number (node_of directory.now inside) name.now wanted.now mode verifier body
+        → CanMake tree directory.now.number (node_of directory.now inside) name.now wanted.now mode verifier
+        body
         → IsMade (F.stands files.new world) tree
         (λ new. make tree ctx.now new directory.now.number (node_of directory.now inside) name.now wanted.now
         (fresh ctx.now mode verifier body)) r) }

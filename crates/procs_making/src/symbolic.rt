@@ -53,7 +53,8 @@ fn make_link_in<F: ChangingFiles>(
         → AreBytes name.now → NewAttributesFit wanted.now → AreBytes target.now → F.is_pause stop) }
     ensures ok { IfOk result (λ r. (world : F.World) (tree : Tree) (inside : Body)
         → F.stands files.old world tree → IsFileIn tree directory.now inside → Sound tree → SoundCtx ctx.now
-        → AreBytes name.now → NewAttributesFit wanted.now → AreBytes target.now → IsMade (F.stands files.new world) tree
+        → AreBytes name.now → NewAttributesFit wanted.now → AreBytes target.now
+        → IsMade (F.stands files.new world) tree
         (λ new. make_link tree ctx.now name.now wanted.now target.now new directory.now.number
         (node_of directory.now inside)) r) }
 {
@@ -82,11 +83,13 @@ pub fn make_link<F: ChangingFiles>(
     ensures source { F.source files.new ≡ F.source files.old }
     ensures spent { F.spent files.new ≤ F.spent files.old + 8 }
     ensures pause { IfErr result (λ stop. (world : F.World) (tree : Tree) → F.stands files.old world tree
-        → Sound tree → SoundCtx ctx.now → CallFits (call.SymLink name.now wanted.now target.now) → F.is_pause stop) }
+        → Sound tree → SoundCtx ctx.now → CallFits (call.SymLink name.now wanted.now target.now)
+        → F.is_pause stop) }
     ensures step { IfOk result (λ r. (world : F.World) (tree : Tree) → F.stands files.old world tree
         → Sound tree → SoundCtx ctx.now → CallFits (call.SymLink name.now wanted.now target.now)
         → (new : Option ℕ) × IsNewNumber tree new × (next : Tree)
-        × SymLinkStep tree ctx.now name.now.directory.bytes name.now.name wanted.now target.now new r.outcome r.file next
+        × SymLinkStep tree ctx.now name.now.directory.bytes name.now.name wanted.now target.now new r.outcome
+        r.file next
         × F.stands files.new world next) }
 {
     let directory = match find(files, &name.directory)? {
