@@ -19,6 +19,7 @@ use Rattle.txn_law.specs.Core.{CoreState}
 use Rattle.txn_law.specs.Fetch.{Fetch}
 use Rattle.wal_law.specs.Calls.{Pending, idle as nothing_out}
 use Rattle.wal_law.specs.Log.{settled_place}
+use Rattle.procs.specs.SoundCalls.{SoundCall}
 use Rattle.store_promise.specs.OpenSince.{HasKeptFiles, IsOpenSince, KeepsFiles, LeavesBeginning}
 use Rattle.store_promise.specs.Progress.{Begun, Progress, Stage, At, Idle, Called, Planning, Reading, Read}
 use Rattle.store_promise.specs.Progress.{Refused, Again}

@@ -8,6 +8,7 @@ use Rattle.nfs_types.specs.declared.ctx.Moment.{Moment}
 use Rattle.objects.specs.declared.addr.Addr.{Addr}
 use Rattle.model.specs.Entry.{Entry}
 use Rattle.txn.specs.Fetch.{Fetch}
+use Rattle.procs.specs.SoundCalls.{SoundCall}
 use Rattle.store_promise.specs.Progress.{Progress}
 use Rattle.store_promise.specs.Progress as told
 use Rattle.store_promise.specs.Schedule.{IsStepOfCall, IsStepOfRead}
