@@ -3,9 +3,11 @@
 
 mod asking;
 mod contents;
+mod drafted;
 mod heads;
 mod setting;
 mod space;
 
 pub use asking::BlockFiles;
+pub use drafted::DraftFiles;
 pub use setting::set;
