@@ -174,7 +174,7 @@ module _ (g : Geometry) (image : Image) (inodes : ℕ) (inode : Inode) (head : H
 -- what is in it is what was there, of this parent
 pub same_in : (inodes : ℕ) (content : Image) (inode looks : Inode) (kind : InodeKind)
     → body_of inodes content kind (attributed inode looks)
-        ≡ with_parent looks.parent (body_of inodes content kind inode)
+    ≡ with_parent looks.parent (body_of inodes content kind inode)
 unfolding numbers_of bytes_of slot_bytes named_in
 same_in inodes content inode looks kinds.Regular = refl
 same_in inodes content inode looks kinds.Directory = refl
