@@ -25,12 +25,7 @@ pub(crate) fn told(alloc: Global, snap: &Snap, reply: Reply) -> Result<Draft, Al
 }
 
 /// A call that only tells something, or refuses to make a special file (RFC 1813, section 3.3).
-pub(crate) fn tell_call(
-    alloc: Global,
-    ctx: &Ctx,
-    call: &Call,
-    snap: &Snap,
-) -> Result<Draft, Stop>
+pub(crate) fn tell_call(alloc: Global, ctx: &Ctx, call: &Call, snap: &Snap) -> Result<Draft, Stop>
     requires { tells call.now ≡ true }
     ensures ok { IfOk result (λ done. EndsFrom snap.now done) }
     ensures step { IfOk result (λ done. IsStepOf snap.now.geometry ctx.now call.now done) }
