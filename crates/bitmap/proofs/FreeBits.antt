@@ -25,7 +25,8 @@ use Rattle.layout.specs.Geometry.{bitmap_blocks, data_at, inode_bitmap_at}
 use Rattle.layout.specs.Owners.{is_marked_block, is_marked_inode, is_used, owned, owned_by}
 use Rattle.layout.specs.Parts.{Parts, bit_at, content_in, parts_of}
 use Rattle.layout.specs.Places.{is_data}
-use Rattle.layout.specs.Stands.{Stands, geometry_of}
+use Rattle.layout.specs.Holds.{Holds}
+use Rattle.layout.specs.Stands.{geometry_of}
 use Rattle.inode.proofs.AllTests.{all_two}
 use Rattle.bitmap.specs.Clear.{clear_of}
 use Rattle.bitmap.proofs.Held.{are_data, has_cost}
@@ -87,7 +88,7 @@ no_times n (x ∷ xs) e =
     or_false true b e = cc
     or_false false b e = (refl, e)
 
-module _ (g : Geometry) (blocks : Image) (tree : Tree) (stands : Stands g blocks tree) where
+module _ (g : Geometry) (blocks : Image) (tree : Tree) (holds : Holds g blocks tree) where
   abbrev parts : Parts
   parts = parts_of g blocks
 
@@ -95,7 +96,7 @@ module _ (g : Geometry) (blocks : Image) (tree : Tree) (stands : Stands g blocks
   first_data = data_at g.blocks g.inodes
 
   geometry_is : tree.geometry ≡ geometry_of g
-  geometry_is = stands.parts.geometry
+  geometry_is = holds.parts.geometry
 
   data_are : tree.geometry.data_blocks ≡ g.blocks - first_data
   data_are = ap (λ (one : model.Geometry). one.data_blocks) geometry_is
@@ -104,10 +105,10 @@ module _ (g : Geometry) (blocks : Image) (tree : Tree) (stands : Stands g blocks
   inodes_are = ap (λ (one : model.Geometry). one.inodes) geometry_is
 
   pub data_there : first_data < g.blocks
-  data_there = let some = stands.parts.sound.geometry.blocks in omega (arith, some, data_are)
+  data_there = let room = g.lawful.1.3 in omega (arith, room)
 
   some_inodes : 0 < g.inodes
-  some_inodes = let some = stands.parts.sound.geometry.inodes in omega (arith, some, inodes_are)
+  some_inodes = let some = g.lawful.1.0 in omega (arith, some)
 
   -- ---- what is owned
 
@@ -117,14 +118,14 @@ module _ (g : Geometry) (blocks : Image) (tree : Tree) (stands : Stands g blocks
   -- past the last inode and under 0 there is no file
   no_file : (n : ℕ) → g.inodes ≤ n → node_at tree n ≡ None
   no_file n past =
-      stands.parts.has.files n
+      holds.parts.has.files n
       ∙ ap (λ b. file_of g.inodes (content_in g blocks) (cond b (inode_at g blocks n) (Err Range)))
       (le-ltb n g.inodes past)
 
   owned_data : AllByRecursion (λ b. is_data g b ≡ true) has
   unfolding owned
   owned_data = all_flat (λ b. is_data g b ≡ true) (λ n. owned_by parts.content (parts.table n)) 0 g.inodes
-      (λ n less. are_data g blocks tree stands n (omega (arith, less)) (parts.table n) refl)
+      (λ n less. are_data g blocks tree holds n (omega (arith, less)) (parts.table n) refl)
 
   in_data : (n : ℕ) → is_data g n ≡ true → (first_data ≤ n) × (n < g.blocks)
   in_data n is =
@@ -135,8 +136,8 @@ module _ (g : Geometry) (blocks : Image) (tree : Tree) (stands : Stands g blocks
       → length (owned_by parts.content (parts.table n))
       ≡ part (λ (e : ℕ × Node). cost e.1.body) n (node_at tree n)
   costs n less =
-      has_cost g blocks tree stands n less (parts.table n) refl
-      ∙ ap (λ o. cost_at o) (sym (stands.parts.has.files n)) ∙ as_part (node_at tree n)
+      has_cost g blocks tree holds n less (parts.table n) refl
+      ∙ ap (λ o. cost_at o) (sym (holds.parts.has.files n)) ∙ as_part (node_at tree n)
     where
       as_part : (o : Option Node) → cost_at o ≡ part (λ (e : ℕ × Node). cost e.1.body) n o
       as_part None = refl
@@ -166,7 +167,7 @@ module _ (g : Geometry) (blocks : Image) (tree : Tree) (stands : Stands g blocks
   marked_as : (n : ℕ) → n < block_bits → bit_at blocks FIRST_HOME_BLOCK n ≡ is_marked_block g parts n
   marked_as n less =
       ap (λ b. b && bit_at blocks FIRST_HOME_BLOCK n) (sym (lt-ltb n block_bits less))
-      ∙ stands.parts.marked.blocks_marked n less
+      ∙ holds.parts.marked.blocks_marked n less
 
   abbrev is_had : ℕ → Bool
   is_had n = list_any (λ one. nat_eq one n) has
@@ -189,7 +190,7 @@ module _ (g : Geometry) (blocks : Image) (tree : Tree) (stands : Stands g blocks
   by_tests n false false true is_low is_high is_any =
       let under = leb-false g.blocks n is_high in
       let here = ap one_if (lt-ltb n g.blocks under) in
-      let once = stands.parts.marked.once n in
+      let once = holds.parts.marked.once n in
       let some = some_times n has is_any in
       omega (arith, here, once, some)
   by_tests n false false false is_low is_high is_any =
@@ -235,12 +236,12 @@ module _ (g : Geometry) (blocks : Image) (tree : Tree) (stands : Stands g blocks
       → bit_at blocks (inode_bitmap_at g.blocks) n ≡ is_marked_inode g parts n
   inode_marked_as n less =
       ap (λ b. b && bit_at blocks (inode_bitmap_at g.blocks) n) (sym (lt-ltb n inode_bits less))
-      ∙ stands.parts.marked.inodes_marked n less
+      ∙ holds.parts.marked.inodes_marked n less
 
   -- a file is counted where its inode is used
   counted_as : (n : ℕ) → counted n ≡ one_if (is_used (parts.table n))
   counted_as n =
-      ap (part (λ (e : ℕ × Node). 1) n) (stands.parts.has.files n) ∙ of_table (parts.table n)
+      ap (part (λ (e : ℕ × Node). 1) n) (holds.parts.has.files n) ∙ of_table (parts.table n)
     where
       of_table : (r : Result (Option Inode) LayoutFault)
           → part (λ (e : ℕ × Node). 1) n (file_of g.inodes parts.content r) ≡ one_if (is_used r)
@@ -249,11 +250,7 @@ module _ (g : Geometry) (blocks : Image) (tree : Tree) (stands : Stands g blocks
       of_table (Err fault) = refl
 
   zero_unused : counted 0 ≡ 0
-  zero_unused = of_node (node_at tree 0) refl
-    where
-      of_node : (o : Option Node) → node_at tree 0 ≡ o → part (λ (e : ℕ × Node). 1) 0 o ≡ 0
-      of_node None e = refl
-      of_node (Some node) e = let least = (stands.parts.sound.files 0 node e).least in absurd (omega (arith, least))
+  zero_unused = ap (part (λ (e : ℕ × Node). 1) 0) holds.parts.unnumbered
 
   past_unused : (n : ℕ) → g.inodes ≤ n → counted n ≡ 0
   past_unused n past = ap (part (λ (e : ℕ × Node). 1) n) (no_file n past)

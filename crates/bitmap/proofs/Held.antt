@@ -1,4 +1,4 @@
--- An inode of blocks that stand for a tree has as many blocks as its file costs, and each is a data block.
+-- An inode of blocks that hold the files of a tree has as many blocks as its file costs, and each is a data block.
 use Rattle.std.proofs.Common.{◌≡◌, ℕ, ◌<◌, sym, ap, ◌∙◌, refl, Bool, true, false, cond, not, ◌||◌, ◌&&◌}
 use Rattle.std.proofs.Common.{drop, List, [], ◌∷◌, length, filter, nat_eq, nat_lt, nat_le}
 use Rattle.std.proofs.Common.{min, is_none, Option, Some, None, Result, Ok, Err, arith, ◌%◌, ◌/◌}
@@ -22,7 +22,7 @@ use Rattle.layout.specs.InodeForm.{is_sound_link, is_sound_map, names_first}
 use Rattle.layout.specs.Owners.{owned_by}
 use Rattle.layout.specs.Parts.{content_in, table_of}
 use Rattle.layout.specs.Places.{is_data}
-use Rattle.layout.specs.Stands.{Stands}
+use Rattle.layout.specs.Holds.{Holds}
 use Rattle.layout.proofs.AllNumbers.{all_placed, maps}
 use Rattle.layout.proofs.Mapped.{is_some}
 use Rattle.layout.proofs.Used.{regular_held}
@@ -79,7 +79,7 @@ module _ (g : Geometry) where
       let both = all_two (is_data_block_or_none g n) (list_all (is_data_block_or_none g) numbers) e in
       one_kept (nat_eq n 0) n (filter is_some numbers) both.0 (kept numbers both.1)
 
-module _ (g : Geometry) (blocks : Image) (tree : Tree) (stands : Stands g blocks tree) (n : ℕ)
+module _ (g : Geometry) (blocks : Image) (tree : Tree) (holds : Holds g blocks tree) (n : ℕ)
     (less : n < g.inodes) where
   abbrev content : Image
   content = content_in g blocks
@@ -97,7 +97,7 @@ module _ (g : Geometry) (blocks : Image) (tree : Tree) (stands : Stands g blocks
       let rules = all_five (nat_le 1 i.size) (nat_le i.size TARGET_BYTES) (nat_eq i.parent 0)
       (names_first 1 i.direct) (nat_eq i.indirect 0) (all_two _ (is_none i.verifier) three.2).0 in
       record {
-        numbers = all_placed g content i (is_read g blocks tree n i stands less read)
+        numbers = all_placed g content i (is_read g blocks tree n i holds less read)
             (λ some. let clash : true ≡ false = sym rules.4 ∙ some in cc);
         used = ap (λ b. b || list_any is_some (drop (length i.direct) (numbers_of content i))) rules.4;
       }
@@ -108,9 +108,9 @@ module _ (g : Geometry) (blocks : Image) (tree : Tree) (stands : Stands g blocks
   has_cost (Ok None) e = refl
   has_cost (Ok (Some i)) e =
       let read = read_as (Ok (Some i)) e in
-      let sound = is_read g blocks tree n i stands less read in
-      let good = is_sound g blocks tree n i stands less read in
-      let file = is_of_kind g blocks tree n i stands less read in
+      let sound = is_read g blocks tree n i holds less read in
+      let good = is_sound g blocks tree n i holds less read in
+      let file = is_of_kind g blocks tree n i holds less read in
       has_length g content i sound.fits.count (mapped i read i.kind good file)
       ∙ sym (costs g content i sound.fits.count i.kind good file)
 
@@ -120,9 +120,9 @@ module _ (g : Geometry) (blocks : Image) (tree : Tree) (stands : Stands g blocks
   are_data (Ok None) e = tt
   are_data (Ok (Some i)) e =
       let read = read_as (Ok (Some i)) e in
-      let sound = is_read g blocks tree n i stands less read in
-      let good = is_sound g blocks tree n i stands less read in
-      let file = is_of_kind g blocks tree n i stands less read in
+      let sound = is_read g blocks tree n i holds less read in
+      let good = is_sound g blocks tree n i holds less read in
+      let file = is_of_kind g blocks tree n i holds less read in
       let all = (mapped i read i.kind good file).numbers in
       kept g (i.indirect ∷ numbers_of content i)
       (λ j. (maps g i sound).1 j && all j)

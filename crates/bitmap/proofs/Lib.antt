@@ -6,3 +6,8 @@ pub mod Ones
 pub mod Chunks
 pub mod Asked
 pub mod OfResults
+pub mod OneBit
+pub mod InBlock
+pub mod PutBits
+pub mod MarkParts
+pub mod Clears

@@ -1,2 +1,3 @@
 pub mod Clear
 pub mod Pieces
+pub mod Bits

@@ -1,9 +1,14 @@
-//! The bitmaps of an image: how many blocks are free, and how many numbers no file has.
+//! The bitmaps of an image: how many blocks are free, how many numbers no file has, and one of these; and
+//! their bits, set and cleared.
 #![tactic(auto)]
 
 mod counting;
+mod finding;
 mod laws;
+mod marking;
 mod pieces;
 
 pub use laws::the_clear_bits_are_what_is_free;
+pub use finding::new_number;
+pub use marking::{mark_block, mark_number};
 pub use pieces::{free_blocks, free_numbers};

@@ -3,7 +3,7 @@ ghost use Rattle.std.specs.Prelude.{ℕ, ◌≡◌, ◌+◌, ◌*◌, ◌/◌, �
 ghost use Rattle.limits.specs.declared.TheConstants.{BLOCK_BYTES, FIRST_HOME_BLOCK};
 ghost use Rattle.disk.specs.Crash.{Image};
 ghost use Rattle.layout.specs.Geometry.{bitmap_blocks, inode_bitmap_at, table_at};
-ghost use Rattle.layout.specs.Stands.{Stands};
+ghost use Rattle.layout.specs.Holds.{Holds};
 ghost use Rattle.model.specs.Tree.{Tree, free};
 ghost use Rattle.procedures.specs.FsStat.{unused_numbers};
 ghost use Rattle.inode.specs.Read.{NoneStand, Saw};
@@ -19,10 +19,12 @@ use objects::Addr;
 
 const PIECE_BYTES: usize = 512;
 
-const PIECES_PER_BLOCK: u32 = 8;
+pub(crate) const PIECE_BITS: u32 = 4096;
+
+pub(crate) const PIECES_PER_BLOCK: u32 = 8;
 
 // Where a piece of the bitmap lies that begins with this block.
-fn piece_addr(first: u32, piece: u32) -> Addr
+pub(crate) fn piece_addr(first: u32, piece: u32) -> Addr
     requires { first + piece / 8 < 4096 }
     ensures block { result.block.0 ≡ first + piece / 8 }
     ensures offset { result.offset ≡ 512 * (piece % 8) }
@@ -73,7 +75,7 @@ fn clear_of(snap: &Snap, first: u32, count: u32) -> Result<u32, Stop>
 /// How many data blocks are free.
 pub fn free_blocks(snap: &Snap) -> Result<u32, Stop>
     ensures ok { IfOk result (λ clear. (blocks : Image) (tree : Tree) → Saw blocks snap.now
-        → Stands snap.now.geometry blocks tree → clear ≡ free tree) }
+        → Holds snap.now.geometry blocks tree → clear ≡ free tree) }
     ensures err { IfErr result (λ stop. IsNew snap.now stop) }
     ensures asks { IfErr result (λ stop. IsAskedObject snap.now.geometry stop) }
     ensures io { IfErr result (λ stop. NoneStand snap.now stop) }
@@ -85,7 +87,7 @@ pub fn free_blocks(snap: &Snap) -> Result<u32, Stop>
 /// How many numbers no file has.
 pub fn free_numbers(snap: &Snap) -> Result<u32, Stop>
     ensures ok { IfOk result (λ clear. (blocks : Image) (tree : Tree) → Saw blocks snap.now
-        → Stands snap.now.geometry blocks tree → clear ≡ unused_numbers tree) }
+        → Holds snap.now.geometry blocks tree → clear ≡ unused_numbers tree) }
     ensures err { IfErr result (λ stop. IsNew snap.now stop) }
     ensures asks { IfErr result (λ stop. IsAskedObject snap.now.geometry stop) }
     ensures io { IfErr result (λ stop. NoneStand snap.now stop) }

@@ -1,2 +1,4 @@
 pub mod Told
 pub mod InFiles
+pub mod SetThere
+pub mod Drafts

@@ -1,8 +1,9 @@
 -- What an inode tells of its file.
-use Rattle.std.specs.Prelude.{ℕ, ◌*◌}
-use Rattle.limits.specs.declared.TheConstants.{BLOCK_BYTES}
+use Rattle.std.specs.Prelude.{ℕ, ◌*◌, replicate}
+use Rattle.limits.specs.declared.TheConstants.{BLOCK_BYTES, DIRECT_INDEXES}
 use Rattle.files.specs.declared.head.Head.{Head}
 use Rattle.layout.specs.declared.inode.Inode.{Inode}
+use Rattle.layout.specs.declared.inode.InodeKind.TheVariants.{Regular}
 use Rattle.inode.specs.Shown.{file_kind}
 
 -- the head of the file of an inode that uses so many blocks
@@ -22,4 +23,23 @@ head_of number inode used = record {
   ctime = inode.ctime;
   stamp = inode.stamp;
   verifier = inode.verifier;
+}
+
+-- an inode with the attributes of a head, and no blocks
+abbrev pub looks_of : Head → Inode
+looks_of head = record {
+  kind = Regular;
+  mode = head.mode;
+  uid = head.uid;
+  gid = head.gid;
+  nlink = head.nlink;
+  size = 0;
+  atime = head.atime;
+  mtime = head.mtime;
+  ctime = head.ctime;
+  stamp = head.stamp;
+  parent = head.parent;
+  verifier = head.verifier;
+  direct = replicate DIRECT_INDEXES 0;
+  indirect = 0;
 }

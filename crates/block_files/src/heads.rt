@@ -12,8 +12,8 @@ use layout::Inode;
 use limits::BLOCK_BYTES;
 use std::alloc::Global;
 
-// The head of the file of an inode that uses so many blocks.
-fn head_of(number: u32, inode: &Inode, used: u32) -> Head
+/// The head of the file of an inode that uses so many blocks.
+pub fn head_of(number: u32, inode: &Inode, used: u32) -> Head
     ensures { result ≡ head_of number inode.now used }
 {
     Head {

@@ -3,7 +3,12 @@
 
 mod asking;
 mod contents;
+mod drafted;
 mod heads;
+mod setting;
 mod space;
 
 pub use asking::BlockFiles;
+pub use drafted::DraftFiles;
+pub use heads::head_of;
+pub use setting::set;

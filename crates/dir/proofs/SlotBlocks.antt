@@ -75,11 +75,11 @@ module _ (snap : Snap) (blocks : Image) (tree : Tree) (file : ℕ) (inode : Inod
   pub of_directory : IsDirectory g content inode
   of_directory =
       as_directory g content inode.kind inode is.kind
-      (is_of_kind g blocks tree file inode is.has.over.stands is.has.less is.has.there)
+      (is_of_kind g blocks tree file inode is.has.over.holds is.has.less is.has.there)
 
   pub small : inode.size ≤ LARGEST_DIRECTORY
   small = small_size g inode.kind inode is.kind
-      (is_sound g blocks tree file inode is.has.over.stands is.has.less is.has.there)
+      (is_sound g blocks tree file inode is.has.over.holds is.has.less is.has.there)
 
   count : span_of inode ≤ length numbers
   count =

@@ -1,4 +1,4 @@
--- An indirect block that names what is no data block is in no blocks that stand for a tree.
+-- An indirect block that names what is no data block is in no blocks that hold the files of a tree.
 use Rattle.std.proofs.Common.{◌≡◌, ℕ, ◌<◌, sym, ap, ◌∙◌, Bool, true, false, cond, List, [], ◌∷◌}
 use Rattle.std.proofs.Common.{◌++◌, nat_eq, nat_le, replicate, Some, Ok, is_none}
 use Rattle.std.specs.List.{list_all}
@@ -56,16 +56,16 @@ pub none_name_others : (snap : Snap) (number : ℕ) (inode : Inode) (why : Stop)
     → NamesOthers snap inode.indirect why → NoneStand snap why
 none_name_others snap number inode (stop.Need addr) less there names = tt
 none_name_others snap number inode stop.NoMemory less there names = tt
-none_name_others snap number inode stop.Io less there names = λ blocks tree stands saw.
+none_name_others snap number inode stop.Io less there names = λ blocks tree holds saw.
     let read : inode_at snap.geometry blocks number ≡ Ok (Some inode) = there blocks saw in
     let told = names blocks saw
-    (indirect_long snap.geometry blocks tree number inode stands less read) in
+    (indirect_long snap.geometry blocks tree number inode holds less read) in
     let passed = far_pass snap.geometry (content_in snap.geometry blocks) inode told.0 inode.kind
-    (is_sound snap.geometry blocks tree number inode stands less read)
-    (is_of_kind snap.geometry blocks tree number inode stands less read) in
+    (is_sound snap.geometry blocks tree number inode holds less read)
+    (is_of_kind snap.geometry blocks tree number inode holds less read) in
     let same : list_all (is_data_block_or_none snap.geometry)
     (numbers_at INDIRECT_INDEXES 0 (blocks inode.indirect)) ≡ true =
     ap (λ block. list_all (is_data_block_or_none snap.geometry)
     (numbers_at INDIRECT_INDEXES 0 block))
-    (sym (indirect_is snap.geometry blocks tree number inode stands less read told.0)) ∙ passed in
+    (sym (indirect_is snap.geometry blocks tree number inode holds less read told.0)) ∙ passed in
     let clash : true ≡ false = sym same ∙ told.1 in cc

@@ -1,4 +1,4 @@
--- The inode of a number, and what it shows, in blocks that stand for a tree.
+-- The inode of a number, and what it shows, in blocks that hold the files of a tree.
 use Rattle.std.proofs.Common.{◌≡◌, ℕ, ◌+◌, ◌<◌, ◌≤◌, sym, ap, ◌∙◌, refl, true, false, cond, List}
 use Rattle.std.proofs.Common.{Option, Some, None, Ok, Err, nat_eq, nat_lt, arith}
 use Rattle.std.proofs.lemmas.Bool.{lt-ltb}
@@ -39,7 +39,7 @@ may_stop snap number stop.NoMemory less new asked = tt
 pub pauses : (snap : Snap) (why : Stop) (blocks : Image) (tree : Tree) → NoneStand snap why
     → IsOver snap blocks tree → IsPause why
 pauses snap (stop.Need addr) blocks tree none over = tt
-pauses snap stop.Io blocks tree none over = none blocks tree over.stands over.saw
+pauses snap stop.Io blocks tree none over = none blocks tree over.holds over.saw
 pauses snap stop.NoMemory blocks tree none over = tt
 
 -- ---- the file of a number
@@ -53,7 +53,7 @@ not_below a b past = grind (arith, nat_tests)
 pub none_past : (snap : Snap) (blocks : Image) (tree : Tree) (number : ℕ) → snap.geometry.inodes ≤ number
     → IsOver snap blocks tree → node_at tree number ≡ None
 none_past snap blocks tree number past over =
-    over.stands.parts.has.files number
+    over.holds.parts.has.files number
     ∙ ap (λ b. file_of snap.geometry.inodes (content_in snap.geometry blocks)
     (cond b (inode_at snap.geometry blocks number) (Err Range))) (not_below number snap.geometry.inodes past)
 
@@ -61,7 +61,7 @@ pub there : (snap : Snap) (blocks : Image) (tree : Tree) (number : ℕ) (found :
     → number < snap.geometry.inodes → inode_at snap.geometry blocks number ≡ Ok found → IsOver snap blocks tree
     → node_at tree number ≡ file_of snap.geometry.inodes (content_in snap.geometry blocks) (Ok found)
 there snap blocks tree number found less read over =
-    over.stands.parts.has.files number
+    over.holds.parts.has.files number
     ∙ ap (file_of snap.geometry.inodes (content_in snap.geometry blocks))
     (ap (λ b. cond b (inode_at snap.geometry blocks number) (Err Range)) (below number snap.geometry.inodes less)
     ∙ read)
@@ -109,14 +109,14 @@ module _ (snap : Snap) (blocks : Image) (tree : Tree) (number : ℕ) (one : Inod
   pub far_placed : are_far_placed g blocks one.indirect
   far_placed some =
       far_pass g (content_in g blocks) one some one.kind
-      (is_sound g blocks tree number one has.over.stands has.less has.there)
-      (is_of_kind g blocks tree number one has.over.stands has.less has.there)
+      (is_sound g blocks tree number one has.over.holds has.less has.there)
+      (is_of_kind g blocks tree number one has.over.holds has.less has.there)
 
   pub is_shown : (used : ℕ) → used ≡ counted (content_in g blocks) one
       → IsShown one used (body_in g blocks one)
   is_shown used count =
       has_body g (content_in g blocks) one used
-      (long g blocks tree number one has.over.stands has.less has.there)
-      (is_read g blocks tree number one has.over.stands has.less has.there).fits.count count one.kind refl
-      (is_sound g blocks tree number one has.over.stands has.less has.there)
-      (is_of_kind g blocks tree number one has.over.stands has.less has.there)
+      (long g blocks tree number one has.over.holds has.less has.there)
+      (is_read g blocks tree number one has.over.holds has.less has.there).fits.count count one.kind refl
+      (is_sound g blocks tree number one has.over.holds has.less has.there)
+      (is_of_kind g blocks tree number one has.over.holds has.less has.there)

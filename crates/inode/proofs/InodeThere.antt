@@ -1,5 +1,5 @@
--- What is known of an inode that was read in blocks that stand for a tree, and of its blocks.
-use Rattle.std.proofs.Common.{◌≡◌, ℕ, ◌+◌, ◌-◌, ◌%◌, ◌<◌, sym, ap, ◌∙◌, refl, subst, Bool, true, false, cond}
+-- What is known of an inode that was read in blocks that hold the files of a tree, and of its blocks.
+use Rattle.std.proofs.Common.{◌≡◌, ℕ, ◌+◌, ◌%◌, ◌<◌, sym, ap, ◌∙◌, refl, subst, Bool, true, false, cond}
 use Rattle.std.proofs.Common.{◌||◌, length, take, drop, replicate, nat_eq, nat_le, nat_lt, List, Some, Ok, Err}
 use Rattle.std.proofs.Common.{arith}
 use Rattle.std.specs.List.{list_all}
@@ -8,7 +8,6 @@ use Rattle.limits.specs.declared.TheConstants.{BLOCK_BYTES, INDIRECT_INDEXES, IN
 use Rattle.disk.specs.Crash.{Image}
 use Rattle.nfs_types.specs.Fits.{AreBytes}
 use Rattle.model.specs.Tree.{Tree}
-use Rattle.model.specs.Tree as model
 use Rattle.layout.specs.declared.fault.LayoutFault.TheVariants.{Range}
 use Rattle.layout.specs.declared.geometry.Geometry.{Geometry}
 use Rattle.layout.specs.declared.inode.Inode.{Inode}
@@ -18,7 +17,7 @@ use Rattle.layout.specs.InodeForm.{is_data_block_or_none}
 use Rattle.layout.specs.Geometry.{data_at}
 use Rattle.layout.specs.Places.{inode_block, inode_offset, is_data}
 use Rattle.layout.specs.Parts.{content_in}
-use Rattle.layout.specs.Stands.{Stands}
+use Rattle.layout.specs.Holds.{Holds}
 use Rattle.layout.proofs.AllNumbers.{map_is}
 use Rattle.layout.proofs.Fits.{read_fits, part-length}
 use Rattle.layout.proofs.WrittenBytes.{taken, dropped}
@@ -36,25 +35,17 @@ data_of true is some e = cc
 data_of false is some e = e
 
 module _ (g : Geometry) (blocks : Image) (tree : Tree) (n : ℕ) (inode : Inode)
-    (stands : Stands g blocks tree) (less : n < g.inodes) (read : inode_at g blocks n ≡ Ok (Some inode)) where
-  inodes_are : tree.geometry.inodes ≡ g.inodes
-  inodes_are = ap (λ (one : model.Geometry). one.inodes) stands.parts.geometry
-
+    (holds : Holds g blocks tree) (less : n < g.inodes) (read : inode_at g blocks n ≡ Ok (Some inode)) where
   whole : g.inodes % INODES_PER_BLOCK ≡ 0
-  whole = let is = stands.parts.sound.geometry.whole_blocks in ap (λ k. k % INODES_PER_BLOCK) (sym inodes_are)
-      ∙ is
+  whole = g.lawful.1.2
 
   on_disk : inode_block g n < g.blocks
-  on_disk =
-      let room = stands.parts.sound.geometry.blocks in
-      let are : tree.geometry.data_blocks ≡ g.blocks - data_at g.blocks g.inodes =
-      ap (λ (one : model.Geometry). one.data_blocks) stands.parts.geometry in
-      omega (arith, room, are, less, whole)
+  on_disk = let room = g.lawful.1.3 in omega (arith, room, less, whole)
 
   bytes_there : AreBytes (take INODE_BYTES (drop (inode_offset n) (blocks (inode_block g n))))
   bytes_there =
       part_bytes INODE_BYTES (inode_offset n) (blocks (inode_block g n))
-      (stands.bytes (inode_block g n) on_disk).1
+      (holds.bytes (inode_block g n) on_disk).1
     where
       part_bytes : (len from : ℕ) (bytes : List ℕ) → AreBytes bytes → AreBytes (take len (drop from bytes))
       part_bytes len from bytes are = (taken len (dropped from (record { are = are }))).are
@@ -64,7 +55,7 @@ module _ (g : Geometry) (blocks : Image) (tree : Tree) (n : ℕ) (inode : Inode)
   is_read = read_fits g
       (take INODE_BYTES (drop (inode_offset n) (blocks (inode_block g n)))) bytes_there
       (part-length INODE_BYTES (inode_offset n) (blocks (inode_block g n))
-      (let whole = (stands.bytes (inode_block g n) on_disk).0 in omega (arith, whole))) inode read
+      (let whole = (holds.bytes (inode_block g n) on_disk).0 in omega (arith, whole))) inode read
 
   pub is_sound : is_sound_kind g inode.kind inode ≡ true
   unfolding is_sound_inode
@@ -74,13 +65,13 @@ module _ (g : Geometry) (blocks : Image) (tree : Tree) (n : ℕ) (inode : Inode)
   is_of_kind =
       subst (IsFile g (content_in g blocks))
       (ap (λ b. cond b (inode_at g blocks n) (Err Range)) (lt-ltb n g.inodes less) ∙ read)
-      (stands.parts.has.inodes n less)
+      (holds.parts.has.inodes n less)
 
   -- ---- its blocks
 
   pub long : (number : ℕ) → length (content_in g blocks number) ≡ BLOCK_BYTES
   long number = filled (is_data g number) (blocks number) (λ is.
-      (stands.bytes number (is_less number g.blocks
+      (holds.bytes number (is_less number g.blocks
       (all_two (nat_le (data_at g.blocks g.inodes) number) (nat_lt number g.blocks) is).1)).0)
 
   pub maps : (list_all (is_data_block_or_none g) inode.direct ≡ true)
@@ -100,7 +91,7 @@ module _ (g : Geometry) (blocks : Image) (tree : Tree) (n : ℕ) (inode : Inode)
     where
       by_test : (none : Bool) → nat_eq inode.indirect 0 ≡ none → length (blocks inode.indirect) ≡ BLOCK_BYTES
       by_test true e = let is = same_number inode.indirect 0 e in
-          (stands.bytes inode.indirect (omega (arith, is, on_disk))).0
+          (holds.bytes inode.indirect (omega (arith, is, on_disk))).0
       by_test false e = ap (λ (l : List ℕ). length l) (sym (indirect_is e)) ∙ long inode.indirect
 
   -- the same is counted in its data blocks

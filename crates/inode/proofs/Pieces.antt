@@ -131,10 +131,10 @@ module _ (snap : Snap) (blocks : Image) (tree : Tree) (file : ℕ) (inode : Inod
   content = content_in g blocks
 
   pub direct : length inode.direct ≡ DIRECT_INDEXES
-  direct = (is_read g blocks tree file inode has.over.stands has.less has.there).fits.count
+  direct = (is_read g blocks tree file inode has.over.holds has.less has.there).fits.count
 
   pub long_content : (number : ℕ) → length (content number) ≡ BLOCK_BYTES
-  long_content = long g blocks tree file inode has.over.stands has.less has.there
+  long_content = long g blocks tree file inode has.over.holds has.less has.there
 
   pub next_piece : (number at len : ℕ) → at < LARGEST_FILE → at % BLOCK_BYTES + len ≤ BLOCK_BYTES
       → number ≡ number_at g blocks inode (at / BLOCK_BYTES)
@@ -168,7 +168,7 @@ module _ (snap : Snap) (blocks : Image) (tree : Tree) (file : ℕ) (inode : Inod
 
   pub regular_small : inode.kind ≡ kinds.Regular → inode.size ≤ LARGEST_FILE
   regular_small is =
-      regular_kind inode.kind is (is_sound g blocks tree file inode has.over.stands has.less has.there)
+      regular_kind inode.kind is (is_sound g blocks tree file inode has.over.holds has.less has.there)
 
   link_kind : (kind : InodeKind) → kind ≡ kinds.Link → is_sound_kind g kind inode ≡ true
       → inode.size ≤ TARGET_BYTES
@@ -182,4 +182,4 @@ module _ (snap : Snap) (blocks : Image) (tree : Tree) (file : ℕ) (inode : Inod
   link_kind kinds.Regular is good = cc
 
   pub link_small : inode.kind ≡ kinds.Link → inode.size ≤ TARGET_BYTES
-  link_small is = link_kind inode.kind is (is_sound g blocks tree file inode has.over.stands has.less has.there)
+  link_small is = link_kind inode.kind is (is_sound g blocks tree file inode has.over.holds has.less has.there)

@@ -32,7 +32,7 @@ content_there snap number addr bytes blocks tree placed block offset len over th
     let both = all_two (nat_le (data_at snap.geometry.blocks snap.geometry.inodes) number)
     (nat_lt number snap.geometry.blocks) placed in
     whole_there blocks number addr bytes block offset len there
-    (over.stands.bytes number (is_less number snap.geometry.blocks both.1)).0
+    (over.holds.bytes number (is_less number snap.geometry.blocks both.1)).0
     ∙ sym (ap (λ b. cond b (blocks number) (replicate BLOCK_BYTES 0)) placed)
 
 -- ---- the numbers of a file
@@ -96,15 +96,15 @@ module _ (snap : Snap) (blocks : Image) (tree : Tree) (number : ℕ) (inode : In
   g = snap.geometry
 
   pub indirect_placed : is_data_block_or_none g inode.indirect ≡ true
-  indirect_placed = (maps g blocks tree number inode has.over.stands has.less has.there).1
+  indirect_placed = (maps g blocks tree number inode has.over.holds has.less has.there).1
 
   pub all_placed : list_all (is_data_block_or_none g) (numbers_of (content_in g blocks) inode) ≡ true
   all_placed =
       all.all_placed g (content_in g blocks) inode
-      (is_read g blocks tree number inode has.over.stands has.less has.there)
+      (is_read g blocks tree number inode has.over.holds has.less has.there)
       (λ some. far_pass g (content_in g blocks) inode some inode.kind
-      (is_sound g blocks tree number inode has.over.stands has.less has.there)
-      (is_of_kind g blocks tree number inode has.over.stands has.less has.there))
+      (is_sound g blocks tree number inode has.over.holds has.less has.there)
+      (is_of_kind g blocks tree number inode has.over.holds has.less has.there))
 
   pub placed_at : (index : ℕ) → is_data_block_or_none g (number_at g blocks inode index) ≡ true
   placed_at index = passes_at (is_data_block_or_none g) (numbers_of (content_in g blocks) inode) index refl all_placed

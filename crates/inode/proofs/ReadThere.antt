@@ -1,4 +1,4 @@
--- An inode that was read is the one of the blocks, and one that is refused lies in no blocks that stand for a
+-- An inode that was read is the one of the blocks, and one that is refused lies in no blocks that hold a
 -- tree.
 use Rattle.std.proofs.Common.{◌≡◌, ℕ, ◌<◌, sym, ap, ◌∙◌, subst, cond, List, take, drop, Option, Some, None}
 use Rattle.std.proofs.Common.{IfSome, Ok, Err, ◌+◌, length}
@@ -17,7 +17,7 @@ use Rattle.layout.specs.Decode.{IsFile, inode_at}
 use Rattle.layout.specs.InodeForm.{read_inode}
 use Rattle.layout.specs.Parts.{content_in}
 use Rattle.layout.specs.Places.{inode_block, inode_offset}
-use Rattle.layout.specs.Stands.{Stands}
+use Rattle.layout.specs.Holds.{Holds}
 use Rattle.layout.specs.declared.inode.Inode.{Inode}
 use Rattle.txn.specs.Object.{ObjectBytes}
 use Rattle.txn.specs.Window.{object_at}
@@ -33,11 +33,11 @@ read_there g blocks number addr bytes block offset len there =
     ∙ ap (read_inode g) there
 
 pub no_fault : (g : Geometry) (blocks : Image) (tree : Tree) (number : ℕ) (fault : LayoutFault)
-    → number < g.inodes → Stands g blocks tree → inode_at g blocks number ≡ Err fault → ⊥
-no_fault g blocks tree number fault less stands is =
+    → number < g.inodes → Holds g blocks tree → inode_at g blocks number ≡ Err fault → ⊥
+no_fault g blocks tree number fault less holds is =
     subst (IsFile g (content_in g blocks))
     (ap (λ b. cond b (inode_at g blocks number) (Err Range)) (lt-ltb number g.inodes less)
-    ∙ is) (stands.parts.has.inodes number less)
+    ∙ is) (holds.parts.has.inodes number less)
 
 -- a whole block that was read
 pub whole_there : (blocks : Image) (indirect : ℕ) (addr : Addr) (bytes : List ℕ)

@@ -11,16 +11,16 @@ use Rattle.layout.specs.Fields.{numbers_at}
 use Rattle.layout.specs.InodeForm.{is_data_block_or_none}
 use Rattle.layout.specs.Objects.{IsObject}
 use Rattle.layout.specs.Parts.{content_in}
-use Rattle.layout.specs.Stands.{Stands}
+use Rattle.layout.specs.Holds.{Holds}
 use Rattle.inode.specs.declared.snap.Snap.{Snap}
 use Rattle.inode.specs.declared.stop.Stop.{Stop}
 use Rattle.inode.specs.declared.stop.Stop.TheVariants as stop
 use Rattle.inode.specs.Read.{Saw}
 use Rattle.inode.specs.Snap.{is_seen}
 
--- the blocks stand for the tree and have what was read
+-- the blocks hold the tree's files and have what was read
 pub record IsOver (snap : Snap) (blocks : Image) (tree : Tree) : Type 0 where
-  pub stands : Stands snap.geometry blocks tree
+  pub holds : Holds snap.geometry blocks tree
   pub saw : Saw blocks snap
 
 -- and the number's inode in them is this one

@@ -11,7 +11,7 @@ use Rattle.layout.specs.declared.inode.Inode.{Inode}
 use Rattle.layout.specs.Fields.{numbers_at}
 use Rattle.layout.specs.InodeForm.{is_data_block_or_none, read_inode}
 use Rattle.layout.specs.Places.{inode_block, inode_offset}
-use Rattle.layout.specs.Stands.{Stands}
+use Rattle.layout.specs.Holds.{Holds}
 use Rattle.txn.specs.Object.{ObjectBytes}
 use Rattle.txn.specs.Window.{IsAsRead}
 use Rattle.txn.specs.Wishes.{IsWhole}
@@ -62,9 +62,9 @@ AreAsRead blocks objects = (object : ObjectBytes) → Contains objects object �
 abbrev pub Saw : Image → Snap → Type 0
 Saw blocks snap = AreAsRead blocks snap.objects.items
 
--- the plan failed, which it does for no blocks that stand for a tree
+-- the plan failed, which it does for no blocks that hold the files of a tree
 abbrev pub NoneStand : Snap → Stop → Type 0
-NoneStand snap stop.Io = (blocks : Image) (tree : Tree) → Stands snap.geometry blocks tree → Saw blocks snap
+NoneStand snap stop.Io = (blocks : Image) (tree : Tree) → Holds snap.geometry blocks tree → Saw blocks snap
     → ⊥
 NoneStand snap stop.NoMemory = Unit {0}
 NoneStand snap (stop.Need addr) = Unit {0}

@@ -27,3 +27,4 @@ pub mod OneGeometry
 pub mod Versions
 pub mod AllNumbers
 pub mod OnGrid
+pub mod Holding

@@ -9,6 +9,7 @@ pub mod Objects
 pub mod NumbersForm
 pub mod SlotForm
 pub mod Stands
+pub mod Holds
 pub mod SuperForm
 pub mod Version
 pub mod Fresh

@@ -1,8 +1,6 @@
 -- What is known of a call before it is served (RFC 1813, section 3.3).
-use Rattle.std.specs.Prelude.{Bool, true, false, not, ◌&&◌, is_none}
+use Rattle.std.specs.Prelude.{Bool, true, false, not, is_none}
 use Rattle.nfs_types.specs.declared.attributes.NewAttributes.{NewAttributes}
-use Rattle.nfs_types.specs.declared.attributes.SetTime.{SetTime}
-use Rattle.nfs_types.specs.declared.attributes.SetTime.TheVariants.{Unchanged, Server, Client}
 use Rattle.nfs_types.specs.declared.call.Call.{Call}
 use Rattle.nfs_types.specs.declared.call.Call.TheVariants as call
 use Rattle.nfs_types.specs.declared.call.Stability.{Stability}
@@ -16,42 +14,35 @@ use Rattle.nfs_types.specs.declared.status.Status.TheVariants as status
 use Rattle.model.specs.Mount.{mount_reply}
 use Rattle.model.specs.Refused.{refused}
 
-abbrev pub is_unchanged : SetTime → Bool
-is_unchanged Unchanged = true
-is_unchanged Server = false
-is_unchanged (Client time) = false
-
--- no attribute but the mode is given
-abbrev pub sets_only_mode : NewAttributes → Bool
-sets_only_mode wanted =
-    is_none wanted.uid && is_none wanted.gid && is_none wanted.size && is_unchanged wanted.atime
-    && is_unchanged wanted.mtime
+-- no size is given
+abbrev pub keeps_size : NewAttributes → Bool
+keeps_size wanted = is_none wanted.size
 
 -- The calls that are served so far: each begins a transaction of its own. NULL has no rules, as it does
 -- nothing.
 abbrev pub has_rules : Call → Bool
 has_rules (call.GetAttr _) = true
-has_rules (call.SetAttr _ attributes _) = sets_only_mode attributes
+has_rules (call.SetAttr _ attributes _) = keeps_size attributes
+has_rules (call.Lookup _) = true
+has_rules (call.Access _ _) = true
+has_rules (call.ReadLink _) = true
+has_rules (call.Read _ _ _) = true
+has_rules (call.MkNod _ _) = true
+has_rules (call.ReadDir _ _ _ _) = true
+has_rules (call.ReadDirPlus _ _ _ _ _) = true
+has_rules (call.FsStat _) = true
+has_rules (call.FsInfo _) = true
+has_rules (call.PathConf _) = true
+has_rules (call.Commit _ _ _) = true
 has_rules call.Null = false
-has_rules (call.Lookup _) = false
-has_rules (call.Access _ _) = false
-has_rules (call.ReadLink _) = false
-has_rules (call.Read _ _ _) = false
 has_rules (call.Write _ _ _ _ _) = false
 has_rules (call.Create _ _) = false
 has_rules (call.MkDir _ _) = false
 has_rules (call.SymLink _ _ _) = false
-has_rules (call.MkNod _ _) = false
 has_rules (call.Remove _) = false
 has_rules (call.RmDir _) = false
 has_rules (call.Rename _ _) = false
 has_rules (call.Link _ _) = false
-has_rules (call.ReadDir _ _ _ _) = false
-has_rules (call.ReadDirPlus _ _ _ _ _) = false
-has_rules (call.FsStat _) = false
-has_rules (call.FsInfo _) = false
-has_rules (call.PathConf _) = false
-has_rules (call.Commit _ _ _) = false
 
 -- The reply to a call that isn't served: NOTSUPP, with nothing told of any file. NULL is never refused.
 abbrev pub unsupported : Call → Reply

@@ -23,11 +23,11 @@ some_same a b same = cc
 -- ---- one more that is read
 
 -- what each object is, by those before it, it is in a longer list, if the last one is so
-one_more : (P : List ObjectBytes → ObjectBytes → Type 0) (objects : List ObjectBytes) (last : ObjectBytes)
-    → ((index : ℕ) (object : ObjectBytes) → slice_get objects index ≡ Some object
+pub one_more : {X : Type 0} (P : List X → X → Type 0) (objects : List X) (last : X)
+    → ((index : ℕ) (object : X) → slice_get objects index ≡ Some object
     → P (take index objects) object)
     → P objects last
-    → (index : ℕ) (object : ObjectBytes) → slice_get (objects ++ last ∷ []) index ≡ Some object
+    → (index : ℕ) (object : X) → slice_get (objects ++ last ∷ []) index ≡ Some object
     → P (take index (objects ++ last ∷ [])) object
 one_more P [] last all holds zero object is =
     let same : last ≡ object = cc in subst (P []) same holds
@@ -52,7 +52,7 @@ one_asked_once g objects object were asks new = record {
 
 -- ---- few are asked for
 
-neither : (a b : Bool) → (a || b) ≡ false → (a ≡ false) × (b ≡ false)
+pub neither : (a b : Bool) → (a || b) ≡ false → (a ≡ false) × (b ≡ false)
 neither false false none = (refl, refl)
 neither true b none = cc
 neither false true none = cc

@@ -16,7 +16,9 @@ use Rattle.layout.specs.declared.geometry.Geometry.{Geometry}
 use Rattle.layout.specs.declared.inode.Inode.{Inode}
 use Rattle.layout.specs.Decode.{inode_at, node_with, body_of, file_of}
 use Rattle.layout.specs.Parts.{content_in}
+use Rattle.layout.specs.Holds.{Holds}
 use Rattle.layout.specs.Stands.{Stands}
+use Rattle.layout.proofs.Holding.{holds_of}
 use Rattle.procs.specs.Steps.{IsFoundIn}
 use Rattle.inode.proofs.BodyThere.{has_body}
 use Rattle.model.proofs.Handled.{handled, stamped_ok}
@@ -29,6 +31,9 @@ module _ (g : Geometry) (blocks : Image) (tree : Tree) (number : ℕ) (stamp : S
     (some : 0 < number) (less : number < g.inodes) where
   inodes_are : g.inodes ≡ tree.geometry.inodes
   inodes_are = sym (ap (λ (one : model.Geometry). one.inodes) stands.parts.geometry)
+
+  holds : Holds g blocks tree
+  holds = holds_of g blocks tree stands
 
   found_is : find_file tree handle ≡ stamped number stamp (node_at tree number)
   found_is = handled tree handle number stamp is small boot transaction some
@@ -75,11 +80,11 @@ module _ (g : Geometry) (blocks : Image) (tree : Tree) (number : ℕ) (stamp : S
           (ap (λ (s : Stamp). s.transaction) (sym e)),
       read,
       has_body g (content_in g blocks) inode k
-          (long g blocks tree number inode stands less read)
-          (is_read g blocks tree number inode stands less read).fits.count
-          (count ∙ same_counted g blocks tree number inode stands less read) inode.kind refl
-          (is_sound g blocks tree number inode stands less read)
-          (is_of_kind g blocks tree number inode stands less read),
+          (long g blocks tree number inode holds less read)
+          (is_read g blocks tree number inode holds less read).fits.count
+          (count ∙ same_counted g blocks tree number inode holds less read) inode.kind refl
+          (is_sound g blocks tree number inode holds less read)
+          (is_of_kind g blocks tree number inode holds less read),
     )
 
 -- ---- the tests of the code

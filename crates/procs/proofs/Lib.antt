@@ -1,7 +1,9 @@
 pub mod AskedFor
-pub mod OnlyMode
-pub mod WrittenMode
+pub mod KeepsSize
+pub mod WrittenAttributes
 pub mod FoundThere
 pub mod StepsOf
+pub mod TellsOf
 pub mod FewAsked
+pub mod FewClaimed
 pub mod RefusedThere

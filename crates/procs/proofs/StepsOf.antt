@@ -16,12 +16,12 @@ use Rattle.nfs_types.specs.declared.reply.Reply.{Reply}
 use Rattle.nfs_types.specs.declared.reply.Reply.TheVariants as reply
 use Rattle.nfs_types.specs.declared.status.Status.{Status}
 use Rattle.model.specs.Attributes.{attributes_of, change_of, untold}
-use Rattle.model.specs.Calls.{sets_only_mode}
 use Rattle.model.specs.Find.{find_file}
 use Rattle.model.specs.GetAttr.{attributes_found}
 use Rattle.model.specs.Node.{Node, Body}
 use Rattle.model.specs.SetAttr.{refusal, with_attributes, SetFound, SetOrLeft}
 use Rattle.model.specs.Sound.{SoundTime}
+use Rattle.nfs_types.specs.Fits.{NewAttributesFit}
 use Rattle.procedures.specs.Step.{step}
 use Rattle.model.specs.Tree.{Tree}
 use Rattle.model.proofs.Answered.{found-stands}
@@ -39,7 +39,7 @@ use Rattle.inode.specs.Shown.{file_kind}
 use Rattle.procs.specs.FoundFile.{IsBodyOf}
 use Rattle.inode.specs.Read.{AreAsRead}
 use Rattle.procs.specs.Steps.{IsFoundIn, IsInodeObject, IsSetFrom, IsStepOf, IsTold}
-use Rattle.procs.proofs.WrittenMode.{is_step}
+use Rattle.procs.proofs.WrittenAttributes.{is_step}
 
 -- a step that writes nothing leads to the same tree
 pub unwritten : (g : Geometry) (ctx : Ctx) (c : Call) (done : Outcome) (items : List ObjectBytes) (told : Reply)
@@ -47,7 +47,7 @@ pub unwritten : (g : Geometry) (ctx : Ctx) (c : Call) (done : Outcome) (items : 
     → ((blocks : Image) (tree : Tree) → Stands g blocks tree → AreAsRead blocks items
     → step tree ctx c told tree)
     → IsStepOf g ctx c done
-unwritten g ctx c done items told read_is reply_is written_is steps = λ blocks tree now stands read. (
+unwritten g ctx c done items told read_is reply_is written_is steps = λ blocks tree sound stands read. (
   tree,
   subst (λ r. step tree ctx c r tree) (sym reply_is)
       (steps blocks tree stands (subst (AreAsRead blocks) read_is read)),
@@ -114,7 +114,7 @@ module _ (g : Geometry) (blocks : Image) (tree : Tree) (ctx : Ctx) (object : Han
       })))
 
   pub written : (new : FoundFile) (told : Reply) (object_is : ObjectBytes)
-      → SoundTime ctx.moment → sets_only_mode wanted ≡ true
+      → SoundTime ctx.moment → NewAttributesFit wanted
       → ((body : Body) → None ≡ refusal ctx wanted guard (node_with f.inode body))
       → ((body : Body) → IsBodyOf f body → IsBodyOf new body
       → told ≡ reply.SetAttr (Ok tt) (change_of f.number (node_with f.inode body) (node_with new.inode body)))
@@ -122,7 +122,7 @@ module _ (g : Geometry) (blocks : Image) (tree : Tree) (ctx : Ctx) (object : Han
       → IsInodeObject g new.number new.inode object_is
       → (next : Tree) × step tree ctx (call.SetAttr object wanted guard) told next
       × Stands g (with_objects blocks (object_is ∷ [])) next
-  written new told object_is now only passed tells number_is used_is set laid =
+  written new told object_is now fits passed tells number_is used_is set laid =
       let body : IsBodyOf new node.body = record {
         kind = is.3.kind ∙ ap file_kind (sym set.kind);
         size = is.3.size ∙ sym set.size;
@@ -132,7 +132,7 @@ module _ (g : Geometry) (blocks : Image) (tree : Tree) (ctx : Ctx) (object : Han
       let there : IsInodeObject g f.number new.inode object_is =
       subst (λ k. IsInodeObject g k new.inode object_is) number_is laid in
       let done = is_step g blocks tree ctx object wanted guard f.number node f.inode new.inode object_is
-      stands now only is.1 (sym (passed node.body ∙ ap (refusal ctx wanted guard) node_is)) is.2 set there in
+      stands now fits is.1 (sym (passed node.body ∙ ap (refusal ctx wanted guard) node_is)) is.2 set there in
       let told_now : told
       ≡ reply.SetAttr (Ok tt) (change_of f.number node (node_with new.inode node.body)) =
       tells node.body is.3 body
@@ -145,7 +145,7 @@ module _ (g : Geometry) (blocks : Image) (tree : Tree) (ctx : Ctx) (object : Han
 -- the changed inode is written, and the change told
 pub stepped : (g : Geometry) (ctx : Ctx) (object : Handle) (wanted : NewAttributes) (guard : Option Moment)
     (f new : FoundFile) (done : Outcome) (items : List ObjectBytes)
-    → done.read ≡ items → sets_only_mode wanted ≡ true
+    → done.read ≡ items
     → ((blocks : Image) (tree : Tree) → Stands g blocks tree → AreAsRead blocks items
     → IsFoundIn g blocks tree object.bytes (Ok f))
     → ((body : Body) → None ≡ refusal ctx wanted guard (node_with f.inode body))
@@ -155,10 +155,10 @@ pub stepped : (g : Geometry) (ctx : Ctx) (object : Handle) (wanted : NewAttribut
     → ((object_is : ObjectBytes) × (done.written ≡ object_is ∷ [])
     × IsInodeObject g new.number new.inode object_is)
     → IsStepOf g ctx (call.SetAttr object wanted guard) done
-stepped g ctx object wanted guard f new done items read_is only found passed tells number_is used_is set
-    laid = λ blocks tree now stands read.
+stepped g ctx object wanted guard f new done items read_is found passed tells number_is used_is set
+    laid = λ blocks tree sound stands read.
     let is = found blocks tree stands (subst (AreAsRead blocks) read_is read) in
-    let one = written g blocks tree ctx object wanted guard f stands is new done.reply laid.0 now only passed
+    let one = written g blocks tree ctx object wanted guard f stands is new done.reply laid.0 sound.timely sound.fits.1 passed
     tells number_is used_is set laid.2 in (
       one.0,
       one.1,

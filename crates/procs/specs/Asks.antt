@@ -5,6 +5,7 @@ use Rattle.disk.specs.declared.block.BlockNo.{BlockNo}
 use Rattle.objects.specs.declared.addr.Addr.{Addr}
 use Rattle.layout.specs.declared.geometry.Geometry.{Geometry}
 use Rattle.layout.specs.Objects.{IsObject}
+use Rattle.layout.specs.Places.{is_data}
 use Rattle.txn.specs.Object.{ObjectBytes}
 use Rattle.txn.specs.Wishes.{IsWhole}
 use Rattle.inode.specs.declared.snap.Snap.{Snap}
@@ -16,9 +17,9 @@ use Rattle.inode.specs.Snap.{is_seen, is_claimed}
 abbrev pub Asks : Geometry → Addr → Type 0
 Asks g addr = IsObject g addr
 
--- what it may ask to claim: no call with rules claims a block yet
+-- what it may ask to claim: a data block
 abbrev pub Claims : Geometry → BlockNo → Type 0
-Claims g block = ⊥
+Claims g block = is_data g block.0 ≡ true
 
 -- each of these objects may be asked for
 abbrev pub WereAsked : Geometry → List ObjectBytes → Type 0
@@ -29,6 +30,12 @@ pub record WereAskedOnce (g : Geometry) (objects : List ObjectBytes) : Type 0 wh
   pub asked : WereAsked g objects
   pub once : (index : ℕ) (object : ObjectBytes) → slice_get objects index ≡ Some object
       → is_seen object.addr (take index objects) ≡ false
+
+-- each of these blocks may be claimed, and is another than those before it
+pub record WereClaimedOnce (g : Geometry) (claims : List BlockNo) : Type 0 where
+  pub asked : All (Claims g) claims
+  pub once : (index : ℕ) (block : BlockNo) → slice_get claims index ≡ Some block
+      → is_claimed block (take index claims) ≡ false
 
 -- what a plan stops for may be asked for
 abbrev pub IsAsked : Snap → Stop → Type 0

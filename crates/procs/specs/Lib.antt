@@ -1,5 +1,6 @@
 pub mod Outcome
 pub mod FoundFile
+pub mod SoundCalls
 pub mod Steps
 pub mod Asks
 pub mod MostAsked

@@ -4,7 +4,6 @@ use Rattle.nfs_types.specs.declared.attributes.Attributes.{Attributes}
 use Rattle.nfs_types.specs.declared.call.Call.{Call}
 use Rattle.nfs_types.specs.declared.ctx.Ctx.{Ctx}
 use Rattle.model.specs.Attributes.{attributes_of}
-use Rattle.model.specs.Sound.{SoundTime}
 use Rattle.procedures.specs.Step.{step}
 use Rattle.disk.specs.Crash.{Image}
 use Rattle.nfs_types.specs.declared.attributes.NewAttributes.{NewAttributes}
@@ -26,6 +25,7 @@ use Rattle.procs.specs.declared.attributes.FoundFile.{FoundFile}
 use Rattle.procs.specs.Outcome.{Outcome}
 use Rattle.inode.specs.Read.{AreAsRead}
 use Rattle.procs.specs.FoundFile.{IsBodyOf}
+use Rattle.procs.specs.SoundCalls.{SoundCall}
 
 -- the inode has the attributes that are wanted, and else is the old one
 pub record IsSetFrom (moment : Moment) (wanted : NewAttributes) (old new : Inode) : Type 0 where
@@ -59,9 +59,9 @@ IsTold (Err status) (Ok attributes) = ⊥
 
 -- What comes of a call is a step of the sequential server: wherever blocks have what was read and stand for a
 -- tree, the reply is one that the call may get there, and the blocks with what is written stand for the tree
--- that it then leads to.
+-- that it then leads to. So it is for any call that can be spelled.
 abbrev pub IsStepOf : Geometry → Ctx → Call → Outcome → Type 0
-IsStepOf g ctx call done = (blocks : Image) (tree : Tree) → SoundTime ctx.moment → Stands g blocks tree
-    → AreAsRead blocks done.read
+IsStepOf g ctx call done = (blocks : Image) (tree : Tree) → SoundCall ctx.credential ctx.moment call
+    → Stands g blocks tree → AreAsRead blocks done.read
     → (next : Tree) × step tree ctx call done.reply next
     × Stands g (with_objects blocks done.written) next

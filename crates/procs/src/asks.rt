@@ -1,10 +1,13 @@
 //! Laws on what plans ask for.
 ghost use Rattle.std.specs.Prelude.{◌≡◌, ◌≤◌, ◌++◌, ◌∷◌, [], List, length, false};
+ghost use Rattle.disk.specs.declared.block.BlockNo.{BlockNo};
 ghost use Rattle.layout.specs.declared.geometry.Geometry.{Geometry};
+ghost use Rattle.objects.specs.declared.addr.Addr.{Addr};
 ghost use Rattle.txn.specs.Object.{ObjectBytes};
-ghost use Rattle.inode.specs.Snap.{is_seen};
-ghost use Rattle.procs.specs.Asks.{Asks, WereAskedOnce};
-ghost use Rattle.procs.specs.MostAsked.{most_asked};
+ghost use Rattle.txn.specs.Wishes.{IsWhole};
+ghost use Rattle.inode.specs.Snap.{is_claimed, is_seen};
+ghost use Rattle.procs.specs.Asks.{Asks, Claims, WereAskedOnce, WereClaimedOnce};
+ghost use Rattle.procs.specs.MostAsked.{most_asked, most_claimed};
 
 /// Objects stay asked for, each address once, when one more is read that may be asked for and that is new.
 pub fn what_is_read_was_asked_for()
@@ -18,4 +21,20 @@ pub fn what_is_read_was_asked_for()
 pub fn a_plan_asks_for_few()
     ensures { (g : Geometry) (objects : List ObjectBytes) → WereAskedOnce g objects
         → length objects ≤ most_asked g.blocks }
+{}
+
+/// Blocks stay claimed, each once, when one more is claimed that may be claimed and that is new. Such a block is
+/// an object of the image as a whole.
+pub fn what_is_claimed_was_asked_for()
+    ensures none { (g : Geometry) → WereClaimedOnce g [] }
+    ensures once { (g : Geometry) (claims : List BlockNo) (block : BlockNo) → WereClaimedOnce g claims
+        → Claims g block → is_claimed block claims ≡ false → WereClaimedOnce g (claims ++ block ∷ []) }
+    ensures object { (g : Geometry) (block : BlockNo) (addr : Addr) → Claims g block → IsWhole block addr
+        → Asks g addr }
+{}
+
+/// A plan claims no more blocks than an image has, if each of them once.
+pub fn a_plan_claims_few()
+    ensures { (g : Geometry) (claims : List BlockNo) → WereClaimedOnce g claims
+        → length claims ≤ most_claimed g.blocks }
 {}

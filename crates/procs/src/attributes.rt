@@ -3,8 +3,11 @@ ghost use Rattle.std.specs.Prelude.{◌≡◌, ◌*◌};
 ghost use Rattle.model.specs.Attributes.{attributes_of, before_change, change_of, kind_of, size_of};
 ghost use Rattle.model.specs.Node.{Body};
 ghost use Rattle.layout.specs.Decode.{node_with};
+ghost use Rattle.block_files.specs.Heads.{head_of};
 ghost use Rattle.procs.specs.FoundFile.{IsBodyOf};
 
+use block_files::head_of;
+use files::Head;
 use inode::file_kind;
 use layout::Inode;
 use limits::{BLOCK_BYTES, FILE_SYSTEM};
@@ -19,6 +22,13 @@ pub(crate) struct FoundFile {
 }
 
 impl FoundFile {
+    /// What the tests of a procedure look at.
+    pub(crate) fn head(&self) -> Head
+        ensures { result ≡ head_of self.now.number self.now.inode self.now.used }
+    {
+        head_of(self.number, &self.inode, self.used)
+    }
+
     /// The attributes of the file.
     pub(crate) fn attributes(&self) -> Attributes
         ensures { (body : Body) → IsBodyOf self.now body

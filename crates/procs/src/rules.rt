@@ -1,56 +1,37 @@
 //! Which calls are served.
 ghost use Rattle.std.specs.Prelude.{◌≡◌};
-ghost use Rattle.model.specs.Calls.{has_rules, sets_only_mode, is_unchanged, is_answered_stable, is_unstable};
+ghost use Rattle.model.specs.Calls.{has_rules, is_answered_stable, is_unstable};
 
-use nfs_types::{Call, NewAttributes, SetTime, Stability};
+use nfs_types::{Call, Stability};
 
-fn is_unchanged(time: &SetTime) -> bool
-    ensures { result ≡ is_unchanged time.now }
-{
-    match time {
-        SetTime::Unchanged => true,
-        SetTime::Server | SetTime::Client(_) => false,
-    }
-}
-
-fn sets_only_mode(wanted: &NewAttributes) -> bool
-    ensures { result ≡ sets_only_mode wanted.now }
-{
-    wanted.uid.is_none()
-        && wanted.gid.is_none()
-        && wanted.size.is_none()
-        && is_unchanged(&wanted.atime)
-        && is_unchanged(&wanted.mtime)
-}
-
-/// Whether the call is served so far: GETATTR, and SETATTR of no more than the mode (RFC 1813, sections 3.3.1
-/// and 3.3.2).
+/// Whether the call is served so far: what only tells something, MKNOD, which is refused, and a SETATTR that gives
+/// no size (RFC 1813, section 3.3).
 pub fn has_rules(call: &Call) -> bool
     ensures { result ≡ has_rules call.now }
 {
     match call {
-        Call::GetAttr { .. } => true,
-        Call::SetAttr { attributes, .. } => sets_only_mode(attributes),
-        Call::Null
+        Call::GetAttr { .. }
         | Call::Lookup { .. }
         | Call::Access { .. }
         | Call::ReadLink { .. }
         | Call::Read { .. }
-        | Call::Write { .. }
-        | Call::Create { .. }
-        | Call::MkDir { .. }
-        | Call::SymLink { .. }
         | Call::MkNod { .. }
-        | Call::Remove { .. }
-        | Call::RmDir { .. }
-        | Call::Rename { .. }
-        | Call::Link { .. }
         | Call::ReadDir { .. }
         | Call::ReadDirPlus { .. }
         | Call::FsStat { .. }
         | Call::FsInfo { .. }
         | Call::PathConf { .. }
-        | Call::Commit { .. } => false,
+        | Call::Commit { .. } => true,
+        Call::SetAttr { attributes, .. } => attributes.size.is_none(),
+        Call::Null
+        | Call::Write { .. }
+        | Call::Create { .. }
+        | Call::MkDir { .. }
+        | Call::SymLink { .. }
+        | Call::Remove { .. }
+        | Call::RmDir { .. }
+        | Call::Rename { .. }
+        | Call::Link { .. } => false,
     }
 }
 

@@ -1,6 +1,7 @@
 //! Laws on what the writes of a plan lead to.
 ghost use Rattle.std.specs.Prelude.{◌≡◌, ℕ, ◌∷◌, [], true, None, Ok, Option};
 ghost use Rattle.disk.specs.Crash.{Image};
+ghost use Rattle.nfs_types.specs.Fits.{NewAttributesFit};
 ghost use Rattle.nfs_types.specs.declared.attributes.NewAttributes.{NewAttributes};
 ghost use Rattle.nfs_types.specs.declared.call.Call.TheVariants as call;
 ghost use Rattle.nfs_types.specs.declared.ctx.Ctx.{Ctx};
@@ -8,7 +9,6 @@ ghost use Rattle.nfs_types.specs.declared.ctx.Moment.{Moment};
 ghost use Rattle.nfs_types.specs.declared.handle.Handle.{Handle};
 ghost use Rattle.nfs_types.specs.declared.reply.Reply.TheVariants as reply;
 ghost use Rattle.model.specs.Attributes.{change_of};
-ghost use Rattle.model.specs.Calls.{sets_only_mode};
 ghost use Rattle.model.specs.Find.{find_file};
 ghost use Rattle.model.specs.Node.{Node};
 ghost use Rattle.model.specs.SetAttr.{refusal};
@@ -23,13 +23,13 @@ ghost use Rattle.txn.specs.Object.{ObjectBytes};
 ghost use Rattle.txn.specs.Window.{with_objects};
 ghost use Rattle.procs.specs.Steps.{IsSetFrom, IsInodeObject};
 
-/// The inode with the mode that is wanted, written in the place of the old one, is a step of the sequential
+/// The inode with the attributes that are wanted, written in the place of the old one, is a step of the sequential
 /// server.
-pub fn a_written_mode_is_a_step()
+pub fn written_attributes_are_a_step()
     ensures { (g : Geometry) (blocks : Image) (tree : Tree) (ctx : Ctx) (object : Handle)
         (wanted : NewAttributes) (guard : Option Moment)
         (number : ℕ) (node : Node) (old new : Inode) (written : ObjectBytes)
-        → Stands g blocks tree → SoundTime ctx.moment → sets_only_mode wanted ≡ true
+        → Stands g blocks tree → SoundTime ctx.moment → NewAttributesFit wanted
         → find_file tree object.bytes ≡ Ok (number, node) → refusal ctx wanted guard node ≡ None
         → inode_at g blocks number ≡ Ok (Some old)
         → IsSetFrom ctx.moment wanted old new → IsInodeObject g number new written

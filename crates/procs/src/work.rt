@@ -10,7 +10,7 @@ ghost use Rattle.txn.specs.Object.{ObjectBytes};
 ghost use Rattle.procs.specs.FoundFile.{IsBodyOf};
 ghost use Rattle.procs.specs.Steps.{IsTold, IsStepOf, IsInodeObject};
 ghost use Rattle.inode.specs.Read.{NoneStand};
-ghost use Rattle.model.specs.Calls.{has_rules, sets_only_mode};
+ghost use Rattle.model.specs.Calls.{has_rules, keeps_size};
 ghost use Rattle.procs.specs.Asks.{IsAsked, IsWritable};
 ghost use Rattle.inode.specs.Read.{WasReadInode};
 ghost use Rattle.procs.specs.Finished.{ChangesFew, EndsFrom};
@@ -25,22 +25,14 @@ use crate::draft::Draft;
 use crate::find::find;
 use crate::next::Plan;
 use crate::refused::{UNTOLD, refused_reply};
-use crate::set_attr::{refusal, with_mode};
+use crate::set_attr::{refusal, with_attributes};
+use crate::telling::{tell_call, told};
 use inode::{Snap, Stop};
 use nfs_types::{
     Attributes, Call, Ctx, Handle, Moment, NewAttributes, Reply, Status, WeakCacheData,
 };
 use std::alloc::{AllocError, Global};
 use txn::Object;
-
-// What is done without a write.
-fn told(alloc: Global, snap: &Snap, reply: Reply) -> Result<Draft, AllocError>
-    ensures done { IfOk result (λ done. IsDoneFor snap.now done) }
-    ensures reply { IfOk result (λ done. done.reply ≡ reply) }
-    ensures written { IfOk result (λ done. done.written ≡ []) }
-{
-    Draft::new(snap, reply, Vec::new(alloc))
-}
 
 // The attributes of what was found.
 fn outcome_of(found: Result<FoundFile, Status>) -> Result<Attributes, Status>
@@ -111,7 +103,7 @@ fn changed(
     Draft::new(snap, reply, written)
 }
 
-// SETATTR of the mode (RFC 1813, section 3.3.2).
+// SETATTR but for the size (RFC 1813, section 3.3.2).
 fn set_attr(
     alloc: Global,
     ctx: &Ctx,
@@ -120,7 +112,7 @@ fn set_attr(
     wanted: &NewAttributes,
     guard: &Option<Moment>,
 ) -> Result<Draft, Stop>
-    requires { sets_only_mode wanted.now ≡ true }
+    requires { keeps_size wanted.now ≡ true }
     ensures ok { IfOk result (λ done. EndsFrom snap.now done) }
     ensures step { IfOk result (λ done. IsStepOf snap.now.geometry ctx.now
         (call.SetAttr object.now wanted.now guard.now) done) }
@@ -136,7 +128,7 @@ fn set_attr(
     match refusal(ctx, wanted, guard, &found) {
         Some(status) => Ok(left(alloc, snap, status, found.change_to(&found))?),
         None => {
-            let new = with_mode(ctx.moment, wanted, &found);
+            let new = with_attributes(&ctx.moment, wanted, &found);
             Ok(changed(alloc, snap, &found, &new)?)
         }
     }
@@ -159,26 +151,26 @@ fn work(alloc: Global, ctx: &Ctx, call: &Call, snap: &Snap) -> Result<Draft, Sto
             attributes,
             guard,
         } => set_attr(alloc, ctx, snap, object, attributes, guard),
-        Call::Null
-        | Call::Lookup { .. }
+        Call::Lookup { .. }
         | Call::Access { .. }
         | Call::ReadLink { .. }
         | Call::Read { .. }
-        | Call::Write { .. }
-        | Call::Create { .. }
-        | Call::MkDir { .. }
-        | Call::SymLink { .. }
         | Call::MkNod { .. }
-        | Call::Remove { .. }
-        | Call::RmDir { .. }
-        | Call::Rename { .. }
-        | Call::Link { .. }
         | Call::ReadDir { .. }
         | Call::ReadDirPlus { .. }
         | Call::FsStat { .. }
         | Call::FsInfo { .. }
         | Call::PathConf { .. }
-        | Call::Commit { .. } => unreachable!(),
+        | Call::Commit { .. } => tell_call(alloc, ctx, call, snap),
+        Call::Null
+        | Call::Write { .. }
+        | Call::Create { .. }
+        | Call::MkDir { .. }
+        | Call::SymLink { .. }
+        | Call::Remove { .. }
+        | Call::RmDir { .. }
+        | Call::Rename { .. }
+        | Call::Link { .. } => unreachable!(),
     }
 }
 

@@ -1,4 +1,8 @@
 pub mod Agreeing
+pub mod Doings
+pub mod Movable
 pub mod Parents
 pub mod Placed
+pub mod RenameSteps
 pub mod Sought
+pub mod Spaces

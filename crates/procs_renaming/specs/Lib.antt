@@ -1,2 +1,5 @@
 pub mod Moves
 pub mod Placing
+pub mod Renames
+pub mod Slots
+pub mod Tells

@@ -81,8 +81,9 @@ longer_call K L so moment old xid credential (calls.Nfs call) bytes new a = (
   record {
     idle = a.1.idle;
     boot = a.1.boot;
-    answered = λ first last entries keeps timely opened.
-        a.1.answered first last entries (so keeps) timely opened;
+    sound = a.1.sound;
+    answered = λ first last entries keeps sound opened.
+        a.1.answered first last entries (so keeps) sound opened;
   },
   a.2,
 )

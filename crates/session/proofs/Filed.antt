@@ -8,7 +8,7 @@ use Rattle.disk.specs.Crash.{Image, IsCrashImage}
 use Rattle.disk.specs.Device.{Device}
 use Rattle.disk.specs.declared.device.Failed.{Failed}
 use Rattle.model.specs.Entry.{Entry}
-use Rattle.model.specs.Sound.{SoundTime}
+use Rattle.model.specs.Sound.{Sound, SoundTime}
 use Rattle.model.specs.Tree.{Tree}
 use Rattle.nfs_types.specs.declared.ctx.Ctx.{Ctx}
 use Rattle.nfs_types.specs.declared.ctx.Moment.{Moment}
@@ -40,6 +40,7 @@ use Rattle.session.specs.Replying.{IsAnswered}
 use Rattle.session.specs.Streaming.{Answered, IsStream}
 use Rattle.session.proofs.Courses.{longer_answers}
 use Rattle.session.proofs.ServedFiles.{each_message, served_along}
+use Rattle.store_promise.proofs.FileBlocks.{stands_now}
 use Rattle.session.proofs.ShortReplies.{never_too_long, spelled_whole}
 
 -- ---- the laws that it rests on
@@ -137,6 +138,12 @@ untouched stops moment old files j bytes opened is = record {
   during = stops_there stops old files opened;
 }
 
+-- the tree of an open store is sound
+sound_last : (old : Opened) (files : Files) → IsOpenFor old files → Sound files.last
+sound_last old files opened =
+    (stands_now opened.base old.device old.core idle idle old.boot files.first files.last files.entries
+    opened.opened.since).parts.sound
+
 one : LeavesFiles → (K : Type 0) (moment : Moment) (old : Opened) (files : Files) (j : Judged) (bytes : List ℕ)
     (new : Opened) → K → SoundTime moment → IsOpenFor old files → IsAnswered K moment old j bytes new
     → FilesOne moment old files j bytes new
@@ -146,7 +153,7 @@ one stops K moment old files (verdicts.Refused xid refusal) bytes new keeps time
     (untouched stops moment old files (verdicts.Refused xid refusal) bytes opened (λ settled. (refl, refl)))
 one stops K moment old files (verdicts.Call xid credential (calls.Nfs call)) bytes new keeps timely
     opened (inl a) =
-    let has = a.1.answered files.first files.last files.entries keeps timely opened in
+    let has = a.1.answered files.first files.last files.entries keeps (a.1.sound timely) opened in
     record {
       later = filed files has.entry has.last;
       is = λ settled few. inl (
@@ -154,7 +161,7 @@ one stops K moment old files (verdicts.Call xid credential (calls.Nfs call)) byt
         has,
         refl,
         spelled_whole xid a.0 bytes (never_too_long xid (outset_of moment old files credential call)
-            has.entry has.last a.0 new has.comes has.tells) a.2,
+            has.entry has.last a.0 new (sound_last old files opened) has.comes has.tells) a.2,
         λ entry is reply stable. let there = reply.settled stable in omega (arith, there, few),
       );
       goes = has.goes;

@@ -7,7 +7,7 @@ use Rattle.limits.specs.declared.TheConstants.{MOST_READS}
 use Rattle.session.specs.declared.serving.SessionFault.{SessionFault}
 use Rattle.session.specs.declared.serving.SessionFault.TheVariants.{Record, Input, Output, NoMemory, Truncated}
 use Rattle.session.specs.declared.serving.SessionFault.TheVariants.{Device}
-use Rattle.session.specs.Reading.{AllGoOn, Answers, AreReadsOf, EndsBy, GoesOn, IsTakenFor, ReadAnswer}
+use Rattle.session.specs.Reading.{AllGoOn, Answers, AreReadsOf, EndsBy, BringsBytes, GoesOn, IsTakenFor, ReadAnswer}
 use Rattle.session.specs.Reading.{ReadsTo, to_the_last, too_many}
 
 -- the reads so far, each of which let the session go on
@@ -73,6 +73,9 @@ taken_some (Err error) read taken = absurd taken
 pub goes_on : (answer : ReadAnswer) (read : ℕ) → answer ≡ Ok read → 0 < read → GoesOn answer
 goes_on answer read is some = subst GoesOn (sym is) some
 
+pub brings : (answer : ReadAnswer) (read : ℕ) → answer ≡ Ok read → 0 < read → BringsBytes answer
+brings answer read is some = subst BringsBytes (sym is) some
+
 pub taken_failed : (answer : ReadAnswer) (fault : SessionFault) → IsTakenFor answer (Err fault)
     → EndsBy (Err fault) answer
 taken_failed (Ok count) fault taken = absurd taken
@@ -85,7 +88,7 @@ taken_failed (Err error) Device taken = absurd taken
 
 -- a session that ends while its records are answered
 pub stops_by : (fault : SessionFault) (answer : ReadAnswer) → (fault ≡ Input → ⊥) → (fault ≡ Truncated → ⊥)
-    → (fault ≡ Device → ⊥) → GoesOn answer → EndsBy (Err fault) answer
+    → (fault ≡ Device → ⊥) → BringsBytes answer → EndsBy (Err fault) answer
 stops_by Input answer input truncated device goes = absurd (input refl)
 stops_by Truncated answer input truncated device goes = absurd (truncated refl)
 stops_by Device answer input truncated device goes = absurd (device refl)

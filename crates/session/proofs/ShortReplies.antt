@@ -1,34 +1,53 @@
--- What a procedure may tell today is short: the results of GETATTR and SETATTR, and each refusal.
-use Rattle.std.proofs.Common.{◌≡◌, inl, inr, ℕ, ◌+◌, ◌≤◌, Bool, true, false, List, ◌++◌, length, Option, Some}
-use Rattle.std.proofs.Common.{None}
-use Rattle.std.proofs.Common.{Result, Ok, Err, ◌∙◌, arith, length-append, refl, subst, sym, true≢false}
-use Rattle.std.specs.Prelude.{◌||◌}
+-- What a procedure may tell is short: its results in a sound tree, and each refusal.
+use Rattle.std.proofs.Common.{◌≡◌, inl, inr, ℕ, ◌+◌, ◌*◌, ◌/◌, ◌≤◌, zero, suc, [], ◌∷◌, Bool, true, false, List, ◌++◌, length, map, Option, Some}
+use Rattle.std.proofs.Common.{None, min, take, drop}
+use Rattle.nfs_results.specs.Results.{alone, behind, before}
+use Rattle.std.proofs.Common.{IfOk, Result, Ok, Err, ◌∙◌, arith, length-append, refl, rules, subst, sym, true≢false}
+use Rattle.std.specs.Option.{ok_or, option_map}
+use Rattle.limits.specs.declared.TheConstants.{LISTING_BYTES, TARGET_BYTES, TRANSFER_BYTES}
 use Rattle.model.specs.Attributes.{untold}
 use Rattle.model.specs.Calls.{has_rules}
+use Rattle.model.specs.Find.{find_file}
+use Rattle.model.specs.Node.{Body, Directory, Link, Node, Regular}
 use Rattle.model.specs.Refused.{refused as refused_reply}
+use Rattle.model.specs.Sound.{Sound, SoundBody}
+use Rattle.model.specs.Tree.{Tree, node_at}
+use Rattle.model.proofs.Answered.{found-stands}
+use Rattle.procedures.specs.FirstTests.{found_then, unless}
+use Rattle.procedures.specs.Commit as committing
+use Rattle.procedures.specs.Listing.{entry_bytes, entry_room, fitting, is_end, listed_behind, listing_verifier}
+use Rattle.procedures.specs.Lookup as lookups
+use Rattle.procedures.specs.Read as reads
+use Rattle.procedures.specs.ReadDir.{listing_refusal}
+use Rattle.procedures.specs.ReadDirPlus.{fitting_both, plus}
+use Rattle.procedures.specs.ReadLink.{target_of}
 use Rattle.procedures.specs.Step.{numbered_step, step}
-use Rattle.model.specs.Tree.{Tree}
-use Rattle.nfs_types.specs.declared.attributes.Attributes.{Attributes}
+use Rattle.procedures.specs.Told.{Effect, answer_of, handle_of}
+use Rattle.nfs_types.specs.Handle.{handle_bytes}
+use Rattle.nfs_types.specs.Verifier.{boot_verifier}
 use Rattle.nfs_types.specs.declared.attributes.WeakCacheData.{WeakCacheData}
 use Rattle.nfs_types.specs.declared.call.Call as types
 use Rattle.nfs_types.specs.declared.call.Call.TheVariants as call
 use Rattle.nfs_types.specs.declared.ctx.Ctx.{Ctx}
+use Rattle.nfs_types.specs.declared.handle.Stamp.{Stamp}
 use Rattle.nfs_types.specs.declared.program.ProgramReply.TheVariants as program_replies
+use Rattle.nfs_types.specs.declared.reply.Created.{Created}
+use Rattle.nfs_types.specs.declared.reply.FileSystemInfo.{FileSystemInfo}
+use Rattle.nfs_types.specs.declared.reply.FileSystemSpace.{FileSystemSpace}
+use Rattle.nfs_types.specs.declared.reply.Looked.{Looked}
+use Rattle.nfs_types.specs.declared.reply.PathLimits.{PathLimits}
+use Rattle.nfs_types.specs.declared.reply.ReadBytes.{ReadBytes}
 use Rattle.nfs_types.specs.declared.reply.Reply.{Reply}
 use Rattle.nfs_types.specs.declared.reply.Reply.TheVariants as replies
 use Rattle.nfs_types.specs.declared.status.Status.{Status}
 use Rattle.nfs_types.specs.declared.status.Status.TheVariants as status
-use Rattle.xdr.specs.Codes.{Code, word, nothing, ◌then◌, optional, in_some}
-use Rattle.xdr.specs.Items as items
-use Rattle.nfs_codec.specs.Items.{moment, device, kind, attributes, optional_attributes, weak_cache_attributes}
-use Rattle.nfs_codec.specs.Items.{before_attributes, text, verifier, weak_cache}
-use Rattle.nfs_results.specs.Results.{status_number, alone, behind, before, nfs_result_bytes, nfs_too_long}
-use Rattle.nfs_results.specs.Results.{get_attr}
-use Rattle.nfs_results.specs.Results.{set_attr, lookup, access, read_link, read, write, create, remove}
-use Rattle.nfs_results.specs.Results.{rename, link}
-use Rattle.nfs_results.specs.Results.{created, info, limits, listed, listed_plus, looked, read_bytes, space}
-use Rattle.nfs_results.specs.Results.{written}
-use Rattle.nfs_results.specs.Results.{read_dir, read_dir_plus, fs_stat, fs_info, path_conf, commit}
+use Rattle.nfs_types.specs.declared.verifier.Verifier.{Verifier}
+use Rattle.xdr.specs.Codes.{Code, nothing, word, flag, double, ◌then◌}
+use Rattle.nfs_codec.specs.Items.{attributes, handle, moment, optional_attributes, text, verifier, weak_cache}
+use Rattle.nfs_results.specs.Results.{nfs_result_bytes, nfs_too_long}
+use Rattle.nfs_results.specs.Results.{get_attr, set_attr, lookup, access, read_link, read, write, create, remove}
+use Rattle.nfs_results.specs.Results.{rename, link, read_dir, read_dir_plus, fs_stat, fs_info, path_conf, commit}
+use Rattle.nfs_results.specs.Results.{created, info, limits, listed, listed_plus, looked, read_bytes, space, written}
 use Rattle.rpc.proofs.Lengths.{word-length, accepted-length, refused-length}
 use Rattle.rpc.specs.Refused.{accepted, refused}
 use Rattle.rpc.specs.declared.refusal.Refusal.TheVariants.{SystemError}
@@ -43,241 +62,309 @@ use Rattle.store_images.specs.Opening.{Opened}
 use Rattle.model.specs.Entry.{Entry}
 use Rattle.session.specs.Replying.{IsSpelled}
 use Rattle.session.specs.Serving.{reply_for}
+use Rattle.session.proofs.ShortCodes.{IsShort, all_attributes, alones, any_outcome, attributes_told, befores}
+use Rattle.session.proofs.ShortCodes.{behinds, changes_told, double-length, flag-length, flags, handles}
+use Rattle.session.proofs.ShortCodes.{nothings, texts, thens, verifiers, words}
+use Rattle.session.proofs.ShortListings.{listing_short, listing_plus_short}
 
--- ---- a law for each way to make a code
+pub record IsShortReply (reply : Reply) : Type 0 where
+  pub short : length (nfs_result_bytes reply) ≤ 40000
+  pub counts : nfs_too_long reply ≡ false
 
-double-length : (n : ℕ) → length (items.double n) ≡ 8
-unfolding items.double
-double-length n = refl
+-- ---- what comes after OK, if it does
 
-flag-length : (b : Bool) → length (items.flag b) ≡ 4
-unfolding items.flag items.word
-flag-length false = refl
-flag-length true = refl
+of_found : {A : Type 0} (P : A → Type 0) (tree : Tree) (object : List ℕ) (tell : ℕ → Node → Result A Status)
+    → ((number : ℕ) (node : Node) → find_file tree object ≡ Ok (number, node) → IfOk (tell number node) P)
+    → IfOk (found_then (find_file tree object) tell) P
+of_found P tree object tell each = by (find_file tree object) refl
+  where
+    by : (found : Result (ℕ × Node) Status) → find_file tree object ≡ found → IfOk (found_then found tell) P
+    by (Ok found) is = each found.0 found.1 is
+    by (Err why) is = tt
 
-record IsShort {A : Type 0} (most : ℕ) (F : Code A) : Type 0 where
-  short : (x : A) → length (F.spell x) ≤ most
-  counts : (x : A) → F.too_long x ≡ false
+of_unless : {A : Type 0} (P : A → Type 0) (test : Option Status) (answer : Result A Status) → IfOk answer P
+    → IfOk (unless test answer) P
+of_unless P None answer is = is
+of_unless P (Some why) answer is = tt
 
-or_false : (a b : Bool) → a ≡ false → b ≡ false → (a || b) ≡ false
-or_false true b e f = e
-or_false false b e f = f
+of_some : {A B : Type 0} (P : B → Type 0) (f : A → B) (found : Option A) (why : Status) → ((x : A) → P (f x))
+    → IfOk (ok_or (option_map f found) why) P
+of_some P f None why each = tt
+of_some P f (Some x) why each = each x
 
-thens : {A B : Type 0} (n m : ℕ) (F : Code A) (G : Code B) → IsShort n F → IsShort m G
-    → IsShort (n + m) (F then G)
-thens n m F G f g = record {
-  short = λ x.
-      let a = f.short x.0 in
-      let b = g.short x.1 in
-      omega (arith, a, b, length-append (F.spell x.0) (G.spell x.1));
-  counts = λ x. or_false (F.too_long x.0) (G.too_long x.1) (f.counts x.0) (g.counts x.1);
-}
+of_effect : {A : Type 0} (P : A → Type 0) (effect : Result (Effect A) Status) → IfOk effect (λ one. P one.answer)
+    → IfOk (answer_of effect) P
+of_effect P (Ok one) is = is
+of_effect P (Err why) is = tt
 
-optional_short : {A : Type 0} (n : ℕ) (F : Code A) → IsShort n F → (o : Option A)
-    → length ((optional F).spell o) ≤ 4 + n
-optional_short n F f None = omega (arith, flag-length false)
-optional_short n F f (Some x) =
-    let a = f.short x in
-    omega (arith, a, flag-length true, length-append (items.flag true) (F.spell x))
-
-optional_counts : {A : Type 0} (n : ℕ) (F : Code A) → IsShort n F → (o : Option A)
-    → in_some F.too_long o ≡ false
-optional_counts n F f None = refl
-optional_counts n F f (Some x) = f.counts x
-
-optionals : {A : Type 0} (n : ℕ) (F : Code A) → IsShort n F → IsShort (4 + n) (optional F)
-optionals n F f = record { short = optional_short n F f; counts = optional_counts n F f }
-
--- ---- items
-
-nothings : IsShort 0 nothing
-nothings = record { short = λ x. omega arith; counts = λ x. refl }
-
-attributes_are : IsShort 84 attributes
-unfolding attributes kind device moment
-attributes_are = record {
-  short = λ x. simp (length-append, word-length, double-length) (omega arith);
-  counts = λ x. refl;
-}
-
-optional_attributes_are : IsShort 88 optional_attributes
-unfolding optional_attributes
-optional_attributes_are = optionals 84 attributes attributes_are
-
-before_are : IsShort 28 before_attributes
-unfolding before_attributes weak_cache_attributes moment
-before_are = optionals 24 weak_cache_attributes (record {
-  short = λ x. simp (length-append, word-length, double-length) (omega arith);
-  counts = λ x. refl;
-})
-
-weak_caches : IsShort 116 weak_cache
-unfolding weak_cache
-weak_caches =
-    let both = thens 28 88 before_attributes optional_attributes before_are optional_attributes_are in
-    record { short = λ x. both.short (x.before, x.after); counts = λ x. both.counts (x.before, x.after) }
+answers : {A : Type 0} (P : A → Type 0) (outcome told : Result A Status) → outcome ≡ told → IfOk told P
+    → IfOk outcome P
+answers P outcome told is short = subst (λ one. IfOk one P) (sym is) short
 
 -- ---- replies
 
-pub record IsShortReply (reply : Reply) : Type 0 where
-  pub short : length (nfs_result_bytes reply) ≤ 400
-  pub counts : nfs_too_long reply ≡ false
-
--- a status and nothing else
-alone_refused : {A : Type 0} (F : Code A) (s : Status)
-    → (length ((alone F).spell (Err s)) ≤ 400) × ((alone F).too_long (Err s) ≡ false)
-alone_refused F s = (
-  omega (arith, word-length (status_number s), length-append (items.word (status_number s)) (nothing.spell tt)),
-  refl,
-)
-
--- a status and what comes either way
-behind_refused : {A B : Type 0} (n : ℕ) (F : Code B) (G : Code A) → IsShort n F → n ≤ 300
-    → (s : Status) (both : B)
-    → (length ((behind F G).spell (Err s, both)) ≤ 400) × ((behind F G).too_long (Err s, both) ≡ false)
-behind_refused n F G f few s both =
-    let a = f.short both in (
-      omega (
-        arith,
-        a,
-        few,
-        word-length (status_number s),
-        length-append (items.word (status_number s)) (F.spell both),
-      ),
-      f.counts both,
-    )
-
-before_refused : {A B : Type 0} (n : ℕ) (F : Code A) (G : Code B) → IsShort n G → n ≤ 300
-    → (s : Status) (both : B)
-    → (length ((before F G).spell (Err s, both)) ≤ 400) × ((before F G).too_long (Err s, both) ≡ false)
-before_refused n F G g few s both =
-    let a = g.short both in (
-      omega (
-        arith,
-        a,
-        few,
-        word-length (status_number s),
-        length-append (items.word (status_number s)) (G.spell both),
-      ),
-      g.counts both,
-    )
-
-reply_of : (reply : Reply) → (length (nfs_result_bytes reply) ≤ 400) × (nfs_too_long reply ≡ false)
+reply_of : (reply : Reply) → (length (nfs_result_bytes reply) ≤ 40000) × (nfs_too_long reply ≡ false)
     → IsShortReply reply
 reply_of reply is = record { short = is.0; counts = is.1 }
+
+alone_short : {A : Type 0} (m : ℕ) (F : Code A) (outcome : Result A Status) → 4 + m ≤ 40000
+    → IfOk outcome (IsShort m F)
+    → (length ((alone F).spell outcome) ≤ 40000) × ((alone F).too_long outcome ≡ false)
+alone_short m F outcome few is =
+    let all = alones m F outcome is in
+    let short = all.short in
+    (omega (arith, short, few), all.counts)
+
+behind_short : {A B : Type 0} (n m : ℕ) (F : Code B) (G : Code A) (outcome : Result A Status) (both : B)
+    → 4 + n + m ≤ 40000 → IsShort n F both → IfOk outcome (IsShort m G)
+    → (length ((behind F G).spell (outcome, both)) ≤ 40000) × ((behind F G).too_long (outcome, both) ≡ false)
+behind_short n m F G outcome both few f g =
+    let all = behinds n m F G outcome both f g in
+    let short = all.short in
+    (omega (arith, short, few), all.counts)
+
+before_short : {A B : Type 0} (n m : ℕ) (F : Code A) (G : Code B) (outcome : Result A Status) (both : B)
+    → 4 + n + m ≤ 40000 → IfOk outcome (IsShort n F) → IsShort m G both
+    → (length ((before F G).spell (outcome, both)) ≤ 40000) × ((before F G).too_long (outcome, both) ≡ false)
+before_short n m F G outcome both few f g =
+    let all = befores n m F G outcome both f g in
+    let short = all.short in
+    (omega (arith, short, few), all.counts)
 
 -- a reply that tells only a status is short
 pub refused_is_short : (s : Status) (c : types.Call) → IsShortReply (refused_reply s c)
 unfolding get_attr set_attr lookup access read_link read write create remove rename link read_dir
     read_dir_plus fs_stat fs_info path_conf commit
 refused_is_short s call.Null = record { short = omega arith; counts = refl }
-refused_is_short s (call.GetAttr _) = reply_of (replies.GetAttr (Err s)) (alone_refused attributes s)
+refused_is_short s (call.GetAttr _) = reply_of _ (alone_short 84 attributes (Err s) (omega arith) tt)
 refused_is_short s (call.SetAttr _ _ _) =
-    reply_of _ (behind_refused 116 weak_cache nothing weak_caches (omega arith) s untold)
+    reply_of _ (behind_short 116 0 weak_cache nothing (Err s) untold (omega arith) (changes_told untold) tt)
 refused_is_short s (call.Lookup _) =
-    reply_of _ (before_refused 88 looked optional_attributes optional_attributes_are (omega arith) s None)
+    reply_of _ (before_short 0 88 looked optional_attributes (Err s) None (omega arith) tt (attributes_told None))
 refused_is_short s (call.Access _ _) =
-    reply_of _ (behind_refused 88 optional_attributes word optional_attributes_are (omega arith) s None)
+    reply_of _ (behind_short 88 0 optional_attributes word (Err s) None (omega arith) (attributes_told None) tt)
 refused_is_short s (call.ReadLink _) =
-    reply_of _ (behind_refused 88 optional_attributes text optional_attributes_are (omega arith) s None)
+    reply_of _ (behind_short 88 0 optional_attributes text (Err s) None (omega arith) (attributes_told None) tt)
 refused_is_short s (call.Read _ _ _) =
-    reply_of _ (behind_refused 88 optional_attributes read_bytes optional_attributes_are (omega arith) s None)
+    reply_of _ (behind_short 88 0 optional_attributes read_bytes (Err s) None (omega arith) (attributes_told None) tt)
 refused_is_short s (call.Write _ _ _ _ _) =
-    reply_of _ (behind_refused 116 weak_cache written weak_caches (omega arith) s untold)
+    reply_of _ (behind_short 116 0 weak_cache written (Err s) untold (omega arith) (changes_told untold) tt)
 refused_is_short s (call.Create _ _) =
-    reply_of _ (before_refused 116 created weak_cache weak_caches (omega arith) s untold)
+    reply_of _ (before_short 0 116 created weak_cache (Err s) untold (omega arith) tt (changes_told untold))
 refused_is_short s (call.MkDir _ _) =
-    reply_of _ (before_refused 116 created weak_cache weak_caches (omega arith) s untold)
+    reply_of _ (before_short 0 116 created weak_cache (Err s) untold (omega arith) tt (changes_told untold))
 refused_is_short s (call.SymLink _ _ _) =
-    reply_of _ (before_refused 116 created weak_cache weak_caches (omega arith) s untold)
+    reply_of _ (before_short 0 116 created weak_cache (Err s) untold (omega arith) tt (changes_told untold))
 refused_is_short s (call.MkNod _ _) =
-    reply_of _ (before_refused 116 created weak_cache weak_caches (omega arith) s untold)
+    reply_of _ (before_short 0 116 created weak_cache (Err s) untold (omega arith) tt (changes_told untold))
 refused_is_short s (call.Remove _) =
-    reply_of _ (behind_refused 116 weak_cache nothing weak_caches (omega arith) s untold)
+    reply_of _ (behind_short 116 0 weak_cache nothing (Err s) untold (omega arith) (changes_told untold) tt)
 refused_is_short s (call.RmDir _) =
-    reply_of _ (behind_refused 116 weak_cache nothing weak_caches (omega arith) s untold)
+    reply_of _ (behind_short 116 0 weak_cache nothing (Err s) untold (omega arith) (changes_told untold) tt)
 refused_is_short s (call.Rename _ _) =
-    reply_of _ (behind_refused 232 (weak_cache then weak_cache) nothing
-    (thens 116 116 weak_cache weak_cache weak_caches weak_caches) (omega arith) s (untold, untold))
+    reply_of _ (behind_short 232 0 (weak_cache then weak_cache) nothing (Err s) (untold, untold) (omega arith)
+    (thens 116 116 weak_cache weak_cache untold untold (changes_told untold) (changes_told untold)) tt)
 refused_is_short s (call.Link _ _) =
-    reply_of _ (behind_refused 204 (optional_attributes then weak_cache) nothing
-    (thens 88 116 optional_attributes weak_cache optional_attributes_are weak_caches) (omega arith) s
-    (None, untold))
+    reply_of _ (behind_short 204 0 (optional_attributes then weak_cache) nothing (Err s) (None, untold) (omega arith)
+    (thens 88 116 optional_attributes weak_cache None untold (attributes_told None) (changes_told untold)) tt)
 refused_is_short s (call.ReadDir _ _ _ _) =
-    reply_of _ (behind_refused 88 optional_attributes listed optional_attributes_are (omega arith) s None)
+    reply_of _ (behind_short 88 0 optional_attributes listed (Err s) None (omega arith) (attributes_told None) tt)
 refused_is_short s (call.ReadDirPlus _ _ _ _ _) =
-    reply_of _ (behind_refused 88 optional_attributes listed_plus optional_attributes_are (omega arith) s None)
+    reply_of _ (behind_short 88 0 optional_attributes listed_plus (Err s) None (omega arith) (attributes_told None) tt)
 refused_is_short s (call.FsStat _) =
-    reply_of _ (behind_refused 88 optional_attributes space optional_attributes_are (omega arith) s None)
+    reply_of _ (behind_short 88 0 optional_attributes space (Err s) None (omega arith) (attributes_told None) tt)
 refused_is_short s (call.FsInfo _) =
-    reply_of _ (behind_refused 88 optional_attributes info optional_attributes_are (omega arith) s None)
+    reply_of _ (behind_short 88 0 optional_attributes info (Err s) None (omega arith) (attributes_told None) tt)
 refused_is_short s (call.PathConf _) =
-    reply_of _ (behind_refused 88 optional_attributes limits optional_attributes_are (omega arith) s None)
+    reply_of _ (behind_short 88 0 optional_attributes limits (Err s) None (omega arith) (attributes_told None) tt)
 refused_is_short s (call.Commit _ _ _) =
-    reply_of _ (behind_refused 116 weak_cache verifier weak_caches (omega arith) s untold)
+    reply_of _ (behind_short 116 0 weak_cache verifier (Err s) untold (omega arith) (changes_told untold) tt)
 
--- so are those of the procedures that are served
-get_attr_is_short : (outcome : Result Attributes Status) → IsShortReply (replies.GetAttr outcome)
-unfolding get_attr
-get_attr_is_short (Ok a) =
-    let few = attributes_are.short a in
-    record {
-      short = omega (arith, few, word-length 0, length-append (items.word 0) (attributes.spell a));
-      counts = attributes_are.counts a;
-    }
-get_attr_is_short (Err s) = reply_of _ (alone_refused attributes s)
+-- ---- what is told of files
 
-set_attr_is_short : (outcome : Result (Unit {0}) Status) (object : WeakCacheData)
-    → IsShortReply (replies.SetAttr outcome object)
-unfolding set_attr
-set_attr_is_short (Ok done) object =
-    let few = weak_caches.short object in
-    record {
-      short = omega (
-        arith,
-        few,
-        word-length 0,
-        length-append (items.word 0) (weak_cache.spell object ++ nothing.spell done),
-        length-append (weak_cache.spell object) (nothing.spell done),
-      );
-      counts = or_false (weak_cache.too_long object) false (weak_caches.counts object) refl;
-    }
-set_attr_is_short (Err s) object =
-    reply_of _ (behind_refused 116 weak_cache nothing weak_caches (omega arith) s object)
+twenty : (number : ℕ) (stamp : Stamp) → length (handle_bytes number stamp) ≡ 20
+twenty number stamp = search rules
 
-numbered_is_short : (tree : Tree) (ctx : Ctx) (new : Option ℕ) (c : types.Call) (reply : Reply) (next : Tree)
-    → has_rules c ≡ true → numbered_step tree ctx new c reply next → IsShortReply reply
-numbered_is_short tree ctx new (call.GetAttr object) (replies.GetAttr outcome) next rules is =
-    get_attr_is_short outcome
-numbered_is_short tree ctx new (call.GetAttr object) _ next rules is = absurd is
-numbered_is_short tree ctx new (call.SetAttr object wanted guard) (replies.SetAttr outcome told) next rules is =
-    set_attr_is_short outcome told
-numbered_is_short tree ctx new (call.SetAttr object wanted guard) _ next rules is = absurd is
-numbered_is_short tree ctx new call.Null reply next rules is = absurd (true≢false (sym rules))
-numbered_is_short tree ctx new (call.Lookup _) reply next rules is = absurd (true≢false (sym rules))
-numbered_is_short tree ctx new (call.Access _ _) reply next rules is = absurd (true≢false (sym rules))
-numbered_is_short tree ctx new (call.ReadLink _) reply next rules is = absurd (true≢false (sym rules))
-numbered_is_short tree ctx new (call.Read _ _ _) reply next rules is = absurd (true≢false (sym rules))
-numbered_is_short tree ctx new (call.Write _ _ _ _ _) reply next rules is = absurd (true≢false (sym rules))
-numbered_is_short tree ctx new (call.Create _ _) reply next rules is = absurd (true≢false (sym rules))
-numbered_is_short tree ctx new (call.MkDir _ _) reply next rules is = absurd (true≢false (sym rules))
-numbered_is_short tree ctx new (call.SymLink _ _ _) reply next rules is = absurd (true≢false (sym rules))
-numbered_is_short tree ctx new (call.MkNod _ _) reply next rules is = absurd (true≢false (sym rules))
-numbered_is_short tree ctx new (call.Remove _) reply next rules is = absurd (true≢false (sym rules))
-numbered_is_short tree ctx new (call.RmDir _) reply next rules is = absurd (true≢false (sym rules))
-numbered_is_short tree ctx new (call.Rename _ _) reply next rules is = absurd (true≢false (sym rules))
-numbered_is_short tree ctx new (call.Link _ _) reply next rules is = absurd (true≢false (sym rules))
-numbered_is_short tree ctx new (call.ReadDir _ _ _ _) reply next rules is = absurd (true≢false (sym rules))
-numbered_is_short tree ctx new (call.ReadDirPlus _ _ _ _ _) reply next rules is =
-    absurd (true≢false (sym rules))
-numbered_is_short tree ctx new (call.FsStat _) reply next rules is = absurd (true≢false (sym rules))
-numbered_is_short tree ctx new (call.FsInfo _) reply next rules is = absurd (true≢false (sym rules))
-numbered_is_short tree ctx new (call.PathConf _) reply next rules is = absurd (true≢false (sym rules))
-numbered_is_short tree ctx new (call.Commit _ _ _) reply next rules is = absurd (true≢false (sym rules))
+looked_short : (file : ℕ × Node) → IsShort 112 looked (lookups.looked file)
+unfolding looked
+looked_short file =
+    let one = lookups.looked file in
+    let all = thens 24 88 handle optional_attributes one.object one.attributes
+    (handles one.object (twenty file.0 file.1.stamp)) (attributes_told one.attributes) in
+    record { short = all.short; counts = all.counts }
 
-step_is_short : (tree : Tree) (ctx : Ctx) (c : types.Call) (reply : Reply) (next : Tree) → has_rules c ≡ true
-    → step tree ctx c reply next → IsShortReply reply
-step_is_short tree ctx c reply next rules is = numbered_is_short tree ctx is.new c reply next rules is.leads
+taken_few : (most : ℕ) (bytes : List ℕ) → length (take most bytes) ≤ most
+taken_few zero bytes = omega arith
+taken_few (suc most) [] = omega arith
+taken_few (suc most) (byte ∷ bytes) = let few = taken_few most bytes in omega (arith, few)
+
+least : (a b : ℕ) → min a b ≤ b
+least a b = search rules
+
+piece_few : (offset count : ℕ) (bytes : List ℕ) → length (reads.piece offset count bytes) ≤ TRANSFER_BYTES
+piece_few offset count bytes =
+    let few = taken_few (min count TRANSFER_BYTES) (drop offset bytes) in
+    let most = least count TRANSFER_BYTES in
+    omega (arith, few, most)
+
+read_short : (offset count : ℕ) (bytes : List ℕ)
+    → IsShort 32783 read_bytes (reads.read_bytes offset bytes (reads.piece offset count bytes))
+unfolding read_bytes
+read_short offset count bytes =
+    let given = reads.piece offset count bytes in
+    let one = reads.read_bytes offset bytes given in
+    let few = piece_few offset count bytes in
+    let given_bytes = texts given (omega (arith, few)) in
+    let behind = thens 4 (4 + (length given + 3) / 4 * 4) flag text one.eof given (flags one.eof) given_bytes in
+    let all = thens 4 (4 + (4 + (length given + 3) / 4 * 4)) word (flag then text) one.count (one.eof, given)
+    (words one.count) behind in
+    let short = all.short in
+    record { short = omega (arith, short, few); counts = all.counts }
+
+target_short : (body : Body) → SoundBody body → IfOk (target_of body) (IsShort (TARGET_BYTES + 7) text)
+target_short (Regular bytes mapped) sound = tt
+target_short (Directory named span parent) sound = tt
+target_short (Link target) sound =
+    let few = sound.short in
+    let all = texts target (omega (arith, few)) in
+    let short = all.short in
+    record { short = omega (arith, short, few); counts = all.counts }
+
+spaces : (x : FileSystemSpace) → IsShort 52 space x
+unfolding space
+spaces x = record {
+  short = simp (length-append, word-length, double-length) (omega arith);
+  counts = refl;
+}
+
+infos : (x : FileSystemInfo) → IsShort 48 info x
+unfolding info moment
+infos x = record {
+  short = simp (length-append, word-length, double-length) (omega arith);
+  counts = refl;
+}
+
+limits_short : (x : PathLimits) → IsShort 24 limits x
+unfolding limits
+limits_short x = record {
+  short = simp (length-append, word-length, flag-length) (omega arith);
+  counts = refl;
+}
+
+boots : (boot : ℕ) → IsShort 8 verifier (boot_verifier boot)
+boots boot = verifiers (boot_verifier boot) (search rules)
+
+-- ---- a step's reply is short, in a sound tree
+
+module _ (tree : Tree) (ctx : Ctx) (new : Option ℕ) (next : Tree) (sound : Sound tree) where
+  numbered_is_short : (c : types.Call) (reply : Reply) → has_rules c ≡ true
+      → numbered_step tree ctx new c reply next → IsShortReply reply
+  unfolding get_attr set_attr lookup access read_link read create read_dir read_dir_plus fs_stat fs_info path_conf
+      commit
+  numbered_is_short (call.GetAttr object) (replies.GetAttr outcome) rules is =
+      reply_of _ (alone_short 84 attributes outcome (omega arith)
+      (any_outcome 84 attributes all_attributes outcome))
+  numbered_is_short (call.SetAttr object wanted guard) (replies.SetAttr outcome told) rules is =
+      reply_of _ (behind_short 116 0 weak_cache nothing outcome told (omega arith) (changes_told told)
+      (any_outcome 0 nothing nothings outcome))
+  numbered_is_short (call.Lookup name) (replies.Lookup outcome told) rules is =
+      reply_of _ (before_short 112 88 looked optional_attributes outcome told (omega arith)
+      (answers (IsShort 112 looked) outcome _ is.answered
+      (of_found (IsShort 112 looked) tree name.directory.bytes _ (λ number node at.
+      of_unless (IsShort 112 looked) _ _
+      (of_some (IsShort 112 looked) lookups.looked
+      (lookups.found_under tree number node name.name) status.NoEnt looked_short))))
+      (attributes_told told))
+  numbered_is_short (call.Access object bits) (replies.Access outcome told) rules is =
+      reply_of _ (behind_short 88 4 optional_attributes word outcome told (omega arith) (attributes_told told)
+      (any_outcome 4 word words outcome))
+  numbered_is_short (call.ReadLink link) (replies.ReadLink outcome told) rules is =
+      reply_of _ (behind_short 88 (TARGET_BYTES + 7) optional_attributes text outcome told (omega arith)
+      (attributes_told told)
+      (answers (IsShort (TARGET_BYTES + 7) text) outcome _ is.answered
+      (of_found (IsShort (TARGET_BYTES + 7) text) tree link.bytes _ (λ number node at.
+      target_short node.body (sound.files number node (found-stands tree link.bytes (number, node) at)).itself.body))))
+  numbered_is_short (call.Read file offset count) (replies.Read outcome told) rules is =
+      reply_of _ (behind_short 88 32783 optional_attributes read_bytes outcome told (omega arith)
+      (attributes_told told)
+      (answers (IsShort 32783 read_bytes) outcome _ is.answered
+      (of_found (IsShort 32783 read_bytes) tree file.bytes _ (λ number node at.
+      of_unless (IsShort 32783 read_bytes) (reads.read_refusal ctx.credential node)
+      (Ok (reads.read_bytes offset (reads.bytes_of node.body) (reads.piece offset count (reads.bytes_of node.body))))
+      (read_short offset count (reads.bytes_of node.body))))))
+  numbered_is_short (call.MkNod name special) (replies.MkNod outcome told) rules is =
+      reply_of _ (before_short 0 116 created weak_cache outcome told (omega arith)
+      (answers (IsShort 0 created) outcome _ is.answered
+      (of_effect (IsShort 0 created) _
+      (of_found (λ (one : Effect Created). IsShort 0 created one.answer) tree name.directory.bytes _ (λ number node at. tt))))
+      (changes_told told))
+  numbered_is_short (call.ReadDir directory cookie sent count) (replies.ReadDir outcome told) rules is =
+      reply_of _ (behind_short 88 (LISTING_BYTES + 16) optional_attributes listed outcome told (omega arith)
+      (attributes_told told)
+      (answers (IsShort (LISTING_BYTES + 16) listed) outcome _ is.answered
+      (of_found (IsShort (LISTING_BYTES + 16) listed) tree directory.bytes _ (λ number node at.
+      let left = listed_behind cookie number node.body in
+      let given = fitting entry_bytes (entry_room count) left in
+      of_unless (IsShort (LISTING_BYTES + 16) listed)
+      (listing_refusal ctx.credential cookie sent count node left given)
+      (Ok (record { verifier = listing_verifier; entries = given; eof = is_end left given }))
+      (listing_short count left (is_end left given))))))
+  numbered_is_short (call.ReadDirPlus directory cookie sent names_count count) (replies.ReadDirPlus outcome told)
+      rules is =
+      reply_of _ (behind_short 88 (LISTING_BYTES + 16) optional_attributes listed_plus outcome told (omega arith)
+      (attributes_told told)
+      (answers (IsShort (LISTING_BYTES + 16) listed_plus) outcome _ is.answered
+      (of_found (IsShort (LISTING_BYTES + 16) listed_plus) tree directory.bytes _ (λ number node at.
+      let left = listed_behind cookie number node.body in
+      let given = fitting_both names_count (entry_room count) left in
+      of_unless (IsShort (LISTING_BYTES + 16) listed_plus)
+      (listing_refusal ctx.credential cookie sent count node left given)
+      (Ok (record { verifier = listing_verifier; entries = map (plus tree) given; eof = is_end left given }))
+      (listing_plus_short tree names_count count left (is_end left given))))))
+  numbered_is_short (call.FsStat object) (replies.FsStat outcome told) rules is =
+      reply_of _ (behind_short 88 52 optional_attributes space outcome told (omega arith) (attributes_told told)
+      (any_outcome 52 space spaces outcome))
+  numbered_is_short (call.FsInfo object) (replies.FsInfo outcome told) rules is =
+      reply_of _ (behind_short 88 48 optional_attributes info outcome told (omega arith) (attributes_told told)
+      (any_outcome 48 info infos outcome))
+  numbered_is_short (call.PathConf object) (replies.PathConf outcome told) rules is =
+      reply_of _ (behind_short 88 24 optional_attributes limits outcome told (omega arith) (attributes_told told)
+      (any_outcome 24 limits limits_short outcome))
+  numbered_is_short (call.Commit file offset count) (replies.Commit outcome told) rules is =
+      reply_of _ (behind_short 116 8 weak_cache verifier outcome told (omega arith) (changes_told told)
+      (answers (IsShort 8 verifier) outcome _ is.answered
+      (of_effect (IsShort 8 verifier) _
+      (of_found (λ (one : Effect Verifier). IsShort 8 verifier one.answer) tree file.bytes _ (λ number node at.
+      of_unless (λ (one : Effect Verifier). IsShort 8 verifier one.answer)
+      (committing.commit_refusal ctx.credential node)
+      (Ok (record { answer = boot_verifier ctx.boot; next = tree })) (boots ctx.boot))))))
+  numbered_is_short (call.GetAttr object) _ rules is = absurd is
+  numbered_is_short (call.SetAttr object wanted guard) _ rules is = absurd is
+  numbered_is_short (call.Lookup name) _ rules is = absurd is
+  numbered_is_short (call.Access object bits) _ rules is = absurd is
+  numbered_is_short (call.ReadLink link) _ rules is = absurd is
+  numbered_is_short (call.Read file offset count) _ rules is = absurd is
+  numbered_is_short (call.MkNod name special) _ rules is = absurd is
+  numbered_is_short (call.ReadDir directory cookie verifier count) _ rules is = absurd is
+  numbered_is_short (call.ReadDirPlus directory cookie verifier names_count count) _ rules is = absurd is
+  numbered_is_short (call.FsStat object) _ rules is = absurd is
+  numbered_is_short (call.FsInfo object) _ rules is = absurd is
+  numbered_is_short (call.PathConf object) _ rules is = absurd is
+  numbered_is_short (call.Commit file offset count) _ rules is = absurd is
+  numbered_is_short call.Null reply rules is = absurd (true≢false (sym rules))
+  numbered_is_short (call.Write _ _ _ _ _) reply rules is = absurd (true≢false (sym rules))
+  numbered_is_short (call.Create _ _) reply rules is = absurd (true≢false (sym rules))
+  numbered_is_short (call.MkDir _ _) reply rules is = absurd (true≢false (sym rules))
+  numbered_is_short (call.SymLink _ _ _) reply rules is = absurd (true≢false (sym rules))
+  numbered_is_short (call.Remove _) reply rules is = absurd (true≢false (sym rules))
+  numbered_is_short (call.RmDir _) reply rules is = absurd (true≢false (sym rules))
+  numbered_is_short (call.Rename _ _) reply rules is = absurd (true≢false (sym rules))
+  numbered_is_short (call.Link _ _) reply rules is = absurd (true≢false (sym rules))
+
+pub step_is_short : (tree : Tree) (ctx : Ctx) (c : types.Call) (reply : Reply) (next : Tree) → Sound tree
+    → has_rules c ≡ true → step tree ctx c reply next → IsShortReply reply
+step_is_short tree ctx c reply next sound rules is =
+    numbered_is_short tree ctx is.new next sound c reply rules is.leads
 
 -- ---- what a call is answered
 
@@ -303,17 +390,17 @@ fine_refusal xid c cause.Spent = not_long xid (refused_reply status.ServerFault 
 fine_refusal xid c cause.NoMemory = not_long_refused xid
 
 pub never_too_long : (xid : ℕ) (o : Outset) (entry : Option Entry) (last : Tree) (told : Verdict) (now : Opened)
-    → ComesTo o now entry last → Tells o entry told now → IsTooLong xid (reply_for told) → ⊥
-never_too_long xid o (Some entry) last told now comes (inl reply) =
+    → Sound o.last → ComesTo o now entry last → Tells o entry told now → IsTooLong xid (reply_for told) → ⊥
+never_too_long xid o (Some entry) last told now sound comes (inl reply) =
     subst (IsFine xid) (sym reply.told_is)
-    (not_long xid entry.reply (step_is_short o.last entry.ctx entry.call entry.reply last
+    (not_long xid entry.reply (step_is_short o.last entry.ctx entry.call entry.reply last sound
     (subst (λ (c : types.Call). has_rules c ≡ true) (sym comes.call) comes.begun_for.rules) comes.step))
-never_too_long xid o (Some entry) last told now comes (inr unsettled) =
+never_too_long xid o (Some entry) last told now sound comes (inr unsettled) =
     subst (IsFine xid) (sym unsettled.told_is) (fine_refusal xid o.asked.call cause.Io)
-never_too_long xid o None last told now comes (inl unserved) =
+never_too_long xid o None last told now sound comes (inl unserved) =
     subst (IsFine xid) (sym unserved.told_is)
     (not_long xid (refused_reply status.NotSupp o.asked.call) (refused_is_short status.NotSupp o.asked.call))
-never_too_long xid o None last told now comes (inr refused) =
+never_too_long xid o None last told now sound comes (inr refused) =
     subst (IsFine xid) (sym refused.told_is) (fine_refusal xid o.asked.call refused.why)
 
 -- so the reply's own spelling is what was answered

@@ -33,6 +33,11 @@ IsTakenFor (Err error) (Ok None) = error_kind error ≡ kinds.Interrupted
 IsTakenFor (Err error) (Err Input) = error_kind error ≢ kinds.Interrupted
 IsTakenFor answer result = ⊥
 
+-- bytes were read
+abbrev pub BringsBytes : ReadAnswer → Type 0
+BringsBytes (Ok count) = 0 < count
+BringsBytes (Err error) = ⊥
+
 -- it failed otherwise
 abbrev pub HasFailed : ReadAnswer → Type 0
 HasFailed (Ok count) = ⊥
@@ -44,9 +49,9 @@ EndsBy (Ok count) answer = answer ≡ Ok 0
 EndsBy (Err Truncated) answer = answer ≡ Ok 0
 EndsBy (Err Device) answer = answer ≡ Ok 0
 EndsBy (Err Input) answer = HasFailed answer
-EndsBy (Err Record) answer = GoesOn answer
-EndsBy (Err Output) answer = GoesOn answer
-EndsBy (Err NoMemory) answer = GoesOn answer
+EndsBy (Err Record) answer = BringsBytes answer
+EndsBy (Err Output) answer = BringsBytes answer
+EndsBy (Err NoMemory) answer = BringsBytes answer
 
 -- The reads of a session that ended so: each but the last let it go on, and the last ended it; or they are as
 -- many as there may be.

@@ -1,5 +1,7 @@
 -- What one message is answered (RFC 5531, section 9).
-use Rattle.std.specs.Prelude.{◌≡◌, ◌⊎◌, ℕ, List}
+use Rattle.std.specs.Prelude.{◌≡◌, ◌⊎◌, ℕ, ◌^◌, ◌<◌, List}
+use Rattle.model.specs.Sound.{SoundTime}
+use Rattle.nfs_types.specs.Fits.{ProgramCallFits}
 use Rattle.model.specs.Mount.{mount_reply}
 use Rattle.nfs_types.specs.declared.ctx.Credential.{Credential}
 use Rattle.nfs_types.specs.declared.ctx.Moment.{Moment}
@@ -18,6 +20,7 @@ use Rattle.store.specs.Calling.{Answers, asked_of}
 use Rattle.store_images.specs.Opening.{Opened}
 use Rattle.store_images.specs.Settling.{IsIdle}
 use Rattle.store_promise.specs.Progress.{Job}
+use Rattle.procs.specs.SoundCalls.{SoundCall}
 use Rattle.store_promise.specs.declared.answers.Verdict.{Verdict}
 use Rattle.session.specs.Serving.{reply_for}
 
@@ -26,12 +29,20 @@ abbrev pub IsSpelled : ℕ → ReplyBody → List ℕ → Type 0
 IsSpelled xid body bytes = ((bytes ≡ reply_bytes xid body) × (IsTooLong xid body → ⊥))
     ⊎ (IsTooLong xid body × (bytes ≡ refused xid SystemError))
 
--- What the procedure of a call comes to, and what it makes of the store: nothing is left out, the boot number
--- stays, and where the device keeps its model an open store stays open, with the call's entry more or none.
+-- a caller and a call that can be spelled
+pub record TakesCall (credential : Credential) (call : ProgramCall) : Type 0 where
+  pub uid : credential.uid < 2 ^ 32
+  pub gid : credential.gid < 2 ^ 32
+  pub fits : ProgramCallFits call
+
+-- What the procedure of a call comes to, which can be spelled, and what it makes of the store: nothing is left
+-- out, the boot number stays, and where the device keeps its model an open store stays open, with the call's
+-- entry more or none.
 pub record IsProcedure (keeps_model : Type 0) (old : Opened) (asked : Job) (verdict : Verdict) (new : Opened)
     : Type 0 where
   pub idle : IsIdle new.core
   pub boot : new.boot ≡ old.boot
+  pub sound : SoundTime asked.moment → SoundCall asked.credential asked.moment asked.call
   pub answered : Answers keeps_model old asked verdict new
 
 abbrev pub IsSystemError : ℕ → List ℕ → Type 0

@@ -1,9 +1,9 @@
 //! Answering one record.
-ghost use Rattle.std.specs.Prelude.{◌≡◌};
+ghost use Rattle.std.specs.Prelude.{◌≡◌, ℕ, ◌<◌, get_or};
 ghost use Rattle.store_images.specs.Opening.{store_of};
 ghost use Rattle.store_images.specs.Settling.{IsIdle};
 ghost use Rattle.session.specs.Serving.{reply_for};
-ghost use Rattle.session.specs.Replying.{IsCallAnswered, IsMountReply};
+ghost use Rattle.session.specs.Replying.{IsCallAnswered, IsMountReply, TakesCall};
 ghost use Rattle.session.specs.Streaming.{Delivers, Serves};
 ghost use Rattle.session_wire.specs.Replies.{body_of};
 
@@ -35,6 +35,7 @@ pub fn serve_record<D: CrashDisk, W: Write>(
         message.now result
         (store_of (D.device store.new.disk) store.new.core store.new.boot) (W.contents writer.new) }
 {
+    are_bytes(message);
     match judge(alloc, message) {
         Judged::Closed => Err(SessionFault::Record),
         Judged::Refused { xid, refusal } => put(alloc, writer, xid, RpcReply::Refused(refusal)),
@@ -46,6 +47,11 @@ pub fn serve_record<D: CrashDisk, W: Write>(
     }
 }
 
+// Each byte of a message is below 256.
+fn are_bytes(message: &[u8])
+    ensures { (index : ℕ) → get_or message.now index 0 < 256 }
+{}
+
 // Answers one call.
 fn serve_call<D: CrashDisk, W: Write>(
     alloc: Global,
@@ -56,7 +62,8 @@ fn serve_call<D: CrashDisk, W: Write>(
     writer: &mut W,
     moment: Moment,
 ) -> Result<(), SessionFault>
-    requires { IsIdle store.old.core }
+    requires idle { IsIdle store.old.core }
+    requires fits { TakesCall credential call }
     ensures idle { IsIdle store.new.core }
     ensures boot { store.new.boot ≡ store.old.boot }
     ensures model { D.keeps_model store.new.disk → D.keeps_model store.old.disk }

@@ -14,12 +14,12 @@ use Rattle.disk.specs.declared.device.Failed.{Failed}
 use Rattle.layout.specs.Geometry.{IsLawful}
 use Rattle.model.specs.Entry.{Entry}
 use Rattle.model.specs.Calls.{has_rules}
-use Rattle.model.specs.Sound.{SoundTime}
 use Rattle.model.specs.Tree.{Tree}
 use Rattle.txn_law.specs.Core.{CoreState}
 use Rattle.txn_law.specs.Fetch.{Fetch}
 use Rattle.wal_law.specs.Calls.{Pending, idle as nothing_out}
 use Rattle.wal_law.specs.Log.{settled_place}
+use Rattle.procs.specs.SoundCalls.{SoundCall}
 use Rattle.store_promise.specs.OpenSince.{HasKeptFiles, IsOpenSince, KeepsFiles, LeavesBeginning}
 use Rattle.store_promise.specs.Progress.{Begun, Progress, Stage, At, Idle, Called, Planning, Reading, Read}
 use Rattle.store_promise.specs.Progress.{Refused, Again}
@@ -69,10 +69,10 @@ abbrev handed_to : Outset → State
 handed_to o = with_call (ctx_of o.asked.credential o.asked.moment o.store.boot) o.asked.call
     (at_rest o.store.boot)
 
-pub begins : (o : Outset) (worker : State) → SoundTime o.asked.moment → IsIdle o.store.core
+pub begins : (o : Outset) (worker : State) → SoundCall o.asked.credential o.asked.moment o.asked.call → IsIdle o.store.core
     → worker ≡ handed_to o
     → GoesWith worker o.store.core → IsOpenWith o.store o.first o.entries o.last → IsCalling o o.store worker
-begins o worker timely idle is with opened = record {
+begins o worker sound idle is with opened = record {
   entry = None;
   last = o.last;
   base = opened.base;
@@ -88,7 +88,7 @@ begins o worker timely idle is with opened = record {
     boot_is = refl;
     entry = refl;
     answer = refl;
-    stands = record { boot_is = refl; timely = timely };
+    stands = record { boot_is = refl; sound = sound };
   });
   at_work = subst (λ (w : State). IsCoreAtWork w o.store.core) (sym is) (record {
     with = subst (λ (w : State). GoesWith w o.store.core) is with;

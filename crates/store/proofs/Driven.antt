@@ -10,6 +10,7 @@ use Rattle.std.proofs.lemmas.Bool.Decides.{nat_tests}
 use Rattle.std.proofs.lemmas.List.{length-append}
 use Rattle.std.proofs.lemmas.Nat.{mul-le}
 use Rattle.disk.specs.Device.{Device}
+use Rattle.disk.specs.declared.block.BlockNo.{BlockNo}
 use Rattle.disk.specs.declared.device.Failed.{Failed}
 use Rattle.limits.specs.declared.TheConstants.{CHANGED_BLOCKS}
 use Rattle.objects.specs.declared.addr.Addr.{Addr}
@@ -27,11 +28,14 @@ use Rattle.procs.specs.declared.next.Plan.{Plan}
 use Rattle.procs.specs.declared.next.Plan.TheVariants as plan
 use Rattle.inode.specs.declared.snap.Snap.{Snap}
 use Rattle.procs.proofs.FewAsked.{few, one_asked_once}
+use Rattle.procs.proofs.FewClaimed.{few_claimed, one_claimed_once}
 use Rattle.txn.specs.Core.{CoreState}
 use Rattle.txn.specs.Fetch.{Fetch}
 use Rattle.txn.specs.Group.{blocks_of}
 use Rattle.txn.specs.Object.{ObjectBytes}
-use Rattle.txn.specs.Outcomes.{IsCommit, IsWanted}
+use Rattle.txn.specs.Outcomes.{IsClaimed, IsCommit, IsWanted}
+use Rattle.txn.specs.declared.outcomes.Claim.{Claim}
+use Rattle.txn.specs.declared.outcomes.Claim.TheVariants as claim
 use Rattle.txn.specs.declared.outcomes.Commit.{Commit}
 use Rattle.txn.specs.declared.outcomes.Commit.TheVariants as commit
 use Rattle.txn.specs.declared.outcomes.Want.{Want}
@@ -59,9 +63,9 @@ use Rattle.store.specs.Driving.{whole_round}
 use Rattle.store_images.specs.Counts.{SameFrame}
 use Rattle.store_images.specs.Opening.{IsSettled}
 use Rattle.store_images.specs.Settling.{SameNumbers}
-use Rattle.store_workers.specs.Seen.{Seen, seen_in, with_object}
-use Rattle.store_workers.specs.WorkerAnswers.{after_commit, begun_wanted, committing_of}
-use Rattle.store_workers.specs.WorkerAnswers.{phase_wanted, seen_wanted}
+use Rattle.store_workers.specs.Seen.{Seen, seen_in, with_claim, with_object}
+use Rattle.store_workers.specs.WorkerAnswers.{after_commit, begun_wanted, claim_wish, committing_of}
+use Rattle.store_workers.specs.WorkerAnswers.{phase_claimed, phase_wanted, seen_claimed, seen_wanted}
 use Rattle.store_workers.specs.WorkerAnswers.{told_of, wish_of, with_answer}
 use Rattle.store_workers.specs.WorkerAnswers.{with_entry}
 use Rattle.store_workers.specs.Telling as telling
@@ -185,6 +189,38 @@ all_taken : (objects claims blocks : ℕ) → objects ≤ most_asked blocks → 
 unfolding most_taken
 all_taken objects claims blocks few fewer = omega (arith, few, fewer)
 
+-- with one more that was taken less is left
+less_taken : (old new : Side) (snap : Snap) (now_seen : Seen)
+    → seen_in old.worker.work.snap ≡ seen_in (Some snap) → seen_in new.worker.work.snap ≡ Some now_seen
+    → new.core.log ≡ old.core.log
+    → count_of (Some now_seen) ≡ length snap.objects.items + length snap.claims.items + 1
+    → length snap.objects.items + length snap.claims.items + 1 ≤ most_taken old.core.log.blocks
+    → left_in Planning new.worker.work new.core < left_in Planning old.worker.work old.core
+less_taken old new snap now_seen snap_is seen log more within =
+    let now : untaken new.worker.work b ≡ most_taken b - (count + 1) =
+    untaken_is new.worker.work now_seen b seen ∙ ap (λ n. most_taken b - n) more in
+    let was = untaken_is old.worker.work (seen_of snap) b snap_is in
+    let fewer = read_less (most_taken b) count b (away new.core) (away old.core)
+    (rounds_left old.core.log) within
+    (subst (λ n. away new.core ≤ n) blocks (at_most_all (is_at_hand new.core) new.core.log.blocks)) in
+    subst (λ (l : Log). rounds_left l
+    + (3 + (untaken new.worker.work l.blocks * (l.blocks + 1) + away new.core)) < left) (sym log)
+    (subst (λ u. rounds_left old.core.log + (3 + (u * (b + 1) + away new.core)) < left) (sym now)
+    (subst (λ u. rounds_left old.core.log + (3 + ((most_taken b - (count + 1)) * (b + 1) + away new.core))
+    < rounds_left old.core.log + (3 + (u * (b + 1) + away old.core))) (sym was) fewer))
+  where
+    blocks : new.core.log.blocks ≡ old.core.log.blocks
+    blocks = ap (λ (l : Log). l.blocks) log
+
+    b : ℕ
+    b = old.core.log.blocks
+
+    count : ℕ
+    count = length snap.objects.items + length snap.claims.items
+
+    left : ℕ
+    left = left_in Planning old.worker.work old.core
+
 -- ---- a transaction is begun
 
 begun_so : (old new : Side) (job : Job) (number : ℕ) → HasBegun job old number new
@@ -243,42 +279,21 @@ module _ (old new : Side) (addr : Addr) (job : Job) (tx : ℕ) (snap : Snap)
       now_seen : Seen
       now_seen = record (seen_of snap) { objects = snap.objects.items ++ object ∷ [] }
 
-      blocks : new.core.log.blocks ≡ old.core.log.blocks
-      blocks = ap (λ (l : Log). l.blocks) log
-
-      b : ℕ
-      b = old.core.log.blocks
-
-      count : ℕ
-      count = length snap.objects.items + length snap.claims.items
-
-      more : count_of (Some now_seen) ≡ count + 1
+      more : count_of (Some now_seen) ≡ length snap.objects.items + length snap.claims.items + 1
       more = let longer = length-append snap.objects.items (object ∷ []) in omega (arith, longer)
 
-      within : count + 1 ≤ most_taken b
+      within : length snap.objects.items + length snap.claims.items + 1 ≤ most_taken old.core.log.blocks
       within =
           let most = few snap.geometry now_seen.objects
           (one_asked_once snap.geometry snap.objects.items object has.were is_plan.1 is_plan.0) in
-          let none : length snap.claims.items ≡ 0 = ap length has.claims in
+          let fewer = few_claimed snap.geometry snap.claims.items has.claims in
           let same = has.blocks in
-          subst (λ n. n ≤ most_taken b) more
-          (all_taken (length now_seen.objects) (length snap.claims.items) b (omega (arith, most, same))
-          (omega (arith, none)))
+          subst (λ n. n ≤ most_taken old.core.log.blocks) more
+          (all_taken (length now_seen.objects) (length snap.claims.items) old.core.log.blocks
+          (omega (arith, most, same)) (omega (arith, fewer, same)))
 
       less : left_in Planning new.worker.work new.core < left
-      less =
-          let now : untaken new.worker.work b ≡ most_taken b - (count + 1) =
-          untaken_is new.worker.work now_seen b (seen ∙ ap (with_object addr bytes) snap_is)
-          ∙ ap (λ n. most_taken b - n) more in
-          let was = untaken_is old.worker.work (seen_of snap) b snap_is in
-          let fewer = read_less (most_taken b) count b (away new.core) (away old.core)
-          (rounds_left old.core.log) within
-          (subst (λ n. away new.core ≤ n) blocks (at_most_all (is_at_hand new.core) new.core.log.blocks)) in
-          subst (λ (l : Log). rounds_left l
-          + (3 + (untaken new.worker.work l.blocks * (l.blocks + 1) + away new.core)) < left) (sym log)
-          (subst (λ u. rounds_left old.core.log + (3 + (u * (b + 1) + away new.core)) < left) (sym now)
-          (subst (λ u. rounds_left old.core.log + (3 + ((most_taken b - (count + 1)) * (b + 1) + away new.core))
-          < rounds_left old.core.log + (3 + (u * (b + 1) + away old.core))) (sym was) fewer))
+      less = less_taken old new snap now_seen snap_is (seen ∙ ap (with_object addr bytes) snap_is) log more within
 
   wanted : (made : Step) → is_kept_off (Some made) ≡ false → (answer : Want)
       → made ≡ step.Wanted addr modes.Exclusive (wish_of answer)
@@ -313,6 +328,56 @@ module _ (old new : Side) (addr : Addr) (job : Job) (tx : ℕ) (snap : Snap)
       made_is refl refl
   wanted made free (want.NoMemory back) made_is core phase got seen entry answer =
       goes_by Planning old made _ new (nearer left new.worker new.core _ phase tt (grind (arith)))
+      made_is refl refl
+
+-- ---- a wish to claim
+
+module _ (old new : Side) (block : BlockNo) (addr : Addr) (tx : ℕ) (snap : Snap)
+    (snap_is : seen_in old.worker.work.snap ≡ seen_in (Some snap))
+    (has : HasOfCall tx old.core (seen_of snap))
+    (is_plan : IsPlanFor snap (plan.Claim block)) where
+  abbrev left_to_claim : ℕ
+  left_to_claim = left_in Planning old.worker.work old.core
+
+  claim_held : new.worker.phase ≡ Planning → new.core.log ≡ old.core.log
+      → seen_in new.worker.work.snap ≡ with_claim block (seen_in old.worker.work.snap)
+      → HasGoneOn left_to_claim new.worker new.core
+  claim_held phase log seen = nearer left_to_claim new.worker new.core Planning phase tt
+      (less_taken old new snap now_seen snap_is (seen ∙ ap (with_claim block) snap_is) log more within)
+    where
+      now_seen : Seen
+      now_seen = record (seen_of snap) { claims = snap.claims.items ++ block ∷ [] }
+
+      more : count_of (Some now_seen) ≡ length snap.objects.items + length snap.claims.items + 1
+      more = let longer = length-append snap.claims.items (block ∷ []) in omega (arith, longer)
+
+      within : length snap.objects.items + length snap.claims.items + 1 ≤ most_taken old.core.log.blocks
+      within =
+          let most = few snap.geometry snap.objects.items has.were in
+          let fewer = few_claimed snap.geometry now_seen.claims
+          (one_claimed_once snap.geometry snap.claims.items block has.claims is_plan.1 is_plan.0) in
+          let same = has.blocks in
+          subst (λ n. n ≤ most_taken old.core.log.blocks) more
+          (all_taken (length snap.objects.items) (length now_seen.claims) old.core.log.blocks
+          (omega (arith, most, same)) (omega (arith, fewer, same)))
+
+  claimed : (made : Step) → is_kept_off (Some made) ≡ false → (answer : Claim)
+      → made ≡ step.Claimed block (claim_wish answer)
+      → IsClaimed old.core tx addr answer new.core → new.worker.phase ≡ phase_claimed answer
+      → seen_in new.worker.work.snap ≡ seen_claimed block answer (seen_in old.worker.work.snap)
+      → Came Planning old (Some made) new
+  claimed made free (claim.Held back) made_is core phase seen =
+      goes_by Planning old made _ new (claim_held phase (ap (λ (c : CoreState). c.log) core.2.only) seen)
+      made_is refl refl
+  claimed made free (claim.Busy back) made_is core phase seen =
+      absurd (true≢false (sym (ap (λ m. is_kept_off (Some m)) made_is) ∙ free))
+  claimed made free (claim.Loading back) made_is core phase seen =
+      absurd (true≢false (sym (ap (λ m. is_kept_off (Some m)) made_is) ∙ free))
+  claimed made free (claim.Outside back) made_is core phase seen =
+      goes_by Planning old made _ new (nearer left_to_claim new.worker new.core _ phase tt (grind (arith)))
+      made_is refl refl
+  claimed made free (claim.NoMemory back) made_is core phase seen =
+      goes_by Planning old made _ new (nearer left_to_claim new.worker new.core _ phase tt (grind (arith)))
       made_is refl refl
 
 -- ---- a commit
@@ -402,7 +467,10 @@ goes old new tx made next tx_is is taken free goes_so = of_next next is.plan goe
         (ap (λ (s : State). s.work.job) wish.worker) made free wish.answer wish.made_is wish.core
         (ap (λ (s : State). s.phase) wish.worker) (ap (λ (s : State). s.begun) wish.worker) wish.seen
         (ap (λ (s : State). s.work.entry) wish.worker) (ap (λ (s : State). s.work.answer) wish.worker)
-    of_next (plan.Claim block) planned wish = absurd planned.1
+    of_next (plan.Claim block) planned wish =
+        claimed old new block wish.core.0 tx is.snap is.snap_is
+        (has_of old.worker old.core is.job tx (seen_of is.snap) is.job_is tx_is is.snap_is taken) planned
+        made free wish.answer wish.made_is wish.core.2 (ap (λ (s : State). s.phase) wish.worker) wish.seen
     of_next (plan.Done done) planned end = elim (ending old new tx done made end) [
       | lacked has ↦ lacked_so old new tx made has
       | committed job job_is has ↦

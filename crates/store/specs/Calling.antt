@@ -7,7 +7,6 @@ use Rattle.disk.specs.Device.{Device}
 use Rattle.model.specs.Entry.{Entry}
 use Rattle.model.specs.Calls.{has_rules, is_answered_stable, unsupported}
 use Rattle.model.specs.Refused.{refused}
-use Rattle.model.specs.Sound.{SoundTime}
 use Rattle.procedures.specs.Step as procedures
 use Rattle.model.specs.Tree.{Tree}
 use Rattle.nfs_types.specs.declared.call.Call.{Call}
@@ -21,6 +20,7 @@ use Rattle.wal_law.specs.Log.{settled_place}
 use Rattle.store_promise.specs.History.{ctx_of}
 use Rattle.store_promise.specs.OpenSince.{HasKeptFiles, IsOpenSince, KeepsFiles, LeavesBeginning}
 use Rattle.store_promise.specs.Openings.{IsLater, LeavesImages}
+use Rattle.procs.specs.SoundCalls.{SoundCall}
 use Rattle.store_promise.specs.Progress.{Begun, Job, Progress, Stage, At, Idle, Called, Planning, Reading, Read}
 use Rattle.store_promise.specs.Progress.{Refused, Again, Waiting, is_idle}
 use Rattle.store_promise.specs.Running.{IsFetchOver}
@@ -169,10 +169,10 @@ pub record HasAnswered (o : Outset) (told : Verdict) (now : Opened) : Type 0 whe
   pub goes : GoesTo o.store now
   pub tells : Tells o entry told now
 
--- so it does of any call that is handed over at a sound time, to a store that is open with any entries
+-- so it does of any call that can be spelled, handed to a store that is open with any entries
 abbrev pub Answers : Type 0 → Opened → Job → Verdict → Opened → Type 0
 Answers keeps_model old asked told new = (first last : Tree) (entries : List Entry) → keeps_model
-    → SoundTime asked.moment → IsOpenWith old first entries last
+    → SoundCall asked.credential asked.moment asked.call → IsOpenWith old first entries last
     → HasAnswered (record {
       store = old;
       first = first;

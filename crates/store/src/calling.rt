@@ -4,12 +4,12 @@ ghost use Rattle.std.specs.Prelude.{◌≡◌, ℕ, Bool, true, Ok, Option, List
 ghost use Rattle.disk.specs.Device.{Device};
 ghost use Rattle.model.specs.Entry.{Entry};
 ghost use Rattle.model.specs.Calls.{has_rules};
-ghost use Rattle.model.specs.Sound.{SoundTime};
 ghost use Rattle.model.specs.Tree.{Tree};
 ghost use Rattle.txn_law.specs.Core.{CoreState};
 ghost use Rattle.txn_law.specs.HomeRead.{HasContents};
 ghost use Rattle.txn_law.specs.Tidy.{AreTidy};
 ghost use Rattle.wal_law.specs.Log.{IsLawful};
+ghost use Rattle.procs.specs.SoundCalls.{SoundCall};
 ghost use Rattle.store_promise.specs.declared.events.Step.{Step};
 ghost use Rattle.store.specs.Calling.{HasStepped, HasWaited, IsCalling, IsOpenWith, Outset};
 ghost use Rattle.store.specs.Driving.{waits_for_log};
@@ -41,7 +41,7 @@ pub fn a_settled_store_stays_open()
 
 /// A call that was handed to a worker at rest is under way.
 pub(crate) fn a_call_begins()
-    ensures { (o : Outset) (worker : State) → SoundTime o.asked.moment → IsIdle o.store.core
+    ensures { (o : Outset) (worker : State) → SoundCall o.asked.credential o.asked.moment o.asked.call → IsIdle o.store.core
         → worker ≡ with_call (ctx_of o.asked.credential o.asked.moment o.store.boot) o.asked.call
         (at_rest o.store.boot)
         → GoesWith worker o.store.core → IsOpenWith o.store o.first o.entries o.last

@@ -5,11 +5,6 @@ pub mod FailedCalls
 pub mod DeviceCalls
 pub mod OneLife
 pub mod Called
-pub mod OneSetAttr
-pub mod OneSetAttrAlong
-pub mod OneSetAttrTold
-pub mod OneSetAttrStops
-pub mod OneSetAttrOnly
 pub mod ToldOf
 pub mod ToldLog
 pub mod Opened

@@ -187,7 +187,7 @@ module _ (base : Image) (d : Device) (old new : CoreState) (logging installing :
         × Stands g (with_objects now plan.written) next
     led = subst (λ (h : Geometry). (next : Tree) × step last entry.ctx entry.call entry.reply next
         × Stands h (with_objects now plan.written) next) geometry_is
-        (tells.step now last tells.timely (subst (λ (h : Geometry). Stands h now last) (sym geometry_is)
+        (tells.step now last tells.sound (subst (λ (h : Geometry). Stands h now last) (sym geometry_is)
         (stands_now base d old logging installing boot first last entries since)) as_read)
 
     module _ (sound : IsSoundCore base new)

@@ -20,7 +20,7 @@ use Rattle.store_promise.specs.History.{IsHistory}
 use Rattle.store_promise.specs.LogTold.{settled_told}
 use Rattle.store_promise.specs.Openings.{AtEachStop, IsBootOf, IsLater, IsOpened, IsRefused, LeavesImages}
 use Rattle.store_promise.specs.Prefix.{HasPrefix}
-use Rattle.store_promise.specs.Schedule.{Schedule, Setting, AreTaken, AreTimely, told_before}
+use Rattle.store_promise.specs.Schedule.{Schedule, Setting, AreTaken, SoundEvents, told_before}
 use Rattle.store_promise.specs.Transcript.{Transcript, Report, entries_of, device_calls, commits_by, fails}
 use Rattle.store_promise.specs.Verdicts.{IsStableAnswer, IsCoveredWrite, AreAnswers}
 
@@ -98,7 +98,7 @@ pub record KeepsPromise (before later : Device) (tree : Tree) (first workers : �
   pub changes : ChangeTheirOwn later.size events t setting.blocks
 
 -- What a run stands on: the device keeps its model, is at rest, and holds a good image with this tree and this
--- boot number; there is one worker; and calls are handed over at moments below a second.
+-- boot number; there is one worker; and the calls that are handed over can be spelled.
 pub record MayRun (keeps_model : Type 0) (before : Device) (tree : Tree) (first workers : ℕ)
     (events : Schedule) : Type 0 where
   pub model : keeps_model
@@ -106,7 +106,7 @@ pub record MayRun (keeps_model : Type 0) (before : Device) (tree : Tree) (first 
   pub good : (image : Image) → IsCrashImage before before.clock image
       → IsGoodImage before.size image tree first
   pub alone : workers ≡ 1
-  pub timely : AreTimely events
+  pub sound : SoundEvents events
 
 -- A run comes to an end: it keeps its promise, and took each event, or fewer where memory was refused to it.
 pub record EndsWell (before later : Device) (tree : Tree) (first workers : ℕ) (events : Schedule)

@@ -14,7 +14,6 @@ pub mod Prefix
 pub mod Changes
 pub mod Headline
 pub mod Room
-pub mod OneSetAttr
 pub mod OpenStore
 pub mod ToldOf
 pub mod OpenSince

@@ -5,12 +5,12 @@ use Rattle.disk.specs.Crash.{Image, IsCrashImage}
 use Rattle.disk.specs.Device.{Device}
 use Rattle.model.specs.Entry.{Entry}
 use Rattle.procedures.specs.After.{after}
-use Rattle.model.specs.Sound.{SoundTime}
 use Rattle.model.specs.Tree.{Tree}
 use Rattle.layout.specs.declared.geometry.Geometry.{Geometry}
 use Rattle.layout.specs.Homes.{homes_of}
 use Rattle.layout.specs.Stands.{Stands}
 use Rattle.nfs_types.specs.declared.reply.Reply.{Reply}
+use Rattle.procs.specs.SoundCalls.{SoundCall}
 use Rattle.procs.specs.Outcome.{Outcome}
 use Rattle.procs.specs.Steps.{IsStepOf}
 use Rattle.wal_law.specs.Calls.{Pending}
@@ -73,11 +73,11 @@ outcome_of plan reply = record {
   inodes = plan.inodes;
 }
 
--- An entry tells of this change: its call was made in this boot, at a sound time, and what comes of it is a
--- step of the sequential server, in an image of the change's counts.
+-- An entry tells of this change: its call was made in this boot and can be spelled, and what comes of it is
+-- a step of the sequential server, in an image of the change's counts.
 pub record TellsOf (boot : ℕ) (plan : Planned) (entry : Entry) : Type 0 where
   pub boot_is : entry.ctx.boot ≡ boot
-  pub timely : SoundTime entry.ctx.moment
+  pub sound : SoundCall entry.ctx.credential entry.ctx.moment entry.call
   pub geometry : Geometry
   pub blocks : plan.blocks ≡ geometry.blocks
   pub inodes : plan.inodes ≡ geometry.inodes

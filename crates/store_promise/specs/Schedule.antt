@@ -11,13 +11,13 @@ use Rattle.objects.specs.declared.mode.Mode.TheVariants as modes
 use Rattle.nfs_types.specs.declared.call.Call.{Call}
 use Rattle.layout.specs.declared.geometry.Geometry.{Geometry}
 use Rattle.model.specs.Calls.{has_rules}
-use Rattle.model.specs.Sound.{SoundTime}
 use Rattle.procs.specs.Asks.{Asks, Claims}
 use Rattle.inode.specs.Snap.{is_claimed, same_addr}
 use Rattle.txn.specs.Object.{ObjectBytes}
 use Rattle.txn.specs.Window.{object_at}
 use Rattle.txn.specs.declared.outcomes.BeginFault.TheVariants as fault
 use Rattle.wal_law.specs.declared.calls.IoCall.{IoCall}
+use Rattle.procs.specs.SoundCalls.{SoundCall}
 use Rattle.store_promise.specs.declared.events.Committing.{Committing}
 use Rattle.store_promise.specs.declared.events.Committing.TheVariants as committing
 use Rattle.store_promise.specs.declared.events.Ending.TheVariants as ending
@@ -38,18 +38,18 @@ use Rattle.store_promise.specs.Progress.{Taken, Wished, addrs_of, is_loaded}
 abbrev pub Schedule : Type 0
 Schedule = List Event
 
--- calls are handed over at a moment, of less than a second of nanoseconds
-abbrev pub IsTimely : Event → Type 0
-IsTimely (event.Call worker credential moment call) = SoundTime moment
-IsTimely (event.Work worker) = Unit {0}
-IsTimely (event.Read worker) = Unit {0}
-IsTimely event.Log = Unit {0}
-IsTimely event.LogIo = Unit {0}
-IsTimely event.Install = Unit {0}
-IsTimely event.InstIo = Unit {0}
+-- a call that is handed over can be spelled
+abbrev pub SoundEvent : Event → Type 0
+SoundEvent (event.Call worker credential moment call) = SoundCall credential moment call
+SoundEvent (event.Work worker) = Unit {0}
+SoundEvent (event.Read worker) = Unit {0}
+SoundEvent event.Log = Unit {0}
+SoundEvent event.LogIo = Unit {0}
+SoundEvent event.Install = Unit {0}
+SoundEvent event.InstIo = Unit {0}
 
-abbrev pub AreTimely : Schedule → Type 0
-AreTimely events = (index : ℕ) (event : Event) → slice_get events index ≡ Some event → IsTimely event
+abbrev pub SoundEvents : Schedule → Type 0
+SoundEvents events = (index : ℕ) (event : Event) → slice_get events index ≡ Some event → SoundEvent event
 
 -- what is told of the workers, of the count of transactions, and of the log
 pub record Told : Type 0 where

@@ -11,7 +11,7 @@ ghost use Rattle.nfs_types.specs.declared.ctx.Moment.{Moment};
 ghost use Rattle.store_promise.specs.GoodImage.{IsGoodImage};
 ghost use Rattle.store_promise.specs.Headline.{MayRun};
 ghost use Rattle.store_promise.specs.Openings.{IsFormatted};
-ghost use Rattle.store_promise.specs.Schedule.{Schedule, AreTimely};
+ghost use Rattle.store_promise.specs.Schedule.{Schedule, SoundEvents};
 
 /// A fresh image is good, with the root alone as its tree and 0 as its boot number.
 pub fn a_fresh_image_is_good()
@@ -28,7 +28,7 @@ pub fn a_fresh_image_is_good()
 /// left.
 pub fn a_made_image_may_run()
     ensures { (before later : Device) (g : Geometry) (moment : Moment) (events : Schedule)
-        → IsLawful g.blocks g.inodes → SoundTime moment → AreTimely events
+        → IsLawful g.blocks g.inodes → SoundTime moment → SoundEvents events
         → IsAtRest before → IsFormatted before later g moment
         → MayRun (Unit {0}) later (format_tree (geometry_of g) moment) 0 1 events }
 {

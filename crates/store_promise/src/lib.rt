@@ -8,7 +8,6 @@ mod fault;
 mod file_blocks;
 mod fresh;
 mod log_steps;
-mod one_setattr;
 mod open_steps;
 mod open_store;
 mod promises;
@@ -27,11 +26,6 @@ pub use file_blocks::{
 };
 pub use fresh::{a_fresh_image_is_good, a_made_image_may_run};
 pub use log_steps::{a_commit_is_told, the_installer_is_told, the_logger_is_told};
-pub use one_setattr::{
-    a_run_of_one_setattr_keeps_the_promise, a_run_that_answers_at_its_commit_breaks_the_promise,
-    a_run_that_loses_its_setattr_breaks_the_promise, a_setattr_is_not_settled_without_the_log,
-    a_setattr_that_shows_too_early_breaks_the_promise, the_steps_of_one_setattr_tell_its_run,
-};
 pub use open_steps::{
     a_commit_leaves_the_store_open, a_read_leaves_the_store_open, a_stop_leaves_a_beginning,
     a_transaction_leaves_the_store_open, an_open_store_keeps_its_files,

@@ -9,10 +9,10 @@ use Rattle.objects.specs.declared.addr.Addr.{Addr}
 use Rattle.objects.specs.declared.mode.Mode.TheVariants as modes
 use Rattle.txn_law.specs.Core.{CoreState}
 use Rattle.txn_law.specs.Fetch.{Fetch}
-use Rattle.txn_law.specs.Holds.{for_fetching, for_reading, is_hold_of, is_taken, joined}
+use Rattle.txn_law.specs.Holds.{for_fetching, for_reading, for_writing, is_hold_of, is_taken, joined}
 use Rattle.txn_law.specs.Leaves.{Leaves, in_memory, is_fetching, taken_by, with_content, without_fetch}
 use Rattle.txn_law.specs.Records.{is_kept}
-use Rattle.txn_law.specs.Wishes.{IsFetched, IsHeld}
+use Rattle.txn_law.specs.Wishes.{IsFetched, IsHeld, IsTaken}
 use Rattle.txn_law.specs.declared.hold.Hold.{Hold}
 use Rattle.txn_law.proofs.Again.{same_addr}
 use Rattle.txn_law.proofs.Claims.{all_four, found_by}
@@ -74,6 +74,21 @@ module _ (old new : CoreState) (tx : ℕ) (fetched : List Addr) (addr : Addr) wh
 
     pub after_held : AreLoadedFor old tx fetched → AreLoadedFor new tx fetched
     after_held = All-weaker (IsLoadedFor old tx) (IsLoadedFor new tx) one_held fetched
+
+  module _ (took : IsTaken old tx addr new) where
+    one_claimed : (a : Addr) → IsLoadedFor old tx a → IsLoadedFor new tx a
+    one_claimed a loaded =
+        let some : has_taken new tx a ≡ true = ap (λ (o : Option Hold). is_some o) (took.leaves.holds tx a)
+        ∙ taken_more (for_writing tx addr) (taken_by old tx a)
+        (is_hold_of tx a (for_writing tx addr)) loaded.taken in
+        record {
+          taken = some;
+          content = loaded.content;
+          there = took.leaves.stays a.block loaded.content loaded.there (is_needed new tx a some);
+        }
+
+    pub after_claimed : AreLoadedFor old tx fetched → AreLoadedFor new tx fetched
+    after_claimed = All-weaker (IsLoadedFor old tx) (IsLoadedFor new tx) one_claimed fetched
 
   module _ (io : Fetch) (asked : IsFetched old tx addr modes.Exclusive io new) where
     abbrev hold : Hold

@@ -19,6 +19,8 @@ use Rattle.wal_law.specs.declared.outcomes.Seq.{Seq}
 use Rattle.txn.specs.Outcomes.{IsCommit}
 use Rattle.txn.specs.declared.outcomes.Commit.{Commit}
 use Rattle.txn.specs.declared.outcomes.Commit.TheVariants as commit
+use Rattle.txn.specs.declared.outcomes.Claim.{Claim}
+use Rattle.txn.specs.declared.outcomes.Claim.TheVariants as claim
 use Rattle.txn.specs.declared.outcomes.Want.{Want}
 use Rattle.txn.specs.declared.outcomes.Want.TheVariants as want
 use Rattle.txn_law.specs.Core.{CoreState}
@@ -37,8 +39,8 @@ use Rattle.store_workers.proofs.WorkCases.{Cases, by_cases}
 use Rattle.store_runs.specs.AtWork.{HasTakenPlace, IsSeenIn, entry_by, fetches_in, fetches_of, has_committed}
 use Rattle.store_workers.specs.Seen.{Seen, seen_in}
 use Rattle.store_workers.specs.Stages.{IsJobIn, IsWorkerAt, StandsAt}
-use Rattle.store_workers.specs.WorkerAnswers.{after_commit, begun_wanted, committing_of, phase_wanted}
-use Rattle.store_workers.specs.WorkerAnswers.{told_of, with_answer}
+use Rattle.store_workers.specs.WorkerAnswers.{after_commit, begun_claimed, begun_wanted, committing_of}
+use Rattle.store_workers.specs.WorkerAnswers.{phase_claimed, phase_wanted, told_of, with_answer}
 use Rattle.store_workers.specs.WorkerAnswers.{with_entry}
 use Rattle.store_workers.specs.WorkerSteps.{GoesOn, HasGivenBack, IsFromHome, IsNext, IsTold}
 use Rattle.store_workers.specs.WorkerSteps.{KeepsHomeOf, Side}
@@ -71,6 +73,13 @@ module _ (old new : Side) where
   wanted_none (want.Loading back) = refl
   wanted_none (want.Outside back) = refl
   wanted_none (want.NoMemory back) = refl
+
+  claimed_none : (answer : Claim) → fetches_in (phase_claimed answer) (begun_claimed answer).io ≡ []
+  claimed_none (claim.Held back) = refl
+  claimed_none (claim.Busy back) = refl
+  claimed_none (claim.Loading back) = refl
+  claimed_none (claim.Outside back) = refl
+  claimed_none (claim.NoMemory back) = refl
 
   placed_none : (job : Job) (reply : Reply) (place : Seq) (base : State) (stable : Bool)
       → fetches_of (with_entry job reply (told_of stable job reply place base)) ≡ []
@@ -119,7 +128,7 @@ module _ (old new : Side) where
     not_begun = λ job why job_is served none core is phase_is. at _ is refl;
     replied = λ job job_is served core is phase_is. at _ is refl;
     wanted = λ tx addr made tx_is next has phase_is. at _ has.worker (wanted_none has.answer);
-    claimed = λ tx block made tx_is next has phase_is. absurd next.plan.1;
+    claimed = λ tx block made tx_is next has phase_is. at _ has.worker (claimed_none has.answer);
     committed = λ job tx done made tx_is next job_is has phase_is.
         at _ has.worker (committed_none job done.reply _ has.answer);
     lacked = λ tx made tx_is has phase_is. at _ has.worker refl;
@@ -148,7 +157,7 @@ module _ (old new : Side) (boot number : ℕ) (entries : List Committed) where
       (entry_by number (record { ctx = job.ctx; call = job.call; reply = done.reply }))
   tells job done next same runs = record {
     boot_is = runs.handed.boot_is;
-    timely = runs.handed.timely;
+    sound = runs.handed.sound;
     geometry = next.snap.geometry;
     blocks = next.plan.0.named.blocks;
     inodes = next.plan.0.named.inodes;

@@ -19,15 +19,19 @@ use Rattle.model.specs.Tree.{Tree}
 use Rattle.nfs_types.specs.declared.call.Call.{Call}
 use Rattle.objects.specs.declared.addr.Addr.{Addr}
 use Rattle.objects.specs.declared.mode.Mode.TheVariants as modes
-use Rattle.procs.specs.Asks.{Asks}
+use Rattle.procs.proofs.FewClaimed.{claimed_object}
+use Rattle.procs.specs.Asks.{Asks, Claims}
 use Rattle.procs.specs.Outcome.{Outcome}
 use Rattle.procs.specs.declared.next.Plan.TheVariants as plan
 use Rattle.inode.specs.declared.snap.Snap.{Snap}
-use Rattle.inode.specs.Snap.{is_seen, same_addr}
+use Rattle.inode.specs.Snap.{is_claimed, is_seen, same_addr}
 use Rattle.layout.proofs.OnGrid.{at_home}
-use Rattle.txn.specs.Outcomes.{IsCommit, IsWanted}
+use Rattle.txn.specs.Outcomes.{IsClaimed, IsCommit, IsWanted}
+use Rattle.txn.specs.Wishes.{IsWhole}
 use Rattle.txn.specs.declared.outcomes.BeginFault.{BeginFault}
 use Rattle.txn.specs.declared.outcomes.BeginFault.TheVariants as fault
+use Rattle.txn.specs.declared.outcomes.Claim.{Claim}
+use Rattle.txn.specs.declared.outcomes.Claim.TheVariants as claim
 use Rattle.txn.specs.declared.outcomes.Commit.{Commit}
 use Rattle.txn.specs.declared.outcomes.Commit.TheVariants as commit
 use Rattle.txn.specs.declared.outcomes.Want.{Want}
@@ -48,7 +52,8 @@ use Rattle.store_promise.specs.OpenSince.{file_blocks}
 use Rattle.store_promise.specs.Progress.{Begun, Progress, Taken, addrs_of, is_loaded}
 use Rattle.store_promise.specs.Progress as how
 use Rattle.store_promise.specs.Running.{IsRunningOver, IsTold, StoreSide}
-use Rattle.store_promise.specs.Schedule.{HasNumbers, IsAskedFor, IsBeginning, IsCommitting, IsStepByPlan}
+use Rattle.store_promise.specs.Schedule.{HasNumbers, IsAskedFor, IsBeginning, IsClaimAskedFor, IsClaimWish}
+use Rattle.store_promise.specs.Schedule.{IsCommitting, IsStepByPlan}
 use Rattle.store_promise.specs.Schedule.{IsStepOfCalled, IsStepOfWork}
 use Rattle.store_promise.specs.Schedule.{IsStepOfWaiting, IsWish, Setting, Told, is_held}
 use Rattle.store_promise.specs.Schedule as schedule
@@ -67,8 +72,8 @@ use Rattle.store_workers.specs.Seen.{Seen, seen_in}
 use Rattle.store_workers.specs.Stages.{IsFetchOf, IsJobIn, IsWorkerAt, RunsIn, StandsAt, alone, at_fetch}
 use Rattle.store_workers.specs.Stages.{at_stage, begun_of}
 use Rattle.store_workers.specs.Stages.{progress_in, progress_of}
-use Rattle.store_workers.specs.WorkerAnswers.{committing_of, wish_of}
-use Rattle.store_workers.specs.WorkerSteps.{GoesOn, HasCommitted, HasLacked, HasWanted, IsNext}
+use Rattle.store_workers.specs.WorkerAnswers.{claim_wish, committing_of, wish_of}
+use Rattle.store_workers.specs.WorkerSteps.{GoesOn, HasClaimed, HasCommitted, HasLacked, HasWanted, IsNext}
 use Rattle.store_workers.specs.WorkerSteps.{IsNoBeginning, Side}
 use Rattle.store_workers.specs.WorkerSteps.{given_step, planned_of, side}
 use Rattle.store_workers.specs.declared.workers.parts.Job.{Job}
@@ -168,6 +173,30 @@ module _ (o : Setting) (told : Told) (worker : ℕ) (base : Image) (store : Stor
         → is_kept_off (Some (step.Wanted addr modes.Exclusive (wish_of answer))) ≡ false
         → IsStepByPlan o told worker begun (step.Wanted addr modes.Exclusive (wish_of answer))
     wanted_may new answer is off = (asked_for, wish_may new answer is off)
+
+  module _ (block : BlockNo) (claims : Claims seen.geometry block)
+      (new_to_it : is_claimed block seen.claims ≡ false) (addr : Addr) (whole : IsWhole block addr) where
+    claim_asked_for : IsClaimAskedFor o begun block
+    claim_asked_for = record {
+      unclaimed = new_to_it;
+      claims = subst (λ (g : Geometry). Claims g block) geometry_is claims;
+    }
+
+    claim_may : (new : CoreState) (answer : Claim) → IsClaimed store.core tx addr answer new
+        → is_kept_off (Some (step.Claimed block (claim_wish answer))) ≡ false
+        → IsClaimWish told worker begun block (claim_wish answer)
+    claim_may new (claim.Held back) is off = tt
+    claim_may new (claim.NoMemory back) is off = tt
+    claim_may new (claim.Busy back) is off = absurd (true≢false off)
+    claim_may new (claim.Loading back) is off = absurd (true≢false off)
+    claim_may new (claim.Outside back) is off =
+        absurd (is.1 (subst (λ (n : ℕ). IsHomeOn n addr.block) has.blocks
+        (at_home seen.geometry addr (claimed_object seen.geometry block addr claims whole))))
+
+    pub claimed_may : (new : CoreState) (answer : Claim) → IsClaimed store.core tx addr answer new
+        → is_kept_off (Some (step.Claimed block (claim_wish answer))) ≡ false
+        → IsStepByPlan o told worker begun (step.Claimed block (claim_wish answer))
+    claimed_may new answer is off = (claim_asked_for, claim_may new answer is off)
 
 -- ---- a commit
 
@@ -302,6 +331,17 @@ module _ (o : Setting) (told : Told) (number : ℕ) (base : Image) (store : Stor
       (some_of (λ n. AreLoadedFor store.core n worker.asked.fetched) worker.begun.tx tx tx_is loads)
       one_geometry addr is.plan.1 is.plan.0 new.core has.answer has.core off)
 
+  claimed_so : (tx : ℕ) (block : BlockNo) (made : Step) → worker.begun.tx ≡ Some tx
+      → IsNext worker (plan.Claim block) → (has : HasClaimed tx block old made new)
+      → May Planning (Some (step.Claimed block (claim_wish has.answer)))
+  claimed_so tx block made tx_is is has plans loads stands off =
+      from_plan is.job tx is.snap _ is.job_is tx_is is.snap_is
+      (claimed_may o told number base store fetches boot first last entries run is_told inodes tx
+      (seen_of is.snap) worker.asked.fetched
+      (has_of worker store.core is.job tx (seen_of is.snap) is.job_is tx_is is.snap_is plans)
+      (some_of (λ n. AreLoadedFor store.core n worker.asked.fetched) worker.begun.tx tx tx_is loads)
+      one_geometry block is.plan.1 is.plan.0 has.core.0 has.core.1 new.core has.answer has.core.2 off)
+
   committed_so : (job : Job) (tx : ℕ) (done : Outcome) (made : Step) → worker.begun.tx ≡ Some tx
       → IsNext worker (plan.Done done) → worker.work.job ≡ Some job
       → (has : HasCommitted job tx done old made new)
@@ -371,7 +411,7 @@ module _ (o : Setting) (told : Told) (number : ℕ) (base : Image) (store : Stor
     replied = λ job job_is served core is plans loads stands off.
         from_called job false step.Replied job_is served refl;
     wanted = wanted_so;
-    claimed = λ tx block made tx_is next has plans loads stands off. absurd next.plan.1;
+    claimed = claimed_so;
     committed = committed_so;
     lacked = lacked_so;
     given = λ ok io made io_is has plans loads stands off. given_so ok io io_is stands;

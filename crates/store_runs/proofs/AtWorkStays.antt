@@ -14,7 +14,9 @@ use Rattle.objects.specs.declared.mode.Mode.TheVariants as modes
 use Rattle.procs.specs.Outcome.{Outcome}
 use Rattle.wal_law.specs.Log.{added_blocks}
 use Rattle.wal_law.specs.declared.outcomes.Seq.{Seq}
-use Rattle.txn.specs.Outcomes.{IsCommit, IsWanted}
+use Rattle.txn.specs.Outcomes.{IsClaimed, IsCommit, IsWanted}
+use Rattle.txn.specs.declared.outcomes.Claim.{Claim}
+use Rattle.txn.specs.declared.outcomes.Claim.TheVariants as claim
 use Rattle.txn.specs.declared.outcomes.Commit.{Commit}
 use Rattle.txn.specs.declared.outcomes.Commit.TheVariants as commit
 use Rattle.txn.specs.declared.outcomes.Want.{Want}
@@ -27,7 +29,7 @@ use Rattle.txn_law.specs.Tidy.{AreTidy}
 use Rattle.store_promise.specs.declared.answers.Verdict.TheVariants as verdict
 use Rattle.store_promise.specs.declared.events.Step.{Step}
 use Rattle.store_promise.specs.declared.events.Step.TheVariants as step
-use Rattle.store_runs.proofs.AtWorkFetched.{after_given, after_held, after_wanted, wanted_taken}
+use Rattle.store_runs.proofs.AtWorkFetched.{after_claimed, after_given, after_held, after_wanted, wanted_taken}
 use Rattle.store_workers.proofs.StaysAlone.{stays_alone}
 use Rattle.store_workers.proofs.WorkCases.{Cases, by_cases}
 use Rattle.store_workers.specs.Alone.{HasOfCall, HasTaken, PlansAlone, StaysAlone, is_full}
@@ -39,8 +41,8 @@ use Rattle.store_workers.specs.Seen.{Seen, seen_in}
 use Rattle.store_workers.specs.Stages.{IsFetchOf, IsWorkerAt, StandsAt}
 use Rattle.store_workers.specs.Telling.{told}
 use Rattle.store_workers.specs.Worker.{GoesWith}
-use Rattle.store_workers.specs.WorkerAnswers.{after_commit, asked_wanted, begun_wanted}
-use Rattle.store_workers.specs.WorkerAnswers.{committing_of, phase_wanted}
+use Rattle.store_workers.specs.WorkerAnswers.{after_commit, asked_wanted, begun_claimed, begun_wanted}
+use Rattle.store_workers.specs.WorkerAnswers.{committing_of, phase_claimed, phase_wanted}
 use Rattle.store_workers.specs.WorkerAnswers.{told_of, with_answer, with_entry}
 use Rattle.store_workers.specs.WorkerSteps.{GoesOn, HasGivenBack, IsTold, KeepsReadsOf, Side}
 use Rattle.store_workers.specs.WorkerSteps.{given_step, planned_of, there_given}
@@ -90,6 +92,18 @@ module _ (old new : Side) where
   wanted_loads tx addr (want.Loading back) is loaded = same_loads back tx is.0 is.2 loaded
   wanted_loads tx addr (want.Outside back) is loaded = tt
   wanted_loads tx addr (want.NoMemory back) is loaded = tt
+
+  -- a wish to claim
+  claimed_loads : (tx : ℕ) (addr : Addr) (answer : Claim) → IsClaimed old.core tx addr answer new.core
+      → AreLoadedFor old.core tx old.worker.asked.fetched
+      → LoadsFor (phase_claimed answer) (begun_claimed answer).tx old.worker.asked new.core
+  claimed_loads tx addr (claim.Held back) is loaded =
+      subst (λ (n : ℕ). AreLoadedFor new.core n old.worker.asked.fetched) (sym is.0)
+      (after_claimed old.core new.core tx old.worker.asked.fetched addr is.2 loaded)
+  claimed_loads tx addr (claim.Busy back) is loaded = same_loads back tx is.0 is.2 loaded
+  claimed_loads tx addr (claim.Loading back) is loaded = same_loads back tx is.0 is.2 loaded
+  claimed_loads tx addr (claim.Outside back) is loaded = tt
+  claimed_loads tx addr (claim.NoMemory back) is loaded = tt
 
   -- a commit
   placed_loads : (job : Job) (reply : Reply) (place : Seq) (base : State) (stable : Bool)
@@ -181,7 +195,9 @@ module _ (old new : Side) where
       wanted = λ tx addr made tx_is next has phase_is loads at.
           loads_by _ has.worker (wanted_loads tx addr has.answer has.core
           (some_of (λ n. AreLoadedFor old.core n old.worker.asked.fetched) old.worker.begun.tx tx tx_is loads));
-      claimed = λ tx block made tx_is next has phase_is loads at. absurd next.plan.1;
+      claimed = λ tx block made tx_is next has phase_is loads at.
+          loads_by _ has.worker (claimed_loads tx has.core.0 has.answer has.core.2
+          (some_of (λ n. AreLoadedFor old.core n old.worker.asked.fetched) old.worker.begun.tx tx tx_is loads));
       committed = λ job tx done made tx_is next job_is has phase_is loads at.
           loads_by _ has.worker (committed_loads tx job done _ has.answer refl has.core
           (some_of (λ n. AreLoadedFor old.core n old.worker.asked.fetched) old.worker.begun.tx tx tx_is loads));

@@ -5,7 +5,9 @@ use Rattle.std.proofs.Common.{Ok, Err, length}
 use Rattle.objects.specs.declared.addr.Addr.{Addr}
 use Rattle.objects.specs.declared.mode.Mode.TheVariants as modes
 use Rattle.procs.specs.Outcome.{Outcome}
-use Rattle.txn.specs.Outcomes.{IsCommit, IsWanted, TakesPlace}
+use Rattle.txn.specs.Outcomes.{IsClaimed, IsCommit, IsWanted, TakesPlace}
+use Rattle.txn.specs.declared.outcomes.Claim.{Claim}
+use Rattle.txn.specs.declared.outcomes.Claim.TheVariants as claim
 use Rattle.txn.specs.declared.outcomes.Commit.{Commit}
 use Rattle.txn.specs.declared.outcomes.Commit.TheVariants as commit
 use Rattle.txn.specs.declared.outcomes.Want.{Want}
@@ -30,7 +32,7 @@ use Rattle.store_promise.proofs.ToldOf.{commit_told}
 use Rattle.store_runs.proofs.CommitTold.{few_blocks, longer}
 use Rattle.store_workers.proofs.WorkCases.{Cases, by_cases}
 use Rattle.store_runs.specs.AtWork.{has_committed, with_core}
-use Rattle.store_workers.specs.WorkerAnswers.{committing_of, wish_of}
+use Rattle.store_workers.specs.WorkerAnswers.{claim_wish, committing_of, wish_of}
 use Rattle.store_workers.specs.WorkerSteps.{GoesOn, HasAborted, HasBegun, HasGivenBack, Side, given_step}
 use Rattle.store_workers.specs.WorkerSteps.{planned_of, side}
 use Rattle.store_workers.specs.declared.workers.parts.Job.{Job}
@@ -79,6 +81,14 @@ wanted old new tx addr (want.Busy back) is = same_core old new is.2
 wanted old new tx addr (want.Loading back) is = same_core old new is.2
 wanted old new tx addr (want.Outside back) is = same_core old new is.2
 wanted old new tx addr (want.NoMemory back) is = same_core old new is.2
+
+claimed : (old new : CoreState) (tx : ℕ) (addr : Addr) (answer : Claim) → IsClaimed old tx addr answer new
+    → IsBeside old new
+claimed old new tx addr (claim.Held back) is = taken_only old new is.2.only
+claimed old new tx addr (claim.Busy back) is = same_core old new is.2
+claimed old new tx addr (claim.Loading back) is = same_core old new is.2
+claimed old new tx addr (claim.Outside back) is = same_core old new is.2
+claimed old new tx addr (claim.NoMemory back) is = same_core old new is.2
 
 -- ---- what is told
 
@@ -163,7 +173,9 @@ module _ (o : Setting) (told : Told) (number : ℕ) (store : StoreSide) (is_told
       wanted = λ tx addr made tx_is next has.
           kept (Some (step.Wanted addr modes.Exclusive (wish_of has.answer))) refl refl
           (wanted store.core new.core tx addr has.answer has.core);
-      claimed = λ tx block made tx_is next has. absurd next.plan.1;
+      claimed = λ tx block made tx_is next has.
+          kept (Some (step.Claimed block (claim_wish has.answer))) refl refl
+          (claimed store.core new.core tx has.core.0 has.answer has.core.2);
       committed = λ job tx done made tx_is next job_is has. committed_told tx done has.answer has.core;
       lacked = λ tx made tx_is has. kept (Some (step.Ended ending.NoMemory)) refl refl
           (aborted tx store.core new.core has.core);
@@ -210,7 +222,8 @@ module _ (old new : Side) where
     not_begun = λ job why job_is served why_is core is none. (same_core old.core new.core core).beside;
     replied = λ job job_is served core is none. (same_core old.core new.core core).beside;
     wanted = λ tx addr made tx_is next has none. (wanted old.core new.core tx addr has.answer has.core).beside;
-    claimed = λ tx block made tx_is next has none. absurd next.plan.1;
+    claimed = λ tx block made tx_is next has none.
+        (claimed old.core new.core tx has.core.0 has.answer has.core.2).beside;
     committed = λ job tx done made tx_is next job_is has. uncommitted tx done has.answer
         (added_blocks old.core.log (blocks_of done.written)) has.core;
     lacked = λ tx made tx_is has none. (aborted tx old.core new.core has.core).beside;

@@ -10,8 +10,11 @@ use Rattle.model.specs.Entry.{Entry}
 use Rattle.procedures.specs.After.{after as leads_to}
 use Rattle.model.specs.Tree.{Tree}
 use Rattle.objects.specs.declared.addr.Addr.{Addr}
+use Rattle.txn.specs.Claimed.{IsClaimedBy}
 use Rattle.txn_law.specs.Commit.{IsReadBy}
 use Rattle.txn_law.specs.Core.{CoreState}
+use Rattle.txn_law.specs.Holds.{is_written}
+use Rattle.txn_law.specs.declared.hold.Hold.{Hold}
 use Rattle.store_promise.specs.declared.events.Event.{Event}
 use Rattle.store_promise.specs.declared.events.Event.TheVariants as event
 use Rattle.store_promise.specs.declared.events.Step.{Step}
@@ -101,6 +104,9 @@ module _ (old new : CoreState) (kept : KeepsTransactions old new)
     blocks = has.blocks ∙ sym blocks;
     inodes = has.inodes ∙ sym kept.inodes;
     claims = has.claims;
+    claimed = All-weaker (IsClaimedBy old tx) (IsClaimedBy new tx)
+        (λ block is addr whole. ap (λ (o : Option Hold). is_written o) (kept.taken tx addr) ∙ is addr whole)
+        seen.claims has.claimed;
     were = has.were;
     read = All-weaker (IsReadBy old tx) (IsReadBy new tx) (kept.reads tx) seen.objects has.read;
     exclusive = λ addr hold is. has.exclusive addr hold (sym (kept.taken tx addr) ∙ is);

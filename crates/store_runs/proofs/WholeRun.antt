@@ -102,7 +102,7 @@ module _ (before : Device) (tree : Tree) (first : ℕ) (events : Schedule) where
         at = leaves (begins before gone.opened tree first events) keeps (record {
           alone = refl;
           next = ap (λ (n : ℕ). slice_get events n) steps_are ∙ there;
-          timely = may.timely (length yielded) now there;
+          sound = may.sound (length yielded) now there;
         }) gone.at;
       }
 

@@ -10,7 +10,7 @@ use Rattle.store_promise.specs.declared.transcript.Run.{Run}
 use Rattle.store_promise.specs.LogTold.{LogTold}
 use Rattle.store_promise.specs.Running.{StoreSide}
 use Rattle.store_promise.specs.Headline.{MayRun}
-use Rattle.store_promise.specs.Schedule.{IsTimely, Schedule, Setting}
+use Rattle.store_promise.specs.Schedule.{Schedule, Setting, SoundEvent}
 use Rattle.store_promise.specs.Transcript.{entries_of, transcript_of}
 use Rattle.run_law.specs.Noting.{progress_now}
 use Rattle.run_law.specs.Run.{Beginning, IsRun}
@@ -37,11 +37,11 @@ pub record IsGoing (b : Beginning) (store : StoreSide) (worker : State) (told : 
   pub at_work : IsCoreAtWork worker store.core
   pub progress : progress_now b.events (transcript_of told) 0 ≡ progress_of worker
 
--- this event is next, and is handed over at a sound time
+-- this event is next, and a call that can be spelled
 pub record IsNextEvent (b : Beginning) (now : Event) (told : Run) : Type 0 where
   pub alone : b.workers ≡ 1
   pub next : slice_get b.events (length told.steps.items) ≡ Some now
-  pub timely : IsTimely now
+  pub sound : SoundEvent now
 
 -- what an event notes beside its step, which is told last
 pub record NotesStep (made : Option Step) (before after : Run) : Type 0 where
@@ -108,7 +108,7 @@ pub record HasGone (before : Device) (tree : Tree) (first : ℕ) (events : Sched
   pub opened : Device
   pub at : IsRunAt (begins before opened tree first events) run told
 
--- so it is where the device held it, the events come at sound times, and the device keeps its model
+-- so it is where the device held it, the calls of its events can be spelled, and the device keeps its model
 abbrev pub GoesOnWell : Type 0 → Device → Schedule → RunSide → Run → Type 0
 GoesOnWell keeps_model before events run told = (tree : Tree) (first : ℕ)
     → MayRun keeps_model before tree first 1 events → HasGone before tree first events run told

@@ -2,7 +2,7 @@
 ghost use Rattle.std.specs.Prelude.{IfErr, IfOk};
 ghost use Rattle.disk.specs.Memory.{memory_device};
 ghost use Rattle.model.specs.Sound.{SoundTime};
-ghost use Rattle.store_promise.specs.Schedule.{AreTimely};
+ghost use Rattle.store_promise.specs.Schedule.{SoundEvents};
 ghost use Rattle.store_runs.specs.FormattedRun.{HasRunOnMade, IsNotMade};
 
 use crate::runs::run;
@@ -16,8 +16,8 @@ use store_promise::{Event, OpenFault, Run};
 /// and takes these events on it with one worker. The device lets the calls with these numbers fail, counted
 /// from 1. The faults are those of `format`; for want of memory it is refused also where there is none for
 /// the device. What a run stands on can be met so: this one keeps its promise, whatever its events are and
-/// whatever fails, where the image is made and each call is handed over at moments below a second. So is the
-/// moment of the root, as `format` requires.
+/// whatever fails, where each call can be spelled. The moment of the root is below a second, as `format`
+/// requires.
 pub fn format_and_run(
     alloc: Global,
     blocks: u32,
@@ -27,7 +27,7 @@ pub fn format_and_run(
     events: Vec<Event>,
 ) -> Result<(MemDisk, Result<Run, OpenFault>), FormatFault>
     requires { SoundTime made }
-    ensures promised { AreTimely events.items
+    ensures promised { SoundEvents events.items
         → IfOk result (λ ran. HasRunOnMade blocks inodes made events.items (memory_device ran.0) ran.1) }
     ensures refused { IfErr result (λ fault. IsNotMade fault blocks inodes) }
 {

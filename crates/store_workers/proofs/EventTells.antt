@@ -7,8 +7,8 @@ use Rattle.nfs_types.specs.declared.ctx.Credential.{Credential}
 use Rattle.nfs_types.specs.declared.ctx.Moment.{Moment}
 use Rattle.objects.specs.declared.addr.Addr.{Addr}
 use Rattle.model.specs.Entry.{Entry}
-use Rattle.model.specs.Sound.{SoundTime}
 use Rattle.txn.specs.Fetch.{Fetch}
+use Rattle.procs.specs.SoundCalls.{SoundCall}
 use Rattle.store_promise.specs.Progress.{Progress}
 use Rattle.store_promise.specs.Progress as told
 use Rattle.store_promise.specs.Schedule.{IsStepOfCall, IsStepOfRead}
@@ -66,10 +66,11 @@ takes_none boot entries state phase stands busy = by phase stands busy
     by (Waiting place) stands busy = at state.asked.waiting stands.job _ stands.job_is
 
 pub call_told : (boot : ℕ) (entries : List Entry) (credential : Credential) (moment : Moment) (call : Call)
-    (old new : State) (made : Option Step) → SoundTime moment → IsWorkerAt boot entries old
+    (old new : State) (made : Option Step) → SoundCall credential moment call
+    → IsWorkerAt boot entries old
     → TakesCall 0 (ctx_of credential moment old.boot) call old made new
     → TellsCall boot entries (record { credential = credential; moment = moment; call = call }) old made new
-call_told boot entries credential moment call old new (Some made) timely at takes = record {
+call_told boot entries credential moment call old new (Some made) sound at takes = record {
   may = subst (λ p. IsStepOfCall (progress_in p old.work.job (begun_of old.begun.tx (seen_in old.work.snap)
       old.asked.fetched) old.asked) (Some made)) (sym takes.2) (ap (λ m. Some m) takes.0);
   progress = ap progress_of takes.3;
@@ -77,10 +78,10 @@ call_told boot entries credential moment call old new (Some made) timely at take
     boot_is = at.boot_is;
     entry = at.entry;
     answer = at.answer;
-    stands = record { boot_is = at.boot_is; timely = timely };
+    stands = record { boot_is = at.boot_is; sound = sound };
   });
 }
-call_told boot entries credential moment call old new None timely at takes = record {
+call_told boot entries credential moment call old new None sound at takes = record {
   may = takes_none boot entries old old.phase at.stands (λ idle. takes.1 (refl, idle));
   progress = ap progress_of takes.0;
   stands = subst (λ s. IsWorkerAt boot entries s) (sym takes.0) at;

@@ -3,6 +3,7 @@ pub mod EventTells
 pub mod HowFar
 pub mod LoneWorker
 pub mod Noted
+pub mod PlansEnd
 pub mod StaysAlone
 pub mod StepKinds
 pub mod StepTells

@@ -1,13 +1,15 @@
 -- A worker that is alone in its store is never kept off.
-use Rattle.std.proofs.Common.{◌≡◌, ◌∙◌, refl, sym, ap, subst, true≢false, ℕ, inl, inr, Bool, true, false}
+use Rattle.std.proofs.Common.{◌≡◌, ◌∙◌, refl, sym, ap, subst, true≢false, ℕ, ◌⊎◌, inl, inr, Bool, true, false}
 use Rattle.std.proofs.Common.{◌||◌, nat_eq, Option, Some, None, is_some, List, [], ◌∷◌, All}
 use Rattle.std.specs.Prelude.{Contains, IsSomeAnd}
-use Rattle.std.proofs.lemmas.List.Elements.{All-contains}
+use Rattle.std.proofs.lemmas.Bool.{eqb-true}
+use Rattle.std.proofs.lemmas.List.Elements.{All-contains, All-head, All-tail}
 use Rattle.disk.specs.declared.block.BlockNo.{BlockNo}
 use Rattle.objects.specs.declared.addr.Addr.{Addr}
 use Rattle.objects.specs.declared.mode.Mode.TheVariants as modes
 use Rattle.inode.proofs.AllTests.{all_three, same_number}
-use Rattle.procs.specs.Asks.{Asks, IsWritable}
+use Rattle.procs.proofs.FewClaimed.{claimed_object}
+use Rattle.procs.specs.Asks.{Asks, Claims, IsWritable}
 use Rattle.procs.specs.Finished.{EndsFrom}
 use Rattle.procs.specs.Outcome.{Outcome}
 use Rattle.procs.specs.Planned.{IsPlanFor}
@@ -15,19 +17,24 @@ use Rattle.inode.specs.Snap.{is_claimed, is_seen, same_addr}
 use Rattle.procs.specs.declared.next.Plan.{Plan}
 use Rattle.procs.specs.declared.next.Plan.TheVariants as plan
 use Rattle.inode.specs.declared.snap.Snap.{Snap}
+use Rattle.txn.specs.Claimed.{IsAmongRead, IsClaimedBy, IsClaimedObject}
 use Rattle.txn.specs.Commit.{IsOwn, IsReadBy}
 use Rattle.txn.specs.Core.{CoreState}
 use Rattle.txn.specs.Fetch.{Fetch}
 use Rattle.txn.specs.Object.{ObjectBytes}
 use Rattle.txn.specs.Out.{listed}
-use Rattle.txn.specs.Outcomes.{IsCommit, IsWanted}
+use Rattle.txn.specs.Outcomes.{IsClaimed, IsCommit, IsWanted}
 use Rattle.txn.specs.Tidy.{AreTidy}
+use Rattle.txn.specs.Wishes.{IsWhole}
+use Rattle.txn.specs.declared.outcomes.Claim.{Claim}
+use Rattle.txn.specs.declared.outcomes.Claim.TheVariants as claim
 use Rattle.txn.specs.declared.outcomes.Commit.{Commit}
 use Rattle.txn.specs.declared.outcomes.Commit.TheVariants as commit
 use Rattle.txn.specs.declared.outcomes.Want.{Want}
 use Rattle.txn.specs.declared.outcomes.Want.TheVariants as want
 use Rattle.txn.proofs.LoneTransaction.{is_own, never_busy, never_loading}
 use Rattle.txn_law.proofs.Again as again
+use Rattle.txn_law.proofs.Entries.{same_block}
 use Rattle.txn_law.proofs.Swept.{in_first, in_more}
 use Rattle.wal_law.specs.Log.{added_blocks}
 use Rattle.txn.specs.Group.{blocks_of}
@@ -41,7 +48,7 @@ use Rattle.store_images.specs.Fetches.{FetchesOnly}
 use Rattle.store_workers.specs.Phases.{has_fetch}
 use Rattle.store_workers.specs.Seen.{Seen, seen_in}
 use Rattle.store_workers.specs.Worker.{IsCoreOf}
-use Rattle.store_workers.specs.WorkerAnswers.{committing_of, wish_of}
+use Rattle.store_workers.specs.WorkerAnswers.{claim_wish, committing_of, wish_of}
 use Rattle.store_workers.specs.WorkerSteps.{GoesByNext, GoesOn, HasGivenBack, HasLeft, HasRefused}
 use Rattle.store_workers.specs.WorkerSteps.{IsNext, Side}
 use Rattle.store_workers.specs.WorkerSteps.{planned_of}
@@ -77,6 +84,19 @@ seen_there addr (x ∷ xs) some = go (seen_there addr xs) (same_addr addr x.addr
         )
     go rest false same some =
         let found = rest some in (found.0, in_more x found.0 xs found.1, found.2)
+
+-- what is so of all that was claimed is so of a block that is among it
+claimed_so : (P : BlockNo → Type 0) (block : BlockNo) (claims : List BlockNo) → All P claims
+    → is_claimed block claims ≡ true → P block
+claimed_so P block [] all none = absurd (true≢false (sym none))
+claimed_so P block (c ∷ cs) all some =
+    by (claimed_so P block cs (All-tail P c cs all)) (nat_eq block.0 c.0) refl some
+  where
+    by : (is_claimed block cs ≡ true → P block) → (t : Bool) → nat_eq block.0 c.0 ≡ t
+        → (t || is_claimed block cs) ≡ true → P block
+    by rest true same some =
+        subst P (sym (same_block block c (eqb-true block.0 c.0 same))) (All-head P c cs all)
+    by rest false other some = rest some
 
 -- what a worker has of its call, by its job, its transaction and what was read
 pub has_of : (worker : State) (core : CoreState) (job : Job) (tx : ℕ) (seen : Seen) → worker.work.job ≡ Some job
@@ -117,24 +137,38 @@ module _ (core : CoreState) (tx : ℕ) (snap : Snap) (tidy : AreTidy core) (out 
   wanted_well new addr asks (want.Loading back) is =
       absurd (never_loading core tx addr modes.Exclusive (none addr.block) is.1)
 
+  claimed_well : (new : CoreState) (block : BlockNo) (addr : Addr) → Claims snap.geometry block
+      → IsWhole block addr → (answer : Claim) → IsClaimed core tx addr answer new
+      → is_kept_off (Some (step.Claimed block (claim_wish answer))) ≡ false
+  claimed_well new block addr claims whole (claim.Held back) is = refl
+  claimed_well new block addr claims whole (claim.Outside back) is = refl
+  claimed_well new block addr claims whole (claim.NoMemory back) is = refl
+  claimed_well new block addr claims whole (claim.Busy back) is =
+      absurd (never_busy core tx tidy out addr modes.Exclusive (λ other hold taken over.
+      one_or_apart snap.geometry other addr (has.asked other hold taken)
+      (claimed_object snap.geometry block addr claims whole) over) is.1)
+  claimed_well new block addr claims whole (claim.Loading back) is =
+      absurd (never_loading core tx addr modes.Exclusive (none addr.block) is.1)
+
   module _ (done : Outcome) (ends : EndsFrom snap done) where
-    was_read : (object : ObjectBytes) → IsWritable snap object
-        → (before : ObjectBytes) × Contains done.read before × (before.addr ≡ object.addr)
-    was_read object (inl seen) =
-        let found = seen_there object.addr snap.objects.items seen in (
+    was_had : (object : ObjectBytes) → IsWritable snap object
+        → IsAmongRead done.read object ⊎ IsClaimedObject core tx object
+    was_had object (inl seen) =
+        let found = seen_there object.addr snap.objects.items seen in inl (
           found.0,
           subst (λ (os : List ObjectBytes). Contains os found.0) (sym ends.named.read) found.1,
           found.2,
         )
-    was_read object (inr claimed) =
-        absurd (true≢false (sym claimed.0 ∙ ap (λ (bs : List BlockNo). is_claimed object.addr.block
-        bs) has.claims))
+    was_had object (inr claimed) = inr (
+      claimed_so (IsClaimedBy core tx) object.addr.block snap.claims.items has.claimed claimed.0,
+      claimed.1,
+    )
 
     own : IsOwn core tx (planned_of done)
     own = is_own core tx tidy out (planned_of done) (ends.named.blocks ∙ has.blocks)
         (ends.named.inodes ∙ has.inodes) (subst (λ (os : List ObjectBytes). All (IsReadBy core tx) os)
         (sym ends.named.read) has.read)
-        (λ object there. was_read object (All-contains (IsWritable snap) done.written object
+        (λ object there. was_had object (All-contains (IsWritable snap) done.written object
         ends.writable there))
         has.exclusive (λ object there. none object.addr.block)
 
@@ -173,7 +207,9 @@ module _ (old new : Side) (tidy : AreTidy old.core) (fits : IsCoreOf old.worker 
       of_next (plan.Need addr) planned goes = ap (λ m. is_kept_off (Some m)) goes.made_is
           ∙ wanted_well old.core tx is.snap tidy out has none new.core addr planned.1
           goes.answer goes.core
-      of_next (plan.Claim block) planned goes = absurd planned.1
+      of_next (plan.Claim block) planned goes = ap (λ m. is_kept_off (Some m)) goes.made_is
+          ∙ claimed_well old.core tx is.snap tidy out has none new.core block goes.core.0 planned.1
+          goes.core.1 goes.answer goes.core.2
       of_next (plan.Done done) planned goes = elim (ending old new tx done made goes) [
         | lacked has_lacked ↦ ap (λ m. is_kept_off (Some m)) has_lacked.made_is
         | committed job job_is has_committed ↦ ap (λ m. is_kept_off (Some m)) has_committed.made_is

@@ -6,18 +6,22 @@ use Rattle.std.specs.List.{list_any}
 use Rattle.std.proofs.lemmas.Bool.{eqb-true}
 use Rattle.std.proofs.lemmas.List.Elements.{All-contains, All-nil, All-push, All-weaker}
 use Rattle.disk.specs.declared.block.BlockNo.{BlockNo}
+use Rattle.objects.specs.Mode.{is_exclusive}
 use Rattle.objects.specs.declared.addr.Addr.{Addr}
+use Rattle.objects.specs.declared.mode.Mode.{Mode}
 use Rattle.objects.specs.declared.mode.Mode.TheVariants as modes
 use Rattle.model.specs.Calls.{is_answered_stable}
 use Rattle.nfs_types.specs.declared.reply.Reply.{Reply}
 use Rattle.wal_law.specs.declared.outcomes.Seq.{Seq}
 use Rattle.procs.proofs.FewAsked.{none_read, one_asked_once}
-use Rattle.procs.specs.Asks.{Asks, WereAskedOnce}
+use Rattle.procs.proofs.FewClaimed.{claimed_object, none_claimed, one_claimed_once}
+use Rattle.procs.specs.Asks.{Asks, WereAskedOnce, WereClaimedOnce}
 use Rattle.procs.specs.Outcome.{Outcome}
 use Rattle.procs.specs.Planned.{IsPlanFor}
 use Rattle.procs.specs.declared.next.Plan.{Plan}
 use Rattle.procs.specs.declared.next.Plan.TheVariants as plan
 use Rattle.inode.specs.declared.snap.Snap.{Snap}
+use Rattle.txn.specs.Claimed.{IsClaimedBy}
 use Rattle.txn.specs.Commit.{IsReadBy}
 use Rattle.txn.specs.Core.{CoreState}
 use Rattle.txn.specs.CoreWindow.{KeepsReads}
@@ -25,15 +29,17 @@ use Rattle.txn.specs.Fetch.{Fetch}
 use Rattle.txn.specs.Leaves.{taken_by, with_taken}
 use Rattle.txn.specs.Object.{ObjectBytes}
 use Rattle.txn.specs.Out.{listed}
-use Rattle.txn.specs.Outcomes.{IsCommit, IsWanted}
+use Rattle.txn.specs.Outcomes.{IsClaimed, IsCommit, IsWanted}
 use Rattle.txn.specs.Tidy.{AreTidy}
+use Rattle.txn.specs.declared.outcomes.Claim.{Claim}
+use Rattle.txn.specs.declared.outcomes.Claim.TheVariants as claim
 use Rattle.txn.specs.declared.outcomes.Commit.{Commit}
 use Rattle.txn.specs.declared.outcomes.Commit.TheVariants as commit
 use Rattle.txn.specs.declared.outcomes.Want.{Want}
 use Rattle.txn.specs.declared.outcomes.Want.TheVariants as want
-use Rattle.txn_law.specs.Holds.{for_fetching, for_reading, is_hold_of, joined}
+use Rattle.txn_law.specs.Holds.{for_fetching, for_reading, for_writing, is_hold_of, is_written, joined}
 use Rattle.txn_law.specs.Tidy.{IsOfOne}
-use Rattle.txn_law.specs.Wishes.{IsFetched, IsHeld}
+use Rattle.txn_law.specs.Wishes.{IsFetched, IsHeld, IsTaken, IsWhole}
 use Rattle.txn_law.specs.declared.hold.Hold.{Hold}
 use Rattle.txn_law.proofs.Again as again
 use Rattle.txn_law.proofs.Claims.{all_four, found_by}
@@ -51,13 +57,13 @@ use Rattle.store_workers.proofs.StepKinds.{begun, refused, replied, lacked, comm
 use Rattle.store_workers.specs.Alone.{HasOfCall, HasTaken, PlansAlone, StaysAlone, is_full}
 use Rattle.store_images.specs.Fetches.{FetchesOnly, is_fetch_of}
 use Rattle.store_workers.specs.Phases.{has_fetch, has_transaction}
-use Rattle.store_workers.specs.Seen.{Seen, seen_in, with_object}
+use Rattle.store_workers.specs.Seen.{Seen, seen_in, with_claim, with_object}
 use Rattle.store_workers.specs.Worker.{IsCoreOf}
-use Rattle.store_workers.specs.WorkerAnswers.{after_commit, begun_wanted, committing_of, phase_wanted}
-use Rattle.store_workers.specs.WorkerAnswers.{seen_wanted, told_of}
+use Rattle.store_workers.specs.WorkerAnswers.{after_commit, begun_claimed, begun_wanted, committing_of}
+use Rattle.store_workers.specs.WorkerAnswers.{phase_claimed, phase_wanted, seen_claimed, seen_wanted, told_of}
 use Rattle.store_workers.specs.WorkerAnswers.{with_answer, with_entry}
 use Rattle.store_workers.specs.WorkerSteps.{GoesByNext, GoesOn, HasAborted, HasBegun, HasGivenBack, HasLacked}
-use Rattle.store_workers.specs.WorkerSteps.{HasLeft, HasRefused}
+use Rattle.store_workers.specs.WorkerSteps.{HasClaimed, HasLeft, HasRefused}
 use Rattle.store_workers.specs.WorkerSteps.{HasWanted, IsNext, IsTold as IsHeard, KeepsReadsOf, SawNothing}
 use Rattle.store_workers.specs.WorkerSteps.{Side, Waits}
 use Rattle.store_workers.specs.WorkerSteps.{none_begun, numbered, phase_given, planned_of, with_snap}
@@ -79,6 +85,9 @@ moved tx seen core mid blocks inodes same reads has = record {
   blocks = has.blocks ∙ sym blocks;
   inodes = has.inodes ∙ sym inodes;
   claims = has.claims;
+  claimed = All-weaker (IsClaimedBy core tx) (IsClaimedBy mid tx)
+      (λ block is addr whole. ap (λ (o : Option Hold). is_written o) (same addr) ∙ is addr whole)
+      seen.claims has.claimed;
   were = has.were;
   read = All-weaker (IsReadBy core tx) (IsReadBy mid tx) (λ object is. reads object is) seen.objects has.read;
   exclusive = λ addr hold is. has.exclusive addr hold (sym (same addr) ∙ is);
@@ -114,6 +123,14 @@ alone_by made worker core phase io phase_is io_is fetches plans = record {
 
 -- ---- a wish
 
+either : (alone reads claims more also : Bool) → (alone && (reads || claims)) ≡ true
+    → ((reads || more) || (claims || also)) ≡ true
+either false reads claims more also is = absurd (true≢false (sym is))
+either true true claims more also is = refl
+either true false false more also is = absurd (true≢false (sym is))
+either true false true true also is = refl
+either true false true false also is = refl
+
 -- what is taken then: what was, and the address, alone
 module _ (core mid : CoreState) (tx : ℕ) (addr : Addr) (taken : Hold) (at : taken.addr ≡ addr)
     (exclusive : (had : Option Hold) → (joined had taken).mode ≡ modes.Exclusive)
@@ -143,6 +160,21 @@ module _ (core mid : CoreState) (tx : ℕ) (addr : Addr) (taken : Hold) (at : ta
           (eqb-true taken.addr.offset a.offset four.2) (eqb-true taken.addr.len a.len four.3)) new
       by false mine is = were a hold is
 
+  -- what was held for writing is so still
+  pub all_claimed : (claims : List BlockNo) → All (IsClaimedBy core tx) claims → All (IsClaimedBy mid tx) claims
+  all_claimed claims are = All-weaker (IsClaimedBy core tx) (IsClaimedBy mid tx)
+      (λ block is a whole. ap (λ (o : Option Hold). is_written o) (now a)
+      ∙ by (taken_by core tx a) (is_hold_of tx a taken) (is a whole)) claims are
+    where
+      by : (had : Option Hold) (mine : Bool) → is_written had ≡ true
+          → is_written (cond mine (Some (joined had taken)) had) ≡ true
+      by had false is = is
+      by None true is = absurd (true≢false (sym is))
+      by (Some had) true is =
+          ap (λ (m : Mode). is_exclusive m && ((had.is_read || taken.is_read)
+          || (had.is_claimed || taken.is_claimed))) (exclusive (Some had))
+          ∙ either (is_exclusive had.mode) had.is_read had.is_claimed taken.is_read taken.is_claimed is
+
 alone_for_reading : (tx : ℕ) (addr : Addr) (had : Option Hold)
     → (joined had (for_reading tx addr modes.Exclusive)).mode ≡ modes.Exclusive
 alone_for_reading tx addr None = refl
@@ -152,6 +184,11 @@ alone_for_fetching : (tx : ℕ) (addr : Addr) (had : Option Hold)
     → (joined had (for_fetching tx addr modes.Exclusive)).mode ≡ modes.Exclusive
 alone_for_fetching tx addr None = refl
 alone_for_fetching tx addr (Some had) = refl
+
+alone_for_writing : (tx : ℕ) (addr : Addr) (had : Option Hold)
+    → (joined had (for_writing tx addr)).mode ≡ modes.Exclusive
+alone_for_writing tx addr None = refl
+alone_for_writing tx addr (Some had) = refl
 
 module _ (core mid : CoreState) (tx : ℕ) (snap : Snap) (addr : Addr)
     (has : HasOfCall tx core (seen_of snap)) (is_plan : IsPlanFor snap (plan.Need addr))
@@ -167,6 +204,8 @@ module _ (core mid : CoreState) (tx : ℕ) (snap : Snap) (addr : Addr)
         blocks = has.blocks ∙ sym (ap (λ (c : CoreState). c.log.blocks) held.only);
         inodes = has.inodes ∙ sym (ap (λ (c : CoreState). c.inodes) held.only);
         claims = has.claims;
+        claimed = all_claimed core mid tx addr taken refl (alone_for_reading tx addr)
+            (λ a. held.leaves.holds tx a) snap.claims.items has.claimed;
         were = one_asked_once snap.geometry snap.objects.items object has.were is_plan.1 is_plan.0;
         read = All-push (IsReadBy mid tx) snap.objects.items object
             (All-weaker (IsReadBy core tx) (IsReadBy mid tx) (λ object is. reads object is)
@@ -185,6 +224,8 @@ module _ (core mid : CoreState) (tx : ℕ) (snap : Snap) (addr : Addr)
         blocks = has.blocks ∙ sym (ap (λ (c : CoreState). c.log.blocks) fetched.only);
         inodes = has.inodes ∙ sym (ap (λ (c : CoreState). c.inodes) fetched.only);
         claims = has.claims;
+        claimed = all_claimed core mid tx addr taken refl (alone_for_fetching tx addr)
+            (λ a. fetched.leaves.holds tx a) snap.claims.items has.claimed;
         were = has.were;
         read = All-weaker (IsReadBy core tx) (IsReadBy mid tx) (λ object is. reads object is) snap.objects.items
             has.read;
@@ -194,6 +235,37 @@ module _ (core mid : CoreState) (tx : ℕ) (snap : Snap) (addr : Addr)
             (λ a. fetched.leaves.holds tx a) (λ a. Asks snap.geometry a)
             has.asked is_plan.1;
       }
+
+-- addresses of one whole block are one
+one_whole : (block : BlockNo) (a b : Addr) → IsWhole block a → IsWhole block b → a ≡ b
+one_whole block a b one other = again.same_addr a b
+    (ap (λ (k : BlockNo). k.0) one.0 ∙ sym (ap (λ (k : BlockNo). k.0) other.0)) (one.1 ∙ sym other.1)
+    (one.2 ∙ sym other.2)
+
+-- a block more is claimed
+claim_one : (core mid : CoreState) (tx : ℕ) (snap : Snap) (block : BlockNo) (addr : Addr)
+    → HasOfCall tx core (seen_of snap) → IsPlanFor snap (plan.Claim block) → KeepsReads core mid tx
+    → IsWhole block addr → IsTaken core tx addr mid
+    → HasOfCall tx mid (record (seen_of snap) { claims = snap.claims.items ++ block ∷ [] })
+claim_one core mid tx snap block addr has is_plan reads whole took =
+    let taken = for_writing tx addr in
+    record {
+      blocks = has.blocks ∙ sym (ap (λ (c : CoreState). c.log.blocks) took.only);
+      inodes = has.inodes ∙ sym (ap (λ (c : CoreState). c.inodes) took.only);
+      claims = one_claimed_once snap.geometry snap.claims.items block has.claims is_plan.1 is_plan.0;
+      claimed = All-push (IsClaimedBy mid tx) snap.claims.items block
+          (all_claimed core mid tx addr taken refl (alone_for_writing tx addr)
+          (λ a. took.leaves.holds tx a) snap.claims.items has.claimed)
+          (λ a is. ap (λ (a : Addr). is_written (taken_by mid tx a)) (one_whole block a addr is whole)
+          ∙ took.written.held);
+      were = has.were;
+      read = All-weaker (IsReadBy core tx) (IsReadBy mid tx) (λ object is. reads object is) snap.objects.items
+          has.read;
+      exclusive = all_exclusive core mid tx addr taken refl (alone_for_writing tx addr)
+          (λ a. took.leaves.holds tx a) has.exclusive;
+      asked = all_asked core mid tx addr taken refl (alone_for_writing tx addr) (λ a. took.leaves.holds tx a)
+          (λ a. Asks snap.geometry a) has.asked (claimed_object snap.geometry block addr is_plan.1 whole);
+    }
 
 -- nothing is taken where no transaction is out
 none_taken : (core : CoreState) (tx : ℕ) (addr : Addr) (hold : Hold) → AreTidy core → core.out ≡ []
@@ -231,7 +303,10 @@ module _ (old new : Side) (tidy : AreTidy old.core) (fits : IsCoreOf old.worker 
           (ap (λ (s : State). s.begun.tx) has.worker) at (record {
             blocks = saw.blocks ∙ sym (ap (λ (c : CoreState). c.log.blocks) has.core);
             inodes = saw.inodes ∙ sym (ap (λ (c : CoreState). c.inodes) has.core);
-            claims = saw.claims;
+            claims = subst (λ (claims : List BlockNo). WereClaimedOnce seen.geometry claims)
+                (sym saw.claims) (none_claimed seen.geometry);
+            claimed = subst (λ (claims : List BlockNo). All (IsClaimedBy new.core number) claims)
+                (sym saw.claims) (All-nil (IsClaimedBy new.core number));
             were = subst (λ (objects : List ObjectBytes). WereAskedOnce seen.geometry objects)
                 (sym saw.objects) (none_read seen.geometry);
             read = subst (λ (objects : List ObjectBytes). All (IsReadBy new.core number) objects)
@@ -320,6 +395,52 @@ module _ (old new : Side) (tidy : AreTidy old.core) (fits : IsCoreOf old.worker 
                 alone_by (Some made) new.worker new.core (phase_wanted (want.NoMemory back)) None phase
                 (ap (λ (b : Begun). b.io) got) (still is.2) (λ room. tt)
 
+        claimed_so : (block : BlockNo) (made : Step) → IsPlanFor snap (plan.Claim block)
+            → HasClaimed tx block old made new → StaysAlone (Some made) new.worker new.core
+        claimed_so block made is_plan claims =
+            by claims.answer claims.core.2 (ap (λ (s : State). s.phase) claims.worker)
+            (ap (λ (s : State). s.begun) claims.worker) claims.seen
+          where
+            new_job : new.worker.work.job ≡ Some job
+            new_job = ap (λ (s : State). s.work.job) claims.worker ∙ job_is
+
+            same_core : new.core ≡ old.core → new.worker.begun.tx ≡ Some tx
+                → seen_in new.worker.work.snap ≡ seen_in old.worker.work.snap → HasTaken new.worker new.core
+            same_core core new_tx seen =
+                has_so new.worker new.core job tx (seen_of snap) new_job new_tx (seen ∙ snap_is)
+                (subst (λ (c : CoreState). HasOfCall tx c (seen_of snap)) (sym core) has)
+
+            still : new.core ≡ old.core → FetchesOnly None new.core
+            still core = subst (λ (c : CoreState). FetchesOnly None c) (sym core) none
+
+            by : (answer : Claim) → IsClaimed old.core tx claims.core.0 answer new.core
+                → new.worker.phase ≡ phase_claimed answer → new.worker.begun ≡ begun_claimed answer
+                → seen_in new.worker.work.snap ≡ seen_claimed block answer (seen_in old.worker.work.snap)
+                → StaysAlone (Some made) new.worker new.core
+            by (claim.Held back) is phase got seen =
+                let new_tx : new.worker.begun.tx ≡ Some tx =
+                ap (λ (b : Begun). b.tx) got ∙ ap (λ t. Some t) is.0 in
+                alone_by (Some made) new.worker new.core Planning None phase (ap (λ (b : Begun). b.io) got)
+                (λ block. is.2.leaves.fetches block ∙ none block)
+                (λ room. has_so new.worker new.core job tx _ new_job new_tx
+                (seen ∙ ap (with_claim block) snap_is)
+                (claim_one old.core new.core tx snap block claims.core.0 has is_plan
+                (keeps tx (λ _. new_tx)) claims.core.1 is.2))
+            by (claim.Busy back) is phase got seen =
+                alone_by (Some made) new.worker new.core Planning None phase
+                (ap (λ (b : Begun). b.io) got) (still is.2)
+                (λ room. same_core is.2 (ap (λ (b : Begun). b.tx) got ∙ ap (λ t. Some t) is.0) seen)
+            by (claim.Loading back) is phase got seen =
+                alone_by (Some made) new.worker new.core Planning None phase
+                (ap (λ (b : Begun). b.io) got) (still is.2)
+                (λ room. same_core is.2 (ap (λ (b : Begun). b.tx) got ∙ ap (λ t. Some t) is.0) seen)
+            by (claim.Outside back) is phase got seen =
+                alone_by (Some made) new.worker new.core (phase_claimed (claim.Outside back)) None phase
+                (ap (λ (b : Begun). b.io) got) (still is.2) (λ room. tt)
+            by (claim.NoMemory back) is phase got seen =
+                alone_by (Some made) new.worker new.core (phase_claimed (claim.NoMemory back)) None phase
+                (ap (λ (b : Begun). b.io) got) (still is.2) (λ room. tt)
+
     -- what came of a commit
     module _ (job : Job) (done : Outcome) where
       placed_so : (made : Option Step) (base : State) (place : Seq) (stable : Bool) → base.begun.io ≡ None
@@ -378,7 +499,8 @@ module _ (old new : Side) (tidy : AreTidy old.core) (fits : IsCoreOf old.worker 
             → StaysAlone (Some made) new.worker new.core
         of_next (plan.Need addr) is_plan goes =
             wanted_so is.job is.snap is.job_is is.snap_is has addr made is_plan goes
-        of_next (plan.Claim block) is_plan goes = absurd is_plan.1
+        of_next (plan.Claim block) is_plan goes =
+            claimed_so is.job is.snap is.job_is is.snap_is has block made is_plan goes
         of_next (plan.Done done) is_plan goes = elim (ending old new tx done made goes) [
           | lacked has_lacked ↦ lacked_so made has_lacked
           | committed job job_is has ↦

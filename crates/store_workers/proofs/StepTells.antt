@@ -228,7 +228,11 @@ module _ (boot number : ℕ) (entries : List Entry) (old new : Side) (at : IsWor
   begins job begun job_is has phase_is stands =
       so Called (Some (step.Begun (Ok begun))) _ has.worker
       (goes_on Called (step.Begun (Ok begun)) _ (numbered begun job) refl refl at.boot_is at.answer at.entry
-      (record { handed = record { boot_is = job_of.boot_is; timely = job_of.timely }; transaction = refl }))
+      (record {
+        handed = record { boot_is = job_of.boot_is; sound = job_of.sound };
+        transaction = refl;
+        counted = has.counted;
+      }))
     where
       job_of : IsJobOf boot job
       job_of = at_some (IsJobOf boot) old.worker.work.job job job_is stands

@@ -1,8 +1,9 @@
 -- A worker that is alone in its store: whatever is taken of the core and whatever is being read is its own.
-use Rattle.std.specs.Prelude.{◌≡◌, ℕ, Bool, true, false, Option, Some, [], All, IsSomeAnd}
+use Rattle.std.specs.Prelude.{◌≡◌, ℕ, Bool, true, false, Option, Some, All, IsSomeAnd}
 use Rattle.objects.specs.declared.addr.Addr.{Addr}
 use Rattle.objects.specs.declared.mode.Mode.TheVariants as modes
-use Rattle.procs.specs.Asks.{Asks, WereAskedOnce}
+use Rattle.procs.specs.Asks.{Asks, WereAskedOnce, WereClaimedOnce}
+use Rattle.txn.specs.Claimed.{IsClaimedBy}
 use Rattle.txn.specs.Commit.{IsReadBy}
 use Rattle.txn.specs.Core.{CoreState}
 use Rattle.txn.specs.Leaves.{taken_by}
@@ -23,11 +24,13 @@ use Rattle.store_workers.specs.declared.workers.parts.State.{State}
 -- ---- what was read and taken
 
 -- What a transaction has of its call, of this core's image: each object was asked for once, and is held
--- still. What is taken is taken alone, and is an object of the image. No call with rules claims a block yet.
+-- still; each claimed block is a data block that was claimed once, and is held for writing as a whole. What is
+-- taken is taken alone, and is an object of the image.
 pub record HasOfCall (tx : ℕ) (core : CoreState) (seen : Seen) : Type 0 where
   pub blocks : seen.geometry.blocks ≡ core.log.blocks
   pub inodes : seen.geometry.inodes ≡ core.inodes
-  pub claims : seen.claims ≡ []
+  pub claims : WereClaimedOnce seen.geometry seen.claims
+  pub claimed : All (IsClaimedBy core tx) seen.claims
   pub were : WereAskedOnce seen.geometry seen.objects
   pub read : All (IsReadBy core tx) seen.objects
   pub exclusive : (addr : Addr) (hold : Hold) → taken_by core tx addr ≡ Some hold → hold.mode ≡ modes.Exclusive

@@ -1,7 +1,7 @@
 -- How far a worker is with its call, as a function of its state, and what holds of it between the events of a
 -- run.
 use Rattle.std.specs.Prelude.{◌≡◌, ℕ, zero, suc, true, Option, Some, None, IsSomeAnd, List, [], map, slice_get}
-use Rattle.std.specs.Prelude.{unwrap_or}
+use Rattle.std.specs.Prelude.{◌^◌, ◌<◌, unwrap_or}
 use Rattle.disk.specs.declared.block.BlockNo.{BlockNo}
 use Rattle.nfs_types.specs.declared.status.Status.TheVariants as status
 use Rattle.objects.specs.declared.addr.Addr.{Addr}
@@ -9,11 +9,11 @@ use Rattle.objects.specs.declared.mode.Mode.TheVariants.{Exclusive}
 use Rattle.model.specs.Entry.{Entry}
 use Rattle.model.specs.Calls.{is_answered_stable}
 use Rattle.model.specs.Refused.{refused}
-use Rattle.model.specs.Sound.{SoundTime}
 use Rattle.wal_law.specs.declared.outcomes.Seq.{Seq}
 use Rattle.txn.specs.Fetch.{Fetch}
 use Rattle.store_promise.specs.Progress.{Progress, Stage, Taken}
 use Rattle.store_promise.specs.Progress as told
+use Rattle.procs.specs.SoundCalls.{SoundCall}
 use Rattle.store_workers.specs.Asked.{Asking}
 use Rattle.store_workers.specs.Seen.{Seen, seen_in}
 use Rattle.store_workers.specs.declared.workers.parts.Job.{Job}
@@ -83,15 +83,16 @@ abbrev pub entry_at : List Entry → ℕ → Option Entry
 entry_at entries zero = None
 entry_at entries (suc index) = slice_get entries index
 
--- a call was handed over in this boot, at a sound time,
+-- a call that can be spelled was handed over in this boot,
 pub record IsJobOf (boot : ℕ) (job : Job) : Type 0 where
   pub boot_is : job.ctx.boot ≡ boot
-  pub timely : SoundTime job.ctx.moment
+  pub sound : SoundCall job.ctx.credential job.ctx.moment job.call
 
 -- and runs in this transaction
 pub record IsJobIn (boot : ℕ) (tx : Option ℕ) (job : Job) : Type 0 where
   pub handed : IsJobOf boot job
   pub transaction : tx ≡ Some job.ctx.transaction
+  pub counted : job.ctx.transaction < 2 ^ 64
 
 -- the worker's call does
 abbrev pub RunsIn : ℕ → State → Type 0

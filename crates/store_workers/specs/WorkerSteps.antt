@@ -1,6 +1,6 @@
 -- The step by which a worker goes on, by its phase: which step, and what it leaves of the worker and of the
 -- core.
-use Rattle.std.specs.Prelude.{◌≡◌, ◌↔◌, ℕ, ◌+◌, ◌^◌, ◌≤◌, Bool, true, false, if◌then◌else◌, IsTrue}
+use Rattle.std.specs.Prelude.{◌≡◌, ◌↔◌, ℕ, ◌+◌, ◌^◌, ◌<◌, ◌≤◌, Bool, true, false, if◌then◌else◌, IsTrue}
 use Rattle.std.specs.Prelude.{Option, Some, None, Ok, Err, List, [], ◌∷◌, IsSomeAnd}
 use Rattle.disk.specs.Crash.{Image}
 use Rattle.disk.specs.declared.block.BlockNo.{BlockNo}
@@ -88,6 +88,7 @@ pub record SawNothing (core : CoreState) (seen : Seen) : Type 0 where
 -- The next transaction was begun for the job, in which nothing was read yet.
 pub record HasBegun (job : Job) (old : Side) (number : ℕ) (new : Side) : Type 0 where
   pub next : number ≡ old.core.begun + 1
+  pub counted : number < 2 ^ 64
   pub sound : old.core.log.broken ≡ false
   pub core : new.core ≡ record old.core { begun = number; out = number ∷ [] }
   pub worker : new.worker ≡ record old.worker {

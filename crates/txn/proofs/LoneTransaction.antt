@@ -20,14 +20,15 @@ use Rattle.txn_law.specs.Group.{blocks_after, is_among}
 use Rattle.txn_law.specs.Holds.{IsHoldOf, hold_of, is_hold_of, is_read, is_written}
 use Rattle.txn_law.specs.Leaves.{is_fetching, taken_by}
 use Rattle.txn_law.specs.Object.{ObjectBytes}
-use Rattle.txn_law.specs.Tidy.{AreTidy, IsOfOne}
-use Rattle.txn_law.specs.Wishes.{IsBusy, IsLoading}
+use Rattle.txn_law.specs.Tidy.{AreBeside, AreTidy, IsOfOne}
+use Rattle.txn_law.specs.Wishes.{IsBusy, IsLoading, IsWhole}
 use Rattle.txn_law.specs.declared.hold.Hold.{Hold}
+use Rattle.txn_law.proofs.Again as again
 use Rattle.txn_law.proofs.Alone.{alone_is_out}
 use Rattle.txn_law.proofs.Claims.{all_four, found_by}
-use Rattle.txn_law.proofs.Entries.{same_block}
 use Rattle.txn_law.proofs.Swept.{in_cons, in_first, in_more}
 use Rattle.txn_law.proofs.TakenBy.{is_hold_by}
+use Rattle.txn.specs.Claimed.{IsAmongRead, IsClaimedBy, IsClaimedObject}
 
 -- where one passes a test, one is found
 found_some : {X : Type 0} (test : X → Bool) (xs : List X) (x : X) → Contains xs x → test x ≡ true
@@ -69,16 +70,25 @@ module _ (core : CoreState) (tx : ℕ) (tidy : AreTidy core) (alone : core.out �
   taken_there x there = found_some (is_hold_of tx x.addr) core.holds x there
       (is_hold_by tx x.addr x (mine x there) refl refl refl)
 
-  -- what it has taken lies where a change may write
+  -- what it has taken is among the holds, by its address
+  taken_at : (addr : Addr) (hold : Hold) → taken_by core tx addr ≡ Some hold
+      → Contains core.holds hold × (hold.addr ≡ addr)
+  taken_at addr hold taken =
+      let found = found_by (is_hold_of tx addr) core.holds hold taken in
+      let four = all_four (nat_eq hold.transaction tx) (nat_eq hold.addr.block.0 addr.block.0)
+      (nat_eq hold.addr.offset addr.offset) (nat_eq hold.addr.len addr.len) found.0 in (
+        found.1,
+        again.same_addr hold.addr addr (eqb-true hold.addr.block.0 addr.block.0 four.1)
+            (eqb-true hold.addr.offset addr.offset four.2) (eqb-true hold.addr.len addr.len four.3),
+      )
+
+  -- and lies where a change may write
   taken_home : (addr : Addr) (hold : Hold) → taken_by core tx addr ≡ Some hold
       → IsHomeOn core.log.blocks addr.block
   taken_home addr hold taken =
-      let found = found_by (is_hold_of tx addr) core.holds hold taken in
-      let four = all_four (nat_eq hold.transaction tx) (nat_eq hold.addr.block.0 addr.block.0)
-      (nat_eq hold.addr.offset addr.offset) (nat_eq hold.addr.len addr.len) found.0 in
-      subst (λ (b : BlockNo). IsHomeOn core.log.blocks b)
-      (same_block hold.addr.block addr.block (eqb-true hold.addr.block.0 addr.block.0 four.1))
-      (All-contains (IsOfOne core) core.holds hold tidy.owned found.1).1
+      let at = taken_at addr hold taken in
+      subst (λ (a : Addr). IsHomeOn core.log.blocks a.block) at.1
+      (All-contains (IsOfOne core) core.holds hold tidy.owned at.0).1
 
   pub never_busy : (addr : Addr) (mode : Mode)
       → ((other : Addr) (hold : Hold) → taken_by core tx other ≡ Some hold → Overlap other addr → other ≡ addr)
@@ -91,45 +101,75 @@ module _ (core : CoreState) (tx : ℕ) (tidy : AreTidy core) (alone : core.out �
       each x there over =
           let found = taken_there x there in (mine x there, apart x.addr found.0 found.1 over)
 
+  -- what it has claimed it may claim again, as it has taken no other part of it
+  pub claimed_again : (block : BlockNo) (addr : Addr) → IsClaimedBy core tx block → IsWhole block addr
+      → IsBusy core tx addr modes.Exclusive → ⊥
+  claimed_again block addr claims whole = by (taken_by core tx addr) refl (claims addr whole)
+    where
+      by : (found : Option Hold) → taken_by core tx addr ≡ found → is_written found ≡ true
+          → IsBusy core tx addr modes.Exclusive → ⊥
+      by None is none busy = true≢false (sym none)
+      by (Some hold) is held busy = never_busy addr modes.Exclusive one busy
+        where
+          one : (other : Addr) (more : Hold) → taken_by core tx other ≡ Some more → Overlap other addr
+              → other ≡ addr
+          one other more taken over =
+              let a = taken_at addr hold is in
+              let b = taken_at other more taken in
+              go a b (again.one_or_apart core.holds more hold tidy.apart b.0 a.0)
+            where
+              go : Contains core.holds hold × (hold.addr ≡ addr) → Contains core.holds more × (more.addr ≡ other)
+                  → (more ≡ hold) ⊎ AreBeside more hold → other ≡ addr
+              go a b (inl same) = sym b.1 ∙ ap (λ (h : Hold). h.addr) same ∙ a.1
+              go a b (inr apart) = absurd (apart (subst (λ (at : Addr). Overlap more.addr at) (sym a.1)
+                  (subst (λ (at : Addr). Overlap at addr) (sym b.1) over))
+                  (inl (mine more b.0 ∙ sym (mine hold a.0))))
+
   -- Its change is its own: it was planned for this core and by what the transaction holds, and writes only
-  -- what it read and holds alone, while no fetch is pending of what it writes.
+  -- what it read and holds alone and what it has claimed, while no fetch is pending of what it writes.
   module _ (plan : Planned) (blocks : plan.blocks ≡ core.log.blocks) (inodes : plan.inodes ≡ core.inodes)
       (read : All (IsReadBy core tx) plan.read)
       (written : (object : ObjectBytes) → Contains plan.written object
-      → (before : ObjectBytes) × Contains plan.read before × (before.addr ≡ object.addr))
+      → IsAmongRead plan.read object ⊎ IsClaimedObject core tx object)
       (exclusive : (addr : Addr) (hold : Hold) → taken_by core tx addr ≡ Some hold
       → hold.mode ≡ modes.Exclusive)
       (loaded : (object : ObjectBytes) → Contains plan.written object
       → is_fetching core object.addr.block ≡ false) where
-    held_by : (object : ObjectBytes) → Contains plan.written object
-        → (hold : Hold) × (taken_by core tx object.addr ≡ Some hold) × (hold.is_read ≡ true)
-    held_by object there =
-        let before = written object there in
-        let held = (All-contains (IsReadBy core tx) plan.read before.0 read before.1).held in
-        from (taken_by core tx object.addr) refl
-        (subst (λ (a : Addr). is_read (hold_of core.holds tx a) ≡ true) before.2 held)
-      where
-        from : (found : Option Hold) → taken_by core tx object.addr ≡ found → is_read found ≡ true
-            → (hold : Hold) × (taken_by core tx object.addr ≡ Some hold) × (hold.is_read ≡ true)
-        from None is none = absurd (true≢false (sym none))
-        from (Some hold) is reads = (hold, is, reads)
-
     is_written_so : (mode : Mode) (reads claims : Bool) → mode ≡ modes.Exclusive → reads ≡ true
         → (is_exclusive mode && (reads || claims)) ≡ true
     is_written_so mode reads claims at by = ap (λ m. is_exclusive m && (reads || claims)) at
         ∙ ap (λ b. b || claims) by
 
+    by_read : (object : ObjectBytes) → IsAmongRead plan.read object
+        → is_written (taken_by core tx object.addr) ≡ true
+    by_read object before = from (taken_by core tx object.addr) refl
+        (subst (λ (a : Addr). is_read (hold_of core.holds tx a) ≡ true) before.2
+        (All-contains (IsReadBy core tx) plan.read before.0 read before.1).held)
+      where
+        from : (found : Option Hold) → taken_by core tx object.addr ≡ found → is_read found ≡ true
+            → is_written found ≡ true
+        from None is none = absurd (true≢false (sym none))
+        from (Some hold) is reads =
+            is_written_so hold.mode hold.is_read hold.is_claimed (exclusive object.addr hold is) reads
+
+    held_by : (object : ObjectBytes) → IsAmongRead plan.read object ⊎ IsClaimedObject core tx object
+        → is_written (taken_by core tx object.addr) ≡ true
+    held_by object (inl before) = by_read object before
+    held_by object (inr claimed) = claimed.0 object.addr claimed.1
+
     written_by : (object : ObjectBytes) → Contains plan.written object → IsWrittenBy core tx object.addr
-    written_by object there =
-        let by = held_by object there in
-        record {
-          held = ap (λ (o : Option Hold). is_written o) by.1
-              ∙ is_written_so by.0.mode by.0.is_read by.0.is_claimed (exclusive object.addr by.0 by.1) by.2;
-          loaded = loaded object there;
-        }
+    written_by object there = record {
+      held = held_by object (written object there);
+      loaded = loaded object there;
+    }
 
     home_of : (object : ObjectBytes) → Contains plan.written object → IsHomeOn core.log.blocks object.addr.block
-    home_of object there = let by = held_by object there in taken_home object.addr by.0 by.1
+    home_of object there = by (taken_by core tx object.addr) refl (held_by object (written object there))
+      where
+        by : (found : Option Hold) → taken_by core tx object.addr ≡ found → is_written found ≡ true
+            → IsHomeOn core.log.blocks object.addr.block
+        by None is none = absurd (true≢false (sym none))
+        by (Some hold) is held = taken_home object.addr hold is
 
     pub is_own : IsOwn core tx plan
     is_own = record {

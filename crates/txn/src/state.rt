@@ -1,6 +1,6 @@
 //! The state of a core, and exactly what each method makes of it: who holds what, what is in memory, and the
 //! commits that aren't installed.
-ghost use Rattle.std.specs.Prelude.{◌≡◌, ◌≤◌, ◌+◌, ◌^◌, ◌↔◌, IsTrue, IsSome, IsNone, IfSome, IsErrOf, OnErr};
+ghost use Rattle.std.specs.Prelude.{◌≡◌, ◌≤◌, ◌<◌, ◌+◌, ◌^◌, ◌↔◌, IsTrue, IsSome, IsNone, IfSome, IsErrOf, OnErr};
 ghost use Rattle.txn.specs.Out.{listed};
 ghost use Rattle.std.specs.Prelude.{IfOk, ◌∷◌, true, false, is_some, if◌then◌else◌, [], length, All};
 ghost use Rattle.limits.specs.declared.TheConstants.{CHANGED_BLOCKS};
@@ -122,6 +122,7 @@ impl<C: Change> State<C> {
         requires { self.old.out ≡ [] }
         ensures begun { IfOk result (λ tx. (tx ≡ self.old.begun + 1)
             × (self.new ≡ with_begun self.old)) }
+        ensures counted { IfOk result (λ tx. tx < 2 ^ 64) }
         ensures refused { OnErr result (self.new ≡ self.old) }
         ensures broken { IsErrOf result BeginFault.Broken ↔ (self.old.log.broken ≡ true) }
         ensures spent { IsErrOf result BeginFault.Spent

@@ -1,5 +1,5 @@
 //! The transactional core.
-ghost use Rattle.std.specs.Prelude.{◌≡◌, ◌≤◌, ◌+◌, ◌^◌, ◌↔◌, IsTrue, IsSome, IsNone, IfSome, IsErrOf, OnErr};
+ghost use Rattle.std.specs.Prelude.{◌≡◌, ◌≤◌, ◌<◌, ◌+◌, ◌^◌, ◌↔◌, IsTrue, IsSome, IsNone, IfSome, IsErrOf, OnErr};
 ghost use Rattle.std.specs.Prelude.{ℕ, IfOk, ◌∷◌, true, false, is_some, if◌then◌else◌, [], length};
 ghost use Rattle.limits.specs.declared.TheConstants.{CHANGED_BLOCKS};
 ghost use Rattle.objects.specs.declared.addr.Addr.{Addr};
@@ -98,6 +98,7 @@ impl<C: Change> Core<C> {
         requires { self.old.out ≡ [] }
         ensures begun { IfOk result (λ tx. (tx ≡ self.old.begun + 1)
             × (self.new ≡ with_begun self.old)) }
+        ensures counted { IfOk result (λ tx. tx < 2 ^ 64) }
         ensures refused { OnErr result (self.new ≡ self.old) }
         ensures broken { IsErrOf result BeginFault.Broken ↔ (self.old.log.broken ≡ true) }
         ensures spent { IsErrOf result BeginFault.Spent

@@ -2,10 +2,10 @@
 ghost use Rattle.std.specs.Prelude.{◌≡◌, ℕ, ◌+◌, ◌^◌, ◌<◌, ◌++◌, IsTrue, List, [], None, length, vec_len};
 ghost use Rattle.std.specs.Prelude.{IsFalse, false, vec_capacity};
 ghost use Rattle.model.specs.Entry.{Entry as ToldEntry};
-ghost use Rattle.model.specs.Sound.{SoundTime};
 ghost use Rattle.txn.specs.Core.{CoreState};
 ghost use Rattle.store_promise.specs.Room.{HasRoom};
 ghost use Rattle.store_promise.specs.Running.{IsLogStep};
+ghost use Rattle.procs.specs.SoundCalls.{SoundCall};
 ghost use Rattle.store_promise.specs.Transcript.{calls_device, entries_of, refusals, transcript_of};
 ghost use Rattle.store_images.specs.LogSide.{MayInstIo, MayInstall, MayLog, MayLogIo};
 ghost use Rattle.store_runs.specs.Going.{KeepsCore, LeavesGoing, run_side};
@@ -167,7 +167,7 @@ impl<D: CrashDisk> Running<D> {
         ensures rest { self.new ≡ record self.old { worker = self.new.worker } }
         ensures step { TakesCall worker (ctx_of credential moment self.old.worker.state.boot) call
             self.old.worker.state result self.new.worker.state }
-        ensures told { worker ≡ 0 → (boot : ℕ) (entries : List ToldEntry) → SoundTime moment
+        ensures told { worker ≡ 0 → (boot : ℕ) (entries : List ToldEntry) → SoundCall credential moment call
             → IsWorkerAt boot entries self.old.worker.state
             → TellsCall boot entries (record { credential = credential; moment = moment; call = call })
             self.old.worker.state result self.new.worker.state }

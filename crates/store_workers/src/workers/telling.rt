@@ -5,7 +5,6 @@ ghost use Rattle.nfs_types.specs.declared.call.Call.{Call};
 ghost use Rattle.nfs_types.specs.declared.ctx.Credential.{Credential};
 ghost use Rattle.nfs_types.specs.declared.ctx.Moment.{Moment};
 ghost use Rattle.model.specs.Entry.{Entry};
-ghost use Rattle.model.specs.Sound.{SoundTime};
 ghost use Rattle.txn.specs.Fetch.{Fetch};
 ghost use Rattle.store_workers.specs.Noting.{NotesWork};
 ghost use Rattle.store_workers.specs.Stages.{IsWorkerAt};
@@ -16,6 +15,7 @@ ghost use Rattle.store_workers.specs.WorkerReads.{with_read};
 ghost use Rattle.store_workers.specs.WorkerSteps.{GoesOn, Side};
 ghost use Rattle.store_workers.specs.declared.workers.parts.Phase.TheVariants.{Reading};
 ghost use Rattle.store_workers.specs.declared.workers.parts.State.{State};
+ghost use Rattle.procs.specs.SoundCalls.{SoundCall};
 ghost use Rattle.store_promise.specs.Transcript.{entries_of, transcript_of};
 ghost use Rattle.store_promise.specs.declared.events.Step.{Step};
 ghost use Rattle.store_promise.specs.declared.events.Step.TheVariants as step;
@@ -40,7 +40,8 @@ pub fn a_run_notes_its_workers_steps()
 /// A worker takes a call where it has none, and then has just that call.
 pub fn a_worker_tells_its_call()
     ensures { (boot : ℕ) (entries : List Entry) (credential : Credential) (moment : Moment) (call : Call)
-        (old new : State) (made : Option Step) → SoundTime moment → IsWorkerAt boot entries old
+        (old new : State) (made : Option Step) → SoundCall credential moment call
+        → IsWorkerAt boot entries old
         → TakesCall 0 (ctx_of credential moment old.boot) call old made new
         → TellsCall boot entries (record { credential = credential; moment = moment; call = call })
         old made new }

@@ -6,7 +6,7 @@ use Rattle.block_files.proofs.space.blocks_left.Goals as goal
 
 pub returns-clause-ok : goal.returns-clause-ok
 returns-clause-ok c =
-    IfOk-weaker c.free_blocks.result _ _ (λ left is blocks tree over. is blocks tree over.saw over.stands)
+    IfOk-weaker c.free_blocks.result _ _ (λ left is blocks tree over. is blocks tree over.saw over.holds)
     c.free_blocks.ensures.ok
 
 pub returns-clause-err : goal.returns-clause-err

@@ -10,8 +10,8 @@ returns-in-Ok-clause-there c = λ blocks saw.
     ∙ sym c.in-Ok.ensures.value
 
 pub returns-in-Err-clause-io : goal.returns-in-Err-clause-io
-returns-in-Err-clause-io c = λ blocks tree stands saw.
-    no_fault c.args.snap.now.geometry blocks tree c.args.number c.in-Err.field-0 c.requires stands
+returns-in-Err-clause-io c = λ blocks tree holds saw.
+    no_fault c.args.snap.now.geometry blocks tree c.args.number c.in-Err.field-0 c.requires holds
     (read_there c.args.snap.now.geometry blocks c.args.number c.inode_addr.result c.in_ok-bytes.bytes.now
     c.inode_addr.ensures.block c.inode_addr.ensures.offset c.inode_addr.ensures.len
     (c.in_ok-bytes.ensures.there blocks saw)

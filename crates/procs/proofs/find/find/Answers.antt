@@ -4,6 +4,7 @@ use Rattle.inode.specs.Read.{NoneStand}
 use Rattle.procs.proofs.AskedFor.{asks_inode, asks_indirect}
 use Rattle.procs.proofs.FoundThere.{stale_free, stale_stamp, found, stamps_same}
 use Rattle.procs.proofs.FoundThere.{stamps_differ}
+use Rattle.layout.proofs.Holding.{holds_of}
 use Rattle.inode.proofs.FarThere.{none_name_others}
 use Rattle.inode.proofs.InodeThere.{indirect_long}
 use Rattle.procs.proofs.RefusedThere.{inside, not_free, not_stale, not_found}
@@ -36,7 +37,8 @@ returns-clause-tells c = λ blocks tree stands saw.
     (c.directly_used.result + c.in_ok-used.field-0)
     (λ i. c.directly_used.ensures.count i
     + c.in_ok-used.ensures.used blocks saw (indirect_long c.args.snap.now.geometry blocks tree
-    c.in-Some.number c.in-Some-2.inode stands (omega (arith, c.if-number-snap.false))
+    c.in-Some.number c.in-Some-2.inode (holds_of c.args.snap.now.geometry blocks tree stands)
+    (omega (arith, c.if-number-snap.false))
     (rw c.in-Some-2.is at (c.in_ok-inode.ensures.there blocks saw))) i)
 
 pub returns-in_err-used-clause-io : goal.returns-in_err-used-clause-io

@@ -2,6 +2,7 @@ use Rattle.std.proofs.Common.{rules, ◌≡◌, subst}
 use Rattle.inode.specs.declared.stop.Stop.TheVariants as stop
 use Rattle.inode.specs.Read.{AreAsRead, NoneStand}
 use Rattle.inode.specs.Snap.{IsNew}
+use Rattle.layout.proofs.Holding.{holds_of}
 use Rattle.procs.specs.Asks.{IsAsked}
 use Rattle.procs.proofs.RefusedThere.{io_by_none, io_by_reply}
 use Rattle.procs.proofs.work.plan.Goals as goal
@@ -14,9 +15,10 @@ returns-in-Err-Need-clause-plan c =
     )
 
 pub finish-requires-in-Ok-told-clause-step : goal.finish-requires-in-Ok-told-clause-step
-finish-requires-in-Ok-told-clause-step c = λ blocks tree now stands read.
+finish-requires-in-Ok-told-clause-step c = λ blocks tree sound stands read.
     let is : c.in-Err-Io.field-0 ≡ stop.Io = search rules in
-    absurd (subst (NoneStand c.args.snap.now) is c.in-Err-Io.ensures.io blocks tree stands
+    absurd (subst (NoneStand c.args.snap.now) is c.in-Err-Io.ensures.io blocks tree
+    (holds_of c.args.snap.now.geometry blocks tree stands)
     (subst (AreAsRead blocks) c.in-Ok-told.ensures.done.read read))
 
 pub returns-in-Ok-clause-io : goal.returns-in-Ok-clause-io

@@ -31,15 +31,15 @@ returns-in_ok-left-in-Some-clause-step c =
 pub returns-in_ok-changed-in-None-clause-step : goal.returns-in_ok-changed-in-None-clause-step
 returns-in_ok-changed-in-None-clause-step c =
     stepped c.args.snap.now.geometry c.args.ctx.now c.args.object.now c.args.wanted.now c.args.guard.now
-    c.in-Ok.found c.with_mode-new.result c.in_ok-changed-in-None.field-0 c.args.snap.now.objects.items
-    c.in_ok-changed-in-None.ensures.done.read c.requires
+    c.in-Ok.found c.with_attributes-new.result c.in_ok-changed-in-None.field-0 c.args.snap.now.objects.items
+    c.in_ok-changed-in-None.ensures.done.read
     (rw c.in-Ok.is at c.in_ok-found.ensures.tells) c.in-None.ensures
-    c.in_ok-changed-in-None.ensures.reply c.with_mode-new.ensures.number c.with_mode-new.ensures.used
+    c.in_ok-changed-in-None.ensures.reply c.with_attributes-new.ensures.number c.with_attributes-new.ensures.used
     (record {
-      node = c.with_mode-new.ensures.node;
-      direct = c.with_mode-new.ensures.blocks;
-      indirect = c.with_mode-new.ensures.indirect;
-      kind = c.with_mode-new.ensures.kind;
-      size = c.with_mode-new.ensures.size;
-      parent = c.with_mode-new.ensures.parent;
+      node = c.with_attributes-new.ensures.node;
+      direct = c.with_attributes-new.ensures.blocks;
+      indirect = c.with_attributes-new.ensures.indirect;
+      kind = c.with_attributes-new.ensures.kind;
+      size = c.with_attributes-new.ensures.size;
+      parent = c.with_attributes-new.ensures.parent;
     }) c.in_ok-changed-in-None.ensures.written

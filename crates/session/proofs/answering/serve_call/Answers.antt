@@ -1,5 +1,6 @@
 use Rattle.std.proofs.Common.{refl, sym, subst, List, ℕ}
 use Rattle.nfs_types.specs.declared.program.ProgramCall.{ProgramCall}
+use Rattle.nfs_types.specs.Fits.{ProgramCallFits}
 use Rattle.session_wire.specs.declared.message.ReplyBody.{ReplyBody}
 use Rattle.session_wire.specs.Replies.{body_of}
 use Rattle.store_images.specs.Opening.{store_of}
@@ -27,6 +28,12 @@ returns-in-Nfs-clause-serves g c =
       record {
         idle = c.procedure-verdict.ensures.idle;
         boot = c.procedure-verdict.ensures.boot;
+        sound = λ timely. record {
+          uid = c.requires.fits.uid;
+          gid = c.requires.fits.gid;
+          timely = timely;
+          fits = subst ProgramCallFits c.in-Nfs.is c.requires.fits.fits;
+        };
         answered = c.procedure-verdict.ensures.answered;
       },
       subst (λ (body : ReplyBody). IsSpelled xid body reply) c.reply_to.ensures is,

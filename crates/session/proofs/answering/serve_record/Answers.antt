@@ -1,10 +1,17 @@
-use Rattle.std.proofs.Common.{inl, List, ℕ}
+use Rattle.std.proofs.Common.{inl, List, ℕ, refl}
 use Rattle.session_wire.specs.declared.message.ReplyBody.TheVariants as bodies
 use Rattle.session_wire.specs.Judging.{judged}
 use Rattle.store_images.specs.Opening.{store_of}
 use Rattle.session.specs.Replying.{IsAnswered, IsCallAnswered, IsSpelled}
 use Rattle.session.proofs.Courses.{delivers_so, judged_refused, judged_call}
+use Rattle.session.proofs.Taken.{taken}
 use Rattle.session.proofs.answering.serve_record.Goals as goal
+
+pub serve_call-requires-in-Call-clause-fits : goal.serve_call-requires-in-Call-clause-fits
+serve_call-requires-in-Call-clause-fits g c =
+    let told = c.in-Call in
+    taken c.args.message.now told.xid told.credential told.call (judged c.args.message.now) refl
+    c.are_bytes.ensures told.ensures
 
 pub returns-in-Refused-clause-serves : goal.returns-in-Refused-clause-serves
 returns-in-Refused-clause-serves g c =

@@ -10,7 +10,7 @@ use Rattle.session.specs.declared.serving.SessionFault.{SessionFault}
 use Rattle.session.specs.declared.serving.SessionFault.TheVariants as faults
 use Rattle.session.proofs.Courses.{begins, begun_of, ends_between, read_kept, read_more, read_none, stopped}
 use Rattle.session.specs.Reading.{IsTakenFor}
-use Rattle.session.proofs.Noted.{at_most, ended, goes_on, none_read, one_more, stops_by, taken_failed, taken_none}
+use Rattle.session.proofs.Noted.{at_most, brings, ended, goes_on, none_read, one_more, stops_by, taken_failed, taken_none}
 use Rattle.session.proofs.Noted.{taken_some}
 use Rattle.session.proofs.serving.serve_all.Goals as goal
 
@@ -201,7 +201,7 @@ returns-in-Err-serve_piece-clause-reads g c =
     ended c.args.reader.now.answers.items c.reads.reader.answers.items c.read_piece.new.reader.answers.items
     c.reads.counter noted.0 c.reads.invariant.5 noted.2 (Err c.in-Err-serve_piece.fault)
     (stops_by c.in-Err-serve_piece.fault noted.0 (stops faults.Input) (stops faults.Truncated)
-    (stops faults.Device) (goes_on noted.0 c.in-Ok-Some.read is (omega (arith, some))))
+    (stops faults.Device) (brings noted.0 c.in-Ok-Some.read is (omega (arith, some))))
 
 pub returns-then-read-eq0-clause-reads : goal.returns-then-read-eq0-clause-reads
 returns-then-read-eq0-clause-reads g c =

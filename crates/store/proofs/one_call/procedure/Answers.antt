@@ -24,7 +24,7 @@ returns-then-keeps_too_many-clause-kept g c =
     few_kept c.settle.result c.settle.new.store.core c.settle.ensures.settled c.settle.ensures.broken
 
 pub returns-then-keeps_too_many-clause-answered : goal.returns-then-keeps_too_many-clause-answered
-returns-then-keeps_too_many-clause-answered g c = λ first last entries keeps timely opened.
+returns-then-keeps_too_many-clause-answered g c = λ first last entries keeps sound opened.
     let device = g.D.CrashDisk.device in
     let was = c.args.store.now in
     let o : Outset = record {
@@ -39,7 +39,7 @@ returns-then-keeps_too_many-clause-answered g c = λ first last entries keeps ti
     let state_is = took
     ∙ ap (λ (s : State). with_call (ctx_of c.args.credential c.args.moment s.boot) c.args.call s) at_rest_is in
     let fits = c.hand.ensures.fits was.core (c.new-worker.ensures.fits was.core c.requires.out was.lawful) in
-    let begun = c.a_call_begins.ensures o c.hand.new.self.state timely c.requires state_is
+    let begun = c.a_call_begins.ensures o c.hand.new.self.state sound c.requires state_is
     (goes_with c.hand.new.self was.core fits) opened in
     let verdict = c.answer-verdict.result in
     let mid = c.answer-verdict.new.store in
@@ -56,7 +56,7 @@ returns-then-keeps_too_many-clause-answered g c = λ first last entries keeps ti
     (g.met.D.CrashDisk.whole later.disk keeps) many ended)
 
 pub returns-else-keeps_too_many-clause-answered : goal.returns-else-keeps_too_many-clause-answered
-returns-else-keeps_too_many-clause-answered g c = λ first last entries keeps timely opened.
+returns-else-keeps_too_many-clause-answered g c = λ first last entries keeps sound opened.
     let device = g.D.CrashDisk.device in
     let was = c.args.store.now in
     let o : Outset = record {
@@ -71,7 +71,7 @@ returns-else-keeps_too_many-clause-answered g c = λ first last entries keeps ti
     let state_is = took
     ∙ ap (λ (s : State). with_call (ctx_of c.args.credential c.args.moment s.boot) c.args.call s) at_rest_is in
     let fits = c.hand.ensures.fits was.core (c.new-worker.ensures.fits was.core c.requires.out was.lawful) in
-    let begun = c.a_call_begins.ensures o c.hand.new.self.state timely c.requires state_is
+    let begun = c.a_call_begins.ensures o c.hand.new.self.state sound c.requires state_is
     (goes_with c.hand.new.self was.core fits) opened in
     let verdict = c.answer-verdict.result in
     let mid = c.answer-verdict.new.store in

@@ -11,7 +11,7 @@ use Rattle.store_runs.proofs.FormattedRun.{is_answered}
 use Rattle.store_runs.proofs.formatted_run.format_and_run.Goals as goal
 
 pub returns-clause-promised : goal.returns-clause-promised
-returns-clause-promised c = λ timely.
+returns-clause-promised c = λ sound.
     let fresh = c.in_ok-disk.disk in
     let made = c.fail_at.new.self in
     let disk = c.format.new.disk in
@@ -36,7 +36,7 @@ returns-clause-promised c = λ timely.
     subst (λ n. IsLawful n g.inodes) (sym blocks_are)
     (subst (λ n. IsLawful c.args.blocks n) (sym left.2) lawful) in
     let may = c.a_made_image_may_run.ensures empty before g c.args.made c.args.events.items lawful_g
-    c.requires timely rest left.3 in
+    c.requires sound rest left.3 in
     record {
       empty = empty;
       is_new = record { size = size; clock = clock; failures = failures; rest = rest };

@@ -75,7 +75,7 @@ events-preserved g c =
             rest = may.rest;
             good = may.good;
             alone = refl;
-            timely = may.timely;
+            sound = may.sound;
           })) c.take.ensures.goes,
     )
 
@@ -95,7 +95,7 @@ returns-clause-promised g c = λ tree first may.
     (run_side (g.D.CrashDisk.device old.store.disk) old.store.core old.calls old.worker.state old.clock)
     c.events.run =
     λ kept. invariant.4 tree first
-    (record { model = kept; rest = may.rest; good = may.good; alone = refl; timely = may.timely }) in
+    (record { model = kept; rest = may.rest; good = may.good; alone = refl; sound = may.sound }) in
     let gone : HasGone before tree first events side told = elim c.match-next.branch [
       | in-None w ↦
           subst (λ r. HasGone before tree first events
@@ -119,7 +119,7 @@ returns-clause-promised g c = λ tree first may.
           (run_side (g.D.CrashDisk.device old.store.disk) old.store.core old.calls old.worker.state old.clock)
           (run_side (g.D.CrashDisk.device new.store.disk) new.store.core new.calls new.worker.state new.clock)
           c.events.run w.take.new.run c.events.yielded _ kept
-          (record { model = kept; rest = may.rest; good = may.good; alone = refl; timely = may.timely })
+          (record { model = kept; rest = may.rest; good = may.good; alone = refl; sound = may.sound })
           items invariant.3
           (so_far (w.take.ensures.model kept)) w.take.ensures.goes))
     ] in

@@ -3,4 +3,4 @@ use Rattle.model.specs.Tree.{Geometry}
 use Rattle.block_files.proofs.asking.BlockFilesFiles.inodes.Goals as goal
 
 pub returns : goal.returns
-returns c = λ blocks tree over. sym (ap (λ (one : Geometry). one.inodes) over.stands.parts.geometry)
+returns c = λ blocks tree over. sym (ap (λ (one : Geometry). one.inodes) over.holds.parts.geometry)

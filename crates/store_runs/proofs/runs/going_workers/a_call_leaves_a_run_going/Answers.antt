@@ -21,7 +21,7 @@ returns c = λ b number credential moment call store worker new made before afte
     left_by b credential moment call ctx store worker new made before is_next.alone still going number takes
     (λ takes. of_the_worker b credential moment call ctx store worker new made before is_next.alone
     still going takes
-    (c.a_worker_tells_its_call.ensures boot (entries_of t) credential moment call worker new made is_next.timely
+    (c.a_worker_tells_its_call.ensures boot (entries_of t) credential moment call worker new made is_next.sound
     going.stands takes)
     (c.a_call_leaves_the_run_going.ensures.told o (told_now b.events t) credential moment call ctx
     store worker new

@@ -27,7 +27,7 @@ returns-clause-goes g c = λ b keeps next at.
     c.make.ensures.goes b keeps (record {
       alone = next.alone;
       next = ap (λ steps. slice_get b.events (length steps)) made.steps ∙ next.next;
-      timely = next.timely;
+      sound = next.sound;
     })
     (untold b _ c.args.run.now c.make_room.new.self
     (same_told c.args.run.now c.make_room.new.self made.boot made.history made.answers made.steps) at)

@@ -1,0 +1,87 @@
+//! A number that no file has.
+ghost use Rattle.std.specs.Prelude.{ℕ, ◌≡◌, ◌+◌, ◌*◌, ◌/◌, ◌<◌, ◌≤◌, length, true, IfErr, IfOk, IfSome};
+ghost use Rattle.limits.specs.declared.TheConstants.{FIRST_HOME_BLOCK};
+ghost use Rattle.disk.specs.Crash.{Image};
+ghost use Rattle.layout.specs.Geometry.{table_at};
+ghost use Rattle.layout.specs.Holds.{Holds};
+ghost use Rattle.model.specs.Tree.{Tree};
+ghost use Rattle.procedures.specs.Fresh.{IsNewNumber};
+ghost use Rattle.inode.specs.Read.{NoneStand, Saw};
+ghost use Rattle.inode.specs.Snap.{IsNew};
+ghost use Rattle.bitmap.specs.Bits.{IsClearIn, IsClearOf, bit_in};
+ghost use Rattle.bitmap.specs.Pieces.{IsAskedObject, piece_in};
+
+use crate::pieces::{PIECE_BITS, PIECES_PER_BLOCK, piece_addr};
+use inode::{Snap, Stop, bytes_at};
+
+// Whether a bit of bytes is set: the least bit of a byte comes first.
+fn is_set(bytes: &[u8], bit: usize) -> bool
+    requires { bit < 8 * length bytes.now }
+    ensures { result ≡ bit_in bytes.now bit }
+{
+    bytes[bit / 8] >> (bit % 8) & 1 == 1
+}
+
+// A clear bit of a piece, if it has one.
+fn clear_bit(bytes: &[u8]) -> Option<u32>
+    requires { length bytes.now ≡ 512 }
+    ensures is { IsClearIn bytes.now result }
+    ensures few { IfSome result (λ bit. bit < 4096) }
+{
+    'bits: for bit in 0..PIECE_BITS {
+        if !is_set(bytes, bit as usize) {
+            return Some(bit);
+        }
+    }
+    None
+}
+
+// A clear bit of a piece of the bitmap that begins with this block, if it has one.
+fn clear_in_piece(snap: &Snap, first: u32, piece: u32) -> Result<Option<u32>, Stop>
+    requires from { FIRST_HOME_BLOCK ≤ first }
+    requires to { first + piece / 8 < table_at snap.now.geometry.blocks snap.now.geometry.inodes }
+    ensures few { IfOk result (λ found. IfSome found (λ bit. bit < 4096)) }
+    ensures ok { IfOk result (λ found. (blocks : Image) → Saw blocks snap.now
+        → IsClearIn (piece_in blocks first piece) found) }
+    ensures err { IfErr result (λ stop. IsNew snap.now stop) }
+    ensures asks { IfErr result (λ stop. IsAskedObject snap.now.geometry stop) }
+    ensures io { IfErr result (λ stop. NoneStand snap.now stop) }
+{
+    match bytes_at(snap, piece_addr(first, piece)) {
+        Ok(bytes) => Ok(clear_bit(bytes)),
+        Err(stop) => Err(stop),
+    }
+}
+
+// A clear bit of the bitmap of so many blocks that begins with this one, if it has one.
+fn clear_among(snap: &Snap, first: u32, count: u32) -> Result<Option<u32>, Stop>
+    requires from { FIRST_HOME_BLOCK ≤ first }
+    requires to { first + count ≤ table_at snap.now.geometry.blocks snap.now.geometry.inodes }
+    ensures ok { IfOk result (λ found. (blocks : Image) → Saw blocks snap.now
+        → IsClearOf blocks first count found) }
+    ensures err { IfErr result (λ stop. IsNew snap.now stop) }
+    ensures asks { IfErr result (λ stop. IsAskedObject snap.now.geometry stop) }
+    ensures io { IfErr result (λ stop. NoneStand snap.now stop) }
+{
+    'pieces: for piece in 0..PIECES_PER_BLOCK * count {
+        match clear_in_piece(snap, first, piece) {
+            Ok(Some(bit)) => return Ok(Some(PIECE_BITS * piece + bit)),
+            Ok(None) => {}
+            Err(stop) => return Err(stop),
+        }
+    }
+    Ok(None)
+}
+
+/// A number that a file may have and none has.
+pub fn new_number(snap: &Snap) -> Result<Option<u32>, Stop>
+    ensures ok { IfOk result (λ found. (blocks : Image) (tree : Tree) → Saw blocks snap.now
+        → Holds snap.now.geometry blocks tree → IsNewNumber tree found) }
+    ensures err { IfErr result (λ stop. IsNew snap.now stop) }
+    ensures asks { IfErr result (λ stop. IsAskedObject snap.now.geometry stop) }
+    ensures io { IfErr result (λ stop. NoneStand snap.now stop) }
+{
+    let first = snap.geometry.inode_bitmap();
+    let end = snap.geometry.inode_table();
+    clear_among(snap, first.0, end.0 - first.0)
+}

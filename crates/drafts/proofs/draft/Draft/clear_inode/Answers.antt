@@ -1,0 +1,28 @@
+use Rattle.std.proofs.Common.{rules, ap, ◌∙◌, subst, arith, replicate}
+use Rattle.limits.specs.declared.TheConstants.{INODE_BYTES}
+use Rattle.layout.specs.Objects.{IsObject, inode}
+use Rattle.layout.specs.Places.{inode_block}
+use Rattle.inode.specs.declared.snap.Snap.{Snap}
+use Rattle.drafts.specs.Drafted.{Shows, image_of}
+use Rattle.drafts.proofs.PutThere.{put_there}
+use Rattle.drafts.proofs.draft.Draft.clear_inode.Goals as goal
+
+pub returns-clause-shows : goal.returns-clause-shows
+returns-clause-shows c = λ image shows.
+    subst (Shows c.put.new.self)
+    (put_there c.args.self.now.there.geometry image c.args.number c.inode_addr.result c.in_ok-bytes.bytes.items
+    (replicate INODE_BYTES 0)
+    (c.inode_addr.ensures.block ∙ ap (λ (s : Snap). inode_block s.geometry c.args.number) c.there.ensures.there)
+    c.inode_addr.ensures.offset (search rules))
+    (c.in_ok-put.ensures.shows image shows
+    (subst (λ (s : Snap). IsObject s.geometry c.inode_addr.result) c.there.ensures.there
+    (inode c.args.number (omega (arith, c.if-number-geometry.false)) c.inode_addr.ensures.block
+    c.inode_addr.ensures.offset c.inode_addr.ensures.len)))
+
+pub returns-clause-image : goal.returns-clause-image
+returns-clause-image c = λ blocks.
+    c.in_ok-put.ensures.image blocks
+    ∙ put_there c.args.self.now.there.geometry (image_of blocks c.args.self.now) c.args.number
+    c.inode_addr.result c.in_ok-bytes.bytes.items (replicate INODE_BYTES 0)
+    (c.inode_addr.ensures.block ∙ ap (λ (s : Snap). inode_block s.geometry c.args.number) c.there.ensures.there)
+    c.inode_addr.ensures.offset (search rules)

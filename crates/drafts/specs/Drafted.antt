@@ -1,0 +1,48 @@
+-- What a draft has read and written, and over which blocks.
+use Rattle.std.specs.Prelude.{◌≡◌, ℕ, ◌<◌, Bool, false, not, List, length, nat_eq, count_by, Contains}
+use Rattle.limits.specs.declared.TheConstants.{BLOCK_BYTES}
+use Rattle.disk.specs.Crash.{Image}
+use Rattle.objects.specs.declared.addr.Addr.{Addr}
+use Rattle.model.specs.Tree.{Tree}
+use Rattle.layout.specs.Holds.{Holds}
+use Rattle.layout.specs.Objects.{IsObject}
+use Rattle.txn.specs.Object.{ObjectBytes}
+use Rattle.txn.specs.Window.{with_objects}
+use Rattle.inode.specs.declared.snap.Snap.{Snap}
+use Rattle.inode.specs.Read.{Saw}
+use Rattle.inode.specs.Snap.{is_seen}
+
+-- what was read, what lies there now, and what was written, later objects over earlier ones
+pub record Drafted : Type 0 where
+  pub seen : Snap
+  pub there : Snap
+  pub written : List ObjectBytes
+
+-- What lies there is of the same image, and of all that was read.
+pub record IsAfter (seen there : Snap) : Type 0 where
+  pub geometry : there.geometry ≡ seen.geometry
+  pub all : (addr : Addr) → is_seen addr there.objects.items ≡ false → is_seen addr seen.objects.items ≡ false
+
+-- these blocks with what was written
+abbrev pub image_of : Image → Drafted → Image
+image_of blocks draft = with_objects blocks draft.written
+
+-- The blocks have what lies there, each an object of the image.
+pub record Shows (draft : Drafted) (image : Image) : Type 0 where
+  pub long : (number : ℕ) → number < draft.there.geometry.blocks → length (image number) ≡ BLOCK_BYTES
+  pub grid : (object : ObjectBytes) → Contains draft.there.objects.items object
+      → IsObject draft.there.geometry object.addr
+  pub saw : Saw image draft.there
+
+-- with what was written the blocks hold the files of the tree, and have what lies there
+pub record IsDraft (draft : Drafted) (blocks : Image) (tree : Tree) : Type 0 where
+  pub shows : Shows draft (image_of blocks draft)
+  pub holds : Holds draft.there.geometry (image_of blocks draft) tree
+
+-- an inode or a data block, and no part of a bitmap
+abbrev pub is_spent : ObjectBytes → Bool
+is_spent object = not (nat_eq object.addr.len 512)
+
+-- how many inodes and data blocks were written
+abbrev pub spent : Drafted → ℕ
+spent draft = count_by is_spent draft.written

@@ -1,0 +1,60 @@
+//! Inodes that are written.
+ghost use Rattle.std.specs.Prelude.{◌≡◌, ◌+◌, ◌<◌, ◌≤◌, IfErr, OnOk, replicate};
+ghost use Rattle.limits.specs.declared.TheConstants.{INODE_BYTES};
+ghost use Rattle.disk.specs.Crash.{Image};
+ghost use Rattle.layout.specs.Parts.{with_bytes, with_inode};
+ghost use Rattle.layout.specs.Places.{inode_block, inode_offset};
+ghost use Rattle.inode.specs.Over.{IsPause, MayStop};
+ghost use Rattle.drafts.specs.Drafted.{Shows, image_of, spent};
+
+use crate::Draft;
+use inode::Stop;
+use layout::Inode;
+use limits::INODE_BYTES;
+use std::alloc::Global;
+
+impl<'a> Draft<'a> {
+    /// Writes the inode of a number.
+    pub fn put_inode(&mut self, alloc: Global, number: u32, inode: &Inode) -> Result<(), Stop>
+        ensures shows { OnOk result ((image : Image) → Shows self.old image
+            → Shows self.new (with_inode self.old.there.geometry image number inode.now)) }
+        ensures image { OnOk result ((blocks : Image) → image_of blocks self.new
+            ≡ with_inode self.old.there.geometry (image_of blocks self.old) number inode.now) }
+        ensures seen { self.new.seen ≡ self.old.seen }
+        ensures geometry { self.new.there.geometry ≡ self.old.there.geometry }
+        ensures spent { spent self.new ≤ spent self.old + 1 }
+        ensures err { IfErr result (λ stop. MayStop self.old.seen stop) }
+        ensures pause { IfErr result (λ stop. number < self.old.there.geometry.inodes → IsPause stop) }
+    {
+        let geometry = self.there().geometry;
+        if number >= geometry.inodes {
+            return Err(Stop::Io);
+        }
+        let bytes = inode.write(alloc)?;
+        self.put(geometry.inode_addr(number), bytes)?;
+        Ok(())
+    }
+
+    /// Makes the inode of a number a free one, which is nothing but zeros.
+    pub fn clear_inode(&mut self, alloc: Global, number: u32) -> Result<(), Stop>
+        ensures shows { OnOk result ((image : Image) → Shows self.old image
+            → Shows self.new (with_bytes image (inode_block self.old.there.geometry number)
+            (inode_offset number) (replicate INODE_BYTES 0))) }
+        ensures image { OnOk result ((blocks : Image) → image_of blocks self.new
+            ≡ with_bytes (image_of blocks self.old) (inode_block self.old.there.geometry number)
+            (inode_offset number) (replicate INODE_BYTES 0)) }
+        ensures seen { self.new.seen ≡ self.old.seen }
+        ensures geometry { self.new.there.geometry ≡ self.old.there.geometry }
+        ensures spent { spent self.new ≤ spent self.old + 1 }
+        ensures err { IfErr result (λ stop. MayStop self.old.seen stop) }
+        ensures pause { IfErr result (λ stop. number < self.old.there.geometry.inodes → IsPause stop) }
+    {
+        let geometry = self.there().geometry;
+        if number >= geometry.inodes {
+            return Err(Stop::Io);
+        }
+        let bytes = vec![in alloc; 0; INODE_BYTES]?;
+        self.put(geometry.inode_addr(number), bytes)?;
+        Ok(())
+    }
+}

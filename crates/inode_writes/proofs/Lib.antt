@@ -1,0 +1,5 @@
+pub mod Without
+pub mod Cleared
+pub mod Removed
+pub mod MoreBlocks
+pub mod Made

@@ -1,0 +1,28 @@
+use Rattle.std.proofs.Common.{ap, ◌∙◌, ◌∷◌, filter, arith}
+use Rattle.std.proofs.lemmas.List.{take_all}
+use Rattle.layout.specs.Decode.{numbers_of}
+use Rattle.layout.specs.Parts.{content_in}
+use Rattle.layout.proofs.AllNumbers.{all-length}
+use Rattle.inode.proofs.Pieces.{direct}
+use Rattle.inode_writes.specs.Frees.{is_some}
+use Rattle.inode_writes.proofs.MoreBlocks.{more_blocks}
+use Rattle.inode_writes.proofs.numbers.blocks_of.Goals as goal
+
+pub indexes-preserved : goal.indexes-preserved
+indexes-preserved c = λ blocks tree file has.
+    let content = content_in c.args.snap.now.geometry blocks in
+    let long = all-length content c.args.inode.now (direct c.args.snap.now blocks tree file c.args.inode.now has) in
+    let below = c.indexes-test.true in
+    more_blocks (numbers_of content c.args.inode.now) c.args.inode.now.indirect c.indexes.index c.in-Ok.number
+    c.indexes.numbers.items c.add-in-Ok.new.numbers.items (omega (arith, long, below))
+    (c.in-Ok.ensures.ok blocks tree file has) (c.indexes.invariant blocks tree file has)
+    c.in_ok-add-in-Ok.ensures
+
+pub returns-clause-ok : goal.returns-clause-ok
+returns-clause-ok c = λ blocks tree file has.
+    let content = content_in c.args.snap.now.geometry blocks in
+    let long = all-length content c.args.inode.now (direct c.args.snap.now blocks tree file c.args.inode.now has) in
+    let past = c.indexes-test.false in
+    c.indexes.invariant blocks tree file has
+    ∙ ap (λ l. filter is_some (c.args.inode.now.indirect ∷ l))
+    (take_all c.indexes.index (numbers_of content c.args.inode.now) (omega (arith, long, past)))

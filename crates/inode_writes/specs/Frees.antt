@@ -1,0 +1,30 @@
+-- What blocks stand for where others became free.
+use Rattle.std.specs.Prelude.{◌≡◌, ℕ, Bool, false, not, List, [], ◌∷◌, nat_eq, None, Ok}
+use Rattle.disk.specs.Crash.{Image}
+use Rattle.layout.specs.declared.geometry.Geometry.{Geometry}
+use Rattle.layout.specs.Parts.{parts_of, put}
+use Rattle.bitmap.specs.Bits.{AreOfBytes}
+
+-- the number of a block
+abbrev pub is_some : ℕ → Bool
+is_some number = not (nat_eq number 0)
+
+-- the bits with those of these numbers clear
+abbrev pub without : List ℕ → (ℕ → Bool) → ℕ → Bool
+without [] bits = bits
+without (number ∷ numbers) bits = without numbers (put bits number false)
+
+-- blocks in which these blocks are marked as free, and which are the same else
+pub record Frees (g : Geometry) (numbers : List ℕ) (old new : Image) : Type 0 where
+  pub bytes : AreOfBytes g old → AreOfBytes g new
+  pub parts : parts_of g new
+      ≡ record (parts_of g old) { block_bits = without numbers (parts_of g old).block_bits }
+
+-- blocks in which the inode of a number is free too, and its number
+pub record Clears (g : Geometry) (number : ℕ) (numbers : List ℕ) (old new : Image) : Type 0 where
+  pub bytes : AreOfBytes g old → AreOfBytes g new
+  pub parts : parts_of g new ≡ record (parts_of g old) {
+    table = put (parts_of g old).table number (Ok None);
+    block_bits = without numbers (parts_of g old).block_bits;
+    inode_bits = put (parts_of g old).inode_bits number false;
+  }

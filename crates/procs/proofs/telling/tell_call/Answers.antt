@@ -1,0 +1,27 @@
+use Rattle.std.proofs.Common.{subst, sym}
+use Rattle.inode.specs.Over.{IsOver, MayStop}
+use Rattle.procs.proofs.TellsOf.{told_is_step, is_asked, is_new, none_stand}
+use Rattle.procs.proofs.telling.tell_call.Goals as goal
+
+pub returns-in_ok-told-in-Some-clause-step : goal.returns-in_ok-told-in-Some-clause-step
+returns-in_ok-told-in-Some-clause-step c =
+    told_is_step c.args.snap.now c.args.ctx.now c.args.call.now c.in_ok-told-in-Some.field-0 c.in-Some.reply
+    c.in_ok-told-in-Some.ensures.done c.in_ok-told-in-Some.ensures.reply c.in_ok-told-in-Some.ensures.written
+    (λ blocks tree new over. (rw c.in-Some.is at c.in-Ok.ensures.step) blocks tree new
+    (subst (λ snap. IsOver snap blocks tree) (sym c.new-files.ensures) over))
+
+pub returns-in-Err-clause-err : goal.returns-in-Err-clause-err
+returns-in-Err-clause-err c =
+    is_new c.args.snap.now c.in-Err.stop
+    (subst (λ snap. MayStop snap c.in-Err.stop) c.new-files.ensures c.in-Err.ensures.err)
+
+pub returns-in-Err-clause-asks : goal.returns-in-Err-clause-asks
+returns-in-Err-clause-asks c =
+    is_asked c.args.snap.now c.in-Err.stop
+    (subst (λ snap. MayStop snap c.in-Err.stop) c.new-files.ensures c.in-Err.ensures.err)
+
+pub returns-in-Err-clause-io : goal.returns-in-Err-clause-io
+returns-in-Err-clause-io c =
+    none_stand c.args.snap.now c.in-Err.stop (λ blocks tree over.
+    c.in-Err.ensures.pause blocks tree
+    (subst (λ snap. IsOver snap blocks tree) (sym c.new-files.ensures) over))

@@ -1,0 +1,44 @@
+//! Calls that only tell something, over the blocks of an image.
+ghost use Rattle.std.specs.Prelude.{◌≡◌, true, [], IfErr, IfOk};
+ghost use Rattle.inode.specs.Read.{NoneStand};
+ghost use Rattle.inode.specs.Snap.{IsNew};
+ghost use Rattle.procs_steps.specs.Kinds.{tells};
+ghost use Rattle.procs.specs.Asks.{IsAsked};
+ghost use Rattle.procs.specs.Finished.{EndsFrom};
+ghost use Rattle.procs.specs.Outcome.{IsDoneFor};
+ghost use Rattle.procs.specs.Steps.{IsStepOf};
+
+use crate::draft::Draft;
+use block_files::BlockFiles;
+use inode::{Snap, Stop};
+use nfs_types::{Call, Ctx, Reply};
+use procs_steps::tell;
+use std::alloc::{AllocError, Global};
+
+/// What is done without a write.
+pub(crate) fn told(alloc: Global, snap: &Snap, reply: Reply) -> Result<Draft, AllocError>
+    ensures done { IfOk result (λ done. IsDoneFor snap.now done) }
+    ensures reply { IfOk result (λ done. done.reply ≡ reply) }
+    ensures written { IfOk result (λ done. done.written ≡ []) }
+{
+    Draft::new(snap, reply, Vec::new(alloc))
+}
+
+/// A call that only tells something, or refuses to make a special file (RFC 1813, section 3.3).
+pub(crate) fn tell_call(alloc: Global, ctx: &Ctx, call: &Call, snap: &Snap) -> Result<Draft, Stop>
+    requires { tells call.now ≡ true }
+    ensures ok { IfOk result (λ done. EndsFrom snap.now done) }
+    ensures step { IfOk result (λ done. IsStepOf snap.now.geometry ctx.now call.now done) }
+    ensures err { IfErr result (λ stop. IsNew snap.now stop) }
+    ensures asks { IfErr result (λ stop. IsAsked snap.now stop) }
+    ensures io { IfErr result (λ stop. NoneStand snap.now stop) }
+{
+    let files = BlockFiles::new(alloc, snap);
+    match tell(alloc, &files, ctx, call) {
+        Ok(answer) => match answer {
+            Some(reply) => Ok(told(alloc, snap, reply)?),
+            None => unreachable!(),
+        },
+        Err(stop) => Err(stop),
+    }
+}

@@ -1,0 +1,189 @@
+-- What a listing tells is short, as the entries that are given have room together.
+use Rattle.std.proofs.Common.{◌≡◌, ◌∙◌, sym, subst, ap, ℕ, ◌+◌, ◌-◌, ◌*◌, ◌/◌, ◌≤◌, Bool, true, false, List, [], ◌∷◌, ◌++◌}
+use Rattle.std.proofs.Common.{length, map, Option, Some, None, IfSome, Ok, Err, arith, length-append, refl, cond, nat_le}
+use Rattle.std.proofs.Common.{rules}
+use Rattle.std.proofs.lemmas.Bool.Decides.{nat_tests}
+use Rattle.std.specs.Option.{option_map}
+use Rattle.limits.specs.declared.TheConstants.{ENTRY_BYTES, ENTRY_PLUS_BYTES, LISTING_BYTES, LISTING_FRAME}
+use Rattle.nfs_types.specs.Handle.{handle_bytes}
+use Rattle.nfs_types.specs.declared.entries.ListedEntry.{ListedEntry}
+use Rattle.nfs_types.specs.declared.entries.ListedEntryPlus.{ListedEntryPlus}
+use Rattle.nfs_types.specs.declared.handle.Handle.{Handle}
+use Rattle.nfs_types.specs.declared.handle.Stamp.{Stamp}
+use Rattle.nfs_types.specs.declared.verifier.Verifier.{Verifier}
+use Rattle.model.specs.Node.{Node}
+use Rattle.model.specs.Tree.{Tree, node_at}
+use Rattle.procedures.specs.Listing.{entry_bytes, entry_room, fitting, listing_verifier, padded}
+use Rattle.procedures.specs.ReadDirPlus.{entry_plus_bytes, fitting_both, plus}
+use Rattle.procedures.specs.Told.{attributes_at, handle_of}
+use Rattle.xdr.specs.Codes.{Code, chain, chain_bytes, double, flag, ◌then◌, optional, some_too_long}
+use Rattle.xdr.specs.Items as items
+use Rattle.nfs_codec.specs.Items.{handle, optional_attributes, optional_handle, text, verifier}
+use Rattle.nfs_results.specs.Results.{entries, entries_plus, entry, entry_plus, listed, listed_plus}
+use Rattle.session.proofs.ShortCodes.{IsShort, attributes_told, doubles, flags, handles, optionals, or_false, texts}
+use Rattle.session.proofs.ShortCodes.{flag-length, thens, verifiers}
+
+-- ---- entries that have room together
+
+-- the bytes of all of them
+abbrev total : (ListedEntry → ℕ) → List ListedEntry → ℕ
+total cost [] = 0
+total cost (one ∷ others) = cost one + total cost others
+
+-- those that are given have no more than there is room for
+in_room : (cost : ListedEntry → ℕ) (room : ℕ) (left : List ListedEntry) → total cost (fitting cost room left) ≤ room
+in_room cost room [] = omega arith
+in_room cost room (one ∷ others) = by (nat_le (cost one) room) refl (in_room cost (room - cost one) others)
+  where
+    by : (fits : Bool) → nat_le (cost one) room ≡ fits
+        → total cost (fitting cost (room - cost one) others) ≤ room - cost one
+        → total cost (cond fits (one ∷ fitting cost (room - cost one) others) []) ≤ room
+    by true is rest = let less : cost one ≤ room = grind (arith, nat_tests) in omega (arith, less, rest)
+    by false is rest = omega arith
+
+-- and no more than all that are left, by whatever room they were chosen
+no_more : (cost chosen : ListedEntry → ℕ) (room : ℕ) (left : List ListedEntry)
+    → total cost (fitting chosen room left) ≤ total cost left
+no_more cost chosen room [] = omega arith
+no_more cost chosen room (one ∷ others) =
+    by (nat_le (chosen one) room) (no_more cost chosen (room - chosen one) others)
+  where
+    by : (fits : Bool) → total cost (fitting chosen (room - chosen one) others) ≤ total cost others
+        → total cost (cond fits (one ∷ fitting chosen (room - chosen one) others) []) ≤ total cost (one ∷ others)
+    by true rest = omega (arith, rest)
+    by false rest = omega arith
+
+-- each entry is spelled in no more bytes than it is counted with, behind a flag, where these can be counted
+abbrev CostsAsMuch : {E : Type 0} → Code E → (ListedEntry → E) → (ListedEntry → ℕ) → Type 0
+CostsAsMuch F told cost = (one : ListedEntry) → cost one ≤ LISTING_BYTES
+    → (4 + length (F.spell (told one)) ≤ cost one) × (F.too_long (told one) ≡ false)
+
+chained : {E : Type 0} (F : Code E) (told : ListedEntry → E) (cost : ListedEntry → ℕ) → CostsAsMuch F told cost
+    → (given : List ListedEntry) → total cost given ≤ LISTING_BYTES
+    → IsShort (4 + total cost given) (chain F) (map told given)
+chained F told cost as_much [] few = record { short = omega (arith, flag-length false); counts = refl }
+chained F told cost as_much (one ∷ others) few =
+    let sum : cost one + total cost others ≤ LISTING_BYTES = few in
+    let of_one = as_much one (omega (arith, sum)) in
+    let first = of_one.0 in
+    let behind = chained F told cost as_much others (omega (arith, sum)) in
+    let rest = behind.short in
+    record {
+      short = omega (
+        arith,
+        first,
+        rest,
+        flag-length true,
+        length-append (items.flag true) (F.spell (told one) ++ chain_bytes F (map told others)),
+        length-append (F.spell (told one)) (chain_bytes F (map told others)),
+      );
+      counts = or_false (F.too_long (told one)) (some_too_long F (map told others)) of_one.1 behind.counts;
+    }
+
+-- ---- an entry
+
+entry_costs : CostsAsMuch entry (λ one. one) entry_bytes
+unfolding entry
+entry_costs one few =
+    let name = texts one.name (omega (arith, few)) in
+    let spelled = thens 8 (4 + padded one.name + 8) double (text then double) one.number (one.name, one.cookie)
+    (doubles one.number) (thens (4 + padded one.name) 8 text double one.name one.cookie name (doubles one.cookie)) in
+    let short = spelled.short in
+    (omega (arith, short), spelled.counts)
+
+twenty : (number : ℕ) (stamp : Stamp) → length (handle_bytes number stamp) ≡ 20
+twenty number stamp = search rules
+
+handle_told : (number : ℕ) (found : Option Node) → IfSome (option_map (handle_of number) found) (IsShort 24 handle)
+handle_told number None = tt
+handle_told number (Some node) = handles (handle_of number node) (twenty number node.stamp)
+
+entry_plus_costs : (tree : Tree) → CostsAsMuch entry_plus (plus tree) entry_plus_bytes
+unfolding entry_plus optional_handle
+entry_plus_costs tree one few =
+    let attributes = attributes_at tree one.number in
+    let told = option_map (handle_of one.number) (node_at tree one.number) in
+    let name = texts one.name (omega (arith, few)) in
+    let behind_cookie = thens 88 28 optional_attributes (optional handle) attributes told
+    (attributes_told attributes) (optionals 24 handle told (handle_told one.number (node_at tree one.number))) in
+    let behind_name = thens 8 116 double (optional_attributes then optional handle) one.cookie (attributes, told)
+    (doubles one.cookie) behind_cookie in
+    let behind_number = thens (4 + padded one.name) 124 text (double then optional_attributes then optional handle)
+    one.name (one.cookie, (attributes, told)) name behind_name in
+    let spelled = thens 8 (4 + padded one.name + 124) double
+    (text then double then optional_attributes then optional handle) one.number
+    (one.name, (one.cookie, (attributes, told))) (doubles one.number) behind_number in
+    let short = spelled.short in
+    (omega (arith, short), spelled.counts)
+
+-- ---- listings
+
+as_they_are : (given : List ListedEntry) → map (λ one. one) given ≡ given
+as_they_are [] = refl
+as_they_are (one ∷ others) = ap (λ rest. one ∷ rest) (as_they_are others)
+
+room_few : (count : ℕ) → entry_room count ≤ LISTING_BYTES
+room_few count = search rules
+
+zeros_long : length (listing_verifier).bytes ≡ 8
+zeros_long = refl
+
+entries_short : (count : ℕ) (left : List ListedEntry)
+    → IsShort (4 + LISTING_BYTES) entries (fitting entry_bytes (entry_room count) left)
+unfolding entries
+entries_short count left =
+    let given = fitting entry_bytes (entry_room count) left in
+    let most = in_room entry_bytes (entry_room count) left in
+    let room = room_few count in
+    let all = chained entry (λ one. one) entry_bytes entry_costs given (omega (arith, most, room)) in
+    let short : length (chain_bytes entry given) ≤ 4 + total entry_bytes given =
+    subst (λ told. length (chain_bytes entry told) ≤ 4 + total entry_bytes given) (as_they_are given) all.short in
+    record {
+      short = omega (arith, short, most, room);
+      counts = subst (λ told. some_too_long entry told ≡ false) (as_they_are given) all.counts;
+    }
+
+entries_plus_short : (tree : Tree) (names_count count : ℕ) (left : List ListedEntry)
+    → IsShort (4 + LISTING_BYTES) entries_plus (map (plus tree) (fitting_both names_count (entry_room count) left))
+unfolding entries_plus
+entries_plus_short tree names_count count left =
+    let chosen = fitting entry_plus_bytes (entry_room count) left in
+    let given = fitting entry_bytes names_count chosen in
+    let most = in_room entry_plus_bytes (entry_room count) left in
+    let fewer = no_more entry_plus_bytes entry_bytes names_count chosen in
+    let room = room_few count in
+    let all = chained entry_plus (plus tree) entry_plus_bytes (entry_plus_costs tree) given
+    (omega (arith, most, fewer, room)) in
+    let short = all.short in
+    record { short = omega (arith, short, most, fewer, room); counts = all.counts }
+
+-- its verifier, its entries, and whether it is the end
+pub listing_short : (count : ℕ) (left : List ListedEntry) (eof : Bool) → IsShort (LISTING_BYTES + 16) listed (record {
+  verifier = listing_verifier;
+  entries = fitting entry_bytes (entry_room count) left;
+  eof = eof;
+})
+unfolding listed
+listing_short count left eof =
+    let given = fitting entry_bytes (entry_room count) left in
+    let behind = thens (4 + LISTING_BYTES) 4 entries flag given eof (entries_short count left) (flags eof) in
+    let all = thens 8 (4 + LISTING_BYTES + 4) verifier (entries then flag) listing_verifier (given, eof)
+    (verifiers listing_verifier zeros_long) behind in
+    let short = all.short in
+    record { short = omega (arith, short); counts = all.counts }
+
+pub listing_plus_short : (tree : Tree) (names_count count : ℕ) (left : List ListedEntry) (eof : Bool)
+    → IsShort (LISTING_BYTES + 16) listed_plus (record {
+      verifier = listing_verifier;
+      entries = map (plus tree) (fitting_both names_count (entry_room count) left);
+      eof = eof;
+    })
+unfolding listed_plus
+listing_plus_short tree names_count count left eof =
+    let given = map (plus tree) (fitting_both names_count (entry_room count) left) in
+    let behind = thens (4 + LISTING_BYTES) 4 entries_plus flag given eof
+    (entries_plus_short tree names_count count left) (flags eof) in
+    let all = thens 8 (4 + LISTING_BYTES + 4) verifier (entries_plus then flag) listing_verifier (given, eof)
+    (verifiers listing_verifier zeros_long) behind in
+    let short = all.short in
+    record { short = omega (arith, short); counts = all.counts }
