@@ -79,7 +79,7 @@ module _ (g : Geometry) (old new : Image) (first bit : ℕ) (is : Bool)
   one_here count other true less e =
       ap (λ b. b && is)
       (ap (λ k. nat_lt k (BITS_PER_BLOCK * count)) (eqb-true other bit e)
-          ∙ lt-ltb bit (BITS_PER_BLOCK * count) less)
+      ∙ lt-ltb bit (BITS_PER_BLOCK * count) less)
   one_here count other false less e = refl
 
   bits_here : (count : ℕ) → bit < BITS_PER_BLOCK * count

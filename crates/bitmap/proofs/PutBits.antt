@@ -23,7 +23,7 @@ unfolding bit_at
 as_in image first bit =
     let same : bit % 8 ≡ bit % BITS_PER_BLOCK % 8 = omega arith in
     ap (λ s. nat_eq
-        (get_or (image (first + bit / BITS_PER_BLOCK)) (bit % BITS_PER_BLOCK / 8) 0 / 2 ^ s % 2) 1) same
+    (get_or (image (first + bit / BITS_PER_BLOCK)) (bit % BITS_PER_BLOCK / 8) 0 / 2 ^ s % 2) 1) same
 
 module _ (image next : Image) (first bit : ℕ) (is : Bool) (addr : Addr) (old new : List ℕ)
     (block : addr.block.0 ≡ first + bit / 4096 / 8) (offset : addr.offset ≡ 512 * (bit / 4096 % 8))

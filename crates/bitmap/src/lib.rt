@@ -8,7 +8,7 @@ mod laws;
 mod marking;
 mod pieces;
 
-pub use laws::the_clear_bits_are_what_is_free;
 pub use finding::new_number;
+pub use laws::the_clear_bits_are_what_is_free;
 pub use marking::{mark_block, mark_number};
 pub use pieces::{free_blocks, free_numbers};

@@ -26,13 +26,7 @@ fn put_bit(bytes: &mut [u8], bit: usize, is: bool)
 }
 
 // Gives a bit of the bitmap that begins with this block a value.
-fn mark(
-    alloc: Global,
-    draft: &mut Draft,
-    first: u32,
-    bit: u32,
-    is: bool,
-) -> Result<(), Stop>
+fn mark(alloc: Global, draft: &mut Draft, first: u32, bit: u32, is: bool) -> Result<(), Stop>
     requires from { FIRST_HOME_BLOCK ≤ first }
     requires to { first + bit / BITS_PER_BLOCK
         < table_at draft.old.there.geometry.blocks draft.old.there.geometry.inodes }
@@ -58,12 +52,7 @@ fn mark(
 }
 
 /// Marks a block as used or as free.
-pub fn mark_block(
-    alloc: Global,
-    draft: &mut Draft,
-    number: u32,
-    is: bool,
-) -> Result<(), Stop>
+pub fn mark_block(alloc: Global, draft: &mut Draft, number: u32, is: bool) -> Result<(), Stop>
     requires { number < draft.old.there.geometry.blocks }
     ensures shows { OnOk result ((blocks : Image) → Shows draft.old (image_of blocks draft.old)
         → Shows draft.new (image_of blocks draft.new)) }
@@ -80,12 +69,7 @@ pub fn mark_block(
 }
 
 /// Marks the number of an inode as used or as free.
-pub fn mark_number(
-    alloc: Global,
-    draft: &mut Draft,
-    number: u32,
-    is: bool,
-) -> Result<(), Stop>
+pub fn mark_number(alloc: Global, draft: &mut Draft, number: u32, is: bool) -> Result<(), Stop>
     requires { number < draft.old.there.geometry.inodes }
     ensures shows { OnOk result ((blocks : Image) → Shows draft.old (image_of blocks draft.old)
         → Shows draft.new (image_of blocks draft.new)) }

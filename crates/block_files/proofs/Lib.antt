@@ -2,3 +2,4 @@ pub mod Told
 pub mod InFiles
 pub mod SetThere
 pub mod Drafts
+pub mod Departed

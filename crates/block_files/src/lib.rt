@@ -3,12 +3,14 @@
 
 mod asking;
 mod contents;
+mod departing;
 mod drafted;
 mod heads;
 mod setting;
 mod space;
 
 pub use asking::BlockFiles;
+pub use departing::depart;
 pub use drafted::DraftFiles;
 pub use heads::head_of;
 pub use setting::set;

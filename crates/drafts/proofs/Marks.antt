@@ -40,8 +40,11 @@ part f n a (suc k) from to =
   where
     later : (a n : ℕ) → a ≤ n → (a ≡ n → ⊥) → a + 1 ≤ n
     later a n from not = elim
-        (cases_lt a n) [ inl less ↦ omega (arith, less) | inr more ↦ absurd
-        (not (omega (arith, from, more))) ]
+        (cases_lt a n) [
+          | inl less ↦ omega (arith, less)
+          | inr more ↦ absurd
+              (not (omega (arith, from, more)))
+        ]
 
 -- What the bits of the new parts are, where inode n had some blocks and has others: each block that it took
 -- was marked free.
@@ -57,7 +60,7 @@ pub record TakesAndDrops (g : Geometry) (old new : Parts) (n : ℕ) : Type 0 whe
   pub dropped : (b : ℕ) → b < BITS_PER_BLOCK * bitmap_blocks g.blocks
       → times b (owned_by new.content (new.table n)) ≡ 0
       → 1 ≤ times b (owned_by old.content (old.table n)) → new.block_bits b
-          ≡ (nat_lt b (data_at g.blocks g.inodes) || nat_le g.blocks b)
+      ≡ (nat_lt b (data_at g.blocks g.inodes) || nat_le g.blocks b)
   pub others : (b : ℕ) → b < BITS_PER_BLOCK * bitmap_blocks g.blocks
       → times b (owned_by new.content (new.table n)) ≡ 0
       → times b (owned_by old.content (old.table n)) ≡ 0 → new.block_bits b ≡ old.block_bits b
@@ -95,9 +98,9 @@ module _ (g : Geometry) (old new : Parts) (n : ℕ) (one : ChangesOne old new n)
     unfolding owned
     its_part =
         let are = counts (λ one. nat_eq one b) (λ m. owned_by old.content (old.table m))
-            (range_with_len 0 g.inodes) in
+        (range_with_len 0 g.inodes) in
         let low = part (λ m. times b (owned_by old.content (old.table m))) n 0 g.inodes (omega arith)
-            (omega (arith, less)) in
+        (omega (arith, less)) in
         omega (arith, are, low)
 
     no_two : O' ≤ 1
@@ -122,20 +125,20 @@ module _ (g : Geometry) (old new : Parts) (n : ℕ) (one : ChangesOne old new n)
       | inl some ↦
           let s = sums in let p = its_part in
           moves.has b low some
-              ∙ sym (mark_is new ∙ ap (λ any. outside || any) (lt-ltb 0 O' (omega (arith, s, p, some)))
-              ∙ or_right (nat_lt b (data_at g.blocks g.inodes)) (nat_le g.blocks b))
+          ∙ sym (mark_is new ∙ ap (λ any. outside || any) (lt-ltb 0 O' (omega (arith, s, p, some)))
+          ∙ or_right (nat_lt b (data_at g.blocks g.inodes)) (nat_le g.blocks b))
       | inr none ↦ (elim (cases_lt 0 x) [
         | inl had ↦
             let s = sums in let o = marked.once b in let p = its_part in
             moves.dropped b low (omega (arith, none)) had
             ∙ sym (mark_is new
-                ∙ ap (λ any. outside || any) (not_below 0 O' (omega (arith, s, o, p, none, had)))
-                ∙ or_none outside)
+            ∙ ap (λ any. outside || any) (not_below 0 O' (omega (arith, s, o, p, none, had)))
+            ∙ or_none outside)
         | inr hadnt ↦
             let s = sums in
             let same : O' ≡ O = omega (arith, s, none, hadnt) in
             moves.others b low (omega (arith, none)) (omega (arith, hadnt)) ∙ marked.blocks_marked b low
-                ∙ mark_is old
+            ∙ mark_is old
             ∙ ap (λ k. outside || nat_lt 0 k) (sym same) ∙ sym (mark_is new)
       ])
     ]
@@ -160,7 +163,7 @@ clear_is_free g parts b marked low clear = elim (cases_lt 0 (times b (owned g pa
   | inl some ↦
       let set : parts.block_bits b ≡ true = marked.blocks_marked b low
       ∙ ap (λ any. nat_lt b (data_at g.blocks g.inodes) || nat_le g.blocks b || any)
-          (any_of (λ one. nat_eq one b) (owned g parts) ∙ lt-ltb 0 (times b (owned g parts)) some)
+      (any_of (λ one. nat_eq one b) (owned g parts) ∙ lt-ltb 0 (times b (owned g parts)) some)
       ∙ or_right (nat_lt b (data_at g.blocks g.inodes)) (nat_le g.blocks b) in
       let clash : true ≡ false = sym set ∙ clear in cc
   | inr none ↦ omega (arith, none)

@@ -31,13 +31,16 @@ module _ (g : Geometry) (blocks : Image) (at offset : ℕ) (bytes : List ℕ)
   one_inode no_table m false is = refl
   one_inode no_table m true is = ap (λ content. read_inode g (take INODE_BYTES (drop (inode_offset m) content)))
       (elsewhere blocks at offset bytes (inode_block g m)
-          (no_table m
-          (elim (cases_lt m g.inodes) [ inl less ↦ less | inr past ↦ absurd (clash m g.inodes past is) ])))
+      (no_table m
+      (elim (cases_lt m g.inodes) [ inl less ↦ less | inr past ↦ absurd (clash m g.inodes past is) ])))
     where
       clash : (a b : ℕ) → b ≤ a → nat_lt a b ≡ true → ⊥
       clash a b high is = elim
-          (leb_tells (suc a) b) [ inl less ↦ omega (arith, less.1, high) | inr not ↦ (let false_is : true
-          ≡ false = sym is ∙ not.0 in cc) ]
+          (leb_tells (suc a) b) [
+            | inl less ↦ omega (arith, less.1, high)
+            | inr not ↦ (let false_is : true
+                ≡ false = sym is ∙ not.0 in cc)
+          ]
 
   same_table : IsNoTable → table_of g written ≡ table_of g blocks
   same_table no_table = λ i m. one_inode no_table m (nat_lt m g.inodes) refl i
@@ -63,12 +66,12 @@ module _ (g : Geometry) (blocks : Image) (at offset : ℕ) (bytes : List ℕ)
         ≡ put (content_in g blocks) at (spliced (blocks at) offset bytes) k) (sym same)
         (ap (λ b. cond b (written at) (replicate BLOCK_BYTES 0)) is ∙ here blocks at offset bytes
         ∙ sym (ap (λ b. cond b (spliced (blocks at) offset bytes) (content_in g blocks at))
-            (eq-eqb at at refl)))
+        (eq-eqb at at refl)))
     | inr not ↦
         ap (λ content. cond (is_data g block) content (replicate BLOCK_BYTES 0))
-            (elsewhere blocks at offset bytes block not)
+        (elsewhere blocks at offset bytes block not)
         ∙ sym (ap (λ b. cond b (spliced (blocks at) offset bytes) (content_in g blocks block))
-            (not_same block at not))
+        (not_same block at not))
   ]
 
   past_table : (data_at g.blocks g.inodes) ≤ at → IsNoTable
@@ -76,8 +79,8 @@ module _ (g : Geometry) (blocks : Image) (at offset : ℕ) (bytes : List ℕ)
 
   pub data_written : data_at g.blocks g.inodes ≤ at → is_data g at ≡ true
       → parts_of g written
-          ≡ record
-          (parts_of g blocks) { content = put (content_in g blocks) at (spliced (blocks at) offset bytes) }
+      ≡ record
+      (parts_of g blocks) { content = put (content_in g blocks) at (spliced (blocks at) offset bytes) }
   data_written past is = λ i. record {
     table = same_table (past_table past) i;
     content = λ block. data_content is block i;
@@ -94,8 +97,8 @@ module _ (g : Geometry) (blocks : Image) (at offset : ℕ) (bytes : List ℕ)
 
   pub block_bits_written : at < inode_bitmap_at g.blocks
       → parts_of g written
-          ≡ record
-          (parts_of g blocks) { block_bits = bits_of written FIRST_HOME_BLOCK (bitmap_blocks g.blocks) }
+      ≡ record
+      (parts_of g blocks) { block_bits = bits_of written FIRST_HOME_BLOCK (bitmap_blocks g.blocks) }
   block_bits_written low = λ i. record {
     table = same_table (before_table (omega (arith, low))) i;
     content = same_content (omega (arith, low)) i;
@@ -105,9 +108,11 @@ module _ (g : Geometry) (blocks : Image) (at offset : ℕ) (bytes : List ℕ)
 
   pub inode_bits_written : inode_bitmap_at g.blocks ≤ at → at < table_at g.blocks g.inodes
       → parts_of g written
-          ≡ record
-          (parts_of g blocks) { inode_bits = bits_of written (inode_bitmap_at g.blocks)
-          (bitmap_blocks g.inodes) }
+      ≡ record
+      (parts_of g blocks) {
+        inode_bits = bits_of written (inode_bitmap_at g.blocks)
+            (bitmap_blocks g.inodes);
+      }
   inode_bits_written past low = λ i. record {
     table = same_table (before_table low) i;
     content = same_content (omega (arith, low)) i;

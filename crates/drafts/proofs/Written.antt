@@ -90,13 +90,13 @@ shows_laid draft next addr bytes image geometry objects size shows is = record {
   grid = λ one has.
       subst (λ (g : Geometry). IsObject g one.addr) (sym geometry)
       (elim (laid_cases draft.there.objects.items (record { addr = addr; bytes = bytes }) one
-          (subst (λ l. Contains l one) objects has)) [
+      (subst (λ l. Contains l one) objects has)) [
         | inl itself ↦ subst (λ (o : ObjectBytes). IsObject draft.there.geometry o.addr) (sym itself) is
         | inr kept ↦ shows.grid one kept.0
       ]);
   saw = λ one has.
       elim (laid_cases draft.there.objects.items (record { addr = addr; bytes = bytes }) one
-          (subst (λ l. Contains l one) objects has)) [
+      (subst (λ l. Contains l one) objects has)) [
         | inl same ↦ subst
             (λ (o : ObjectBytes). object_at (with_bytes image addr.block.0 addr.offset bytes) o.addr
             ≡ o.bytes) (sym same)

@@ -17,7 +17,7 @@ invariant_of-self-2 c = record {
       (seen_laid addr c.self.inside.there.objects.items c.in_ok-copy.copy
       (subst (λ l. is_seen addr l ≡ false)
       (c.lay.ensures
-          ∙ ap (λ (l : List ObjectBytes). laid l c.in_ok-copy.copy) c.in_ok-reserve.ensures.items) none));
+      ∙ ap (λ (l : List ObjectBytes). laid l c.in_ok-copy.copy) c.in_ok-reserve.ensures.items) none));
 }
 
 pub returns-clause-shows : goal.returns-clause-shows
@@ -28,7 +28,7 @@ returns-clause-shows c = λ image shows is.
     ∙ ap (laid c.self.inside.there.objects.items) (c.in_ok-copy.ensures.cases
     ∙ (λ i. record { addr = c.new-object.ensures.addr i; bytes = c.new-object.ensures.bytes i }))
     ∙ ap (λ (d : Drafted). laid d.there.objects.items
-        (record { addr = c.args.addr; bytes = c.args.bytes.items }))
+    (record { addr = c.args.addr; bytes = c.args.bytes.items }))
     c.self.view_is)
     c.requires shows is
 
@@ -37,10 +37,10 @@ returns-clause-image c = λ blocks.
     ap (with_objects blocks) c.in_ok-push.ensures.items
     ∙ behind_others blocks c.self.inside.written.items c.new-object.result
     ∙ (λ i. with_bytes (with_objects blocks c.self.inside.written.items) (block i)
-        (c.new-object.ensures.addr i).offset
+    (c.new-object.ensures.addr i).offset
     (c.new-object.ensures.bytes i))
     ∙ ap (λ (d : Drafted). with_bytes
-        (image_of blocks d) c.args.addr.block.0 c.args.addr.offset c.args.bytes.items)
+    (image_of blocks d) c.args.addr.block.0 c.args.addr.offset c.args.bytes.items)
     c.self.view_is
   where
     block : c.new-object.result.addr.block.0 ≡ c.args.addr.block.0

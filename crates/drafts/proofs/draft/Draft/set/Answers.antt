@@ -12,10 +12,10 @@ returns-in-Ok-Some-clause-ok c =
     attributes_there c.args.self.now c.put_inode.new.self blocks tree c.args.number node inode
     c.in-Ok-Some.inode c.args.looks.now c.put_inode.ensures.geometry
     (λ image is. subst
-        (λ k. Shows c.put_inode.new.self (with_inode c.args.self.now.there.geometry image c.args.number k))
+    (λ k. Shows c.put_inode.new.self (with_inode c.args.self.now.there.geometry image c.args.number k))
     c.attributed.ensures (shows image is))
     (λ base. images base
-        ∙ ap (with_inode c.args.self.now.there.geometry (image_of base c.args.self.now) c.args.number)
+    ∙ ap (with_inode c.args.self.now.there.geometry (image_of base c.args.self.now) c.args.number)
     c.attributed.ensures)
     draft was read
     (told_there c.args.self.now c.there.result.now blocks tree c.args.number (Some c.in-Ok-Some.inode)

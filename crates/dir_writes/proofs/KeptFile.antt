@@ -1,0 +1,50 @@
+-- A file that has no such name is as it is without it.
+use Rattle.std.proofs.Common.{◌≡◌, ℕ, sym, ap, ◌∙◌, refl, List, Option, Some, None}
+use Rattle.std.specs.FinMap as map
+use Rattle.std.specs.Option.{unwrap_or}
+use Rattle.disk.specs.Crash.{Image}
+use Rattle.model.specs.Node.{Body, DirectoryEntry, Node}
+use Rattle.model.specs.Tree.{Tree, node_at}
+use Rattle.procedures.specs.Changes.{without_entry}
+use Rattle.layout.specs.declared.inode.Inode.{Inode}
+use Rattle.layout.specs.declared.inode.InodeKind.{InodeKind}
+use Rattle.layout.specs.declared.inode.InodeKind.TheVariants as kinds
+use Rattle.layout.specs.Decode.{body_of, entries_in, span_of}
+use Rattle.layout.specs.Parts.{content_in}
+use Rattle.inode.specs.declared.snap.Snap.{Snap}
+use Rattle.inode.specs.Over.{HasInode}
+use Rattle.inode.proofs.HeldThere as held
+use Rattle.dir_writes.specs.Clearing.{without_name}
+use Rattle.dir_writes.proofs.Places.{lost_none}
+
+module _ (snap : Snap) (image : Image) (tree : Tree) (n : ℕ) (inode : Inode) (name : List ℕ) (node : Node)
+    (has : HasInode snap image tree n inode) (was : node_at tree n ≡ Some node) where
+  abbrev content : Image
+  content = content_in snap.geometry image
+
+  body : node.body ≡ body_of snap.geometry.inodes content inode.kind inode
+  body =
+      ap (λ (o : Option Node). (unwrap_or o node).body)
+      (sym was ∙ held.there snap image tree n (Some inode) has.less has.there has.over)
+
+  same_file : (kind : InodeKind) → inode.kind ≡ kind
+      → without_entry name (body_of snap.geometry.inodes content kind inode)
+      ≡ body_of snap.geometry.inodes content kind inode → without_name name node ≡ node
+  same_file kind is same =
+      let there : node.body ≡ body_of snap.geometry.inodes content kind inode =
+      body ∙ ap (λ k. body_of snap.geometry.inodes content k inode) is in
+      let kept : without_entry name node.body ≡ node.body =
+      ap (without_entry name) there ∙ same ∙ sym there in
+      ap (λ (b : Body). record node { body = b }) kept
+
+  pub kept_directory : inode.kind ≡ kinds.Directory
+      → ◌≡◌ {A = Option DirectoryEntry} None (map.get (entries_in snap.geometry.inodes content inode) name)
+      → without_name name node ≡ node
+  kept_directory is none = same_file kinds.Directory is
+      (lost_none (entries_in snap.geometry.inodes content inode) (span_of inode) inode.parent name (sym none))
+
+  pub kept_regular : inode.kind ≡ kinds.Regular → without_name name node ≡ node
+  kept_regular is = same_file kinds.Regular is refl
+
+  pub kept_link : inode.kind ≡ kinds.Link → without_name name node ≡ node
+  kept_link is = same_file kinds.Link is refl

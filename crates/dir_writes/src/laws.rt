@@ -1,0 +1,29 @@
+//! Laws on the slots of directories.
+ghost use Rattle.std.specs.Prelude.{◌≡◌, ◌≢◌, ◌*◌, ◌/◌, ◌<◌, ◌≤◌, ℕ, List, length, false, nat_eq, get_or, Ok, Some};
+ghost use Rattle.std.specs.FinMap.{remove};
+ghost use Rattle.limits.specs.declared.TheConstants.{BLOCK_BYTES, SLOTS_PER_BLOCK};
+ghost use Rattle.disk.specs.Crash.{Image};
+ghost use Rattle.layout.specs.declared.geometry.Geometry.{Geometry};
+ghost use Rattle.layout.specs.declared.inode.Inode.{Inode};
+ghost use Rattle.layout.specs.Decode.{IsDirectory, entries_in, numbers_of, span_of};
+ghost use Rattle.layout.specs.SlotForm.{number_under};
+ghost use Rattle.dir.specs.Slots.{slot_at};
+ghost use Rattle.dir_writes.specs.Clearing.{HasOnce, cleared, slot_block};
+
+/// A directory in which the slot of a name becomes zeros has the names that it had, but for this one. Its
+/// blocks are each at one index alone.
+pub fn a_cleared_slot_loses_its_name()
+    ensures rules { (g : Geometry) (content : Image) (inode : Inode) (name : List ℕ) (slot number : ℕ)
+        → ((block : ℕ) → length (content block) ≡ BLOCK_BYTES) → span_of inode ≤ length (numbers_of content inode)
+        → IsDirectory g content inode → slot < SLOTS_PER_BLOCK * span_of inode
+        → HasOnce content inode (slot_block content inode slot)
+        → number_under name (slot_at g.inodes content inode slot) ≡ Ok (Some number)
+        → IsDirectory g (cleared content inode slot) inode }
+    ensures names { (g : Geometry) (content : Image) (inode : Inode) (name : List ℕ) (slot number : ℕ)
+        → ((block : ℕ) → length (content block) ≡ BLOCK_BYTES) → span_of inode ≤ length (numbers_of content inode)
+        → IsDirectory g content inode → slot < SLOTS_PER_BLOCK * span_of inode
+        → HasOnce content inode (slot_block content inode slot)
+        → number_under name (slot_at g.inodes content inode slot) ≡ Ok (Some number)
+        → entries_in g.inodes (cleared content inode slot) inode
+        ≡ remove (entries_in g.inodes content inode) name }
+{}
