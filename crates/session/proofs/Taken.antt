@@ -1,5 +1,5 @@
 -- What is taken for a call is one that can be spelled.
-use Rattle.std.proofs.Common.{◌≡◌, ◌∙◌, sym, subst, ℕ, ◌<◌, List, inl, inr, arith}
+use Rattle.std.proofs.Common.{◌≡◌, ◌∙◌, refl, sym, subst, ℕ, ◌<◌, List, inl, inr, arith}
 use Rattle.nfs_types.specs.declared.ctx.Credential.{Credential}
 use Rattle.nfs_types.specs.declared.program.ProgramCall.{ProgramCall}
 use Rattle.nfs_types.specs.Fits.{ProgramCallFits}
@@ -30,3 +30,10 @@ taken message xid credential call (verdicts.Call x caller c) j_is bytes (inl is)
     let fits = subst ProgramCallFits t.1.call_is t.1.spelled.call_fits in
     subst (λ (one : Credential). TakesCall one call) t.1.caller_is
     (of_caller t.0.credential call t.1.spelled.credential_fits fits)
+
+-- what is judged to close the connection does
+pub closes : (j : Judged) → Judges verdicts.Closed j → j ≡ verdicts.Closed
+closes verdicts.Closed is = refl
+closes (verdicts.Refused x r) is = sym is
+closes (verdicts.Call x caller c) (inl is) = absurd cc
+closes (verdicts.Call x caller c) (inr is) = absurd cc

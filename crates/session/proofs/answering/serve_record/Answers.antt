@@ -1,14 +1,14 @@
-use Rattle.std.proofs.Common.{inl, List, ℕ, refl}
+use Rattle.std.proofs.Common.{inl, inr, List, ℕ, refl}
 use Rattle.session_wire.specs.declared.message.ReplyBody.TheVariants as bodies
 use Rattle.session_wire.specs.Judging.{judged}
 use Rattle.store_images.specs.Opening.{store_of}
 use Rattle.session.specs.Replying.{IsAnswered, IsCallAnswered, IsSpelled}
-use Rattle.session.proofs.Courses.{delivers_so, judged_refused, judged_call}
-use Rattle.session.proofs.Taken.{taken}
+use Rattle.session.proofs.Courses.{delivers_so, judged_refused, judged_call, none_more}
+use Rattle.session.proofs.Taken.{closes, taken}
 use Rattle.session.proofs.answering.serve_record.Goals as goal
 
-pub serve_call-requires-in-Call-clause-fits : goal.serve_call-requires-in-Call-clause-fits
-serve_call-requires-in-Call-clause-fits g c =
+pub serve_call-requires-clause-fits : goal.serve_call-requires-clause-fits
+serve_call-requires-clause-fits g c =
     let told = c.in-Call in
     taken c.args.message.now told.xid told.credential told.call (judged c.args.message.now) refl
     c.are_bytes.ensures told.ensures
@@ -40,3 +40,11 @@ returns-in-Call-clause-serves g c =
     (λ reply is. judged_call keeps c.args.moment old new (judged message) told.xid told.credential
     told.call reply told.ensures is)
     c.serve_call.ensures.serves)
+
+pub returns-in-Closed-clause-serves : goal.returns-in-Closed-clause-serves
+returns-in-Closed-clause-serves g c =
+    inr (
+      refl,
+      closes (judged c.args.message.now) c.in-Closed.ensures,
+      (refl, none_more (g.W.Write.contents c.args.writer.now)),
+    )
