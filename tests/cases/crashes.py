@@ -334,6 +334,19 @@ def test_a_write_that_fails_breaks_the_store(place):
         expect(f"call {behind} of the session", ran, 1, b"".join(told), b"nfsd: 6 Device\n")
 
 
+def assert_served_without(place, what, stream, messages, tree):
+    """A read has failed, and that breaks nothing: the call that asked for it is answered IO, and the others are answered as
+    if it weren't there."""
+    client = conversing.with_plain(place, plain.command_of(place), BLOCKS, INODES, NOW)
+    failed = [nfs.result_of(it)[:4] == wire.words(nfs.IO) for it in messages]
+    same(f"{what}: how many calls are answered IO", (len(messages), sum(failed)), (len(stream.records), 1))
+    for record, asked, message, is_failed in zip(stream.records, stream.asked, messages, failed):
+        if not is_failed:
+            same(f"{what}: {asked}", message, client.reply(record))
+    same(f"{what}: the tree", tree, client.tree())
+    client.end()
+
+
 def test_a_call_of_the_file_that_fails_loses_nothing_that_was_answered(place):
     shared, image, stream = shared_library(place), place.image(), Stream(place, 11, 12)
     fresh, data = contents(image), b"".join(stream.records)
@@ -346,6 +359,9 @@ def test_a_call_of_the_file_that_fails_loses_nothing_that_was_answered(place):
         what = f"call {failed} fails{', but is done' if half_done else ''}"
         ran, _ = run_noted(place, shared, arguments, data, FAILED_CALL=str(failed), **half_done)
         is_so(f"{what}: status {ran.status} and {ran.errors!r}", (ran.status, ran.errors) in ENDS)
+        if ran.status == 0:
+            assert_served_without(place, what, stream, wire.records(ran.output), tree_of(contents(image)))
+            continue
         answered = 0
         for at, message in enumerate(wire.records(ran.output)):
             # The first call that isn't answered as it would be is answered IO.
