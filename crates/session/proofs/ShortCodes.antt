@@ -1,11 +1,13 @@
 -- What is spelled in few bytes, of lengths that four bytes tell: a law for each way to make a code, and the items.
 use Rattle.std.proofs.Common.{◌≡◌, ◌∙◌, ap, ℕ, ◌+◌, ◌-◌, ◌*◌, ◌/◌, ◌%◌, ◌≤◌, Bool, true, false, List, [], ◌∷◌, ◌++◌, length}
 use Rattle.std.proofs.Common.{Option, Some, None, IfSome, Result, Ok, Err, IfOk, arith, length-append, refl}
-use Rattle.std.proofs.Common.{nat_lt, replicate}
+use Rattle.std.proofs.Common.{nat_lt, replicate, rules}
 use Rattle.std.proofs.lemmas.List.{length-replicate}
 use Rattle.std.specs.Prelude.{◌||◌}
 use Rattle.std.proofs.lemmas.Bool.{le-ltb}
+use Rattle.nfs_types.specs.Handle.{handle_bytes}
 use Rattle.nfs_types.specs.declared.handle.Handle.{Handle}
+use Rattle.nfs_types.specs.declared.handle.Stamp.{Stamp}
 use Rattle.nfs_types.specs.declared.status.Status.{Status}
 use Rattle.nfs_types.specs.declared.verifier.Verifier.{Verifier}
 use Rattle.xdr.specs.Codes.{Code, word, double, flag, nothing, ◌then◌, optional, in_some}
@@ -107,13 +109,16 @@ texts bytes few = record {
   counts = le-ltb 4294967295 (length bytes) few;
 }
 
--- a handle of 20 bytes, the length of all that are handed out
-pub handles : (one : Handle) → length one.bytes ≡ 20 → IsShort 24 handle one
+-- a handle of 20 bytes, which all that are handed out have
+handles : (one : Handle) → length one.bytes ≡ 20 → IsShort 24 handle one
 unfolding handle
 handles one long = record {
   short = omega (arith, long, opaque-length one.bytes);
   counts = le-ltb 4294967295 (length one.bytes) (omega (arith, long));
 }
+
+pub handed_out : (number : ℕ) (stamp : Stamp) → IsShort 24 handle (record { bytes = handle_bytes number stamp })
+handed_out number stamp = handles (record { bytes = handle_bytes number stamp }) (search rules)
 
 pub verifiers : (one : Verifier) → length one.bytes ≡ 8 → IsShort 8 verifier one
 unfolding verifier

@@ -5,11 +5,8 @@ use Rattle.std.proofs.Common.{rules}
 use Rattle.std.proofs.lemmas.Bool.Decides.{nat_tests}
 use Rattle.std.specs.Option.{option_map}
 use Rattle.limits.specs.declared.TheConstants.{ENTRY_BYTES, ENTRY_PLUS_BYTES, LISTING_BYTES, LISTING_FRAME}
-use Rattle.nfs_types.specs.Handle.{handle_bytes}
 use Rattle.nfs_types.specs.declared.entries.ListedEntry.{ListedEntry}
 use Rattle.nfs_types.specs.declared.entries.ListedEntryPlus.{ListedEntryPlus}
-use Rattle.nfs_types.specs.declared.handle.Handle.{Handle}
-use Rattle.nfs_types.specs.declared.handle.Stamp.{Stamp}
 use Rattle.nfs_types.specs.declared.verifier.Verifier.{Verifier}
 use Rattle.model.specs.Node.{Node}
 use Rattle.model.specs.Tree.{Tree, node_at}
@@ -20,7 +17,7 @@ use Rattle.xdr.specs.Codes.{Code, chain, chain_bytes, double, flag, ◌then◌, 
 use Rattle.xdr.specs.Items as items
 use Rattle.nfs_codec.specs.Items.{handle, optional_attributes, optional_handle, text, verifier}
 use Rattle.nfs_results.specs.Results.{entries, entries_plus, entry, entry_plus, listed, listed_plus}
-use Rattle.session.proofs.ShortCodes.{IsShort, attributes_told, doubles, flags, handles, optionals, or_false, texts}
+use Rattle.session.proofs.ShortCodes.{IsShort, attributes_told, doubles, flags, handed_out, optionals, or_false, texts}
 use Rattle.session.proofs.ShortCodes.{flag-length, thens, verifiers}
 
 -- ---- entries that have room together
@@ -91,12 +88,9 @@ entry_costs one few =
     let short = spelled.short in
     (omega (arith, short), spelled.counts)
 
-twenty : (number : ℕ) (stamp : Stamp) → length (handle_bytes number stamp) ≡ 20
-twenty number stamp = search rules
-
 handle_told : (number : ℕ) (found : Option Node) → IfSome (option_map (handle_of number) found) (IsShort 24 handle)
 handle_told number None = tt
-handle_told number (Some node) = handles (handle_of number node) (twenty number node.stamp)
+handle_told number (Some node) = handed_out number node.stamp
 
 entry_plus_costs : (tree : Tree) → CostsAsMuch entry_plus (plus tree) entry_plus_bytes
 unfolding entry_plus optional_handle

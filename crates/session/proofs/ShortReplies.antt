@@ -1,5 +1,6 @@
 -- What a procedure may tell is short: its results in a sound tree, and each refusal.
-use Rattle.std.proofs.Common.{◌≡◌, inl, inr, ℕ, ◌+◌, ◌*◌, ◌/◌, ◌≤◌, zero, suc, [], ◌∷◌, Bool, true, false, List, ◌++◌, length, map, Option, Some}
+use Rattle.std.proofs.Common.{◌≡◌, inl, inr, ℕ, ◌+◌, ◌*◌, ◌/◌, ◌≤◌, zero, suc, [], ◌∷◌, Bool, true, false, List}
+use Rattle.std.proofs.Common.{◌++◌, length, map, Option, Some}
 use Rattle.std.proofs.Common.{None, min, take, drop}
 use Rattle.nfs_results.specs.Results.{alone, behind, before}
 use Rattle.std.proofs.Common.{IfOk, Result, Ok, Err, ◌∙◌, arith, length-append, refl, rules, subst, sym, true≢false}
@@ -23,13 +24,11 @@ use Rattle.procedures.specs.ReadDirPlus.{fitting_both, plus}
 use Rattle.procedures.specs.ReadLink.{target_of}
 use Rattle.procedures.specs.Step.{numbered_step, step}
 use Rattle.procedures.specs.Told.{Effect, answer_of, handle_of}
-use Rattle.nfs_types.specs.Handle.{handle_bytes}
 use Rattle.nfs_types.specs.Verifier.{boot_verifier}
 use Rattle.nfs_types.specs.declared.attributes.WeakCacheData.{WeakCacheData}
 use Rattle.nfs_types.specs.declared.call.Call as types
 use Rattle.nfs_types.specs.declared.call.Call.TheVariants as call
 use Rattle.nfs_types.specs.declared.ctx.Ctx.{Ctx}
-use Rattle.nfs_types.specs.declared.handle.Stamp.{Stamp}
 use Rattle.nfs_types.specs.declared.program.ProgramReply.TheVariants as program_replies
 use Rattle.nfs_types.specs.declared.reply.Created.{Created}
 use Rattle.nfs_types.specs.declared.reply.FileSystemInfo.{FileSystemInfo}
@@ -63,7 +62,7 @@ use Rattle.model.specs.Entry.{Entry}
 use Rattle.session.specs.Replying.{IsSpelled}
 use Rattle.session.specs.Serving.{reply_for}
 use Rattle.session.proofs.ShortCodes.{IsShort, all_attributes, alones, any_outcome, attributes_told, befores}
-use Rattle.session.proofs.ShortCodes.{behinds, changes_told, double-length, flag-length, flags, handles}
+use Rattle.session.proofs.ShortCodes.{behinds, changes_told, double-length, flag-length, flags, handed_out}
 use Rattle.session.proofs.ShortCodes.{nothings, texts, thens, verifiers, words}
 use Rattle.session.proofs.ShortListings.{listing_short, listing_plus_short}
 
@@ -182,15 +181,12 @@ refused_is_short s (call.Commit _ _ _) =
 
 -- ---- what is told of files
 
-twenty : (number : ℕ) (stamp : Stamp) → length (handle_bytes number stamp) ≡ 20
-twenty number stamp = search rules
-
 looked_short : (file : ℕ × Node) → IsShort 112 looked (lookups.looked file)
 unfolding looked
 looked_short file =
     let one = lookups.looked file in
     let all = thens 24 88 handle optional_attributes one.object one.attributes
-    (handles one.object (twenty file.0 file.1.stamp)) (attributes_told one.attributes) in
+    (handed_out file.0 file.1.stamp) (attributes_told one.attributes) in
     record { short = all.short; counts = all.counts }
 
 taken_few : (most : ℕ) (bytes : List ℕ) → length (take most bytes) ≤ most

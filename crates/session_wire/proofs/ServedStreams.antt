@@ -376,11 +376,11 @@ module _ (s : Serving) (old : Standing) (xid : ℕ) (credential : Credential) (g
   }
 
 -- a caller that was read is one that can be
-record IsCaller (c : Credential) : Type 0 where
-  uid : c.uid < 2 ^ 32
-  gid : c.gid < 2 ^ 32
+pub record IsCaller (c : Credential) : Type 0 where
+  pub uid : c.uid < 2 ^ 32
+  pub gid : c.gid < 2 ^ 32
 
-caller_is : (m : MessageCredential) → CredentialFits m → IsCaller (caller_of m)
+pub caller_is : (m : MessageCredential) → CredentialFits m → IsCaller (caller_of m)
 caller_is Nobody fits = record { uid = omega arith; gid = omega arith }
 caller_is (Caller stamp machine caller) fits = record { uid = fits.uid; gid = fits.gid }
 

@@ -69,7 +69,8 @@ abbrev handed_to : Outset → State
 handed_to o = with_call (ctx_of o.asked.credential o.asked.moment o.store.boot) o.asked.call
     (at_rest o.store.boot)
 
-pub begins : (o : Outset) (worker : State) → SoundCall o.asked.credential o.asked.moment o.asked.call → IsIdle o.store.core
+pub begins : (o : Outset) (worker : State) → SoundCall o.asked.credential o.asked.moment o.asked.call
+    → IsIdle o.store.core
     → worker ≡ handed_to o
     → GoesWith worker o.store.core → IsOpenWith o.store o.first o.entries o.last → IsCalling o o.store worker
 begins o worker sound idle is with opened = record {

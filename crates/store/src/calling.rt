@@ -41,7 +41,8 @@ pub fn a_settled_store_stays_open()
 
 /// A call that was handed to a worker at rest is under way.
 pub(crate) fn a_call_begins()
-    ensures { (o : Outset) (worker : State) → SoundCall o.asked.credential o.asked.moment o.asked.call → IsIdle o.store.core
+    ensures { (o : Outset) (worker : State) → SoundCall o.asked.credential o.asked.moment o.asked.call
+        → IsIdle o.store.core
         → worker ≡ with_call (ctx_of o.asked.credential o.asked.moment o.store.boot) o.asked.call
         (at_rest o.store.boot)
         → GoesWith worker o.store.core → IsOpenWith o.store o.first o.entries o.last
