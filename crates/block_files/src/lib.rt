@@ -8,6 +8,7 @@ mod drafted;
 mod heads;
 mod making;
 mod setting;
+mod sizing;
 mod space;
 
 pub use asking::BlockFiles;
@@ -17,3 +18,4 @@ pub use heads::head_of;
 pub use inode_writes::remove;
 pub use making::{make, new_number};
 pub use setting::set;
+pub use sizing::resize;

@@ -1,7 +1,9 @@
 //! Files of another size.
-ghost use Rattle.std.specs.Prelude.{◌≡◌, ◌+◌, ◌≤◌, ℕ, Option, Some, IfErr, IfOk};
-ghost use Rattle.limits.specs.declared.TheConstants.{LARGEST_FILE};
+ghost use Rattle.std.specs.Prelude.{◌≡◌, ◌+◌, ◌*◌, ◌≤◌, Some, IfErr, IfOk};
+ghost use Rattle.limits.specs.declared.TheConstants.{BLOCK_BYTES, LARGEST_FILE};
 ghost use Rattle.disk.specs.Crash.{Image};
+ghost use Rattle.model.specs.Attributes.{size_of};
+ghost use Rattle.model.specs.Cost.{cost};
 ghost use Rattle.model.specs.Node.{Body, Node};
 ghost use Rattle.model.specs.SetAttr.{with_length};
 ghost use Rattle.model.specs.Tree.{Tree, node_at, with_node};
@@ -20,21 +22,40 @@ use limits::BLOCK_BYTES;
 use nfs_types::FileKind;
 use std::alloc::Global;
 
+// The size that a file has when it was given this one, which only a regular file takes.
+fn size_after(head: &Head, size: u64) -> u64
+    ensures { (body : Body) → IsBodyOf head.now body → result ≡ size_of (with_length (Some size) body) }
+{
+    match head.kind {
+        FileKind::Regular => size,
+        FileKind::Directory => head.size,
+        FileKind::BlockDevice => head.size,
+        FileKind::CharacterDevice => head.size,
+        FileKind::Link => head.size,
+        FileKind::Socket => head.size,
+        FileKind::Fifo => head.size,
+    }
+}
+
+// The bytes of the blocks that a file uses: of so many, or as before.
+fn used_after(head: &Head, used: Option<u32>) -> u64
+    ensures { (body new : Body) → IsBodyOf head.now body → IsUse used body new
+        → result ≡ BLOCK_BYTES * cost new }
+{
+    match used {
+        Some(blocks) => BLOCK_BYTES as u64 * blocks as u64,
+        None => head.used,
+    }
+}
+
 // The head of the file with this size, if it is a regular one, that uses so many blocks, or as many as before.
 fn resized(head: &Head, size: u64, used: Option<u32>) -> Head
-    ensures { (body : Body) → IsBodyOf head.now body → size ≤ LARGEST_FILE
-        → IsUse used body (with_length (Some size) body)
+    ensures { (body : Body) → IsBodyOf head.now body → IsUse used body (with_length (Some size) body)
         → result ≡ headed head.now (with_length (Some size) body) }
 {
     let mut next = *head;
-    match head.kind {
-        FileKind::Regular => next.size = size,
-        _ => {}
-    }
-    match used {
-        Some(blocks) => next.used = BLOCK_BYTES as u64 * blocks as u64,
-        None => {}
-    }
+    next.size = size_after(head, size);
+    next.used = used_after(head, used);
     next
 }
 

@@ -104,7 +104,7 @@ all_of : (P : ℕ → Type 0) (xs : List ℕ) → ((b : ℕ) → 1 ≤ times b x
 all_of P [] so = tt
 all_of P (x ∷ xs) so = (
   so x (let more = one_more x x xs in let here = ap {B = ℕ} (λ (t : Bool). cond t 1 0) (eq-eqb x x refl) in
-  omega (arith, more, here)),
+      omega (arith, more, here)),
   all_of P xs (λ b some. so b (let more = one_more b x xs in omega (arith, some, more))),
 )
 
@@ -162,15 +162,15 @@ module _ (g : Geometry) (image : Image) (tree : Tree) (n : ℕ) (inode new_inode
       → content b ≡ was.content b
   others_same m not b has = elim (cases_lt m g.inodes) [
     | inl low ↦ same b (
-      let both = two_own g was n m b not less low in
-      let once = holds.parts.marked.once b in
-      let its = ap (λ t. times b (owned_by was.content t)) table_is in
-      omega (arith, both, once, has, its))
+        let both = two_own g was n m b not less low in
+        let once = holds.parts.marked.once b in
+        let its = ap (λ t. times b (owned_by was.content t)) table_is in
+        omega (arith, both, once, has, its))
     | inr past ↦ (
-      let none : times b (owned_by was.content (was.table m)) ≡ 0 =
-      ap (λ t. times b (owned_by was.content (cond t (inode_at g image m) (Err Range))))
-      (not_below m g.inodes past) in
-      absurd (omega (arith, has, none)))
+        let none : times b (owned_by was.content (was.table m)) ≡ 0 =
+        ap (λ t. times b (owned_by was.content (cond t (inode_at g image m) (Err Range))))
+        (not_below m g.inodes past) in
+        absurd (omega (arith, has, none)))
   ]
 
   one : ChangesOne was new n

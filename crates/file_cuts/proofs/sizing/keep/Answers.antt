@@ -16,5 +16,5 @@ returns-in-Ok-clause-ok c = λ blocks tree node draft was has sound.
     let same = keeps_length g image shown c.args.size c.requires.other in (
       sym (ap cost same),
       subst (λ (b : Body). IsDraft c.set.new.self blocks (with_node tree c.args.number (node_with shown b))) same
-      (c.in-Ok.ensures.ok blocks tree node c.args.inode.now draft was has.there sound),
+          (c.in-Ok.ensures.ok blocks tree node c.args.inode.now draft was has.there sound),
     )
