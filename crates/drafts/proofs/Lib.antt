@@ -6,3 +6,5 @@ pub mod Marks
 pub mod OtherWrites
 pub mod Stops
 pub mod PutThere
+pub mod FewBlocks
+pub mod Grid

@@ -1,3 +1,4 @@
+pub mod Grid
 pub mod Drafted
 pub mod Laid
 pub mod Attributes

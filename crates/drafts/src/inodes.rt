@@ -31,8 +31,7 @@ impl<'a> Draft<'a> {
             return Err(Stop::Io);
         }
         let bytes = inode.write(alloc)?;
-        self.put(geometry.inode_addr(number), bytes)?;
-        Ok(())
+        self.put(geometry.inode_addr(number), bytes)
     }
 
     /// Makes the inode of a number a free one, which is nothing but zeros.
@@ -54,7 +53,6 @@ impl<'a> Draft<'a> {
             return Err(Stop::Io);
         }
         let bytes = vec![in alloc; 0; INODE_BYTES]?;
-        self.put(geometry.inode_addr(number), bytes)?;
-        Ok(())
+        self.put(geometry.inode_addr(number), bytes)
     }
 }
