@@ -1,15 +1,15 @@
 -- What a draft writes lies in few blocks.
-use Rattle.std.proofs.Common.{◌≡◌, ℕ, suc, ◌+◌, ◌*◌, ◌<◌, ◌≤◌, sym, ap, ◌∙◌, refl, subst, Bool, true, false, cond, not}
-use Rattle.std.proofs.Common.{◌||◌, List, [], ◌∷◌, ◌++◌, length, map, filter, nat_eq, count_by, inl, inr, All, arith}
+use Rattle.std.proofs.Common.{◌≡◌, ℕ, zero, suc, if◌then◌else◌, ◌+◌, ◌*◌, ◌<◌, ◌≤◌, sym, ap, ◌∙◌, refl, subst, Bool, true, false, cond, not}
+use Rattle.std.proofs.Common.{◌||◌, List, [], ◌∷◌, ◌++◌, length, length-append, map, filter, nat_eq, count_by, inl, inr, All, arith}
 use Rattle.std.specs.Cmp.{nat_eq_equiv}
 use Rattle.std.specs.List.{IsDistinct, list_any, range_with_len}
 use Rattle.std.proofs.lemmas.Bool.Decides.{eqb_tells, nat_tests}
 use Rattle.std.proofs.lemmas.List.Elements.{All-cons, All-head, All-nil, All-tail}
 use Rattle.std.proofs.lemmas.List.Folds.{list_any-append}
 use Rattle.std.proofs.lemmas.List.FromFn.{length-range_with_len}
+use Rattle.std.proofs.lemmas.List.Sums.{sum_by-cons}
 use Rattle.std.proofs.lemmas.Map.Keys.{IsDistinct-from_apart, IsDistinct-push}
 use Rattle.std.proofs.lemmas.Map.Made.{length-le_from_is_member}
-use Rattle.std.proofs.lemmas.Map.Steps.{list_any-range_with_len}
 use Rattle.limits.specs.declared.TheConstants.{CHANGED_BLOCKS, FIRST_HOME_BLOCK}
 use Rattle.disk.specs.declared.block.BlockNo.{BlockNo}
 use Rattle.layout.specs.declared.geometry.Geometry.{Geometry}
@@ -49,15 +49,17 @@ pushed (first ∷ blocks) block = ap (λ l. first.0 ∷ l) (pushed blocks block)
 distinct_after : (blocks : List BlockNo) (objects : List ObjectBytes) → IsDistinct nat_eq (numbers blocks)
     → IsDistinct nat_eq (numbers (blocks_after blocks objects))
 distinct_after blocks [] once = once
-distinct_after blocks (o ∷ os) once = by_test (is_among o.addr.block blocks) refl
+distinct_after blocks (o ∷ os) once =
+    distinct_after (if is_among o.addr.block blocks then blocks else blocks ++ o.addr.block ∷ []) os
+    (by_test (is_among o.addr.block blocks) refl)
   where
     by_test : (test : Bool) → is_among o.addr.block blocks ≡ test
-        → IsDistinct nat_eq (numbers (blocks_after (cond test blocks (blocks ++ o.addr.block ∷ [])) os))
-    by_test true is = distinct_after blocks os once
-    by_test false is = distinct_after (blocks ++ o.addr.block ∷ []) os
-        (subst (IsDistinct nat_eq) (sym (pushed blocks o.addr.block))
+        → IsDistinct nat_eq (numbers (if test then blocks else blocks ++ o.addr.block ∷ []))
+    by_test true is = once
+    by_test false is =
+        subst (IsDistinct nat_eq) (sym (pushed blocks o.addr.block))
         (IsDistinct-push nat_eq_equiv (numbers blocks) o.addr.block.0 once
-        (same_test o.addr.block.0 blocks ∙ is)))
+        (same_test o.addr.block.0 blocks ∙ is))
 
 -- ---- each block in its place
 
@@ -71,7 +73,9 @@ among_after : (ys : List ℕ) (blocks : List BlockNo) (objects : List ObjectByte
     → (q : ℕ) → list_any (nat_eq q) (numbers (blocks_after blocks objects)) ≡ true
     → list_any (nat_eq q) ys ≡ true
 among_after ys blocks [] were each q there = were q there
-among_after ys blocks (o ∷ os) were each q there = by_test (is_among o.addr.block blocks) refl there
+among_after ys blocks (o ∷ os) were each q there =
+    among_after ys (if is_among o.addr.block blocks then blocks else blocks ++ o.addr.block ∷ []) os
+    (by_test (is_among o.addr.block blocks)) rest q there
   where
     first : list_any (nat_eq o.addr.block.0) ys ≡ true
     first = All-head (λ (o : ObjectBytes). list_any (nat_eq o.addr.block.0) ys ≡ true) o os each
@@ -90,11 +94,11 @@ among_after ys blocks (o ∷ os) were each q there = by_test (is_among o.addr.bl
           (ap (λ b. b || false) not.0))
     ]
 
-    by_test : (test : Bool) → is_among o.addr.block blocks ≡ test
-        → list_any (nat_eq q) (numbers (blocks_after (cond test blocks (blocks ++ o.addr.block ∷ [])) os)) ≡ true
-        → list_any (nat_eq q) ys ≡ true
-    by_test true is has = among_after ys blocks os were rest q has
-    by_test false is has = among_after ys (blocks ++ o.addr.block ∷ []) os with_first rest q has
+    by_test : (test : Bool) (p : ℕ)
+        → list_any (nat_eq p) (numbers (if test then blocks else blocks ++ o.addr.block ∷ [])) ≡ true
+        → list_any (nat_eq p) ys ≡ true
+    by_test true = were
+    by_test false = with_first
 
 -- ---- where an object lies
 
@@ -104,6 +108,14 @@ left_or a b is = ap (λ x. x || b) is
 right_or : (a b : Bool) → b ≡ true → (a || b) ≡ true
 right_or true b is = refl
 right_or false b is = is
+
+range_has : (n a q : ℕ) → a ≤ q → q < a + n → list_any (nat_eq q) (range_with_len a n) ≡ true
+range_has zero a q low high = absurd (omega (arith, low, high))
+range_has (suc n) a q low high = elim (eqb_tells q a) [
+  | inl is ↦ ap (λ b. b || list_any (nat_eq q) (range_with_len (a + 1) n)) is.0
+  | inr not ↦ ap (λ b. b || list_any (nat_eq q) (range_with_len (a + 1) n)) not.0
+      ∙ range_has n (a + 1) q (let other = not.1 in omega (arith, low, other)) (omega (arith, high))
+]
 
 module _ (g : Geometry) where
   few_bitmaps : table_at g.blocks g.inodes ≤ FIRST_HOME_BLOCK + BITMAP_BLOCKS
@@ -117,7 +129,7 @@ module _ (g : Geometry) where
   in_bitmaps xs q from to =
       list_any-append (nat_eq q) (range_with_len FIRST_HOME_BLOCK BITMAP_BLOCKS) xs
       ∙ left_or (list_any (nat_eq q) (range_with_len FIRST_HOME_BLOCK BITMAP_BLOCKS)) (list_any (nat_eq q) xs)
-      (list_any-range_with_len BITMAP_BLOCKS FIRST_HOME_BLOCK q from (let few = few_bitmaps in omega (arith, few, to)))
+      (range_has BITMAP_BLOCKS FIRST_HOME_BLOCK q from (let few = few_bitmaps in omega (arith, few, to)))
 
   in_spent : (xs : List ℕ) (q : ℕ) → list_any (nat_eq q) xs ≡ true
       → list_any (nat_eq q) (range_with_len FIRST_HOME_BLOCK BITMAP_BLOCKS ++ xs) ≡ true
@@ -190,7 +202,7 @@ module _ (g : Geometry) where
       (among_after (places objects) [] objects (λ q none. cc) (placed objects grid)) in
       let count = counts (blocks_of objects) in
       let size = sizes objects in
-      let all = length_append (range_with_len FIRST_HOME_BLOCK BITMAP_BLOCKS)
+      let all = length-append (range_with_len FIRST_HOME_BLOCK BITMAP_BLOCKS)
       (map (λ (object : ObjectBytes). object.addr.block.0) (filter is_spent objects)) in
       let range = length-range_with_len FIRST_HOME_BLOCK BITMAP_BLOCKS in
       omega (arith, most, count, size, all, range, few)
@@ -202,11 +214,14 @@ module _ (g : Geometry) where
       sizes : (os : List ObjectBytes)
           → length (map (λ (object : ObjectBytes). object.addr.block.0) (filter is_spent os)) ≡ count_by is_spent os
       sizes [] = refl
-      sizes (o ∷ os) = by_test (is_spent o)
+      sizes (o ∷ os) =
+          by_test (is_spent o) (sizes os) ∙ sym (sum_by-cons (λ x. cond (is_spent x) 1 0) o os)
         where
           by_test : (test : Bool)
+              → length (map (λ (object : ObjectBytes). object.addr.block.0) (filter is_spent os))
+              ≡ count_by is_spent os
               → length (map (λ (object : ObjectBytes). object.addr.block.0)
               (cond test (o ∷ filter is_spent os) (filter is_spent os)))
-              ≡ cond test (1 + count_by is_spent os) (count_by is_spent os)
-          by_test true = ap suc (sizes os)
-          by_test false = sizes os
+              ≡ cond test 1 0 + count_by is_spent os
+          by_test true rest = omega (arith, rest)
+          by_test false rest = omega (arith, rest)

@@ -7,4 +7,6 @@ pub mod OtherWrites
 pub mod Stops
 pub mod PutThere
 pub mod FewBlocks
-pub mod Grid
+pub mod OnGrid
+pub mod Begun
+pub mod Kept

@@ -1,4 +1,4 @@
-pub mod Grid
+pub mod OnGrid
 pub mod Drafted
 pub mod Laid
 pub mod Attributes

@@ -14,7 +14,7 @@ ghost use Rattle.inode.specs.Snap.{MayWrite, is_claimed, is_seen};
 ghost use Rattle.txn.specs.Group.{blocks_of};
 ghost use Rattle.txn.specs.Object.{ObjectBytes};
 ghost use Rattle.drafts.specs.Drafted.{IsDraft, MOST_SPENT, Shows, image_of, spent};
-ghost use Rattle.drafts.specs.Grid.{is_on_grid};
+ghost use Rattle.drafts.specs.OnGrid.{is_on_grid};
 ghost use Rattle.drafts.specs.Laid.{laid};
 
 use crate::grid::is_on_grid;

@@ -1,6 +1,6 @@
 //! The objects of an image.
 ghost use Rattle.std.specs.Prelude.{◌≡◌};
-ghost use Rattle.drafts.specs.Grid.{is_on_grid};
+ghost use Rattle.drafts.specs.OnGrid.{is_on_grid};
 
 use layout::Geometry;
 use limits::{BLOCK_BYTES, FIRST_HOME_BLOCK, INODE_BYTES};

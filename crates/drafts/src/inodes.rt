@@ -31,7 +31,8 @@ impl<'a> Draft<'a> {
             return Err(Stop::Io);
         }
         let bytes = inode.write(alloc)?;
-        self.put(geometry.inode_addr(number), bytes)
+        self.put(geometry.inode_addr(number), bytes)?;
+        Ok(())
     }
 
     /// Makes the inode of a number a free one, which is nothing but zeros.
@@ -53,6 +54,7 @@ impl<'a> Draft<'a> {
             return Err(Stop::Io);
         }
         let bytes = vec![in alloc; 0; INODE_BYTES]?;
-        self.put(geometry.inode_addr(number), bytes)
+        self.put(geometry.inode_addr(number), bytes)?;
+        Ok(())
     }
 }
