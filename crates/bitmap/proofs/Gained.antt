@@ -209,6 +209,14 @@ module _ (g : Geometry) (base : Image) (tree : Tree) (n : ℕ) (gained : List �
       one_file g old new n tree node one holds.parts some rules file
       (moved_marks g old new n one less holds.parts.marked moves)
 
+-- the parts of the base with another inode under the number, other content, and the bits of what was gained set
+abbrev pub grown : Geometry → Image → ℕ → Inode → Image → List ℕ → Parts
+grown g base n inode content gained = record (parts_of g base) {
+  table = put (parts_of g base).table n (Ok (Some inode));
+  content = content;
+  block_bits = marking gained (parts_of g base).block_bits;
+}
+
 -- The common case: a file that is there, of this inode, whose new inode is another.
 module _ (g : Geometry) (base : Image) (tree : Tree) (n : ℕ) (inode new_inode : Inode) (gained : List ℕ)
     (content : Image) (holds : Holds g base tree) (less : n < g.inodes)
@@ -222,12 +230,8 @@ module _ (g : Geometry) (base : Image) (tree : Tree) (n : ℕ) (inode new_inode 
   abbrev was : Parts
   was = parts_of g base
 
-  abbrev pub grown : Parts
-  grown = record was {
-    table = put was.table n (Ok (Some new_inode));
-    content = content;
-    block_bits = marking gained was.block_bits;
-  }
+  abbrev after : Parts
+  after = grown g base n new_inode content gained
 
   abbrev node : Node
   node = node_with new_inode (body_of g.inodes content new_inode.kind new_inode)
@@ -235,7 +239,7 @@ module _ (g : Geometry) (base : Image) (tree : Tree) (n : ℕ) (inode new_inode 
   table_is : was.table n ≡ Ok (Some inode)
   table_is = ap (λ b. cond b (inode_at g base n) (Err Range)) (lt-ltb n g.inodes less) ∙ read
 
-  at_n : grown.table n ≡ Ok (Some new_inode)
+  at_n : after.table n ≡ Ok (Some new_inode)
   at_n = ap (λ b. cond b (Ok (Some new_inode)) (was.table n)) (eq-eqb n n refl)
 
   some : 0 < n
@@ -251,7 +255,7 @@ module _ (g : Geometry) (base : Image) (tree : Tree) (n : ℕ) (inode new_inode 
       zero_is : n ≤ 0 → 0 ≡ n
       zero_is low = omega (arith, low)
 
-  gains : Gains g base n gained grown
+  gains : Gains g base n gained after
   gains = record {
     were_free = were_free;
     once = once;
@@ -266,7 +270,7 @@ module _ (g : Geometry) (base : Image) (tree : Tree) (n : ℕ) (inode new_inode 
         ∙ sym (ap (λ r. nat_eq n 0 || nat_le g.inodes n || is_used r) at_n);
   }
 
-  pub grown_holds : PartsHold g grown (with_node tree n node)
+  pub grown_holds : PartsHold g after (with_node tree n node)
   grown_holds =
-      gained_file g base tree n gained grown holds less gains node some
+      gained_file g base tree n gained after holds less gains node some
       (subst (IsFile g content) (sym at_n) rules) (sym (ap (file_of g.inodes content) at_n))

@@ -1,0 +1,4 @@
+pub mod OverBytes
+pub mod OneNumber
+pub mod FarNumbers
+pub mod PieceWritten

@@ -1,0 +1,2 @@
+//! Bytes that are written to regular files.
+#![tactic(auto)]
