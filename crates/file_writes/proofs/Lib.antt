@@ -2,3 +2,4 @@ pub mod OverBytes
 pub mod OneNumber
 pub mod FarNumbers
 pub mod PieceWritten
+pub mod Cases
