@@ -3,3 +3,4 @@ pub mod OneNumber
 pub mod FarNumbers
 pub mod PieceWritten
 pub mod Cases
+pub mod ImageWritten
