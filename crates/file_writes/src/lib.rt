@@ -1,0 +1,5 @@
+//! Bytes that are written to regular files.
+#![tactic(auto)]
+
+mod blocks;
+mod inodes;
