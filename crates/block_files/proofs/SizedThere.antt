@@ -1,11 +1,10 @@
 -- The head of a file of another size.
-use Rattle.std.proofs.Common.{◌≡◌, ℕ, zero, suc, ◌+◌, ◌-◌, ◌*◌, sym, ap, ◌∙◌, refl, Bool, true, false, List, [], ◌∷◌, ◌++◌}
-use Rattle.std.proofs.Common.{subst, length, length-append, take, replicate, Option, Some, None, arith}
+use Rattle.std.proofs.Common.{◌≡◌, ℕ, zero, suc, ◌+◌, ◌-◌, ◌*◌, sym, ap, ◌∙◌, refl, true, false, List, [], ◌∷◌}
+use Rattle.std.proofs.Common.{subst, length, length-append, take, replicate, Some, None, arith}
 use Rattle.limits.specs.declared.TheConstants.{BLOCK_BYTES}
 use Rattle.disk.specs.Crash.{Image}
-use Rattle.nfs_types.specs.declared.attributes.FileKind.{FileKind}
 use Rattle.nfs_types.specs.declared.attributes.FileKind.TheVariants as told
-use Rattle.model.specs.Attributes.{kind_of, size_of}
+use Rattle.model.specs.Attributes.{size_of}
 use Rattle.model.specs.Cost.{cost}
 use Rattle.model.specs.Node.{Body, Node}
 use Rattle.model.specs.Node as model

@@ -1,4 +1,4 @@
-use Rattle.std.proofs.Common.{◌≡◌, ap, ◌∙◌, subst, Some}
+use Rattle.std.proofs.Common.{subst, Some}
 use Rattle.model.specs.Node.{Body}
 use Rattle.model.specs.SetAttr.{with_length}
 use Rattle.model.specs.Tree.{with_node}
