@@ -1,2 +1,4 @@
 pub mod Shrunk
 pub mod Grown
+pub mod CutNumbers
+pub mod CutBytes
