@@ -7,7 +7,7 @@ use Rattle.std.proofs.Math.Seq.{take-append-add}
 use Rattle.limits.specs.declared.TheConstants.{BLOCK_BYTES}
 use Rattle.file_cuts.specs.Cut.{first_of, zeroed}
 
-more_zeros : (a b : ℕ) → replicate {A = ℕ} a 0 ++ replicate b 0 ≡ replicate (a + b) 0
+pub more_zeros : (a b : ℕ) → replicate {A = ℕ} a 0 ++ replicate b 0 ≡ replicate (a + b) 0
 more_zeros zero b = ap (λ k. replicate {A = ℕ} k 0) (omega arith)
 more_zeros (suc a) b = ap (λ l. 0 ∷ l) (more_zeros a b) ∙ ap (λ k. replicate {A = ℕ} k 0) there
   where

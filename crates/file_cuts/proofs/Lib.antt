@@ -2,3 +2,4 @@ pub mod Shrunk
 pub mod Grown
 pub mod CutNumbers
 pub mod CutBytes
+pub mod CutFile
