@@ -1,12 +1,12 @@
 -- A regular file of which the end was cut off, in its blocks.
-use Rattle.std.proofs.Common.{◌≡◌, ℕ, zero, suc, ◌+◌, ◌-◌, ◌*◌, ◌/◌, ◌<◌, ◌≤◌, ◌^◌, inl, inr, sym, ap, ◌∙◌, refl, subst}
+use Rattle.std.proofs.Common.{◌≡◌, ℕ, zero, suc, ◌+◌, ◌-◌, ◌*◌, ◌<◌, ◌≤◌, ◌^◌, inl, inr, sym, ap, ◌∙◌, refl, subst}
 use Rattle.std.proofs.Common.{Bool, true, false, cond, not, ◌&&◌, ◌||◌, List, [], ◌∷◌, ◌++◌, length, take, drop, get_or}
 use Rattle.std.proofs.Common.{replicate, nat_eq, nat_le, nat_lt, filter, count_by, append-nil, Some, Ok, Err, arith}
 use Rattle.std.specs.FinSet.{retain}
 use Rattle.std.specs.Int.{w32, from_le_bytes}
-use Rattle.std.specs.List.{AllByRecursion, flat_map, list_all, list_any}
+use Rattle.std.specs.List.{AllByRecursion, list_all, list_any}
 use Rattle.std.proofs.Math.Seq.{drop-append_seam}
-use Rattle.std.proofs.lemmas.Bool.{cases_eq, cases_lt, eq-eqb, le-leb, lt-ltb}
+use Rattle.std.proofs.lemmas.Bool.{cases_lt, eq-eqb, le-leb, lt-ltb}
 use Rattle.std.proofs.lemmas.List.{drop-drop, get_or-drop, length-drop, length-take-le, take-append-drop, take_all}
 use Rattle.std.proofs.lemmas.List.{take-append-le}
 use Rattle.std.proofs.lemmas.Nat.{from_le_bytes-to_le_bytes_4}
@@ -20,21 +20,19 @@ use Rattle.model.specs.Tree.{Tree}
 use Rattle.layout.specs.declared.fault.LayoutFault.TheVariants.{Range}
 use Rattle.layout.specs.declared.geometry.Geometry.{Geometry}
 use Rattle.layout.specs.declared.inode.Inode.{Inode}
-use Rattle.layout.specs.declared.inode.InodeKind.TheVariants as kinds
 use Rattle.layout.specs.Decode.{IsOfKind, IsRegular, body_of, bytes_of, content_of, inode_at, mapped_of, numbers_of}
 use Rattle.layout.specs.Decode.{regular_in}
 use Rattle.layout.specs.Fields.{four_at, four_bytes, is_zeros, number_bytes, numbers_at}
-use Rattle.layout.specs.Holds.{Holds}
 use Rattle.layout.specs.InodeForm.{SoundInode, is_data_block_or_none, is_sound_file, is_sound_inode, is_sound_kind}
 use Rattle.layout.specs.InodeForm.{is_sound_map, is_sound_regular}
-use Rattle.layout.specs.Owners.{owned, owned_by}
+use Rattle.layout.specs.Owners.{owned_by}
 use Rattle.layout.specs.Parts.{content_in, parts_of, put}
 use Rattle.layout.specs.Places.{is_data}
 use Rattle.layout.proofs.Mapped.{regular-cost}
 use Rattle.layout.proofs.OnGrid.{data_within}
 use Rattle.layout.proofs.Written.{not_same}
 use Rattle.inode.proofs.AllTests.{all_three, all_two, same_number}
-use Rattle.inode.proofs.Placed.{behind, passes_at}
+use Rattle.inode.proofs.Placed.{behind}
 use Rattle.bitmap.proofs.Gained.{own_part}
 use Rattle.drafts.specs.Attributes.{attributed}
 use Rattle.drafts.proofs.Marks.{times}
@@ -42,7 +40,7 @@ use Rattle.file_writes.specs.Filling.{HasRegular}
 use Rattle.file_writes.proofs.Cases.{at_least_once, front_once, front_twice, no_fewer, twice}
 use Rattle.file_writes.proofs.PieceWritten as whole
 use Rattle.file_cuts.specs.Cut.{count_before, cut_content, far_of, first_of, gone_of, is_far, is_some, last_of}
-use Rattle.file_cuts.specs.Cut.{left_in, numbered, with_numbers, with_zeros, zeroed}
+use Rattle.file_cuts.specs.Cut.{left_in, numbered, with_zeros, zeroed}
 use Rattle.file_cuts.proofs.CutBytes.{cut_bytes, more_zeros}
 use Rattle.file_cuts.proofs.CutNumbers.{all_dropped, all_stay, all_taken, are_zeros, before, in_front, none_some}
 use Rattle.file_cuts.proofs.CutNumbers.{parted, past, same_length, still_mapped, zero_at}

@@ -1,26 +1,24 @@
 -- The numbers of a file's blocks of which the first ones stay.
-use Rattle.std.proofs.Common.{◌≡◌, ℕ, zero, suc, ◌+◌, ◌-◌, ◌*◌, ◌<◌, ◌≤◌, ◌^◌, inl, inr, sym, ap, ◌∙◌, refl, subst, Bool, true, false}
+use Rattle.std.proofs.Common.{◌≡◌, ℕ, zero, suc, ◌+◌, ◌-◌, ◌*◌, ◌<◌, ◌≤◌, inl, inr, sym, ap, ◌∙◌, refl, Bool, true, false}
 use Rattle.std.proofs.Common.{cond, not, ◌&&◌, ◌||◌, List, [], ◌∷◌, ◌++◌, length, take, drop, get_or, replicate, nat_eq, nat_lt}
-use Rattle.std.proofs.Common.{filter, length-append, sum_by, arith}
+use Rattle.std.proofs.Common.{filter, length-append, arith}
 use Rattle.std.specs.Cmp.{nat_cmp_total}
 use Rattle.std.specs.FinMap.{nat_cmp-IsAntisymmetric}
-use Rattle.std.specs.FinSet.{FinSet, contains, contains-retain, retain, same_set}
-use Rattle.std.specs.List.{AllByRecursion, list_all, list_any}
-use Rattle.std.specs.Ordering.{nat_cmp}
-use Rattle.std.proofs.lemmas.Bool.{cases_eq, cases_lt, lt-ltb}
-use Rattle.std.proofs.lemmas.List.{ext_get_or, get_or-drop, get_or-replicate, get_or-take, get_or_past, length-drop}
+use Rattle.std.specs.FinSet.{contains, contains-retain, retain, same_set}
+use Rattle.std.specs.List.{list_all, list_any}
+use Rattle.std.proofs.lemmas.Bool.{cases_lt, lt-ltb}
+use Rattle.std.proofs.lemmas.List.{ext_get_or, get_or-take}
 use Rattle.std.proofs.lemmas.List.{length-replicate, length-take-le, take-append-drop}
 use Rattle.std.proofs.lemmas.List.Elements.{filter-append}
 use Rattle.std.proofs.lemmas.List.Sums.{sum_by-append}
-use Rattle.limits.specs.declared.TheConstants.{BLOCK_BYTES, DIRECT_INDEXES}
+use Rattle.limits.specs.declared.TheConstants.{BLOCK_BYTES}
 use Rattle.layout.specs.Decode.{mapped_of}
 use Rattle.layout.proofs.FreshFiles.{not_below}
-use Rattle.model.proofs.Sets.{eq_by_cmp-is}
 use Rattle.inode.proofs.AllTests.{all_two, same_number}
 use Rattle.inode.proofs.Placed.{behind, early}
 use Rattle.drafts.proofs.Marks.{times}
 use Rattle.file_writes.proofs.OneNumber.{is_mapped, none_mapped}
-use Rattle.file_cuts.specs.Cut.{count_before, first_of, is_far, is_some}
+use Rattle.file_cuts.specs.Cut.{count_before, first_of, is_some}
 
 pub zero_at : (m j : ℕ) → ◌≡◌ {A = ℕ} (get_or (replicate m 0) j 0) 0
 zero_at zero j = refl
@@ -63,7 +61,7 @@ all_zeros : (p : ℕ → Bool) (n : ℕ) → p 0 ≡ true → list_all p (replic
 all_zeros p zero is = refl
 all_zeros p (suc n) is = λ i. is i && all_zeros p n is i
 
-all_both : (p : ℕ → Bool) (xs ys : List ℕ) → list_all p xs ≡ true → list_all p ys ≡ true
+pub all_both : (p : ℕ → Bool) (xs ys : List ℕ) → list_all p xs ≡ true → list_all p ys ≡ true
     → list_all p (xs ++ ys) ≡ true
 all_both p [] ys first rest = rest
 all_both p (x ∷ xs) ys first rest =

@@ -3,3 +3,5 @@ pub mod Grown
 pub mod CutNumbers
 pub mod CutBytes
 pub mod CutFile
+pub mod CutBlocks
+pub mod CutHolds

@@ -1,6 +1,9 @@
 //! Files that are cut or filled up.
 #![tactic(auto)]
 
+mod blocks;
+mod cutting;
+mod numbers;
 mod sizing;
 
 pub use sizing::resize;

@@ -15,6 +15,7 @@ ghost use Rattle.drafts.specs.Attributes.{attributed};
 ghost use Rattle.drafts.specs.Drafted.{IsDraft, image_of, spent};
 ghost use Rattle.file_cuts.specs.Sized.{IsUse, is_regular_kind, sized};
 
+use crate::cutting::cut;
 use drafts::{Draft, attributed};
 use inode::{Stop, held};
 use layout::{Inode, InodeKind};
@@ -60,36 +61,6 @@ fn grow(
     ensures pause { IfErr result (λ stop. number < draft.old.there.geometry.inodes → IsPause stop) }
 {
     draft.put_inode(alloc, number, &sized(&attributed(inode, looks), size))
-}
-
-// Cuts a regular file, whose attributes become these.
-fn cut(
-    alloc: Global,
-    draft: &mut Draft,
-    number: u32,
-    inode: &Inode,
-    looks: &Inode,
-    size: u64,
-) -> Result<u32, Stop>
-    requires less { size < inode.now.size }
-    requires regular { inode.now.kind ≡ kinds.Regular }
-    ensures ok { IfOk result (λ used. (blocks : Image) (tree : Tree) → IsDraft draft.old blocks tree
-        → HasInode draft.old.there (image_of blocks draft.old) tree number inode.now
-        → SoundInode draft.old.there.geometry (attributed inode.now looks.now)
-        → IsUse (Some used)
-        (body_in draft.old.there.geometry (image_of blocks draft.old) (attributed inode.now looks.now))
-        (with_length (Some size)
-        (body_in draft.old.there.geometry (image_of blocks draft.old) (attributed inode.now looks.now)))
-        × IsDraft draft.new blocks (with_node tree number (node_with (attributed inode.now looks.now)
-        (with_length (Some size)
-        (body_in draft.old.there.geometry (image_of blocks draft.old) (attributed inode.now looks.now)))))) }
-    ensures seen { draft.new.seen ≡ draft.old.seen }
-    ensures spent { spent draft.new ≤ spent draft.old + 3 }
-    ensures err { IfErr result (λ stop. MayStop draft.old.seen stop) }
-    ensures pause { IfErr result (λ stop. (blocks : Image) (tree : Tree) → IsDraft draft.old blocks tree
-        → HasInode draft.old.there (image_of blocks draft.old) tree number inode.now → IsPause stop) }
-{
-    Err(Stop::NoMemory)
 }
 
 // Gives a file that is no regular one, and so keeps its size, these attributes.

@@ -31,7 +31,7 @@ fn free_one(alloc: Global, draft: &mut Draft, number: u32) -> Result<(), Stop>
 }
 
 /// Marks blocks as free.
-pub(crate) fn free_all(alloc: Global, draft: &mut Draft, numbers: &[u32]) -> Result<(), Stop>
+pub fn free_all(alloc: Global, draft: &mut Draft, numbers: &[u32]) -> Result<(), Stop>
     ensures shows { OnOk result ((blocks : Image) → Shows draft.old (image_of blocks draft.old)
         → Shows draft.new (image_of blocks draft.new)) }
     ensures frees { OnOk result ((blocks : Image) → Shows draft.old (image_of blocks draft.old)

@@ -7,6 +7,7 @@ mod making;
 mod numbers;
 mod removing;
 
+pub use freeing::free_all;
 pub use linking::make_link;
 pub use making::{emptied, make_empty};
 pub use removing::remove;
