@@ -4,3 +4,4 @@ pub mod FarNumbers
 pub mod PieceWritten
 pub mod Cases
 pub mod ImageWritten
+pub mod Stored

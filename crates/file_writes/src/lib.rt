@@ -3,3 +3,4 @@
 
 mod blocks;
 mod inodes;
+mod mapping;
