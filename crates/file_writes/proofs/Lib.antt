@@ -5,3 +5,5 @@ pub mod PieceWritten
 pub mod Cases
 pub mod ImageWritten
 pub mod Stored
+pub mod Costs
+pub mod Whole

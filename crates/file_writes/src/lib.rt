@@ -4,3 +4,6 @@
 mod blocks;
 mod inodes;
 mod mapping;
+mod pieces;
+
+pub use pieces::write_piece;
