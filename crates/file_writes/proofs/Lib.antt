@@ -7,3 +7,5 @@ pub mod ImageWritten
 pub mod Stored
 pub mod Costs
 pub mod Whole
+pub mod Adjoining
+pub mod Steps

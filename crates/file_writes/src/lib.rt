@@ -5,5 +5,7 @@ mod blocks;
 mod inodes;
 mod mapping;
 mod pieces;
+mod writing;
 
 pub use pieces::write_piece;
+pub use writing::write;
