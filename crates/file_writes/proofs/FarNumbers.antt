@@ -1,7 +1,7 @@
 -- The numbers in an indirect block after one of them was set.
 use Rattle.std.proofs.Common.{◌≡◌, ℕ, zero, suc, ◌+◌, ◌-◌, ◌*◌, ◌<◌, ◌≤◌, ◌^◌, inl, inr, sym, ap, ◌∙◌, refl}
 use Rattle.std.proofs.Common.{cond, List, [], ◌∷◌, ◌++◌, length, take, drop, get_or, replicate, set, arith}
-use Rattle.std.specs.Int.{w32, from_le_bytes}
+use Rattle.std.specs.Int.{w32, from_le_bytes, to_le_bytes}
 use Rattle.std.proofs.lemmas.Bool.{cases_eq, cases_lt}
 use Rattle.std.proofs.lemmas.List.{drop-replicate, ext_get_or, get_or-replicate, get_or-set_other, get_or-set_same}
 use Rattle.std.proofs.lemmas.List.{length-replicate, length-set, set-append_left, set-append_right}
@@ -109,3 +109,15 @@ far_none =
         (ap (take 4) (drop-replicate (0 + 4 * j) BLOCK_BYTES 0 ∙ ap (λ m. replicate {A = ℕ} m 0) left)
         ∙ four_zeros (BLOCK_BYTES - 4 * j - 4))
         ∙ sym (get_or-replicate INDIRECT_INDEXES j 0 0 inside)
+
+-- the bytes of a number, as they are written
+pub le_four : (number : ℕ) (bytes : List ℕ) → bytes ≡ to_le_bytes w32 number → bytes ≡ four_bytes number
+unfolding four_bytes
+le_four number bytes is = is
+
+-- an indirect block with a number more is a block
+pub named_count : (bytes : List ℕ) (i b : ℕ) → length bytes ≡ BLOCK_BYTES → i < INDIRECT_INDEXES
+    → length (spliced bytes (4 * i) (four_bytes b)) ≡ BLOCK_BYTES
+named_count bytes i b long less =
+    splices.spliced-length bytes (four_bytes b) (4 * i)
+    (let four = four-length b in omega (arith, four, long, less)) ∙ long

@@ -4,3 +4,9 @@ pub mod FarNumbers
 pub mod PieceWritten
 pub mod Cases
 pub mod ImageWritten
+pub mod Stored
+pub mod Costs
+pub mod Whole
+pub mod Adjoining
+pub mod Steps
+pub mod FilledUp
