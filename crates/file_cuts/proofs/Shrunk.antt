@@ -1,11 +1,10 @@
 -- A file that has fewer blocks, or other bytes in its own, in the place of what was there.
-use Rattle.std.proofs.Common.{◌≡◌, ℕ, zero, suc, ◌+◌, ◌*◌, ◌<◌, ◌≤◌, inl, inr, sym, ap, ◌∙◌, refl, subst, Bool}
-use Rattle.std.proofs.Common.{true, false, cond, ◌||◌, List, [], ◌∷◌, nat_eq, nat_lt, nat_le, sum_by}
+use Rattle.std.proofs.Common.{◌≡◌, ℕ, ◌+◌, ◌*◌, ◌<◌, ◌≤◌, inl, inr, sym, ap, ◌∙◌, refl, subst, Bool}
+use Rattle.std.proofs.Common.{true, false, cond, ◌||◌, List, nat_eq, nat_lt, nat_le}
 use Rattle.std.proofs.Common.{Some, Ok, Err, arith}
-use Rattle.std.specs.List.{AllByRecursion, range_with_len}
-use Rattle.std.proofs.lemmas.Bool.{cases_eq, cases_lt, eq-eqb, lt-ltb}
+use Rattle.std.specs.List.{AllByRecursion}
+use Rattle.std.proofs.lemmas.Bool.{cases_lt, eq-eqb, lt-ltb}
 use Rattle.std.proofs.lemmas.Bool.Decides.{nat_tests}
-use Rattle.std.proofs.lemmas.List.Sums.{sum_by-cons}
 use Rattle.limits.specs.declared.TheConstants.{BITS_PER_BLOCK}
 use Rattle.disk.specs.Crash.{Image}
 use Rattle.model.specs.Node.{Node}
@@ -16,102 +15,19 @@ use Rattle.layout.specs.declared.inode.Inode.{Inode}
 use Rattle.layout.specs.Decode.{IsFile, IsOfKind, body_of, file_of, inode_at, node_with}
 use Rattle.layout.specs.Geometry.{bitmap_blocks, data_at}
 use Rattle.layout.specs.Holds.{Holds, PartsHold}
-use Rattle.layout.specs.Owners.{is_used, owned, owned_by}
+use Rattle.layout.specs.Owners.{is_used, owned_by}
 use Rattle.layout.specs.Parts.{Parts, content_in, parts_of, put}
 use Rattle.layout.specs.Places.{is_data}
-use Rattle.layout.proofs.Frame.{ChangesOne, counts}
+use Rattle.layout.proofs.Frame.{ChangesOne}
 use Rattle.layout.proofs.FreshFiles.{not_below}
 use Rattle.layout.proofs.OnGrid.{data_within}
 use Rattle.layout.proofs.Written.{not_same}
+use Rattle.bitmap.proofs.Gained.{all_so, own_part, own_parts}
 use Rattle.bitmap.proofs.Held.{are_data}
 use Rattle.drafts.proofs.Marks.{TakesAndDrops, clear_is_free, moved_marks, times}
 use Rattle.drafts.proofs.OneFile.{numbered, one_file}
 use Rattle.inode_writes.specs.Frees.{without}
 use Rattle.inode_writes.proofs.Without.{held_by, without_others, without_them}
-
-one_more : (b x : ℕ) (xs : List ℕ) → times b (x ∷ xs) ≡ cond (nat_eq x b) 1 0 + times b xs
-one_more b x xs = sum_by-cons (λ one. cond (nat_eq one b) 1 0) x xs
-
--- ---- what one inode owns is among what all own
-
-part : (f : ℕ → ℕ) (n a k : ℕ) → a ≤ n → n < a + k → f n ≤ sum_by f (range_with_len a k)
-part f n a zero from to = absurd (omega (arith, from, to))
-part f n a (suc k) from to =
-    let here = sum_by-cons f a (range_with_len (a + 1) k) in
-    elim (cases_eq a n) [
-      | inl is ↦ let same : f a ≡ f n = ap f is in omega (arith, here, same)
-      | inr not ↦
-          let rest : f n ≤ sum_by f (range_with_len (a + 1) k) =
-          part f n (a + 1) k (later a n from not) (omega (arith, to)) in
-          omega (arith, here, rest)
-    ]
-  where
-    later : (a n : ℕ) → a ≤ n → (a ≡ n → ⊥) → a + 1 ≤ n
-    later a n from not = omega (arith, from, not)
-
--- two inodes together own no more than all do
-two_parts : (f : ℕ → ℕ) (n m a k : ℕ) → (m ≡ n → ⊥) → a ≤ n → n < a + k → a ≤ m → m < a + k
-    → f n + f m ≤ sum_by f (range_with_len a k)
-two_parts f n m a zero differ low less from to = absurd (omega (arith, low, less))
-two_parts f n m a (suc k) differ low less from to =
-    let here = sum_by-cons f a (range_with_len (a + 1) k) in
-    elim (cases_eq a n) [
-      | inl is ↦
-          let same : f a ≡ f n = ap f is in
-          let rest : f m ≤ sum_by f (range_with_len (a + 1) k) =
-          part f m (a + 1) k (later a m from (λ e. differ (sym e ∙ is))) (omega (arith, to)) in
-          omega (arith, here, same, rest)
-      | inr not ↦ (elim (cases_eq a m) [
-        | inl is ↦
-            let same : f a ≡ f m = ap f is in
-            let rest : f n ≤ sum_by f (range_with_len (a + 1) k) =
-            part f n (a + 1) k (later a n low not) (omega (arith, less)) in
-            omega (arith, here, same, rest)
-        | inr other ↦
-            let rest : f n + f m ≤ sum_by f (range_with_len (a + 1) k) =
-            two_parts f n m (a + 1) k differ (later a n low not) (omega (arith, less)) (later a m from other)
-            (omega (arith, to)) in
-            omega (arith, here, rest)
-      ])
-    ]
-  where
-    later : (a n : ℕ) → a ≤ n → (a ≡ n → ⊥) → a + 1 ≤ n
-    later a n from not = omega (arith, from, not)
-
-pub own_part : (g : Geometry) (parts : Parts) (m b : ℕ) → m < g.inodes
-    → times b (owned_by parts.content (parts.table m)) ≤ times b (owned g parts)
-unfolding owned
-own_part g parts m b less =
-    let are = counts (λ one. nat_eq one b) (λ k. owned_by parts.content (parts.table k))
-    (range_with_len 0 g.inodes) in
-    let low = part (λ k. times b (owned_by parts.content (parts.table k))) m 0 g.inodes (omega arith)
-    (omega (arith, less)) in
-    omega (arith, are, low)
-
-two_own : (g : Geometry) (parts : Parts) (n m b : ℕ) → (m ≡ n → ⊥) → n < g.inodes → m < g.inodes
-    → times b (owned_by parts.content (parts.table n)) + times b (owned_by parts.content (parts.table m))
-    ≤ times b (owned g parts)
-unfolding owned
-two_own g parts n m b differ less low =
-    let are = counts (λ one. nat_eq one b) (λ k. owned_by parts.content (parts.table k))
-    (range_with_len 0 g.inodes) in
-    let both = two_parts (λ k. times b (owned_by parts.content (parts.table k))) n m 0 g.inodes differ
-    (omega arith) (omega (arith, less)) (omega arith) (omega (arith, low)) in
-    omega (arith, are, both)
-
--- what is so of each number that a list has is so of its elements
-all_of : (P : ℕ → Type 0) (xs : List ℕ) → ((b : ℕ) → 1 ≤ times b xs → P b) → AllByRecursion P xs
-all_of P [] so = tt
-all_of P (x ∷ xs) so = (
-  so x (let more = one_more x x xs in let here = ap {B = ℕ} (λ (t : Bool). cond t 1 0) (eq-eqb x x refl) in
-      omega (arith, more, here)),
-  all_of P xs (λ b some. so b (let more = one_more b x xs in omega (arith, some, more))),
-)
-
-either_true : (a b c : Bool) → c ≡ true → (a || b || c) ≡ true
-either_true true b c e = refl
-either_true false true c e = refl
-either_true false false c e = e
 
 module _ (g : Geometry) (image : Image) (tree : Tree) (n : ℕ) (inode new_inode : Inode) (content : Image)
     (dropped : List ℕ) (holds : Holds g image tree) (less : n < g.inodes)
@@ -162,7 +78,7 @@ module _ (g : Geometry) (image : Image) (tree : Tree) (n : ℕ) (inode new_inode
       → content b ≡ was.content b
   others_same m not b has = elim (cases_lt m g.inodes) [
     | inl low ↦ same b (
-        let both = two_own g was n m b not less low in
+        let both = own_parts g was n m b not less low in
         let once = holds.parts.marked.once b in
         let its = ap (λ t. times b (owned_by was.content t)) table_is in
         omega (arith, both, once, has, its))
@@ -176,7 +92,7 @@ module _ (g : Geometry) (image : Image) (tree : Tree) (n : ℕ) (inode new_inode
   one : ChangesOne was new n
   one = record {
     table = λ m not. ap (λ b. cond b (Ok (Some new_inode)) (was.table m)) (not_same m n not);
-    content = λ m not. all_of (λ b. content b ≡ was.content b) (owned_by was.content (was.table m))
+    content = λ m not. all_so (λ b. content b ≡ was.content b) (owned_by was.content (was.table m))
         (others_same m not);
   }
 
