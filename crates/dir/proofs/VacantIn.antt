@@ -104,7 +104,7 @@ module _ (g : Geometry) (content : Image) (inode : Inode) (is_directory : IsDire
   abbrev lies_in : ℕ → List ℕ × DirectoryEntry → Bool
   lies_in slot entry = nat_eq entry.1.slot slot
 
-  as_read : (slot : ℕ) → slot < all → vacant slot ≡ is_free (lies slot)
+  pub as_read : (slot : ℕ) → slot < all → vacant slot ≡ is_free (lies slot)
   unfolding named_in
   as_read slot less =
       ap not (any_found (lies_in slot) (map.entries (entries_in g.inodes content inode))

@@ -8,3 +8,5 @@ pub mod LostName
 pub mod Places
 pub mod KeptFile
 pub mod EnteredName
+pub mod UsedBytes
+pub mod EnteredHolds

@@ -23,11 +23,7 @@ use Rattle.dir.specs.Slots.{IsDirectoryOf, Lying, slot_at}
 use Rattle.dir_writes.specs.Clearing.{cleared_bytes, slot_block, without_name}
 use Rattle.dir_writes.proofs.Lost.{loses, removed}
 use Rattle.dir_writes.proofs.SlotHolds as slots
-
-zero_bytes : (n : ℕ) → AreBytes (replicate n 0)
-zero_bytes zero index = omega arith
-zero_bytes (suc n) zero = omega arith
-zero_bytes (suc n) (suc index) = zero_bytes n index
+use Rattle.dir_writes.proofs.UsedBytes.{zero_bytes}
 
 module _ (snap : Snap) (old : Image) (tree : Tree) (n : ℕ) (inode : Inode) (name : List ℕ) (s number : ℕ)
     (is : IsDirectoryOf snap old tree n inode) (less : s < SLOTS_PER_BLOCK * span_of inode)
