@@ -1,7 +1,12 @@
 pub mod Lost
-pub mod SlotCleared
+pub mod SlotPut
+pub mod SlotNames
+pub mod SlotHolds
 pub mod ClearedNames
 pub mod OnePlace
 pub mod LostName
 pub mod Places
 pub mod KeptFile
+pub mod EnteredName
+pub mod UsedBytes
+pub mod EnteredHolds

@@ -1,4 +1,4 @@
--- The bytes of a directory's slots in blocks in which one became zeros.
+-- The bytes of a directory's slots in blocks in which one got these bytes.
 use Rattle.std.proofs.Common.{◌≡◌, ℕ, ◌+◌, ◌*◌, ◌/◌, ◌%◌, ◌<◌, ◌≤◌, inl, inr, sym, ap, ◌∙◌, refl, Bool, true}
 use Rattle.std.proofs.Common.{false}
 use Rattle.std.proofs.Common.{cond, List, length, take, drop, get_or, replicate, nat_eq, arith}
@@ -14,30 +14,25 @@ use Rattle.layout.specs.Parts.{put}
 use Rattle.layout.proofs.Written.{not_same}
 use Rattle.inode.proofs.Pieces.{in_block}
 
-module _ (content : Image) (numbers : List ℕ) (s b : ℕ) (long : (n : ℕ) → length (content n) ≡ BLOCK_BYTES)
+module _ (content : Image) (numbers : List ℕ) (s b : ℕ) (bytes : List ℕ) (count : length bytes ≡ SLOT_BYTES)
+    (long : (n : ℕ) → length (content n) ≡ BLOCK_BYTES)
     (b_is : b ≡ get_or numbers (s / SLOTS_PER_BLOCK) 0) (some : nat_eq b 0 ≡ false)
     (within : s / SLOTS_PER_BLOCK < length numbers)
     (once : (j : ℕ) → j < length numbers → get_or numbers j 0 ≡ b → j ≡ s / SLOTS_PER_BLOCK) where
   abbrev offset : ℕ
   offset = SLOT_BYTES * (s % SLOTS_PER_BLOCK)
 
-  abbrev zeros : List ℕ
-  zeros = replicate SLOT_BYTES 0
-
   abbrev after : Image
-  after = put content b (spliced (content b) offset zeros)
+  after = put content b (spliced (content b) offset bytes)
 
-  count : length zeros ≡ SLOT_BYTES
-  count = refl
-
-  room : offset + length zeros ≤ length (content b)
+  room : offset + length bytes ≤ length (content b)
   room = let all = long b in let few = count in omega (arith, all, few)
 
   long_after : (n : ℕ) → length (after n) ≡ BLOCK_BYTES
   long_after n = by_test (nat_eq n b)
     where
-      by_test : (t : Bool) → length (cond t (spliced (content b) offset zeros) (content n)) ≡ BLOCK_BYTES
-      by_test true = splices.spliced-length (content b) zeros offset room ∙ long b
+      by_test : (t : Bool) → length (cond t (spliced (content b) offset bytes) (content n)) ≡ BLOCK_BYTES
+      by_test true = splices.spliced-length (content b) bytes offset room ∙ long b
       by_test false = long n
 
   abbrev part : Image → ℕ → List ℕ
@@ -56,27 +51,29 @@ module _ (content : Image) (numbers : List ℕ) (s b : ℕ) (long : (n : ℕ) �
       ∙ in_block c longs numbers (k / SLOTS_PER_BLOCK) (SLOT_BYTES * (k % SLOTS_PER_BLOCK)) SLOT_BYTES less
       (omega arith)
 
-  here : content_of after b ≡ spliced (content b) offset zeros
+  here : content_of after b ≡ spliced (content b) offset bytes
   here = ap (λ t. cond t (replicate BLOCK_BYTES 0) (after b)) some
-      ∙ ap (λ t. cond t (spliced (content b) offset zeros) (content b)) (eq-eqb b b refl)
+      ∙ ap (λ t. cond t (spliced (content b) offset bytes) (content b)) (eq-eqb b b refl)
 
   before : content_of content b ≡ content b
   before = ap (λ t. cond t (replicate BLOCK_BYTES 0) (content b)) some
 
   pub other_block : (n : ℕ) → (n ≡ b → ⊥) → after n ≡ content n
-  other_block n not = ap (λ t. cond t (spliced (content b) offset zeros) (content n)) (not_same n b not)
+  other_block n not = ap (λ t. cond t (spliced (content b) offset bytes) (content n)) (not_same n b not)
 
-  pub itself : part after s ≡ zeros
+  pub itself : part after s ≡ bytes
   itself =
       at_place after long_after s within ∙ ap (λ n. piece (content_of after n) s) (sym b_is)
-      ∙ ap (λ block. piece block s) here ∙ splices.there (content b) zeros offset room
+      ∙ ap (λ block. piece block s) here
+      ∙ ap (λ n. take n (drop offset (spliced (content b) offset bytes))) (sym count)
+      ∙ splices.there (content b) bytes offset room
 
   beside : (k : ℕ) → k / SLOTS_PER_BLOCK ≡ s / SLOTS_PER_BLOCK → (k ≡ s → ⊥)
-      → piece (spliced (content b) offset zeros) k ≡ piece (content b) k
+      → piece (spliced (content b) offset bytes) k ≡ piece (content b) k
   beside k same not = elim (cases_lt (k % SLOTS_PER_BLOCK) (s % SLOTS_PER_BLOCK)) [
-    | inl low ↦ splices.ahead (content b) zeros offset room (SLOT_BYTES * (k % SLOTS_PER_BLOCK)) SLOT_BYTES
+    | inl low ↦ splices.ahead (content b) bytes offset room (SLOT_BYTES * (k % SLOTS_PER_BLOCK)) SLOT_BYTES
         (omega (arith, low))
-    | inr high ↦ splices.behind (content b) zeros offset room (SLOT_BYTES * (k % SLOTS_PER_BLOCK)) SLOT_BYTES
+    | inr high ↦ splices.behind (content b) bytes offset room (SLOT_BYTES * (k % SLOTS_PER_BLOCK)) SLOT_BYTES
         (let few = count in
         let more : s % SLOTS_PER_BLOCK + 1 ≤ k % SLOTS_PER_BLOCK =
         later (s % SLOTS_PER_BLOCK) (k % SLOTS_PER_BLOCK) high (λ is. not (omega (arith, is, same))) in
