@@ -6,6 +6,7 @@ mod contents;
 mod departing;
 mod drafted;
 mod heads;
+mod making;
 mod setting;
 mod space;
 
@@ -13,4 +14,6 @@ pub use asking::BlockFiles;
 pub use departing::depart;
 pub use drafted::DraftFiles;
 pub use heads::head_of;
+pub use inode_writes::remove;
+pub use making::{make, new_number};
 pub use setting::set;
