@@ -2,11 +2,13 @@
 #![tactic(auto)]
 
 mod asking;
+mod changing;
 mod contents;
 mod departing;
 mod drafted;
 mod heads;
 mod making;
+mod naming;
 mod setting;
 mod space;
 

@@ -1,13 +1,18 @@
-use Rattle.std.proofs.Common.{subst, sym, IfOk}
-use Rattle.nfs_types.specs.declared.call.Call.{Call}
-use Rattle.nfs_types.specs.declared.call.Call.TheVariants as call
-use Rattle.procs.specs.Steps.{IsStepOf}
-use Rattle.procs.proofs.StepsOf.{for_caller}
+use Rattle.std.proofs.Common.{rules, ◌≡◌, sym, subst, Err, IfErr}
+use Rattle.procs.specs.Steps.{NoneStandFor}
+use Rattle.procs.proofs.ChangesOf.{for_calls}
 use Rattle.procs.proofs.work.work.Goals as goal
 
-pub returns-in-GetAttr-clause-step : goal.returns-in-GetAttr-clause-step
-returns-in-GetAttr-clause-step c =
-    subst (λ (one : Call). IfOk c.get_attr.result
-    (λ done. IsStepOf c.args.snap.now.geometry c.args.ctx.now one done)) (sym c.in-GetAttr.is)
-    (for_caller c.args.snap.now.geometry c.args.ctx.now (call.GetAttr c.in-GetAttr.object)
-    c.get_attr.result c.get_attr.ensures.step)
+pub returns-in_err-read_file-in-GetAttr-clause-io : goal.returns-in_err-read_file-in-GetAttr-clause-io
+returns-in_err-read_file-in-GetAttr-clause-io c =
+    let same : c.from_residual.result ≡ Err c.in_err-read_file-in-GetAttr.field-0.0 = search rules in
+    subst (λ r. IfErr r (λ why. NoneStandFor c.args.ctx.now c.args.call.now c.args.snap.now why)) (sym same)
+    (for_calls c.args.ctx.now c.args.call.now c.args.snap.now c.in_err-read_file-in-GetAttr.field-0.0
+    c.in_err-read_file-in-GetAttr.ensures.io)
+
+pub returns-in_err-read_file-in-SetAttr-clause-io : goal.returns-in_err-read_file-in-SetAttr-clause-io
+returns-in_err-read_file-in-SetAttr-clause-io c =
+    let same : c.from_residual-in_err-read_file-in-SetAttr.result ≡ Err c.in_err-read_file-in-SetAttr.field-0.0 = search rules in
+    subst (λ r. IfErr r (λ why. NoneStandFor c.args.ctx.now c.args.call.now c.args.snap.now why)) (sym same)
+    (for_calls c.args.ctx.now c.args.call.now c.args.snap.now c.in_err-read_file-in-SetAttr.field-0.0
+    c.in_err-read_file-in-SetAttr.ensures.io)
