@@ -1,0 +1,9 @@
+//! Bytes that are written to regular files.
+#![tactic(auto)]
+
+mod blocks;
+mod inodes;
+mod mapping;
+mod pieces;
+
+pub use pieces::write_piece;
