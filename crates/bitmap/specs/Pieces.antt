@@ -13,5 +13,6 @@ piece_in blocks first piece = take 512 (drop (512 * (piece % 8)) (blocks (first 
 -- what is asked for is an object of the image
 abbrev pub IsAskedObject : Geometry → Stop → Type 0
 IsAskedObject g (stop.Need addr) = IsObject g addr
+IsAskedObject g (stop.Claim block) = ⊥
 IsAskedObject g stop.Io = Unit {0}
 IsAskedObject g stop.NoMemory = Unit {0}

@@ -1,5 +1,6 @@
 -- What a draft has read and written, and over which blocks.
-use Rattle.std.specs.Prelude.{◌≡◌, ℕ, ◌<◌, Bool, false, not, List, length, nat_eq, count_by, Contains}
+use Rattle.std.specs.Prelude.{◌≡◌, ℕ, ◌<◌, Bool, false, not, List, length, nat_eq, count_by, All}
+use Rattle.std.specs.Prelude.{Contains}
 use Rattle.limits.specs.declared.TheConstants.{BLOCK_BYTES}
 use Rattle.disk.specs.Crash.{Image}
 use Rattle.objects.specs.declared.addr.Addr.{Addr}
@@ -10,7 +11,7 @@ use Rattle.txn.specs.Object.{ObjectBytes}
 use Rattle.txn.specs.Window.{with_objects}
 use Rattle.inode.specs.declared.snap.Snap.{Snap}
 use Rattle.inode.specs.Read.{Saw}
-use Rattle.inode.specs.Snap.{is_seen}
+use Rattle.inode.specs.Snap.{MayWrite, is_seen}
 
 -- what was read, what lies there now, and what was written, later objects over earlier ones
 pub record Drafted : Type 0 where
@@ -18,10 +19,18 @@ pub record Drafted : Type 0 where
   pub there : Snap
   pub written : List ObjectBytes
 
--- What lies there is of the same image, and of all that was read.
+-- What lies there is of the same image, of all its objects that were read, and after the same claims.
 pub record IsAfter (seen there : Snap) : Type 0 where
   pub geometry : there.geometry ≡ seen.geometry
-  pub all : (addr : Addr) → is_seen addr there.objects.items ≡ false → is_seen addr seen.objects.items ≡ false
+  pub claims : there.claims.items ≡ seen.claims.items
+  pub all : (addr : Addr) → IsObject there.geometry addr → is_seen addr there.objects.items ≡ false
+      → is_seen addr seen.objects.items ≡ false
+
+-- A draft writes objects of its image that were read or claimed.
+pub record IsKept (draft : Drafted) : Type 0 where
+  pub after : IsAfter draft.seen draft.there
+  pub grid : All (λ (object : ObjectBytes). IsObject draft.there.geometry object.addr) draft.written
+  pub given : All (λ (object : ObjectBytes). MayWrite draft.seen object.addr) draft.written
 
 -- these blocks with what was written
 abbrev pub image_of : Image → Drafted → Image
@@ -46,3 +55,7 @@ is_spent object = not (nat_eq object.addr.len 512)
 -- how many inodes and data blocks were written
 abbrev pub spent : Drafted → ℕ
 spent draft = count_by is_spent draft.written
+
+-- with the blocks of the bitmaps these are no more blocks than a transaction changes
+abbrev pub MOST_SPENT : ℕ
+MOST_SPENT = 30

@@ -1,3 +1,4 @@
+pub mod OnGrid
 pub mod Drafted
 pub mod Laid
 pub mod Attributes

@@ -1,14 +1,27 @@
 //! What is to be written, over what was read.
-ghost use Rattle.std.specs.Prelude.{[], ◌≡◌, ◌+◌, ◌<◌, ◌≤◌, ℕ, length, cond, nat_eq, vec_len, vec_capacity, IfOk, OnOk};
+ghost use Rattle.std.specs.Prelude.{[], ◌≡◌, ◌+◌, ◌<◌, ◌≤◌, ℕ, true, false, length, cond, nat_eq, filter, All};
+ghost use Rattle.std.specs.Prelude.{vec_len, vec_capacity, IfErr, IfOk, OnOk};
+ghost use Rattle.limits.specs.declared.TheConstants.{BLOCK_BYTES, CHANGED_BLOCKS};
 ghost use Rattle.disk.specs.Crash.{Image};
+ghost use Rattle.model.specs.Tree.{Tree};
+ghost use Rattle.layout.specs.Holds.{Holds};
 ghost use Rattle.layout.specs.Objects.{IsObject};
 ghost use Rattle.layout.specs.Parts.{with_bytes};
 ghost use Rattle.inode.specs.declared.stop.Stop.{Stop};
-ghost use Rattle.inode.specs.Over.{MayStop};
-ghost use Rattle.drafts.specs.Drafted.{Shows, image_of, spent};
+ghost use Rattle.inode.specs.Over.{IsPause, MayStop};
+ghost use Rattle.inode.specs.Read.{Saw};
+ghost use Rattle.inode.specs.Snap.{MayWrite, is_claimed, is_seen};
+ghost use Rattle.txn.specs.Group.{blocks_of};
+ghost use Rattle.txn.specs.Object.{ObjectBytes};
+ghost use Rattle.drafts.specs.Drafted.{IsDraft, MOST_SPENT, Shows, image_of, spent};
+ghost use Rattle.drafts.specs.OnGrid.{is_on_grid};
 ghost use Rattle.drafts.specs.Laid.{laid};
 
+use crate::grid::is_on_grid;
+use disk::BlockNo;
 use inode::{Snap, Stop};
+use layout::Geometry;
+use limits::BLOCK_BYTES;
 use objects::Addr;
 use std::alloc::{AllocError, Global};
 use std::marker::Model;
@@ -23,13 +36,13 @@ pub struct Draft<'a> {
 }
 
 impl<'a> Model for Draft<'a> {
-    ghost use Rattle.drafts.specs.Drafted.{Drafted, IsAfter};
+    ghost use Rattle.drafts.specs.Drafted.{Drafted, IsKept};
 
     ghost Value = { Drafted };
 
     ghost view = { λ d. record { seen = d.seen.now; there = d.there; written = d.written.items } };
 
-    ghost invariant = { λ d. IsAfter d.seen.now d.there };
+    ghost invariant = { λ d. IsKept (record { seen = d.seen.now; there = d.there; written = d.written.items }) };
 }
 
 impl<'a> Draft<'a> {
@@ -38,11 +51,12 @@ impl<'a> Draft<'a> {
         ensures seen { IfOk result (λ draft. draft.seen ≡ seen.now) }
         ensures written { IfOk result (λ draft. draft.written ≡ []) }
         ensures geometry { IfOk result (λ draft. draft.there.geometry ≡ seen.now.geometry) }
-        ensures objects { IfOk result (λ draft. draft.there.objects.items ≡ seen.now.objects.items) }
+        ensures is { IfOk result (λ draft. (blocks : Image) (tree : Tree)
+            → Holds seen.now.geometry blocks tree → Saw blocks seen.now → IsDraft draft blocks tree) }
     {
         let there = Snap {
             geometry: seen.geometry,
-            objects: seen.objects.clone()?,
+            objects: on_grid(&seen.geometry, &seen.objects)?,
             claims: seen.claims.clone()?,
         };
         Ok(Draft {
@@ -60,24 +74,70 @@ impl<'a> Draft<'a> {
         &self.there
     }
 
-    /// Writes an object of the image: one that was read, or a whole block.
-    pub fn put(&mut self, addr: Addr, bytes: Vec<u8>) -> Result<(), AllocError>
-        requires { length bytes.items ≡ addr.len }
+    /// Whether a block was claimed, so that it may be written without having been read.
+    pub fn has_claim(&self, block: BlockNo) -> bool
+        ensures { result ≡ is_claimed block self.now.seen.claims.items }
+    {
+        self.seen.has_claim(block)
+    }
+
+    /// Writes an object of the image. One that was neither read nor claimed as a whole block is asked for.
+    pub fn put(&mut self, addr: Addr, bytes: Vec<u8>) -> Result<(), Stop>
+        requires len { length bytes.items ≡ addr.len }
+        requires object { IsObject self.old.there.geometry addr }
         ensures shows { OnOk result ((image : Image) → Shows self.old image
-            → IsObject self.old.there.geometry addr
             → Shows self.new (with_bytes image addr.block.0 addr.offset bytes.items)) }
         ensures image { OnOk result ((blocks : Image) → image_of blocks self.new
             ≡ with_bytes (image_of blocks self.old) addr.block.0 addr.offset bytes.items) }
         ensures seen { self.new.seen ≡ self.old.seen }
         ensures geometry { self.new.there.geometry ≡ self.old.there.geometry }
         ensures spent { spent self.new ≤ spent self.old + cond (nat_eq addr.len 512) 0 1 }
+        ensures err { IfErr result (λ stop. MayStop self.old.seen stop) }
+        ensures pause { IfErr result (λ stop. IsPause stop) }
     {
+        if !is_given(self.seen, addr) {
+            return Err(Stop::Need(addr));
+        }
         let object = Object::new(addr, bytes);
         let copy = object.clone()?;
         self.there.objects.reserve(1)?;
-        self.written.push(object)?;
+        match self.written.push(object) {
+            Ok(()) => {}
+            Err(_) => return Err(Stop::NoMemory),
+        }
         lay(&mut self.there.objects, copy);
         Ok(())
+    }
+
+    /// What is written, in its order.
+    pub fn into_written(self) -> Vec<Object>
+        ensures written { result.items ≡ self.entry.written }
+        ensures given { All (λ (object : ObjectBytes). MayWrite self.entry.seen object.addr) result.items }
+        ensures few { spent self.entry ≤ MOST_SPENT → length (blocks_of result.items) ≤ CHANGED_BLOCKS }
+    {
+        self.written
+    }
+}
+
+// Those of the objects that are the image's.
+fn on_grid(geometry: &Geometry, objects: &Vec<Object>) -> Result<Vec<Object>, AllocError>
+    ensures { IfOk result (λ kept. kept.items
+        ≡ filter (λ (object : ObjectBytes). is_on_grid geometry.now object.addr) objects.now.items) }
+{
+    let mut kept = objects.clone()?;
+    let grid = *geometry;
+    kept.retain(|object| is_on_grid(&grid, object.addr()));
+    Ok(kept)
+}
+
+// Whether an object was read, or is a whole block that was claimed.
+fn is_given(snap: &Snap, addr: Addr) -> bool
+    ensures given { result ≡ true → MayWrite snap.now addr }
+    ensures none { result ≡ false → is_seen addr snap.now.objects.items ≡ false }
+{
+    match snap.get(addr) {
+        Some(_) => true,
+        None => addr.offset == 0 && addr.len == BLOCK_BYTES && snap.has_claim(addr.block),
     }
 }
 

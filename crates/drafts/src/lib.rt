@@ -2,6 +2,7 @@
 #![tactic(auto)]
 
 mod draft;
+mod grid;
 mod inodes;
 mod setting;
 

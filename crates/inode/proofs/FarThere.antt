@@ -56,6 +56,7 @@ pub none_name_others : (snap : Snap) (number : ℕ) (inode : Inode) (why : Stop)
     → NamesOthers snap inode.indirect why → NoneStand snap why
 none_name_others snap number inode (stop.Need addr) less there names = tt
 none_name_others snap number inode stop.NoMemory less there names = tt
+none_name_others snap number inode (stop.Claim block) less there names = tt
 none_name_others snap number inode stop.Io less there names = λ blocks tree holds saw.
     let read : inode_at snap.geometry blocks number ≡ Ok (Some inode) = there blocks saw in
     let told = names blocks saw

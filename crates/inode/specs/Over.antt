@@ -11,12 +11,13 @@ use Rattle.layout.specs.Fields.{numbers_at}
 use Rattle.layout.specs.InodeForm.{is_data_block_or_none}
 use Rattle.layout.specs.Objects.{IsObject}
 use Rattle.layout.specs.Parts.{content_in}
+use Rattle.layout.specs.Places.{is_data}
 use Rattle.layout.specs.Holds.{Holds}
 use Rattle.inode.specs.declared.snap.Snap.{Snap}
 use Rattle.inode.specs.declared.stop.Stop.{Stop}
 use Rattle.inode.specs.declared.stop.Stop.TheVariants as stop
 use Rattle.inode.specs.Read.{Saw}
-use Rattle.inode.specs.Snap.{is_seen}
+use Rattle.inode.specs.Snap.{is_claimed, is_seen}
 
 -- the blocks hold the tree's files and have what was read
 pub record IsOver (snap : Snap) (blocks : Image) (tree : Tree) : Type 0 where
@@ -29,15 +30,18 @@ pub record HasInode (snap : Snap) (blocks : Image) (tree : Tree) (number : ℕ) 
   pub less : number < snap.geometry.inodes
   pub there : inode_at snap.geometry blocks number ≡ Ok (Some inode)
 
--- a reading stops for an object of the image that wasn't read yet
+-- a plan stops for an object of the image that wasn't read yet, and for a data block that wasn't claimed yet
 abbrev pub MayStop : Snap → Stop → Type 0
 MayStop snap (stop.Need addr) = (is_seen addr snap.objects.items ≡ false) × IsObject snap.geometry addr
+MayStop snap (stop.Claim block) = (is_claimed block snap.claims.items ≡ false)
+    × (is_data snap.geometry block.0 ≡ true)
 MayStop snap stop.Io = Unit {0}
 MayStop snap stop.NoMemory = Unit {0}
 
 -- and not for what the layout refuses
 abbrev pub IsPause : Stop → Type 0
 IsPause (stop.Need addr) = Unit {0}
+IsPause (stop.Claim block) = Unit {0}
 IsPause stop.Io = ⊥
 IsPause stop.NoMemory = Unit {0}
 

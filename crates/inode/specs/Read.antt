@@ -45,12 +45,14 @@ pub record WasReadInode (g : Geometry) (objects : List ObjectBytes) (number : �
 -- a plan stops for the inode of a number, for a whole block, and for what the file of a handle asks for
 abbrev pub IsAskedInode : Geometry → ℕ → Stop → Type 0
 IsAskedInode g number (stop.Need addr) = IsInodeAddr g number addr
+IsAskedInode g number (stop.Claim block) = ⊥
 IsAskedInode g number stop.Io = Unit {0}
 IsAskedInode g number stop.NoMemory = Unit {0}
 
 abbrev pub IsAskedWhole : ℕ → Stop → Type 0
 IsAskedWhole number (stop.Need addr) = (block : BlockNo) × (block.0 ≡ number) × (number ≢ 0)
     × IsWhole block addr
+IsAskedWhole number (stop.Claim block) = ⊥
 IsAskedWhole number stop.Io = Unit {0}
 IsAskedWhole number stop.NoMemory = Unit {0}
 
@@ -68,6 +70,7 @@ NoneStand snap stop.Io = (blocks : Image) (tree : Tree) → Holds snap.geometry 
     → ⊥
 NoneStand snap stop.NoMemory = Unit {0}
 NoneStand snap (stop.Need addr) = Unit {0}
+NoneStand snap (stop.Claim block) = Unit {0}
 
 -- the plan failed as the indirect block of this number names what is no data block
 abbrev pub NamesOthers : Snap → ℕ → Stop → Type 0
@@ -78,3 +81,4 @@ NamesOthers snap indirect stop.Io = (blocks : Image) → Saw blocks snap
     (numbers_at INDIRECT_INDEXES 0 (blocks indirect)) ≡ false)
 NamesOthers snap indirect stop.NoMemory = Unit {0}
 NamesOthers snap indirect (stop.Need addr) = Unit {0}
+NamesOthers snap indirect (stop.Claim block) = Unit {0}

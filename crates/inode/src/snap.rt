@@ -1,6 +1,6 @@
 //! What has been read for a call so far.
 ghost use Rattle.std.specs.Prelude.{◌≡◌, false, true, ◌∷◌, [], ◌++◌, length, Contains, IfSome, IfNone, OnOk};
-ghost use Rattle.inode.specs.Snap.{HasRoom, is_seen, same_addr};
+ghost use Rattle.inode.specs.Snap.{HasRoom, is_claimed, is_seen, same_addr};
 
 use disk::BlockNo;
 use layout::Geometry;
@@ -68,6 +68,13 @@ impl Snap {
             Ok(()) => {}
             Err(_) => unreachable!(),
         }
+    }
+
+    /// Whether a block was claimed.
+    pub fn has_claim(&self, block: BlockNo) -> bool
+        ensures { result ≡ is_claimed block self.now.claims.items }
+    {
+        self.claims.iter().any(|claim| block.0 == claim.0)
     }
 
     /// The object of an address, if it was read.

@@ -1,12 +1,14 @@
 //! Why a plan goes no further.
+use disk::BlockNo;
 use objects::Addr;
 use std::alloc::AllocError;
 
-/// What stands in a plan's way: an object that wasn't read yet, one that the layout refuses, or want of
-/// memory.
+/// What stands in a plan's way: an object that wasn't read yet, a block that wasn't claimed yet, an object that
+/// the layout refuses, or want of memory.
 #[derive(Clone, Copy, Debug, PartialEq, Eq)]
 pub enum Stop {
     Need(Addr),
+    Claim(BlockNo),
     Io,
     NoMemory,
 }

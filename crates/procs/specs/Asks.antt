@@ -1,17 +1,16 @@
 -- What a plan may ask to read, to claim and to write. It speaks of no call, and of nothing that was read: all
 -- that any plan asks for lies on the grid of the image's objects.
-use Rattle.std.specs.Prelude.{◌≡◌, ℕ, true, false, ◌⊎◌, All, List, Some, slice_get, take}
+use Rattle.std.specs.Prelude.{◌≡◌, ℕ, true, false, All, List, Some, slice_get, take}
 use Rattle.disk.specs.declared.block.BlockNo.{BlockNo}
 use Rattle.objects.specs.declared.addr.Addr.{Addr}
 use Rattle.layout.specs.declared.geometry.Geometry.{Geometry}
 use Rattle.layout.specs.Objects.{IsObject}
 use Rattle.layout.specs.Places.{is_data}
 use Rattle.txn.specs.Object.{ObjectBytes}
-use Rattle.txn.specs.Wishes.{IsWhole}
 use Rattle.inode.specs.declared.snap.Snap.{Snap}
 use Rattle.inode.specs.declared.stop.Stop.{Stop}
 use Rattle.inode.specs.declared.stop.Stop.TheVariants as stop
-use Rattle.inode.specs.Snap.{is_seen, is_claimed}
+use Rattle.inode.specs.Snap.{MayWrite, is_seen, is_claimed}
 
 -- what a plan may ask to read: an inode, 512 bytes of a bitmap, or a whole data block
 abbrev pub Asks : Geometry → Addr → Type 0
@@ -40,10 +39,10 @@ pub record WereClaimedOnce (g : Geometry) (claims : List BlockNo) : Type 0 where
 -- what a plan stops for may be asked for
 abbrev pub IsAsked : Snap → Stop → Type 0
 IsAsked snap (stop.Need addr) = Asks snap.geometry addr
+IsAsked snap (stop.Claim block) = Claims snap.geometry block
 IsAsked snap stop.Io = Unit {0}
 IsAsked snap stop.NoMemory = Unit {0}
 
 -- the object has an address that was read, or is a whole block that was claimed
 abbrev pub IsWritable : Snap → ObjectBytes → Type 0
-IsWritable snap object = (is_seen object.addr snap.objects.items ≡ true)
-    ⊎ ((is_claimed object.addr.block snap.claims.items ≡ true) × IsWhole object.addr.block object.addr)
+IsWritable snap object = MayWrite snap object.addr

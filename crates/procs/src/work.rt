@@ -200,6 +200,7 @@ pub fn plan(alloc: Global, ctx: &Ctx, call: &Call, snap: &Snap) -> Plan
     match work(alloc, ctx, call, snap) {
         Ok(done) => finish(ctx, call, snap, done),
         Err(Stop::Need(addr)) => Plan::Need(addr),
+        Err(Stop::Claim(block)) => Plan::Claim(block),
         Err(Stop::NoMemory) => Plan::NoMemory,
         Err(Stop::Io) => match told(alloc, snap, refused_reply(call, Status::Io)) {
             Ok(done) => finish(ctx, call, snap, done),

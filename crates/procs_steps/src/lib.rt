@@ -2,6 +2,8 @@
 //! server that `procedures` defines, whatever tree the files are.
 #![tactic(auto)]
 
+mod changing;
 mod telling;
 
+pub use changing::change;
 pub use telling::tell;

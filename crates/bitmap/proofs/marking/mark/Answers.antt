@@ -27,10 +27,13 @@ returns-in-Err-clause-err c =
 pub returns-clause-shows : goal.returns-clause-shows
 returns-clause-shows c = λ blocks shows.
     subst (Shows c.put.new.self) (sym (c.in_ok-put.ensures.image blocks))
-    (c.in_ok-put.ensures.shows (image_of blocks c.args.draft.now) shows
-    (is_object c.args.draft.now.there.geometry c.args.first _ c.piece_addr-addr.result c.requires.from
+    (c.in_ok-put.ensures.shows (image_of blocks c.args.draft.now) shows)
+
+pub put-requires-clause-object : goal.put-requires-clause-object
+put-requires-clause-object c =
+    is_object c.args.draft.now.there.geometry c.args.first _ c.piece_addr-addr.result c.requires.from
     (let to = c.requires.to in omega (arith, to)) c.piece_addr-addr.ensures.block
-    c.piece_addr-addr.ensures.offset c.piece_addr-addr.ensures.len))
+    c.piece_addr-addr.ensures.offset c.piece_addr-addr.ensures.len
 
 pub returns-clause-puts : goal.returns-clause-puts
 returns-clause-puts c = λ blocks shows.

@@ -7,6 +7,12 @@ use Rattle.drafts.specs.Drafted.{Shows, image_of}
 use Rattle.drafts.proofs.PutThere.{put_there}
 use Rattle.drafts.proofs.draft.Draft.clear_inode.Goals as goal
 
+pub put-requires-clause-object : goal.put-requires-clause-object
+put-requires-clause-object c =
+    subst (λ (s : Snap). IsObject s.geometry c.inode_addr.result) c.there.ensures.there
+    (inode c.args.number (omega (arith, c.if-number-geometry.false)) c.inode_addr.ensures.block
+    c.inode_addr.ensures.offset c.inode_addr.ensures.len)
+
 pub returns-clause-shows : goal.returns-clause-shows
 returns-clause-shows c = λ image shows.
     subst (Shows c.put.new.self)
@@ -14,10 +20,7 @@ returns-clause-shows c = λ image shows.
     (replicate INODE_BYTES 0)
     (c.inode_addr.ensures.block ∙ ap (λ (s : Snap). inode_block s.geometry c.args.number) c.there.ensures.there)
     c.inode_addr.ensures.offset (search rules))
-    (c.in_ok-put.ensures.shows image shows
-    (subst (λ (s : Snap). IsObject s.geometry c.inode_addr.result) c.there.ensures.there
-    (inode c.args.number (omega (arith, c.if-number-geometry.false)) c.inode_addr.ensures.block
-    c.inode_addr.ensures.offset c.inode_addr.ensures.len)))
+    (c.in_ok-put.ensures.shows image shows)
 
 pub returns-clause-image : goal.returns-clause-image
 returns-clause-image c = λ blocks.

@@ -1,4 +1,7 @@
-use Rattle.std.proofs.Common.{◌≡◌, ap, ◌∙◌, subst, false, List}
+use Rattle.std.proofs.Common.{rules, refl, ◌≡◌, sym, All, ap, ◌∙◌, subst, false, List}
+use Rattle.std.proofs.lemmas.List.Elements.{All-push}
+use Rattle.layout.specs.Objects.{IsObject}
+use Rattle.inode.specs.Snap.{MayWrite}
 use Rattle.objects.specs.declared.addr.Addr.{Addr}
 use Rattle.layout.specs.Parts.{with_bytes}
 use Rattle.txn.specs.Object.{ObjectBytes}
@@ -6,22 +9,58 @@ use Rattle.txn.specs.Window.{with_objects}
 use Rattle.inode.specs.Snap.{is_seen}
 use Rattle.drafts.specs.Drafted.{Drafted, image_of}
 use Rattle.drafts.specs.Laid.{laid}
+use Rattle.layout.specs.declared.geometry.Geometry.{Geometry}
+use Rattle.drafts.proofs.Kept.{kept_with}
 use Rattle.drafts.proofs.LaidObjects.{seen_laid}
 use Rattle.drafts.proofs.Written.{behind_others, shows_laid}
 use Rattle.drafts.proofs.draft.Draft.put.Goals as goal
 
 pub invariant_of-self-2 : goal.invariant_of-self-2
 invariant_of-self-2 c = record {
-  geometry = c.self.invariant.geometry;
-  all = λ addr none. c.self.invariant.all addr
-      (seen_laid addr c.self.inside.there.objects.items c.in_ok-copy.copy
-      (subst (λ l. is_seen addr l ≡ false)
-      (c.lay.ensures
-      ∙ ap (λ (l : List ObjectBytes). laid l c.in_ok-copy.copy) c.in_ok-reserve.ensures.items) none));
+  after = record {
+    geometry = c.self.invariant.after.geometry;
+    claims = c.self.invariant.after.claims;
+    all = λ addr is none. c.self.invariant.after.all addr is
+        (seen_laid addr c.self.inside.there.objects.items c.in_ok-copy.copy
+        (subst (λ l. is_seen addr l ≡ false)
+        (c.lay.ensures
+        ∙ ap (λ (l : List ObjectBytes). laid l c.in_ok-copy.copy) c.in_ok-reserve.ensures.items) none));
+  };
+  grid =
+      subst (All (λ (one : ObjectBytes). IsObject c.self.inside.there.geometry one.addr)) (sym c.in-Ok.ensures.items)
+      (All-push (λ (one : ObjectBytes). IsObject c.self.inside.there.geometry one.addr)
+      c.self.inside.written.items c.new-object.result c.self.invariant.grid
+      (subst (IsObject c.self.inside.there.geometry) (sym c.new-object.ensures.addr)
+      (subst (λ (d : Drafted). IsObject d.there.geometry c.args.addr) (sym c.self.view_is) c.requires.object)));
+  given =
+      subst (All (λ (one : ObjectBytes). MayWrite c.self.inside.seen.now one.addr)) (sym c.in-Ok.ensures.items)
+      (All-push (λ (one : ObjectBytes). MayWrite c.self.inside.seen.now one.addr)
+      c.self.inside.written.items c.new-object.result c.self.invariant.given
+      (subst (MayWrite c.self.inside.seen.now) (sym c.new-object.ensures.addr)
+      (c.is_given.ensures.given (search rules))));
 }
 
+pub returns-then-not-is_given-clause-err : goal.returns-then-not-is_given-clause-err
+returns-then-not-is_given-clause-err c = (
+  subst (λ (d : Drafted). is_seen c.args.addr d.seen.objects.items ≡ false) c.self.view_is
+      (c.is_given.ensures.none (search rules)),
+  subst (λ (d : Drafted). IsObject d.seen.geometry c.args.addr) c.self.view_is
+      (subst (λ (g : Geometry). IsObject g c.args.addr) c.self.invariant.after.geometry
+      (subst (λ (d : Drafted). IsObject d.there.geometry c.args.addr) (sym c.self.view_is) c.requires.object)),
+)
+
+pub invariant_of-self : goal.invariant_of-self
+invariant_of-self c =
+    kept_with c.self.inside.seen.now c.self.inside.there _ refl refl c.reserve.ensures.items
+    c.self.inside.written.items c.self.inside.written.items refl c.self.invariant
+
+pub invariant_of-self-in-Err : goal.invariant_of-self-in-Err
+invariant_of-self-in-Err c =
+    kept_with c.self.inside.seen.now c.self.inside.there _ refl refl c.reserve.ensures.items
+    c.self.inside.written.items c.push.new.self.items c.in-Err.ensures.items c.self.invariant
+
 pub returns-clause-shows : goal.returns-clause-shows
-returns-clause-shows c = λ image shows is.
+returns-clause-shows c = λ image shows.
     shows_laid c.args.self.now _ c.args.addr c.args.bytes.items image
     (ap (λ (d : Drafted). d.there.geometry) c.self.view_is)
     (c.lay.ensures ∙ ap (λ (l : List ObjectBytes). laid l c.in_ok-copy.copy) c.in_ok-reserve.ensures.items
@@ -30,11 +69,11 @@ returns-clause-shows c = λ image shows is.
     ∙ ap (λ (d : Drafted). laid d.there.objects.items
     (record { addr = c.args.addr; bytes = c.args.bytes.items }))
     c.self.view_is)
-    c.requires shows is
+    c.requires.len shows c.requires.object
 
 pub returns-clause-image : goal.returns-clause-image
 returns-clause-image c = λ blocks.
-    ap (with_objects blocks) c.in_ok-push.ensures.items
+    ap (with_objects blocks) c.in-Ok.ensures.items
     ∙ behind_others blocks c.self.inside.written.items c.new-object.result
     ∙ (λ i. with_bytes (with_objects blocks c.self.inside.written.items) (block i)
     (c.new-object.ensures.addr i).offset

@@ -7,4 +7,4 @@ use Rattle.drafts.proofs.draft.Draft.there.Goals as goal
 pub returns-clause-stops : goal.returns-clause-stops
 returns-clause-stops c = λ why may.
     subst (λ (d : Drafted). MayStop d.seen why) c.self.view_is
-    (stops_before c.self.inside.seen.now c.self.inside.there c.self.invariant why may)
+    (stops_before c.self.inside.seen.now c.self.inside.there c.self.invariant.after why may)
