@@ -20,6 +20,9 @@ use layout::{Inode, InodeKind, SLOT_BYTES};
 use limits::{BLOCK_BYTES, NAME_BYTES, SLOTS_PER_BLOCK};
 use std::alloc::{AllocError, Global};
 
+// The bytes before the name in a slot.
+const SLOT_HEAD: usize = 8;
+
 // The bytes of a slot in which a name lies.
 fn named_slot(alloc: Global, number: u32, name: &[u8]) -> Result<Vec<u8>, AllocError>
     requires { length name.now ≤ NAME_BYTES }
@@ -31,7 +34,8 @@ fn named_slot(alloc: Global, number: u32, name: &[u8]) -> Result<Vec<u8>, AllocE
     bytes.extend_from_slice(&number.to_le_bytes())?;
     bytes.extend_from_slice(&(name.len() as u32).to_le_bytes())?;
     bytes.extend_from_slice(name)?;
-    bytes.resize(SLOT_BYTES, 0)?;
+    let rest = vec![in alloc; 0; SLOT_BYTES - SLOT_HEAD - name.len()]?;
+    bytes.extend_from_slice(&rest)?;
     Ok(bytes)
 }
 
