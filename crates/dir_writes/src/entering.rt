@@ -1,12 +1,12 @@
 //! A name that is put into a directory.
-ghost use Rattle.std.specs.Prelude.{◌≡◌, ◌+◌, ◌*◌, ◌<◌, ◌≤◌, ℕ, length, true, false, IfErr, IfOk, OnOk, Some};
+ghost use Rattle.std.specs.Prelude.{◌≡◌, ◌+◌, ◌*◌, ◌<◌, ◌≤◌, ℕ, length, true, false, IfErr, IfOk, IfSome, IsSome, Ok, OnOk, Some};
 ghost use Rattle.limits.specs.declared.TheConstants.{NAME_BYTES, SLOTS_PER_BLOCK};
 ghost use Rattle.disk.specs.Crash.{Image};
 ghost use Rattle.model.specs.Node.{Node};
 ghost use Rattle.model.specs.Tree.{Tree, node_at, with_node};
 ghost use Rattle.files.specs.Changing.{CanEnter, spanned};
 ghost use Rattle.layout.specs.declared.slot.TheConstants.{SLOT_BYTES};
-ghost use Rattle.layout.specs.Decode.{span_of};
+ghost use Rattle.layout.specs.Decode.{inode_at, span_of};
 ghost use Rattle.layout.specs.SlotForm.{used_bytes};
 ghost use Rattle.inode.specs.Over.{IsPause, MayStop};
 ghost use Rattle.dir.specs.Slots.{IsDirectoryOf};
@@ -62,8 +62,10 @@ fn enter_within(
         → IsDirectoryOf draft.old.there (image_of blocks draft.old) tree number inode.now
         → slot < SLOTS_PER_BLOCK * span_of inode.now
         → CanEnter tree node.body name.now (entry_in entry_number slot)
-        → IsDraft draft.new blocks (with_node tree number (with_name name.now entry_number slot node))) }
+        → IsDraft draft.new blocks (with_node tree number (with_name name.now entry_number slot node))
+        × (inode_at draft.new.there.geometry (image_of blocks draft.new) number ≡ Ok (Some inode.now))) }
     ensures seen { draft.new.seen ≡ draft.old.seen }
+    ensures geometry { draft.new.there.geometry ≡ draft.old.there.geometry }
     ensures spent { spent draft.new ≤ spent draft.old + 1 }
     ensures err { IfErr result (λ stop. MayStop draft.old.seen stop) }
     ensures pause { IfErr result (λ stop. (blocks : Image) (tree : Tree) (number : ℕ)
@@ -83,14 +85,16 @@ fn enter_in(
     name: &[u8],
     entry_number: u32,
     slot: u32,
-) -> Result<(), Stop>
-    ensures ok { OnOk result ((blocks : Image) (tree : Tree) (number : ℕ) (node : Node)
+) -> Result<Inode, Stop>
+    ensures ok { IfOk result (λ made. (blocks : Image) (tree : Tree) (number : ℕ) (node : Node)
         → IsDraft draft.old blocks tree → node_at tree number ≡ Some node
         → IsDirectoryOf draft.old.there (image_of blocks draft.old) tree number inode.now
         → CanEnter tree node.body name.now (entry_in entry_number slot)
         → slot < SLOTS_PER_BLOCK * spanned node.body
-        → IsDraft draft.new blocks (with_node tree number (with_name name.now entry_number slot node))) }
+        → IsDraft draft.new blocks (with_node tree number (with_name name.now entry_number slot node))
+        × (inode_at draft.new.there.geometry (image_of blocks draft.new) number ≡ Ok (Some made))) }
     ensures seen { draft.new.seen ≡ draft.old.seen }
+    ensures geometry { draft.new.there.geometry ≡ draft.old.there.geometry }
     ensures spent { spent draft.new ≤ spent draft.old + 1 }
     ensures err { IfErr result (λ stop. MayStop draft.old.seen stop) }
     ensures pause { IfErr result (λ stop. (blocks : Image) (tree : Tree) (number : ℕ)
@@ -98,16 +102,20 @@ fn enter_in(
         → IsDirectoryOf draft.old.there (image_of blocks draft.old) tree number inode.now → IsPause stop) }
 {
     if name.len() > NAME_BYTES {
-        return Ok(());
+        return Ok(*inode);
     }
     if is_spanned(inode, slot) {
-        return enter_within(alloc, draft, inode, name, entry_number, slot);
+        return match enter_within(alloc, draft, inode, name, entry_number, slot) {
+            Ok(()) => Ok(*inode),
+            Err(stop) => Err(stop),
+        };
     }
-    Ok(())
+    Ok(*inode)
 }
 
 /// Gives a directory a name for a file, which lies in this slot. A name that it has there leads to this file
-/// from then on. Where the name can't be entered nothing is said of what is done.
+/// from then on. The inode is that of the directory with the name. Where the name can't be entered nothing is
+/// said of what is done.
 pub fn enter(
     alloc: Global,
     draft: &mut Draft,
@@ -115,12 +123,17 @@ pub fn enter(
     name: &[u8],
     entry_number: u32,
     slot: u32,
-) -> Result<(), Stop>
-    ensures ok { OnOk result ((blocks : Image) (tree : Tree) (node : Node) → IsDraft draft.old blocks tree
+) -> Result<Option<Inode>, Stop>
+    ensures ok { IfOk result (λ found. (blocks : Image) (tree : Tree) (node : Node) → IsDraft draft.old blocks tree
         → node_at tree number ≡ Some node → CanEnter tree node.body name.now (entry_in entry_number slot)
         → slot < SLOTS_PER_BLOCK * spanned node.body
-        → IsDraft draft.new blocks (with_node tree number (with_name name.now entry_number slot node))) }
+        → IsDraft draft.new blocks (with_node tree number (with_name name.now entry_number slot node))
+        × (inode_at draft.new.there.geometry (image_of blocks draft.new) number ≡ Ok found)
+        × IsSome found) }
+    ensures less { IfOk result (λ found. IfSome found (λ made. (blocks : Image) (tree : Tree)
+        → IsDraft draft.old blocks tree → number < draft.old.there.geometry.inodes)) }
     ensures seen { draft.new.seen ≡ draft.old.seen }
+    ensures geometry { draft.new.there.geometry ≡ draft.old.there.geometry }
     ensures spent { spent draft.new ≤ spent draft.old + 1 }
     ensures err { IfErr result (λ stop. MayStop draft.old.seen stop) }
     ensures pause { IfErr result (λ stop. (blocks : Image) (tree : Tree) → IsDraft draft.old blocks tree
@@ -128,11 +141,16 @@ pub fn enter(
 {
     match held(draft.there(), number) {
         Ok(Some(inode)) => match inode.kind {
-            InodeKind::Directory => enter_in(alloc, draft, &inode, name, entry_number, slot),
-            InodeKind::Regular => Ok(()),
-            InodeKind::Link => Ok(()),
+            InodeKind::Directory => {
+                match enter_in(alloc, draft, &inode, name, entry_number, slot) {
+                    Ok(made) => Ok(Some(made)),
+                    Err(stop) => Err(stop),
+                }
+            }
+            InodeKind::Regular => Ok(None),
+            InodeKind::Link => Ok(None),
         },
-        Ok(None) => Ok(()),
+        Ok(None) => Ok(None),
         Err(stop) => Err(stop),
     }
 }

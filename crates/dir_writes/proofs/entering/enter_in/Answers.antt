@@ -12,16 +12,15 @@ returns-then-name-gt-NAME_BYTES-clause-ok c = λ blocks tree number node draft w
     let long = c.if-name-gt-NAME_BYTES.true in
     absurd (omega (arith, short, long))
 
-pub returns-then-is_spanned-clause-ok : goal.returns-then-is_spanned-clause-ok
-returns-then-is_spanned-clause-ok c =
-    on_ok_weaker c.enter_within.result (λ leads blocks tree number node draft was is can less.
-    let spans = spans_there c.args.draft.now.there (image_of blocks c.args.draft.now) tree number c.args.inode.now
-    node is.has was is.kind in
-    leads blocks tree number node draft was is (omega (arith, less, spans)) can) c.enter_within.ensures.ok
-
 pub returns-clause-ok : goal.returns-clause-ok
 returns-clause-ok c = λ blocks tree number node draft was is can less.
     let spans = spans_there c.args.draft.now.there (image_of blocks c.args.draft.now) tree number c.args.inode.now
     node is.has was is.kind in
     let past = c.is_spanned.ensures.behind c.if-is_spanned.false in
     absurd (omega (arith, less, spans, past))
+
+pub returns-in-Ok-clause-ok : goal.returns-in-Ok-clause-ok
+returns-in-Ok-clause-ok c = λ blocks tree number node draft was is can less.
+    let spans = spans_there c.args.draft.now.there (image_of blocks c.args.draft.now) tree number c.args.inode.now
+    node is.has was is.kind in
+    c.in-Ok.ensures.ok blocks tree number node draft was is (omega (arith, less, spans)) can
