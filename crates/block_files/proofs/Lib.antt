@@ -3,3 +3,4 @@ pub mod InFiles
 pub mod SetThere
 pub mod Drafts
 pub mod Departed
+pub mod EnteredThere

@@ -11,8 +11,8 @@ ghost use Rattle.files.specs.Heads.{IsBodyOf, entry_of, node_of};
 ghost use Rattle.inode.specs.Over.{IsPause, MayStop};
 ghost use Rattle.drafts.specs.Drafted.{IsDraft, spent};
 
-use crate::setting::set;
-use drafts::Draft;
+use crate::setting::looks_of;
+use drafts::{Draft, attributed};
 use files::{Entry, Head};
 use inode::Stop;
 use limits::{BLOCK_BYTES, DIRECT_INDEXES, SLOTS_PER_BLOCK};
@@ -41,12 +41,11 @@ fn entered_head(head: &Head, slot: u32) -> Head
     next
 }
 
-// Gives a file that is there, whose attributes become these, a name for a file. Next is its head with the name.
+// Gives a file, whose attributes become these, a name for a file.
 fn enter_there(
     alloc: Global,
     draft: &mut Draft,
     head: &Head,
-    next: &Head,
     name: &[u8],
     entry: Entry,
 ) -> Result<(), Stop>
@@ -55,7 +54,6 @@ fn enter_there(
         → SoundHead tree.geometry.inodes head.now → CanEnter tree node.body name.now (entry_of entry)
         → adds (with_entry name.now (entry_of entry) node.body) node.body ≤ free tree
         → entry.slot < SLOTS_PER_BLOCK * spanned node.body
-        → next.now ≡ headed head.now (with_entry name.now (entry_of entry) node.body)
         → IsDraft draft.new blocks (with_node tree head.now.number
         (node_of head.now (with_entry name.now (entry_of entry) node.body)))) }
     ensures seen { draft.new.seen ≡ draft.old.seen }
@@ -65,7 +63,10 @@ fn enter_there(
         → IsPause stop) }
 {
     match dir_writes::enter(alloc, draft, head.number, name, entry.number, entry.slot) {
-        Ok(()) => set(alloc, draft, next),
+        Ok(Some(inode)) => {
+            draft.put_inode(alloc, head.number, &attributed(&inode, &looks_of(head)))
+        }
+        Ok(None) => Ok(()),
         Err(stop) => Err(stop),
     }
 }
@@ -94,7 +95,7 @@ pub fn enter(
         → IsPause stop) }
 {
     let next = entered_head(head, entry.slot);
-    match enter_there(alloc, draft, head, &next, name, entry) {
+    match enter_there(alloc, draft, head, name, entry) {
         Ok(()) => Ok(next),
         Err(stop) => Err(stop),
     }
