@@ -5,9 +5,21 @@ use Rattle.objects.specs.declared.addr.Addr.{Addr}
 use Rattle.layout.specs.declared.geometry.Geometry.{Geometry}
 use Rattle.layout.specs.Geometry.{table_at}
 use Rattle.layout.specs.Objects.{IsObject, bits}
+use Rattle.inode.specs.declared.snap.Snap.{Snap}
+use Rattle.inode.specs.declared.stop.Stop.{Stop}
+use Rattle.inode.specs.declared.stop.Stop.TheVariants as stop
+use Rattle.inode.specs.Over.{MayStop}
+use Rattle.inode.specs.Snap.{IsNew}
+use Rattle.bitmap.specs.Pieces.{IsAskedObject}
 
 pub is_object : (g : Geometry) (first piece : ℕ) (addr : Addr) → FIRST_HOME_BLOCK ≤ first
     → first + piece / 8 < table_at g.blocks g.inodes → addr.block.0 ≡ first + piece / 8
     → addr.offset ≡ 512 * (piece % 8) → addr.len ≡ 512 → IsObject g addr
 is_object g first piece addr from to block offset len =
     bits (piece % 8) (omega arith) (omega (arith, from, block)) (omega (arith, to, block)) offset len
+
+pub may_stop : (snap : Snap) (why : Stop) → IsNew snap why → IsAskedObject snap.geometry why → MayStop snap why
+may_stop snap (stop.Need addr) new asked = (new, asked)
+may_stop snap (stop.Claim block) new asked = absurd asked
+may_stop snap stop.Io new asked = tt
+may_stop snap stop.NoMemory new asked = tt

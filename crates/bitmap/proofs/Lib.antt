@@ -11,3 +11,5 @@ pub mod InBlock
 pub mod PutBits
 pub mod MarkParts
 pub mod Clears
+pub mod NewBlocks
+pub mod Gained

@@ -1,3 +1,4 @@
 pub mod Clear
 pub mod Pieces
 pub mod Bits
+pub mod NewBlock

@@ -1,18 +1,22 @@
-//! A number that no file has.
-ghost use Rattle.std.specs.Prelude.{ℕ, ◌≡◌, ◌+◌, ◌*◌, ◌/◌, ◌<◌, ◌≤◌, length, true, IfErr, IfOk, IfSome};
+//! A number that no file has, and a block that is free.
+ghost use Rattle.std.specs.Prelude.{ℕ, ◌≡◌, ◌+◌, ◌*◌, ◌/◌, ◌<◌, ◌≤◌, length, List, true, IfErr, IfOk, IfSome};
 ghost use Rattle.limits.specs.declared.TheConstants.{FIRST_HOME_BLOCK};
 ghost use Rattle.disk.specs.Crash.{Image};
 ghost use Rattle.layout.specs.Geometry.{table_at};
 ghost use Rattle.layout.specs.Holds.{Holds};
 ghost use Rattle.model.specs.Tree.{Tree};
 ghost use Rattle.procedures.specs.Fresh.{IsNewNumber};
+ghost use Rattle.inode.specs.Over.{IsPause, MayStop};
 ghost use Rattle.inode.specs.Read.{NoneStand, Saw};
 ghost use Rattle.inode.specs.Snap.{IsNew};
+ghost use Rattle.layout.specs.Places.{is_data};
 ghost use Rattle.bitmap.specs.Bits.{IsClearIn, IsClearOf, bit_in};
+ghost use Rattle.bitmap.specs.NewBlock.{HasTaken, IsNewBlock};
 ghost use Rattle.bitmap.specs.Pieces.{IsAskedObject, piece_in};
 
 use crate::pieces::{PIECE_BITS, PIECES_PER_BLOCK, piece_addr};
 use inode::{Snap, Stop, bytes_at};
+use limits::FIRST_HOME_BLOCK;
 
 // Whether a bit of bytes is set: the least bit of a byte comes first.
 fn is_set(bytes: &[u8], bit: usize) -> bool
@@ -46,6 +50,7 @@ fn clear_in_piece(snap: &Snap, first: u32, piece: u32) -> Result<Option<u32>, St
     ensures err { IfErr result (λ stop. IsNew snap.now stop) }
     ensures asks { IfErr result (λ stop. IsAskedObject snap.now.geometry stop) }
     ensures io { IfErr result (λ stop. NoneStand snap.now stop) }
+    ensures pause { IfErr result (λ stop. IsPause stop) }
 {
     match bytes_at(snap, piece_addr(first, piece)) {
         Ok(bytes) => Ok(clear_bit(bytes)),
@@ -62,6 +67,7 @@ fn clear_among(snap: &Snap, first: u32, count: u32) -> Result<Option<u32>, Stop>
     ensures err { IfErr result (λ stop. IsNew snap.now stop) }
     ensures asks { IfErr result (λ stop. IsAskedObject snap.now.geometry stop) }
     ensures io { IfErr result (λ stop. NoneStand snap.now stop) }
+    ensures pause { IfErr result (λ stop. IsPause stop) }
 {
     'pieces: for piece in 0..PIECES_PER_BLOCK * count {
         match clear_in_piece(snap, first, piece) {
@@ -84,4 +90,28 @@ pub fn new_number(snap: &Snap) -> Result<Option<u32>, Stop>
     let first = snap.geometry.inode_bitmap();
     let end = snap.geometry.inode_table();
     clear_among(snap, first.0, end.0 - first.0)
+}
+
+/// A data block that is free, and was not taken for a file that doesn't have it yet.
+pub fn new_block(snap: &Snap) -> Result<Option<u32>, Stop>
+    ensures ok { IfOk result (λ found. (image base : Image) (tree : Tree) (taken : List ℕ) → Saw image snap.now
+        → HasTaken snap.now.geometry base tree taken image
+        → IsNewBlock snap.now.geometry base tree taken found) }
+    ensures lies { IfOk result (λ found. IfSome found (λ number. is_data snap.now.geometry number ≡ true)) }
+    ensures err { IfErr result (λ stop. MayStop snap.now stop) }
+    ensures pause { IfErr result (λ stop. (image base : Image) (tree : Tree) (taken : List ℕ)
+        → Saw image snap.now → HasTaken snap.now.geometry base tree taken image → IsPause stop) }
+{
+    let first = snap.geometry.inode_bitmap();
+    match clear_among(snap, FIRST_HOME_BLOCK, first.0 - FIRST_HOME_BLOCK) {
+        Ok(Some(number)) => {
+            if snap.geometry.is_data(number) {
+                Ok(Some(number))
+            } else {
+                Err(Stop::Io)
+            }
+        }
+        Ok(None) => Ok(None),
+        Err(stop) => Err(stop),
+    }
 }

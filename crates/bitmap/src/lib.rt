@@ -1,5 +1,5 @@
-//! The bitmaps of an image: how many blocks are free, how many numbers no file has, and one of these; and
-//! their bits, set and cleared.
+//! The bitmaps of an image: how many blocks are free, how many numbers no file has, and one of
+//! each; and their bits, set and cleared.
 #![tactic(auto)]
 
 mod counting;
@@ -7,8 +7,10 @@ mod finding;
 mod laws;
 mod marking;
 mod pieces;
+mod taking;
 
-pub use finding::new_number;
+pub use finding::{new_block, new_number};
 pub use laws::the_clear_bits_are_what_is_free;
 pub use marking::{mark_block, mark_number};
 pub use pieces::{free_blocks, free_numbers};
+pub use taking::take_block;

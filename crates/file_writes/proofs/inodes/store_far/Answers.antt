@@ -1,0 +1,13 @@
+use Rattle.std.proofs.Common.{subst}
+use Rattle.std.proofs.lemmas.Result.{on_ok_weaker}
+use Rattle.layout.specs.Parts.{with_bytes, with_inode}
+use Rattle.drafts.specs.Drafted.{Shows}
+use Rattle.file_writes.proofs.inodes.store_far.Goals as goal
+
+pub returns-in-Ok-clause-shows : goal.returns-in-Ok-clause-shows
+returns-in-Ok-clause-shows c =
+    on_ok_weaker c.store.result (λ shows image is.
+    let named = with_bytes image c.args.far 0 c.args.numbers.items in
+    subst (λ g. Shows c.store.new.draft (with_inode g (with_bytes named c.args.block 0 c.args.bytes.items)
+    c.args.number c.args.inode.now))
+    c.in-Ok.ensures.geometry (shows named (c.in-Ok.ensures.shows image is))) c.store.ensures.shows

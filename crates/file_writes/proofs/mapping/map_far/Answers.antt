@@ -1,0 +1,86 @@
+use Rattle.std.proofs.Common.{rules, ℕ, ◌≡◌, ◌≤◌, ◌<◌, ◌*◌, ◌-◌, ◌/◌, [], ◌∷◌, List, length, false, nat_eq, sym, ap, ◌∙◌, subst, arith}
+use Rattle.limits.specs.declared.TheConstants.{BLOCK_BYTES, DIRECT_INDEXES}
+use Rattle.nfs_types.specs.Fits.{AreBytes}
+use Rattle.objects.specs.Spliced.{spliced}
+use Rattle.layout.specs.declared.geometry.Geometry.{Geometry}
+use Rattle.layout.specs.Fields.{four_bytes}
+use Rattle.layout.specs.Parts.{content_in, put, with_bytes, with_inode}
+use Rattle.inode.specs.declared.snap.Snap.{Snap}
+use Rattle.inode.specs.Over.{IsOver}
+use Rattle.drafts.specs.Drafted.{Shows, image_of}
+use Rattle.drafts.proofs.PutThere.{both_ok, moved_draft, over_of}
+use Rattle.bitmap.specs.NewBlock.{HasTaken}
+use Rattle.bitmap.proofs.NewBlocks.{none_taken}
+use Rattle.file_writes.specs.Filling.{Fills, mapping}
+use Rattle.file_writes.proofs.Cases.{block_named_far}
+use Rattle.file_writes.proofs.FarNumbers.{le_four, named_count}
+use Rattle.file_writes.proofs.PieceWritten.{long_content, not_zero}
+use Rattle.file_writes.proofs.Stored.{content_are, named_are, stored_far}
+use Rattle.file_writes.proofs.mapping.map_far.Goals as goal
+
+pub returns-in_ok-numbers-in-Ok-Some-clause-ok : goal.returns-in_ok-numbers-in-Ok-Some-clause-ok
+returns-in_ok-numbers-in-Ok-Some-clause-ok c =
+    let g = c.args.draft.now.there.geometry in
+    let n = c.args.number in
+    let inode = c.args.inode.now in
+    let far = inode.indirect in
+    let b = c.in-Ok-Some.block in
+    let bytes = c.args.bytes.items in
+    let numbers = c.in_ok-numbers-in-Ok-Some.numbers.items in
+    let size = c.args.size in
+    both_ok c.store_far.result (λ shows images blocks tree offset piece draft write at none room.
+    let base = image_of blocks c.args.draft.now in
+    let middle = image_of blocks c.take_block.new.draft in
+    let new = mapping inode size inode.direct far in
+    let taken : HasTaken g base tree (b ∷ []) middle =
+    rw c.in-Ok-Some.field-0-is at
+    (c.in-Ok-Some.ensures.ok blocks base tree [] draft.shows (none_taken g base tree draft.holds)) in
+    let seen = c.in-Ok-Some.ensures.shows blocks draft.shows in
+    let was : c.in-Ok.block.now ≡ content_in g base far =
+    subst (λ (s : Snap). c.in-Ok.block.now ≡ content_in s.geometry base far) c.there.ensures.there
+    (c.in-Ok.ensures.ok base tree
+    (subst (λ (s : Snap). IsOver s base tree) (sym c.there.ensures.there)
+    (over_of c.args.draft.now blocks tree draft))) in
+    let place : 4 * (c.args.index - DIRECT_INDEXES) ≡ 4 * (offset / BLOCK_BYTES - DIRECT_INDEXES) =
+    ap (λ k. 4 * (k - DIRECT_INDEXES)) at in
+    let old : c.deref.result.now ≡ content_in g base far = c.deref.ensures.value ∙ c.in_ok-old-in-Ok.ensures.items ∙ was in
+    let four : c.to_le_bytes.result ≡ four_bytes b = le_four b c.to_le_bytes.result c.to_le_bytes.ensures in
+    let named : numbers ≡ spliced (content_in g base far) (4 * (offset / BLOCK_BYTES - DIRECT_INDEXES)) (four_bytes b) =
+    c.in_ok-numbers-in-Ok-Some.ensures ∙ (λ i. spliced (old i) (place i) (four i)) in
+    let image = with_bytes (with_bytes middle far 0 numbers) b 0 bytes in
+    let written : with_inode c.take_block.new.draft.there.geometry image n c.sized-same.result
+    ≡ with_inode g image n new =
+    λ i. with_inode (c.take_block.ensures.geometry i) image n (c.sized-same.ensures i) in
+    moved_draft c.args.draft.now c.store_far.new.draft blocks (with_inode g image n new) _
+    (c.store_far.ensures.geometry ∙ c.take_block.ensures.geometry) (images blocks ∙ written)
+    (subst (Shows c.store_far.new.draft) written (shows middle seen))
+    (stored_far g base tree n inode offset piece bytes size write (b ∷ []) middle taken
+    (λ q low. seen.long q (subst (λ (s : Geometry). q < s.blocks) (sym c.take_block.ensures.geometry) low))
+    c.requires.len b inode.direct far numbers
+    (subst (λ (l : List ℕ). AreBytes l) (sym named)
+    (named_are (content_in g base far) (4 * (offset / BLOCK_BYTES - DIRECT_INDEXES)) b
+    (content_are g base tree draft.holds far c.requires.far)))
+    (ap (λ (l : List ℕ). length l) named
+    ∙ named_count (content_in g base far) (offset / BLOCK_BYTES - DIRECT_INDEXES) b
+    (long_content g base tree n inode write.has far)
+    (let within = c.requires.within in let past = c.requires.past in omega (arith, at, within, past)))
+    c.requires.far
+    (subst (λ l. Fills g base inode offset piece b inode.direct far (put (put (content_in g base) far l) b bytes)
+    (b ∷ [])) (sym named)
+    (block_named_far g base tree n inode write.has offset piece write.fits b bytes taken.were_free.0 none
+    write.bytes_are (subst (λ k. DIRECT_INDEXES ≤ k) at c.requires.past) (not_zero g far c.requires.far)))))
+    c.store_far.ensures.shows c.store_far.ensures.image
+
+pub returns-in-Ok-None-clause-ok : goal.returns-in-Ok-None-clause-ok
+returns-in-Ok-None-clause-ok c = λ blocks tree offset piece draft write at none room.
+    let g = c.args.draft.now.there.geometry in
+    let base = image_of blocks c.args.draft.now in
+    let full = rw c.in-Ok-None.field-0-is at
+    (c.in-Ok-None.ensures.ok blocks base tree [] draft.shows (none_taken g base tree draft.holds)) in
+    absurd (omega (arith, full, room))
+
+pub returns-in-Err-take_block-clause-pause : goal.returns-in-Err-take_block-clause-pause
+returns-in-Err-take_block-clause-pause c = λ blocks tree draft less.
+    let g = c.args.draft.now.there.geometry in
+    let base = image_of blocks c.args.draft.now in
+    c.in-Err-take_block.ensures.pause blocks base tree [] draft.shows (none_taken g base tree draft.holds)

@@ -1,0 +1,114 @@
+use Rattle.std.proofs.Common.{refl, ℕ, ◌≡◌, ◌≤◌, ◌<◌, ◌*◌, ◌-◌, ◌/◌, [], ◌∷◌, List, length, replicate, sym, ap, ◌∙◌, subst}
+use Rattle.std.proofs.Common.{arith}
+use Rattle.limits.specs.declared.TheConstants.{BLOCK_BYTES, DIRECT_INDEXES}
+use Rattle.disk.specs.Crash.{Image}
+use Rattle.nfs_types.specs.Fits.{AreBytes}
+use Rattle.model.specs.Tree.{Tree}
+use Rattle.objects.specs.Spliced.{spliced}
+use Rattle.layout.specs.declared.geometry.Geometry.{Geometry}
+use Rattle.layout.specs.Fields.{four_bytes}
+use Rattle.layout.specs.Parts.{content_in, put, with_bytes, with_inode}
+use Rattle.drafts.specs.Drafted.{IsDraft, Shows, image_of}
+use Rattle.drafts.proofs.PutThere.{both_ok, moved_draft}
+use Rattle.bitmap.specs.NewBlock.{HasTaken}
+use Rattle.bitmap.proofs.NewBlocks.{none_taken}
+use Rattle.file_writes.specs.Filling.{Fills, mapping}
+use Rattle.file_writes.proofs.Cases.{block_named_first}
+use Rattle.file_writes.proofs.FarNumbers.{le_four, named_count}
+use Rattle.file_writes.proofs.Stored.{named_are, stored_far, zeros_are}
+use Rattle.file_writes.proofs.mapping.map_first.Goals as goal
+
+pub returns-in-Ok-None-clause-ok : goal.returns-in-Ok-None-clause-ok
+returns-in-Ok-None-clause-ok c = λ blocks tree offset piece draft write at none room.
+    let g = c.args.draft.now.there.geometry in
+    let base = image_of blocks c.args.draft.now in
+    let full = rw c.in-Ok-None.field-0-is at
+    (c.in-Ok-None.ensures.ok blocks base tree [] draft.shows (none_taken g base tree draft.holds)) in
+    absurd (omega (arith, full, room))
+
+pub returns-in-Err-clause-pause : goal.returns-in-Err-clause-pause
+returns-in-Err-clause-pause c = λ blocks tree draft less.
+    let g = c.args.draft.now.there.geometry in
+    let base = image_of blocks c.args.draft.now in
+    c.in-Err.ensures.pause blocks base tree [] draft.shows (none_taken g base tree draft.holds)
+
+pub returns-in_ok-numbers-in-Ok-Some-take_block-clause-ok : goal.returns-in_ok-numbers-in-Ok-Some-take_block-clause-ok
+returns-in_ok-numbers-in-Ok-Some-take_block-clause-ok c =
+    let g = c.args.draft.now.there.geometry in
+    let n = c.args.number in
+    let inode = c.args.inode.now in
+    let far = c.in-Ok-Some-take_block.far in
+    let b = c.in-Ok-Some.block in
+    let bytes = c.args.bytes.items in
+    let numbers = c.in_ok-numbers-in-Ok-Some-take_block.numbers.items in
+    let size = c.args.size in
+    let geometry : c.take_block-2.new.draft.there.geometry ≡ g =
+    c.take_block-2.ensures.geometry ∙ c.take_block.ensures.geometry in
+    both_ok c.store_far.result (λ shows images blocks tree offset piece draft write at none room.
+    let base = image_of blocks c.args.draft.now in
+    let first = image_of blocks c.take_block.new.draft in
+    let middle = image_of blocks c.take_block-2.new.draft in
+    let new = mapping inode size inode.direct far in
+    let one : HasTaken g base tree (b ∷ []) first =
+    rw c.in-Ok-Some.field-0-is at
+    (c.in-Ok-Some.ensures.ok blocks base tree [] draft.shows (none_taken g base tree draft.holds)) in
+    let shown = c.in-Ok-Some.ensures.shows blocks draft.shows in
+    let taken : HasTaken g base tree (far ∷ b ∷ []) middle =
+    subst (λ (s : Geometry). HasTaken s base tree (far ∷ b ∷ []) middle) c.take_block.ensures.geometry
+    (rw c.in-Ok-Some-take_block.field-0-is at
+    (c.in-Ok-Some-take_block.ensures.ok blocks base tree (b ∷ []) shown
+    (subst (λ (s : Geometry). HasTaken s base tree (b ∷ []) first) (sym c.take_block.ensures.geometry) one))) in
+    let seen = c.in-Ok-Some-take_block.ensures.shows blocks shown in
+    let place : 4 * (c.args.index - DIRECT_INDEXES) ≡ 4 * (offset / BLOCK_BYTES - DIRECT_INDEXES) =
+    ap (λ k. 4 * (k - DIRECT_INDEXES)) at in
+    let four : c.to_le_bytes.result ≡ four_bytes b = le_four b c.to_le_bytes.result c.to_le_bytes.ensures in
+    let named : numbers ≡ spliced (replicate BLOCK_BYTES 0) (4 * (offset / BLOCK_BYTES - DIRECT_INDEXES)) (four_bytes b) =
+    c.in_ok-numbers-in-Ok-Some-take_block.ensures ∙ (λ i. spliced (replicate BLOCK_BYTES 0) (place i) (four i)) in
+    let image = with_bytes (with_bytes middle far 0 numbers) b 0 bytes in
+    let written : with_inode c.take_block-2.new.draft.there.geometry image n c.led_far-led.result
+    ≡ with_inode g image n new =
+    λ i. with_inode (geometry i) image n (c.led_far-led.ensures i) in
+    moved_draft c.args.draft.now c.store_far.new.draft blocks (with_inode g image n new) _
+    (c.store_far.ensures.geometry ∙ geometry) (images blocks ∙ written)
+    (subst (Shows c.store_far.new.draft) written (shows middle seen))
+    (stored_far g base tree n inode offset piece bytes size write (far ∷ b ∷ []) middle taken
+    (λ q low. seen.long q (subst (λ (s : Geometry). q < s.blocks) (sym geometry) low))
+    c.requires.len b inode.direct far numbers
+    (subst (λ (l : List ℕ). AreBytes l) (sym named)
+    (named_are (replicate BLOCK_BYTES 0) (4 * (offset / BLOCK_BYTES - DIRECT_INDEXES)) b zeros_are))
+    (ap (λ (l : List ℕ). length l) named
+    ∙ named_count (replicate BLOCK_BYTES 0) (offset / BLOCK_BYTES - DIRECT_INDEXES) b refl
+    (let within = c.requires.within in let past = c.requires.past in omega (arith, at, within, past)))
+    taken.were_free.0.lies
+    (subst (λ l. Fills g base inode offset piece b inode.direct far (put (put (content_in g base) far l) b bytes)
+    (far ∷ b ∷ [])) (sym named)
+    (block_named_first g base tree n inode write.has offset piece write.fits b bytes taken.were_free.1.0 none
+    write.bytes_are (subst (λ k. DIRECT_INDEXES ≤ k) at c.requires.past) c.requires.none far
+    taken.were_free.0 taken.once))))
+    c.store_far.ensures.shows c.store_far.ensures.image
+
+pub returns-in-Ok-None-take_block-clause-ok : goal.returns-in-Ok-None-take_block-clause-ok
+returns-in-Ok-None-take_block-clause-ok c = λ blocks tree offset piece draft write at none room.
+    let g = c.args.draft.now.there.geometry in
+    let b = c.in-Ok-Some.block in
+    let base = image_of blocks c.args.draft.now in
+    let first = image_of blocks c.take_block.new.draft in
+    let one : HasTaken g base tree (b ∷ []) first =
+    rw c.in-Ok-Some.field-0-is at
+    (c.in-Ok-Some.ensures.ok blocks base tree [] draft.shows (none_taken g base tree draft.holds)) in
+    let full = rw c.in-Ok-None-take_block.field-0-is at
+    (c.in-Ok-None-take_block.ensures.ok blocks base tree (b ∷ []) (c.in-Ok-Some.ensures.shows blocks draft.shows)
+    (subst (λ (s : Geometry). HasTaken s base tree (b ∷ []) first) (sym c.take_block.ensures.geometry) one)) in
+    absurd (omega (arith, full, room))
+
+pub returns-in-Err-take_block-clause-pause : goal.returns-in-Err-take_block-clause-pause
+returns-in-Err-take_block-clause-pause c = λ blocks tree draft less.
+    let g = c.args.draft.now.there.geometry in
+    let b = c.in-Ok-Some.block in
+    let base = image_of blocks c.args.draft.now in
+    let first = image_of blocks c.take_block.new.draft in
+    let one : HasTaken g base tree (b ∷ []) first =
+    rw c.in-Ok-Some.field-0-is at
+    (c.in-Ok-Some.ensures.ok blocks base tree [] draft.shows (none_taken g base tree draft.holds)) in
+    c.in-Err-take_block.ensures.pause blocks base tree (b ∷ []) (c.in-Ok-Some.ensures.shows blocks draft.shows)
+    (subst (λ (s : Geometry). HasTaken s base tree (b ∷ []) first) (sym c.take_block.ensures.geometry) one)

@@ -1,0 +1,59 @@
+use Rattle.std.proofs.Common.{◌≡◌, ◌≤◌, ◌<◌, ◌/◌, [], ◌∷◌, sym, ap, ◌∙◌, subst, set, arith}
+use Rattle.limits.specs.declared.TheConstants.{BLOCK_BYTES, DIRECT_INDEXES}
+use Rattle.std.proofs.lemmas.Result.{IfErr-weaker}
+use Rattle.layout.specs.declared.geometry.Geometry.{Geometry}
+use Rattle.layout.specs.Parts.{with_bytes, with_inode}
+use Rattle.drafts.specs.Drafted.{Shows, image_of}
+use Rattle.drafts.proofs.PutThere.{both_ok, moved_draft}
+use Rattle.bitmap.specs.NewBlock.{HasTaken}
+use Rattle.bitmap.proofs.NewBlocks.{none_taken}
+use Rattle.file_writes.specs.Filling.{mapping}
+use Rattle.file_writes.proofs.Cases.{block_named}
+use Rattle.file_writes.proofs.Stored.{stored}
+use Rattle.file_writes.proofs.mapping.map_near.Goals as goal
+
+pub returns-in-Ok-Some-clause-ok : goal.returns-in-Ok-Some-clause-ok
+returns-in-Ok-Some-clause-ok c =
+    let g = c.args.draft.now.there.geometry in
+    let n = c.args.number in
+    let inode = c.args.inode.now in
+    let b = c.in-Ok-Some.block in
+    let bytes = c.args.bytes.items in
+    let size = c.args.size in
+    both_ok c.store.result (λ shows images blocks tree offset piece draft write at none room.
+    let base = image_of blocks c.args.draft.now in
+    let middle = image_of blocks c.take_block.new.draft in
+    let direct = set inode.direct (offset / BLOCK_BYTES) b in
+    let new = mapping inode size direct inode.indirect in
+    let taken : HasTaken g base tree (b ∷ []) middle =
+    rw c.in-Ok-Some.field-0-is at
+    (c.in-Ok-Some.ensures.ok blocks base tree [] draft.shows (none_taken g base tree draft.holds)) in
+    let seen = c.in-Ok-Some.ensures.shows blocks draft.shows in
+    let named : c.naming-named.result ≡ new =
+    c.naming-named.ensures ∙ ap (λ k. mapping inode size (set inode.direct k b) inode.indirect) at in
+    let written : with_inode c.take_block.new.draft.there.geometry (with_bytes middle b 0 bytes) n c.naming-named.result
+    ≡ with_inode g (with_bytes middle b 0 bytes) n new =
+    λ i. with_inode (c.take_block.ensures.geometry i) (with_bytes middle b 0 bytes) n (named i) in
+    moved_draft c.args.draft.now c.store.new.draft blocks (with_inode g (with_bytes middle b 0 bytes) n new) _
+    (c.store.ensures.geometry ∙ c.take_block.ensures.geometry) (images blocks ∙ written)
+    (subst (Shows c.store.new.draft) written (shows middle seen))
+    (stored g base tree n inode offset piece bytes size write (b ∷ []) middle taken
+    (λ q low. seen.long q (subst (λ (s : Geometry). q < s.blocks) (sym c.take_block.ensures.geometry) low))
+    c.requires.len b direct inode.indirect
+    (block_named g base tree n inode write.has offset piece write.fits b bytes taken.were_free.0 none
+    write.bytes_are (subst (λ k. k < DIRECT_INDEXES) at c.requires.near))))
+    c.store.ensures.shows c.store.ensures.image
+
+pub returns-in-Ok-None-clause-ok : goal.returns-in-Ok-None-clause-ok
+returns-in-Ok-None-clause-ok c = λ blocks tree offset piece draft write at none room.
+    let g = c.args.draft.now.there.geometry in
+    let base = image_of blocks c.args.draft.now in
+    let full = rw c.in-Ok-None.field-0-is at
+    (c.in-Ok-None.ensures.ok blocks base tree [] draft.shows (none_taken g base tree draft.holds)) in
+    absurd (omega (arith, full, room))
+
+pub returns-in-Err-clause-pause : goal.returns-in-Err-clause-pause
+returns-in-Err-clause-pause c = λ blocks tree draft less.
+    let g = c.args.draft.now.there.geometry in
+    let base = image_of blocks c.args.draft.now in
+    c.in-Err.ensures.pause blocks base tree [] draft.shows (none_taken g base tree draft.holds)

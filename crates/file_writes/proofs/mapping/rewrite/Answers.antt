@@ -1,0 +1,34 @@
+use Rattle.std.proofs.Common.{◌≡◌, [], sym, ap, ◌∙◌, subst, false, true, nat_eq}
+use Rattle.layout.specs.declared.geometry.Geometry.{Geometry}
+use Rattle.layout.specs.Parts.{with_bytes, with_inode}
+use Rattle.drafts.specs.Drafted.{Shows, image_of}
+use Rattle.drafts.proofs.PutThere.{both_ok, moved_draft}
+use Rattle.bitmap.proofs.NewBlocks.{none_taken}
+use Rattle.file_writes.specs.Filling.{mapping}
+use Rattle.file_writes.proofs.Cases.{block_there}
+use Rattle.file_writes.proofs.PieceWritten.{not_zero}
+use Rattle.file_writes.proofs.Stored.{stored}
+use Rattle.file_writes.proofs.mapping.rewrite.Goals as goal
+
+pub returns-clause-ok : goal.returns-clause-ok
+returns-clause-ok c =
+    let g = c.args.draft.now.there.geometry in
+    let n = c.args.number in
+    let inode = c.args.inode.now in
+    let b = c.args.block in
+    let bytes = c.args.bytes.items in
+    let size = c.args.size in
+    both_ok c.store.result (λ shows images blocks tree offset piece draft write at.
+    let base = image_of blocks c.args.draft.now in
+    let new = mapping inode size inode.direct inode.indirect in
+    let written : with_inode g (with_bytes base b 0 bytes) n c.sized.result
+    ≡ with_inode g (with_bytes base b 0 bytes) n new =
+    λ i. with_inode g (with_bytes base b 0 bytes) n (c.sized.ensures i) in
+    moved_draft c.args.draft.now c.store.new.draft blocks (with_inode g (with_bytes base b 0 bytes) n new) _
+    c.store.ensures.geometry (images blocks ∙ written)
+    (subst (Shows c.store.new.draft) written (shows base draft.shows))
+    (stored g base tree n inode offset piece bytes size write [] base (none_taken g base tree draft.holds)
+    draft.shows.long c.requires.len b inode.direct inode.indirect
+    (block_there g base tree n inode write.has offset piece write.fits b bytes at (not_zero g b c.requires.lies)
+    write.bytes_are)))
+    c.store.ensures.shows c.store.ensures.image

@@ -1,0 +1,36 @@
+-- What is to be written to a regular file, and what the tree is then.
+use Rattle.std.specs.Prelude.{◌≡◌, ℕ, ◌/◌, ◌%◌, List, get_or, cond}
+use Rattle.limits.specs.declared.TheConstants.{BLOCK_BYTES}
+use Rattle.disk.specs.Crash.{Image}
+use Rattle.nfs_types.specs.Fits.{AreBytes}
+use Rattle.objects.specs.Spliced.{spliced}
+use Rattle.model.specs.Node.{Node}
+use Rattle.model.specs.Tree.{Tree, with_node}
+use Rattle.procedures.specs.Write.{with_text}
+use Rattle.layout.specs.declared.geometry.Geometry.{Geometry}
+use Rattle.layout.specs.declared.inode.Inode.{Inode}
+use Rattle.layout.specs.Decode.{content_of, node_with, numbers_of}
+use Rattle.layout.specs.Parts.{content_in}
+use Rattle.inode.specs.Over.{number_at}
+use Rattle.inode.specs.Shown.{body_in}
+use Rattle.file_writes.specs.Filling.{HasRegular, IsPiece, grown_size}
+
+-- A piece is to be written to the file of this inode: these are the bytes of its block with the piece, and this
+-- is the file's size then.
+pub record IsWrite (g : Geometry) (image : Image) (tree : Tree) (number : ℕ) (inode : Inode) (offset : ℕ)
+    (piece bytes : List ℕ) (size : ℕ) : Type 0 where
+  pub has : HasRegular g image tree number inode
+  pub fits : IsPiece offset piece
+  pub bytes_are : bytes
+      ≡ spliced (content_of (content_in g image) (number_at g image inode (offset / BLOCK_BYTES)))
+      (offset % BLOCK_BYTES) piece
+  pub each : AreBytes bytes
+  pub size_is : size ≡ grown_size inode.size offset piece
+
+-- the file with the bytes in it
+abbrev pub node_written : Geometry → Image → Inode → ℕ → List ℕ → Node
+node_written g image inode offset piece = node_with inode (with_text offset piece (body_in g image inode))
+
+-- the node with the bytes in it
+abbrev pub rewritten : ℕ → List ℕ → Node → Node
+rewritten offset text node = record node { body = with_text offset text node.body }

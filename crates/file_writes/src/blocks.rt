@@ -1,0 +1,77 @@
+//! Bytes that are put in a block of a file.
+ghost use Rattle.std.specs.Prelude.{◌≡◌, ◌+◌, ◌≤◌, length, true, IfErr, IfOk, OnOk};
+ghost use Rattle.limits.specs.declared.TheConstants.{BLOCK_BYTES};
+ghost use Rattle.disk.specs.Crash.{Image};
+ghost use Rattle.objects.specs.Spliced.{spliced};
+ghost use Rattle.model.specs.Tree.{Tree};
+ghost use Rattle.layout.specs.Decode.{content_of};
+ghost use Rattle.layout.specs.InodeForm.{is_data_block_or_none};
+ghost use Rattle.layout.specs.Parts.{content_in, with_bytes};
+ghost use Rattle.layout.specs.Places.{is_data};
+ghost use Rattle.inode.specs.Over.{IsOver, IsPause, MayStop};
+ghost use Rattle.drafts.specs.Drafted.{Shows, image_of, spent};
+
+use disk::BlockNo;
+use drafts::Draft;
+use inode::{Snap, Stop, data_block};
+use limits::BLOCK_BYTES;
+use objects::Addr;
+use std::alloc::{AllocError, Global};
+
+/// These bytes with others in the place of those from an offset on.
+pub(crate) fn with_piece(
+    alloc: Global,
+    bytes: &[u8],
+    from: usize,
+    piece: &[u8],
+) -> Result<Vec<u8>, AllocError>
+    requires { from + length piece.now ≤ length bytes.now }
+    ensures { IfOk result (λ new. new.items ≡ spliced bytes.now from piece.now) }
+{
+    let mut new = Vec::new(alloc);
+    new.extend_from_slice(&bytes[..from])?;
+    new.extend_from_slice(piece)?;
+    new.extend_from_slice(&bytes[from + piece.len()..])?;
+    Ok(new)
+}
+
+/// The bytes of the block of a number, zeros where there is none, with a piece in them.
+pub(crate) fn filled(
+    alloc: Global,
+    snap: &Snap,
+    number: u32,
+    from: usize,
+    piece: &[u8],
+) -> Result<Vec<u8>, Stop>
+    requires placed { is_data_block_or_none snap.now.geometry number ≡ true }
+    requires within { from + length piece.now ≤ BLOCK_BYTES }
+    ensures len { IfOk result (λ bytes. length bytes.items ≡ BLOCK_BYTES) }
+    ensures are { IfOk result (λ bytes. (blocks : Image) (tree : Tree) → IsOver snap.now blocks tree
+        → bytes.items ≡ spliced (content_of (content_in snap.now.geometry blocks) number) from piece.now) }
+    ensures err { IfErr result (λ stop. MayStop snap.now stop) }
+    ensures pause { IfErr result (λ stop. IsPause stop) }
+{
+    if number == 0 {
+        let zeros = [0; BLOCK_BYTES];
+        return Ok(with_piece(alloc, &zeros, from, piece)?);
+    }
+    let bytes = data_block(snap, number)?;
+    Ok(with_piece(alloc, bytes, from, piece)?)
+}
+
+/// Writes a data block.
+pub(crate) fn put_block(draft: &mut Draft, number: u32, bytes: Vec<u8>) -> Result<(), Stop>
+    requires lies { is_data draft.old.there.geometry number ≡ true }
+    requires len { length bytes.items ≡ BLOCK_BYTES }
+    ensures shows { OnOk result ((image : Image) → Shows draft.old image
+        → Shows draft.new (with_bytes image number 0 bytes.items)) }
+    ensures image { OnOk result ((blocks : Image) → image_of blocks draft.new
+        ≡ with_bytes (image_of blocks draft.old) number 0 bytes.items) }
+    ensures seen { draft.new.seen ≡ draft.old.seen }
+    ensures geometry { draft.new.there.geometry ≡ draft.old.there.geometry }
+    ensures spent { spent draft.new ≤ spent draft.old + 1 }
+    ensures err { IfErr result (λ stop. MayStop draft.old.seen stop) }
+    ensures pause { IfErr result (λ stop. IsPause stop) }
+{
+    draft.put(Addr::whole(BlockNo(number)), bytes)
+}

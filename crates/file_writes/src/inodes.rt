@@ -1,0 +1,110 @@
+//! A file's inode, written behind its blocks.
+ghost use Rattle.std.specs.Prelude.{◌≡◌, ◌+◌, ◌<◌, ◌≤◌, length, set, true, IfErr, OnOk};
+ghost use Rattle.limits.specs.declared.TheConstants.{BLOCK_BYTES, DIRECT_INDEXES};
+ghost use Rattle.disk.specs.Crash.{Image};
+ghost use Rattle.layout.specs.Parts.{with_bytes, with_inode};
+ghost use Rattle.layout.specs.Places.{is_data};
+ghost use Rattle.inode.specs.Over.{IsPause, MayStop};
+ghost use Rattle.drafts.specs.Drafted.{Shows, image_of, spent};
+ghost use Rattle.file_writes.specs.Filling.{mapping};
+
+use crate::blocks::put_block;
+use drafts::Draft;
+use inode::Stop;
+use layout::Inode;
+use std::alloc::Global;
+
+/// The inode with another size.
+pub(crate) fn sized(inode: &Inode, size: u64) -> Inode
+    ensures { result ≡ mapping inode.now size inode.now.direct inode.now.indirect }
+{
+    let mut new = *inode;
+    new.size = size;
+    new
+}
+
+/// The inode with another size, which names a block at an index.
+pub(crate) fn naming(inode: &Inode, size: u64, index: usize, number: u32) -> Inode
+    requires { index < DIRECT_INDEXES }
+    ensures { result ≡ mapping inode.now size (set inode.now.direct index number) inode.now.indirect }
+{
+    let mut new = *inode;
+    let mut direct = inode.direct;
+    direct[index] = number;
+    new.size = size;
+    new.direct = direct;
+    new
+}
+
+/// The inode with another size and another indirect block.
+pub(crate) fn led_far(inode: &Inode, size: u64, indirect: u32) -> Inode
+    ensures { result ≡ mapping inode.now size inode.now.direct indirect }
+{
+    let mut new = *inode;
+    new.size = size;
+    new.indirect = indirect;
+    new
+}
+
+/// Writes a block of a file, and its inode.
+pub(crate) fn store(
+    alloc: Global,
+    draft: &mut Draft,
+    number: u32,
+    block: u32,
+    bytes: Vec<u8>,
+    inode: &Inode,
+) -> Result<(), Stop>
+    requires lies { is_data draft.old.there.geometry block ≡ true }
+    requires len { length bytes.items ≡ BLOCK_BYTES }
+    ensures shows { OnOk result ((image : Image) → Shows draft.old image
+        → Shows draft.new (with_inode draft.old.there.geometry (with_bytes image block 0 bytes.items) number
+        inode.now)) }
+    ensures image { OnOk result ((blocks : Image) → image_of blocks draft.new
+        ≡ with_inode draft.old.there.geometry (with_bytes (image_of blocks draft.old) block 0 bytes.items) number
+        inode.now) }
+    ensures seen { draft.new.seen ≡ draft.old.seen }
+    ensures geometry { draft.new.there.geometry ≡ draft.old.there.geometry }
+    ensures spent { spent draft.new ≤ spent draft.old + 2 }
+    ensures err { IfErr result (λ stop. MayStop draft.old.seen stop) }
+    ensures pause { IfErr result (λ stop. number < draft.old.there.geometry.inodes → IsPause stop) }
+{
+    match put_block(draft, block, bytes) {
+        Ok(()) => draft.put_inode(alloc, number, inode),
+        Err(stop) => Err(stop),
+    }
+}
+
+/// Writes an indirect block, a block that it names, and the inode.
+pub(crate) fn store_far(
+    alloc: Global,
+    draft: &mut Draft,
+    number: u32,
+    far: u32,
+    numbers: Vec<u8>,
+    block: u32,
+    bytes: Vec<u8>,
+    inode: &Inode,
+) -> Result<(), Stop>
+    requires far { is_data draft.old.there.geometry far ≡ true }
+    requires lies { is_data draft.old.there.geometry block ≡ true }
+    requires numbers { length numbers.items ≡ BLOCK_BYTES }
+    requires len { length bytes.items ≡ BLOCK_BYTES }
+    ensures shows { OnOk result ((image : Image) → Shows draft.old image
+        → Shows draft.new (with_inode draft.old.there.geometry
+        (with_bytes (with_bytes image far 0 numbers.items) block 0 bytes.items) number inode.now)) }
+    ensures image { OnOk result ((blocks : Image) → image_of blocks draft.new
+        ≡ with_inode draft.old.there.geometry
+        (with_bytes (with_bytes (image_of blocks draft.old) far 0 numbers.items) block 0 bytes.items) number
+        inode.now) }
+    ensures seen { draft.new.seen ≡ draft.old.seen }
+    ensures geometry { draft.new.there.geometry ≡ draft.old.there.geometry }
+    ensures spent { spent draft.new ≤ spent draft.old + 3 }
+    ensures err { IfErr result (λ stop. MayStop draft.old.seen stop) }
+    ensures pause { IfErr result (λ stop. number < draft.old.there.geometry.inodes → IsPause stop) }
+{
+    match put_block(draft, far, numbers) {
+        Ok(()) => store(alloc, draft, number, block, bytes, inode),
+        Err(stop) => Err(stop),
+    }
+}

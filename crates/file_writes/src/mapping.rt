@@ -1,0 +1,171 @@
+//! A block of a file with new bytes in it, where it lies or in a free one.
+ghost use Rattle.std.specs.Prelude.{ℕ, ◌≡◌, ◌+◌, ◌-◌, ◌/◌, ◌<◌, ◌≤◌, List, length, nat_eq, true, false, IfErr, OnOk};
+ghost use Rattle.limits.specs.declared.TheConstants.{BLOCK_BYTES, DIRECT_INDEXES, FILE_INDEXES};
+ghost use Rattle.disk.specs.Crash.{Image};
+ghost use Rattle.model.specs.Tree.{Tree, free, with_node};
+ghost use Rattle.layout.specs.Places.{is_data};
+ghost use Rattle.inode.specs.Over.{IsPause, MayStop, number_at};
+ghost use Rattle.drafts.specs.Drafted.{IsDraft, image_of, spent};
+ghost use Rattle.file_writes.specs.Written.{IsWrite, node_written};
+
+use crate::blocks::with_piece;
+use crate::inodes::{led_far, naming, sized, store, store_far};
+use bitmap::take_block;
+use drafts::Draft;
+use inode::{Stop, data_block};
+use layout::Inode;
+use limits::{BLOCK_BYTES, DIRECT_INDEXES};
+use std::alloc::Global;
+
+/// Writes the bytes of a block that the file has.
+pub(crate) fn rewrite(
+    alloc: Global,
+    draft: &mut Draft,
+    number: u32,
+    inode: &Inode,
+    block: u32,
+    bytes: Vec<u8>,
+    size: u64,
+) -> Result<(), Stop>
+    requires lies { is_data draft.old.there.geometry block ≡ true }
+    requires len { length bytes.items ≡ BLOCK_BYTES }
+    ensures ok { OnOk result ((blocks : Image) (tree : Tree) (offset : ℕ) (piece : List ℕ)
+        → IsDraft draft.old blocks tree
+        → IsWrite draft.old.there.geometry (image_of blocks draft.old) tree number inode.now offset piece
+        bytes.items size
+        → block ≡ number_at draft.old.there.geometry (image_of blocks draft.old) inode.now (offset / BLOCK_BYTES)
+        → IsDraft draft.new blocks (with_node tree number
+        (node_written draft.old.there.geometry (image_of blocks draft.old) inode.now offset piece))) }
+    ensures seen { draft.new.seen ≡ draft.old.seen }
+    ensures spent { spent draft.new ≤ spent draft.old + 2 }
+    ensures err { IfErr result (λ stop. MayStop draft.old.seen stop) }
+    ensures pause { IfErr result (λ stop. number < draft.old.there.geometry.inodes → IsPause stop) }
+{
+    store(alloc, draft, number, block, bytes, &sized(inode, size))
+}
+
+/// Writes the bytes of a block to a free one, which the inode names from then on.
+pub(crate) fn map_near(
+    alloc: Global,
+    draft: &mut Draft,
+    number: u32,
+    inode: &Inode,
+    index: usize,
+    bytes: Vec<u8>,
+    size: u64,
+) -> Result<(), Stop>
+    requires near { index < DIRECT_INDEXES }
+    requires len { length bytes.items ≡ BLOCK_BYTES }
+    ensures ok { OnOk result ((blocks : Image) (tree : Tree) (offset : ℕ) (piece : List ℕ)
+        → IsDraft draft.old blocks tree
+        → IsWrite draft.old.there.geometry (image_of blocks draft.old) tree number inode.now offset piece
+        bytes.items size → index ≡ offset / BLOCK_BYTES
+        → nat_eq (number_at draft.old.there.geometry (image_of blocks draft.old) inode.now (offset / BLOCK_BYTES)) 0
+        ≡ true → 1 ≤ free tree
+        → IsDraft draft.new blocks (with_node tree number
+        (node_written draft.old.there.geometry (image_of blocks draft.old) inode.now offset piece))) }
+    ensures seen { draft.new.seen ≡ draft.old.seen }
+    ensures spent { spent draft.new ≤ spent draft.old + 2 }
+    ensures err { IfErr result (λ stop. MayStop draft.old.seen stop) }
+    ensures pause { IfErr result (λ stop. (blocks : Image) (tree : Tree) → IsDraft draft.old blocks tree
+        → number < draft.old.there.geometry.inodes → IsPause stop) }
+{
+    match take_block(alloc, draft) {
+        Ok(Some(block)) => {
+            let named = naming(inode, size, index, block);
+            store(alloc, draft, number, block, bytes, &named)
+        }
+        Ok(None) => Ok(()),
+        Err(stop) => Err(stop),
+    }
+}
+
+/// Writes the bytes of a block to a free one, which the indirect block names from then on.
+pub(crate) fn map_far(
+    alloc: Global,
+    draft: &mut Draft,
+    number: u32,
+    inode: &Inode,
+    index: usize,
+    bytes: Vec<u8>,
+    size: u64,
+) -> Result<(), Stop>
+    requires far { is_data draft.old.there.geometry inode.now.indirect ≡ true }
+    requires past { DIRECT_INDEXES ≤ index }
+    requires within { index < FILE_INDEXES }
+    requires len { length bytes.items ≡ BLOCK_BYTES }
+    ensures ok { OnOk result ((blocks : Image) (tree : Tree) (offset : ℕ) (piece : List ℕ)
+        → IsDraft draft.old blocks tree
+        → IsWrite draft.old.there.geometry (image_of blocks draft.old) tree number inode.now offset piece
+        bytes.items size → index ≡ offset / BLOCK_BYTES
+        → nat_eq (number_at draft.old.there.geometry (image_of blocks draft.old) inode.now (offset / BLOCK_BYTES)) 0
+        ≡ true → 1 ≤ free tree
+        → IsDraft draft.new blocks (with_node tree number
+        (node_written draft.old.there.geometry (image_of blocks draft.old) inode.now offset piece))) }
+    ensures seen { draft.new.seen ≡ draft.old.seen }
+    ensures spent { spent draft.new ≤ spent draft.old + 3 }
+    ensures err { IfErr result (λ stop. MayStop draft.old.seen stop) }
+    ensures pause { IfErr result (λ stop. (blocks : Image) (tree : Tree) → IsDraft draft.old blocks tree
+        → number < draft.old.there.geometry.inodes → IsPause stop) }
+{
+    let old = match data_block(draft.there(), inode.indirect) {
+        Ok(block) => Vec::from_slice(alloc, block)?,
+        Err(stop) => return Err(stop),
+    };
+    match take_block(alloc, draft) {
+        Ok(Some(block)) => {
+            let place = 4 * (index - DIRECT_INDEXES);
+            let numbers = with_piece(alloc, &old, place, &block.to_le_bytes())?;
+            let same = sized(inode, size);
+            store_far(alloc, draft, number, inode.indirect, numbers, block, bytes, &same)
+        }
+        Ok(None) => Ok(()),
+        Err(stop) => Err(stop),
+    }
+}
+
+/// Writes the bytes of a block to a free one, which another free one names, the indirect block from then on.
+pub(crate) fn map_first(
+    alloc: Global,
+    draft: &mut Draft,
+    number: u32,
+    inode: &Inode,
+    index: usize,
+    bytes: Vec<u8>,
+    size: u64,
+) -> Result<(), Stop>
+    requires none { nat_eq inode.now.indirect 0 ≡ true }
+    requires past { DIRECT_INDEXES ≤ index }
+    requires within { index < FILE_INDEXES }
+    requires len { length bytes.items ≡ BLOCK_BYTES }
+    ensures ok { OnOk result ((blocks : Image) (tree : Tree) (offset : ℕ) (piece : List ℕ)
+        → IsDraft draft.old blocks tree
+        → IsWrite draft.old.there.geometry (image_of blocks draft.old) tree number inode.now offset piece
+        bytes.items size → index ≡ offset / BLOCK_BYTES
+        → nat_eq (number_at draft.old.there.geometry (image_of blocks draft.old) inode.now (offset / BLOCK_BYTES)) 0
+        ≡ true → 2 ≤ free tree
+        → IsDraft draft.new blocks (with_node tree number
+        (node_written draft.old.there.geometry (image_of blocks draft.old) inode.now offset piece))) }
+    ensures seen { draft.new.seen ≡ draft.old.seen }
+    ensures spent { spent draft.new ≤ spent draft.old + 3 }
+    ensures err { IfErr result (λ stop. MayStop draft.old.seen stop) }
+    ensures pause { IfErr result (λ stop. (blocks : Image) (tree : Tree) → IsDraft draft.old blocks tree
+        → number < draft.old.there.geometry.inodes → IsPause stop) }
+{
+    let block = match take_block(alloc, draft) {
+        Ok(Some(block)) => block,
+        Ok(None) => return Ok(()),
+        Err(stop) => return Err(stop),
+    };
+    match take_block(alloc, draft) {
+        Ok(Some(far)) => {
+            let place = 4 * (index - DIRECT_INDEXES);
+            let zeros = [0; BLOCK_BYTES];
+            let numbers = with_piece(alloc, &zeros, place, &block.to_le_bytes())?;
+            let led = led_far(inode, size, far);
+            store_far(alloc, draft, number, far, numbers, block, bytes, &led)
+        }
+        Ok(None) => Ok(()),
+        Err(stop) => Err(stop),
+    }
+}
