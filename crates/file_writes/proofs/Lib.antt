@@ -5,3 +5,4 @@ pub mod PieceWritten
 pub mod Cases
 pub mod ImageWritten
 pub mod Stored
+pub mod MappedFile
