@@ -4,3 +4,4 @@ pub mod SetThere
 pub mod Drafts
 pub mod Departed
 pub mod MadeThere
+pub mod EnteredThere

@@ -21,7 +21,7 @@ use Rattle.layout.specs.declared.inode.InodeKind.{InodeKind}
 use Rattle.layout.specs.declared.inode.InodeKind.TheVariants as kinds
 use Rattle.layout.specs.declared.slot.Slot.{Slot}
 use Rattle.layout.specs.declared.slot.TheConstants.{SLOT_BYTES}
-use Rattle.layout.specs.Decode.{body_of, directory_in, entries_in, node_with, span_of}
+use Rattle.layout.specs.Decode.{body_of, directory_in, entries_in, inode_at, node_with, span_of}
 use Rattle.layout.specs.Holds.{Holds}
 use Rattle.layout.specs.Parts.{content_in, with_bytes}
 use Rattle.layout.specs.SlotForm.{SoundSlot, number_under, read_slot, used_bytes}
@@ -173,3 +173,10 @@ module _ (snap : Snap) (old : Image) (tree : Tree) (n : ℕ) (inode : Inode) (na
       node was new_body ∙ ap (λ (b : Body). record node { body = b }) as_entered)
       (slots.slot_holds snap old tree n inode s bytes (Some slot) count (used_are slot can.lawful.bytes) reads is less
       (insert held name entry) enters.0 enters.1 last written)
+
+  pub entered_inode : (last : Image)
+      → last ≡ with_bytes old (slot_block content inode s) 0 (slotted_block content inode s bytes)
+      → inode_at g last n ≡ Ok (Some inode)
+  entered_inode last written =
+      slots.slot_inode snap old tree n inode s bytes (Some slot) count (used_are slot can.lawful.bytes) reads is less
+      last written

@@ -10,3 +10,4 @@ pub mod KeptFile
 pub mod EnteredName
 pub mod UsedBytes
 pub mod EnteredHolds
+pub mod Spanned

@@ -262,6 +262,17 @@ module _ (snap : Snap) (old : Image) (tree : Tree) (n : ℕ) (inode : Inode) (s 
         (subst AreBytes (sym as_data) (holds.bytes b (data_within g b data_b).1).1) (record { are = are });
   }
 
+  read_as : (image : Image) → (parts_of g image).table n ≡ inode_at g image n
+  read_as image = ap (λ t. cond t (inode_at g image n) (Err Range)) (lt-ltb n g.inodes is.has.less)
+
+  -- its inode is as it was
+  pub slot_inode : (last : Image) → last ≡ with_bytes old b 0 block → inode_at g last n ≡ Ok (Some inode)
+  slot_inode last written =
+      sym (read_as last)
+      ∙ ap (λ (parts : Parts). parts.table n) (ap (parts_of g) written
+      ∙ data_written g old b 0 block g.lawful.1.2 (data_within g b data_b).0 data_b)
+      ∙ table_is
+
   -- ---- the file of the tree
 
   pub slot_file : (node : Node) → node_at tree n ≡ Some node → (body : Body)

@@ -7,3 +7,4 @@ pub mod ImageWritten
 pub mod Stored
 pub mod Costs
 pub mod Whole
+pub mod MappedFile
