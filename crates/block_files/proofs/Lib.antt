@@ -5,3 +5,4 @@ pub mod Drafts
 pub mod Departed
 pub mod MadeThere
 pub mod EnteredThere
+pub mod SizedThere

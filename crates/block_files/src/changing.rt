@@ -6,6 +6,7 @@ use crate::departing::depart;
 use crate::drafted::DraftFiles;
 use crate::making::{make, new_number};
 use crate::setting::set;
+use crate::sizing::resize;
 use files::{ChangingFiles, Entry, Head};
 use inode::Stop;
 use inode_writes::remove;
@@ -60,8 +61,8 @@ impl<'a> ChangingFiles for DraftFiles<'a> {
         Err(Stop::NoMemory)
     }
 
-    fn resize(&mut self, _head: &Head, _size: u64) -> Result<Head, Stop> {
-        Err(Stop::NoMemory)
+    fn resize(&mut self, head: &Head, size: u64) -> Result<Head, Stop> {
+        resize(self.alloc, &mut self.draft, head, size)
     }
 
     fn make(&mut self, alloc: Global, head: &Head, target: &[u8]) -> Result<(), Stop> {

@@ -11,6 +11,7 @@ mod heads;
 mod making;
 mod naming;
 mod setting;
+mod sizing;
 mod space;
 
 pub use asking::BlockFiles;
@@ -21,3 +22,4 @@ pub use heads::head_of;
 pub use inode_writes::remove;
 pub use making::{make, new_number};
 pub use setting::set;
+pub use sizing::resize;

@@ -16,7 +16,7 @@ use crate::space::unused_number;
 use drafts::Draft;
 use files::Head;
 use inode::Stop;
-use inode_writes::make_empty;
+use inode_writes::{make_empty, make_link};
 use layout::{Inode, InodeKind};
 use nfs_types::FileKind;
 use std::alloc::Global;
@@ -71,7 +71,13 @@ pub fn make(alloc: Global, draft: &mut Draft, head: &Head, target: &[u8]) -> Res
                 &inode_of(head, InodeKind::Regular),
             )
         }
-        FileKind::Link => Err(Stop::NoMemory),
+        FileKind::Link => make_link(
+            alloc,
+            draft,
+            head.number,
+            &inode_of(head, InodeKind::Link),
+            target,
+        ),
         FileKind::BlockDevice => Ok(()),
         FileKind::CharacterDevice => Ok(()),
         FileKind::Socket => Ok(()),
