@@ -12,33 +12,25 @@ use crate::changing::change_call;
 use crate::done::Done;
 use crate::draft::Draft;
 use crate::next::Plan;
-use crate::reading::read_file;
+use crate::reading::{first_handle, read_file};
 use crate::refused::refused_reply;
 use crate::telling::{tell_call, told};
 use inode::{Snap, Stop};
 use nfs_types::{Call, Ctx, Status};
 use std::alloc::Global;
 
-// What comes of a call that is served, or what stands in its way.
-fn work(alloc: Global, ctx: &Ctx, call: &Call, snap: &Snap) -> Result<Draft, Stop>
+// What comes of a call that is served, or what stands in its way, by the one body of its procedure.
+fn answer(alloc: Global, ctx: &Ctx, call: &Call, snap: &Snap) -> Result<Draft, Stop>
     requires { has_rules call.now ≡ true }
     ensures ok { IfOk result (λ done. EndsFrom snap.now done) }
     ensures step { IfOk result (λ done. IsStepOf snap.now.geometry ctx.now call.now done) }
     ensures err { IfErr result (λ stop. IsNew snap.now stop) }
     ensures asks { IfErr result (λ stop. IsAsked snap.now stop) }
     ensures io { IfErr result (λ stop. NoneStandFor ctx.now call.now snap.now stop) }
-    ensures sound { IfOk result (λ done. NoneRefusedIn snap.now call.now) }
 {
     match call {
-        Call::GetAttr { object } => {
-            read_file(alloc, snap, object)?;
-            tell_call(alloc, ctx, call, snap)
-        }
-        Call::SetAttr { object, .. } => {
-            read_file(alloc, snap, object)?;
-            change_call(alloc, ctx, call, snap)
-        }
-        Call::Lookup { .. }
+        Call::GetAttr { .. }
+        | Call::Lookup { .. }
         | Call::Access { .. }
         | Call::ReadLink { .. }
         | Call::Read { .. }
@@ -49,7 +41,8 @@ fn work(alloc: Global, ctx: &Ctx, call: &Call, snap: &Snap) -> Result<Draft, Sto
         | Call::FsInfo { .. }
         | Call::PathConf { .. }
         | Call::Commit { .. } => tell_call(alloc, ctx, call, snap),
-        Call::Write { .. }
+        Call::SetAttr { .. }
+        | Call::Write { .. }
         | Call::Create { .. }
         | Call::MkDir { .. }
         | Call::SymLink { .. }
@@ -58,6 +51,25 @@ fn work(alloc: Global, ctx: &Ctx, call: &Call, snap: &Snap) -> Result<Draft, Sto
         | Call::Rename { .. }
         | Call::Link { .. } => change_call(alloc, ctx, call, snap),
         Call::Null => unreachable!(),
+    }
+}
+
+// The same, where the file of the call's first handle is read before.
+fn work(alloc: Global, ctx: &Ctx, call: &Call, snap: &Snap) -> Result<Draft, Stop>
+    requires { has_rules call.now ≡ true }
+    ensures ok { IfOk result (λ done. EndsFrom snap.now done) }
+    ensures step { IfOk result (λ done. IsStepOf snap.now.geometry ctx.now call.now done) }
+    ensures err { IfErr result (λ stop. IsNew snap.now stop) }
+    ensures asks { IfErr result (λ stop. IsAsked snap.now stop) }
+    ensures io { IfErr result (λ stop. NoneStandFor ctx.now call.now snap.now stop) }
+    ensures sound { IfOk result (λ done. NoneRefusedIn snap.now call.now) }
+{
+    match first_handle(call) {
+        Some(handle) => match read_file(alloc, snap, handle) {
+            Ok(()) => answer(alloc, ctx, call, snap),
+            Err(stop) => Err(stop),
+        },
+        None => answer(alloc, ctx, call, snap),
     }
 }
 
