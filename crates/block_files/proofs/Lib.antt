@@ -6,3 +6,4 @@ pub mod Departed
 pub mod MadeThere
 pub mod EnteredThere
 pub mod SizedThere
+pub mod Refreshed

@@ -10,9 +10,11 @@ mod entering;
 mod heads;
 mod making;
 mod naming;
+mod refreshing;
 mod setting;
 mod sizing;
 mod space;
+mod writing;
 
 pub use asking::BlockFiles;
 pub use departing::depart;
@@ -23,3 +25,5 @@ pub use inode_writes::remove;
 pub use making::{make, new_number};
 pub use setting::set;
 pub use sizing::resize;
+pub use refreshing::refresh;
+pub use writing::write;

@@ -8,3 +8,5 @@ pub mod Stored
 pub mod Costs
 pub mod Whole
 pub mod MappedFile
+pub mod Adjoining
+pub mod Steps
