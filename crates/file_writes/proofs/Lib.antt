@@ -6,3 +6,5 @@ pub mod Cases
 pub mod ImageWritten
 pub mod Stored
 pub mod MappedFile
+pub mod Costs
+pub mod Whole

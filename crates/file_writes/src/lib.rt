@@ -4,6 +4,8 @@
 mod blocks;
 mod inodes;
 mod mapping;
+mod pieces;
 
 pub use blocks::{put_block, with_piece};
 pub use inodes::{led_far, naming, sized, store, store_far};
+pub use pieces::write_piece;

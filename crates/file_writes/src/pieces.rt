@@ -1,0 +1,144 @@
+//! Pieces of bytes, each of which lies in one block of a regular file.
+ghost use Rattle.std.specs.Prelude.{ℕ, ◌≡◌, ◌+◌, ◌-◌, ◌/◌, ◌%◌, ◌<◌, ◌≤◌, List, length, max, true, Some, IfErr, OnOk};
+ghost use Rattle.limits.specs.declared.TheConstants.{BLOCK_BYTES, FILE_INDEXES, LARGEST_FILE};
+ghost use Rattle.disk.specs.Crash.{Image};
+ghost use Rattle.model.specs.Cost.{cost};
+ghost use Rattle.model.specs.Node.{Node};
+ghost use Rattle.model.specs.Tree.{Tree, free, node_at, with_node};
+ghost use Rattle.procedures.specs.Write.{with_text};
+ghost use Rattle.layout.specs.InodeForm.{is_data_block_or_none};
+ghost use Rattle.inode.specs.Over.{IsPause, MayStop, number_at};
+ghost use Rattle.inode.specs.Shown.{body_in};
+ghost use Rattle.drafts.specs.Drafted.{IsDraft, image_of, spent};
+ghost use Rattle.file_writes.specs.Filling.{HasRegular};
+ghost use Rattle.file_writes.specs.Written.{IsWrite, node_written, rewritten};
+
+use crate::blocks::filled;
+use crate::mapping::{map_far, map_first, map_near, rewrite};
+use drafts::Draft;
+use inode::{Stop, block_number, held};
+use layout::{Inode, InodeKind};
+use limits::{BLOCK_BYTES, DIRECT_INDEXES};
+use std::alloc::Global;
+
+// The greater of two sizes.
+fn greater(size: u64, end: u64) -> u64
+    ensures { result ≡ max size end }
+{
+    if size < end { end } else { size }
+}
+
+// Puts the bytes of a block where the file has it, or in a free one.
+fn place(
+    alloc: Global,
+    draft: &mut Draft,
+    number: u32,
+    inode: &Inode,
+    index: usize,
+    block: u32,
+    bytes: Vec<u8>,
+    size: u64,
+) -> Result<(), Stop>
+    requires within { index < FILE_INDEXES }
+    requires placed { is_data_block_or_none draft.old.there.geometry block ≡ true }
+    requires len { length bytes.items ≡ BLOCK_BYTES }
+    ensures ok { OnOk result ((blocks : Image) (tree : Tree) (offset : ℕ) (piece : List ℕ)
+        → IsDraft draft.old blocks tree
+        → IsWrite draft.old.there.geometry (image_of blocks draft.old) tree number inode.now offset piece
+        bytes.items size → index ≡ offset / BLOCK_BYTES
+        → block ≡ number_at draft.old.there.geometry (image_of blocks draft.old) inode.now (offset / BLOCK_BYTES)
+        → cost (with_text offset piece (body_in draft.old.there.geometry (image_of blocks draft.old) inode.now))
+        - cost (body_in draft.old.there.geometry (image_of blocks draft.old) inode.now) ≤ free tree
+        → IsDraft draft.new blocks (with_node tree number
+        (node_written draft.old.there.geometry (image_of blocks draft.old) inode.now offset piece))) }
+    ensures seen { draft.new.seen ≡ draft.old.seen }
+    ensures spent { spent draft.new ≤ spent draft.old + 3 }
+    ensures err { IfErr result (λ stop. MayStop draft.old.seen stop) }
+    ensures pause { IfErr result (λ stop. (blocks : Image) (tree : Tree) → IsDraft draft.old blocks tree
+        → number < draft.old.there.geometry.inodes
+        → is_data_block_or_none draft.old.there.geometry inode.now.indirect ≡ true → IsPause stop) }
+{
+    if block != 0 {
+        return rewrite(alloc, draft, number, inode, block, bytes, size);
+    }
+    if index < DIRECT_INDEXES {
+        return map_near(alloc, draft, number, inode, index, bytes, size);
+    }
+    if inode.indirect == 0 {
+        return map_first(alloc, draft, number, inode, index, bytes, size);
+    }
+    if !draft.there().geometry.is_data(inode.indirect) {
+        return Err(Stop::Io);
+    }
+    map_far(alloc, draft, number, inode, index, bytes, size)
+}
+
+// Writes a piece to the file of this inode.
+fn write_in(
+    alloc: Global,
+    draft: &mut Draft,
+    number: u32,
+    inode: &Inode,
+    offset: u64,
+    piece: &[u8],
+) -> Result<(), Stop>
+    requires some { 0 < length piece.now }
+    requires within { offset % BLOCK_BYTES + length piece.now ≤ BLOCK_BYTES }
+    requires small { offset + length piece.now ≤ LARGEST_FILE }
+    ensures ok { OnOk result ((blocks : Image) (tree : Tree) → IsDraft draft.old blocks tree
+        → HasRegular draft.old.there.geometry (image_of blocks draft.old) tree number inode.now
+        → cost (with_text offset piece.now (body_in draft.old.there.geometry (image_of blocks draft.old) inode.now))
+        - cost (body_in draft.old.there.geometry (image_of blocks draft.old) inode.now) ≤ free tree
+        → IsDraft draft.new blocks (with_node tree number
+        (node_written draft.old.there.geometry (image_of blocks draft.old) inode.now offset piece.now))) }
+    ensures seen { draft.new.seen ≡ draft.old.seen }
+    ensures spent { spent draft.new ≤ spent draft.old + 3 }
+    ensures err { IfErr result (λ stop. MayStop draft.old.seen stop) }
+    ensures pause { IfErr result (λ stop. (blocks : Image) (tree : Tree) → IsDraft draft.old blocks tree
+        → HasRegular draft.old.there.geometry (image_of blocks draft.old) tree number inode.now → IsPause stop) }
+{
+    let index = (offset / BLOCK_BYTES as u64) as usize;
+    let from = (offset % BLOCK_BYTES as u64) as usize;
+    let size = greater(inode.size, offset + piece.len() as u64);
+    let block = match block_number(draft.there(), inode, index) {
+        Ok(block) => block,
+        Err(stop) => return Err(stop),
+    };
+    match filled(alloc, draft.there(), block, from, piece) {
+        Ok(bytes) => place(alloc, draft, number, inode, index, block, bytes, size),
+        Err(stop) => Err(stop),
+    }
+}
+
+/// Writes bytes that lie in one block to a regular file, where there is room for what they take. To a file that
+/// is no regular one nothing is done.
+pub fn write_piece(
+    alloc: Global,
+    draft: &mut Draft,
+    number: u32,
+    offset: u64,
+    piece: &[u8],
+) -> Result<(), Stop>
+    requires some { 0 < length piece.now }
+    requires within { offset % BLOCK_BYTES + length piece.now ≤ BLOCK_BYTES }
+    requires small { offset + length piece.now ≤ LARGEST_FILE }
+    ensures ok { OnOk result ((blocks : Image) (tree : Tree) (node : Node) → IsDraft draft.old blocks tree
+        → node_at tree number ≡ Some node
+        → cost (with_text offset piece.now node.body) - cost node.body ≤ free tree
+        → IsDraft draft.new blocks (with_node tree number (rewritten offset piece.now node))) }
+    ensures seen { draft.new.seen ≡ draft.old.seen }
+    ensures spent { spent draft.new ≤ spent draft.old + 3 }
+    ensures err { IfErr result (λ stop. MayStop draft.old.seen stop) }
+    ensures pause { IfErr result (λ stop. (blocks : Image) (tree : Tree) → IsDraft draft.old blocks tree
+        → IsPause stop) }
+{
+    match held(draft.there(), number) {
+        Ok(Some(inode)) => match inode.kind {
+            InodeKind::Regular => write_in(alloc, draft, number, &inode, offset, piece),
+            InodeKind::Directory => Ok(()),
+            InodeKind::Link => Ok(()),
+        },
+        Ok(None) => Ok(()),
+        Err(stop) => Err(stop),
+    }
+}
