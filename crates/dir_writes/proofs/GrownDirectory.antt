@@ -9,7 +9,7 @@ use Rattle.std.specs.FinMap.{find, from_entries, get, get-from_entries, insert}
 use Rattle.std.specs.List.{flat_map, list_all, list_any}
 use Rattle.std.specs.Ordering.{nat_cmp}
 use Rattle.std.proofs.lemmas.Bool.Decides.{nat_tests}
-use Rattle.std.proofs.lemmas.Bool.{cases_eq, cases_lt, eq-eqb, le-leb, lt-ltb}
+use Rattle.std.proofs.lemmas.Bool.{cases_eq, cases_lt, eq-eqb, le-leb, le-ltb, lt-ltb}
 use Rattle.std.proofs.Common.{◌⊎◌, filter, length-append}
 use Rattle.std.proofs.lemmas.List.{drop-drop, length-replicate, get_or-set_other, get_or-set_same, get_or-take, length-set, length-take-le}
 use Rattle.std.proofs.lemmas.List.FromFn.{get_or-range_with_len, length-range_with_len}
@@ -24,7 +24,7 @@ use Rattle.model.specs.Tree.{Tree, node_at, with_node}
 use Rattle.model.specs.Tree as trees
 use Rattle.procedures.specs.Changes.{with_entry}
 use Rattle.procedures.specs.Places.{entry_at}
-use Rattle.files.specs.Changing.{IsOwnSlot}
+use Rattle.files.specs.Changing.{IsOwnSlot, adds}
 use Rattle.layout.specs.declared.geometry.Geometry.{Geometry}
 use Rattle.layout.specs.declared.inode.Inode.{Inode}
 use Rattle.layout.specs.declared.inode.InodeKind.{InodeKind}
@@ -243,6 +243,42 @@ module _ (snap : Snap) (base : Image) (tree : Tree) (n : ℕ) (inode : Inode) (n
   pub size_is : grown_size inode.size offset block ≡ BLOCK_BYTES * (span + 1)
   size_is = let whole = whole_size in let long = block_long in omega (arith, whole, long)
 
+  -- ---- its indirect block
+
+  far_rule : cond (nat_lt DIRECT_INDEXES span) (not (nat_eq inode.indirect 0)) (nat_eq inode.indirect 0) ≡ true
+  far_rule = (all_eight (nat_le 2 inode.nlink) (nat_le inode.size LARGEST_DIRECTORY)
+      (nat_eq (inode.size % BLOCK_BYTES) 0) (nat_lt 0 inode.parent) (nat_lt inode.parent g.inodes)
+      (names_first (min (inode.size / BLOCK_BYTES) DIRECT_INDEXES) inode.direct)
+      (cond (nat_lt DIRECT_INDEXES (inode.size / BLOCK_BYTES)) (not (nat_eq inode.indirect 0))
+      (nat_eq inode.indirect 0)) (is_none inode.verifier) tests.2).6
+
+  no_far : span ≤ DIRECT_INDEXES → nat_eq inode.indirect 0 ≡ true
+  no_far few = sym (ap (λ t. cond t (not (nat_eq inode.indirect 0)) (nat_eq inode.indirect 0))
+      (le-ltb DIRECT_INDEXES span few)) ∙ far_rule
+
+  pub far_near : span < DIRECT_INDEXES
+      → cond (nat_lt DIRECT_INDEXES (span + 1)) (not (nat_eq inode.indirect 0)) (nat_eq inode.indirect 0) ≡ true
+  far_near few = ap (λ t. cond t (not (nat_eq inode.indirect 0)) (nat_eq inode.indirect 0))
+      (le-ltb DIRECT_INDEXES (span + 1) (omega (arith, few))) ∙ no_far (omega (arith, few))
+
+  pub far_past : (far : ℕ) → DIRECT_INDEXES ≤ span → nat_eq far 0 ≡ false
+      → cond (nat_lt DIRECT_INDEXES (span + 1)) (not (nat_eq far 0)) (nat_eq far 0) ≡ true
+  far_past far many some = (λ i. cond (lt-ltb DIRECT_INDEXES (span + 1) (omega (arith, many)) i) (not (some i)) (some i))
+
+  -- the first block past the direct ones takes another, too
+  pub first_far : nat_eq inode.indirect 0 ≡ true → span ≤ DIRECT_INDEXES
+  first_far none = elim (cases_lt DIRECT_INDEXES span) [
+    | inl many ↦
+        let rule = sym (ap (λ t. cond t (not (nat_eq inode.indirect 0)) (nat_eq inode.indirect 0))
+        (lt-ltb DIRECT_INDEXES span many)) ∙ far_rule in
+        let clash : false ≡ true = sym (ap not none) ∙ rule in cc
+    | inr few ↦ few
+  ]
+
+  pub placed_far : is_data_block_or_none g inode.indirect ≡ true
+  placed_far = (all_two (list_all (is_data_block_or_none g) inode.direct)
+      (is_data_block_or_none g inode.indirect) tests.1).1
+
   was_body : node.body ≡ directory_in g.inodes content inode
   was_body = body_there snap base tree n inode node grows.is.has grows.was
       ∙ directory_body g content inode inode.kind grows.is.kind
@@ -252,6 +288,35 @@ module _ (snap : Snap) (base : Image) (tree : Tree) (n : ℕ) (inode : Inode) (n
       directory_body g content inode kinds.Directory e = refl
       directory_body g content inode kinds.Regular e = cc
       directory_body g content inode kinds.Link e = cc
+
+  -- the blocks that it takes
+  pub takes : adds (with_entry name entry node.body) node.body
+      ≡ span + 1 + cond (nat_lt DIRECT_INDEXES (span + 1)) 1 0 - (span + cond (nat_lt DIRECT_INDEXES span) 1 0)
+  takes =
+      ap (λ (b : Body). adds (with_entry name entry b) b) was_body
+      ∙ ap (λ (k : ℕ). k + cond (nat_lt DIRECT_INDEXES k) 1 0 - (span + cond (nat_lt DIRECT_INDEXES span) 1 0))
+      (sym (wide span))
+    where
+      wide : (k : ℕ) → k + 1 ≡ max k (suc (SLOTS_PER_BLOCK * k / SLOTS_PER_BLOCK))
+      wide k = omega arith
+
+  pub takes_one : 1 ≤ adds (with_entry name entry node.body) node.body
+  takes_one = by_test takes (cases_lt DIRECT_INDEXES span)
+    where
+      by_test : {k : ℕ} → k ≡ span + 1 + cond (nat_lt DIRECT_INDEXES (span + 1)) 1 0
+          - (span + cond (nat_lt DIRECT_INDEXES span) 1 0) → (DIRECT_INDEXES < span) ⊎ (span ≤ DIRECT_INDEXES)
+          → 1 ≤ k
+      by_test e (inl many) =
+          let one = ap {B = ℕ} (λ (t : Bool). cond t 1 0) (lt-ltb DIRECT_INDEXES span many) in
+          let two = ap {B = ℕ} (λ (t : Bool). cond t 1 0) (lt-ltb DIRECT_INDEXES (span + 1) (omega (arith, many))) in
+          omega (arith, e, one, two)
+      by_test e (inr few) =
+          let one = ap {B = ℕ} (λ (t : Bool). cond t 1 0) (le-ltb DIRECT_INDEXES span few) in
+          omega (arith, e, one)
+
+  pub takes_two : span ≡ DIRECT_INDEXES → adds (with_entry name entry node.body) node.body ≡ 2
+  takes_two at = takes ∙ ap (λ (k : ℕ). k + 1 + cond (nat_lt DIRECT_INDEXES (k + 1)) 1 0
+      - (k + cond (nat_lt DIRECT_INDEXES k) 1 0)) at
 
   module _ (b : ℕ) (direct : List ℕ) (far : ℕ) (after : Image) (gained : List ℕ)
       (fills : Fills g base inode offset block b direct far after gained)

@@ -14,3 +14,4 @@ pub mod Spanned
 pub mod NumbersMore
 pub mod WideSlots
 pub mod GrownDirectory
+pub mod StoredGrowth
