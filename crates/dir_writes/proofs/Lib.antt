@@ -15,3 +15,4 @@ pub mod NumbersMore
 pub mod WideSlots
 pub mod GrownDirectory
 pub mod StoredGrowth
+pub mod GrownHolds
