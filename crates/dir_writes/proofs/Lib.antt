@@ -11,3 +11,8 @@ pub mod EnteredName
 pub mod UsedBytes
 pub mod EnteredHolds
 pub mod Spanned
+pub mod NumbersMore
+pub mod WideSlots
+pub mod GrownDirectory
+pub mod StoredGrowth
+pub mod GrownHolds

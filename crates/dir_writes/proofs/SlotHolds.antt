@@ -70,7 +70,7 @@ append_none [] = refl
 append_none (x ∷ xs) = ap (λ l. x ∷ l) (append_none xs)
 
 -- bytes in the place of as many
-whole_spliced : (content bytes : List ℕ) → length content ≡ length bytes → spliced content 0 bytes ≡ bytes
+pub whole_spliced : (content bytes : List ℕ) → length content ≡ length bytes → spliced content 0 bytes ≡ bytes
 whole_spliced content bytes same =
     (λ i. take_none content i ++ bytes ++ drop_all (0 + length bytes) content (same ∙ plus (length bytes)) i)
     ∙ append_none bytes

@@ -10,7 +10,7 @@ use Rattle.layout.specs.declared.geometry.Geometry.{Geometry}
 use Rattle.layout.specs.declared.inode.Inode.{Inode}
 use Rattle.layout.specs.declared.inode.InodeKind.{InodeKind}
 use Rattle.layout.specs.declared.inode.InodeKind.TheVariants as kinds
-use Rattle.layout.specs.Decode.{body_of, directory_in, span_of}
+use Rattle.layout.specs.Decode.{body_of, node_with, span_of}
 use Rattle.layout.specs.Parts.{content_in}
 use Rattle.inode.specs.declared.snap.Snap.{Snap}
 use Rattle.inode.specs.Over.{HasInode}
@@ -26,6 +26,11 @@ module _ (snap : Snap) (image : Image) (tree : Tree) (n : ℕ) (inode : Inode) (
   body_there =
       ap (λ (o : Option Node). (unwrap_or o node).body)
       (sym was ∙ held.there snap image tree n (Some inode) has.less has.there has.over)
+
+  pub node_there : node_with inode (body_of g.inodes (content_in g image) inode.kind inode) ≡ node
+  node_there =
+      ap (λ (o : Option Node). unwrap_or o node)
+      (sym (held.there snap image tree n (Some inode) has.less has.there has.over) ∙ was)
 
   spans_by : (kind : InodeKind) → kind ≡ kinds.Directory
       → spanned (body_of g.inodes (content_in g image) kind inode) ≡ span_of inode

@@ -2,6 +2,7 @@
 #![tactic(auto)]
 
 mod entering;
+mod growing;
 mod laws;
 mod losing;
 mod slotting;
