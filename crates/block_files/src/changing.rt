@@ -7,6 +7,7 @@ use crate::drafted::DraftFiles;
 use crate::making::{make, new_number};
 use crate::setting::set;
 use crate::sizing::resize;
+use crate::writing::write;
 use files::{ChangingFiles, Entry, Head};
 use inode::Stop;
 use inode_writes::remove;
@@ -53,12 +54,12 @@ impl<'a> ChangingFiles for DraftFiles<'a> {
 
     fn write(
         &mut self,
-        _alloc: Global,
-        _head: &Head,
-        _offset: u64,
-        _text: &[u8],
+        alloc: Global,
+        head: &Head,
+        offset: u64,
+        text: &[u8],
     ) -> Result<Head, Stop> {
-        Err(Stop::NoMemory)
+        write(alloc, &mut self.draft, head, offset, text)
     }
 
     fn resize(&mut self, head: &Head, size: u64) -> Result<Head, Stop> {

@@ -23,7 +23,7 @@ pub use entering::enter;
 pub use heads::head_of;
 pub use inode_writes::remove;
 pub use making::{make, new_number};
+pub use refreshing::refresh;
 pub use setting::set;
 pub use sizing::resize;
-pub use refreshing::refresh;
 pub use writing::write;
