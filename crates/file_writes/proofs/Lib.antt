@@ -10,3 +10,4 @@ pub mod Whole
 pub mod MappedFile
 pub mod Adjoining
 pub mod Steps
+pub mod FilledUp
