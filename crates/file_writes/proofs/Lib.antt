@@ -8,3 +8,5 @@ pub mod Stored
 pub mod MappedFile
 pub mod Costs
 pub mod Whole
+pub mod Adjoining
+pub mod Steps

@@ -1,11 +1,11 @@
 -- What is to be written to a regular file, and what the tree is then.
-use Rattle.std.specs.Prelude.{◌≡◌, ℕ, ◌/◌, ◌%◌, List, get_or, cond}
+use Rattle.std.specs.Prelude.{◌≡◌, ℕ, ◌/◌, ◌%◌, List, Some}
 use Rattle.limits.specs.declared.TheConstants.{BLOCK_BYTES}
 use Rattle.disk.specs.Crash.{Image}
 use Rattle.nfs_types.specs.Fits.{AreBytes}
 use Rattle.objects.specs.Spliced.{spliced}
 use Rattle.model.specs.Node.{Node}
-use Rattle.model.specs.Tree.{Tree, with_node}
+use Rattle.model.specs.Tree.{Tree, node_at, with_node}
 use Rattle.procedures.specs.Write.{with_text}
 use Rattle.layout.specs.declared.geometry.Geometry.{Geometry}
 use Rattle.layout.specs.declared.inode.Inode.{Inode}
@@ -13,6 +13,7 @@ use Rattle.layout.specs.Decode.{content_of, node_with, numbers_of}
 use Rattle.layout.specs.Parts.{content_in}
 use Rattle.inode.specs.Over.{number_at}
 use Rattle.inode.specs.Shown.{body_in}
+use Rattle.drafts.specs.Drafted.{Drafted, IsDraft}
 use Rattle.file_writes.specs.Filling.{HasRegular, IsPiece, grown_size}
 
 -- A piece is to be written to the file of this inode: these are the bytes of its block with the piece, and this
@@ -34,3 +35,10 @@ node_written g image inode offset piece = node_with inode (with_text offset piec
 -- the node with the bytes in it
 abbrev pub rewritten : ℕ → List ℕ → Node → Node
 rewritten offset text node = record node { body = with_text offset text node.body }
+
+-- with what was written the blocks hold the tree in which a file has these bytes in it
+pub record WritesText (draft : Drafted) (blocks : Image) (tree : Tree) (number offset : ℕ) (text : List ℕ) : Type 0
+  where
+    pub node : Node
+    pub was : node_at tree number ≡ Some node
+    pub is : IsDraft draft blocks (with_node tree number (rewritten offset text node))

@@ -5,7 +5,9 @@ mod blocks;
 mod inodes;
 mod mapping;
 mod pieces;
+mod writing;
 
 pub use blocks::{put_block, with_piece};
 pub use inodes::{led_far, naming, sized, store, store_far};
 pub use pieces::write_piece;
+pub use writing::write;

@@ -1,5 +1,5 @@
 //! A block of a file with new bytes in it, where it lies or in a free one.
-ghost use Rattle.std.specs.Prelude.{ℕ, ◌≡◌, ◌+◌, ◌-◌, ◌/◌, ◌<◌, ◌≤◌, List, length, nat_eq, true, false, IfErr, OnOk};
+ghost use Rattle.std.specs.Prelude.{ℕ, ◌≡◌, ◌+◌, ◌-◌, ◌/◌, ◌<◌, ◌≤◌, List, length, nat_eq, true, IfErr, IfOk, OnOk};
 ghost use Rattle.limits.specs.declared.TheConstants.{BLOCK_BYTES, DIRECT_INDEXES, FILE_INDEXES};
 ghost use Rattle.disk.specs.Crash.{Image};
 ghost use Rattle.model.specs.Tree.{Tree, free, with_node};
@@ -44,7 +44,8 @@ pub(crate) fn rewrite(
     store(alloc, draft, number, block, bytes, &sized(inode, size))
 }
 
-/// Writes the bytes of a block to a free one, which the inode names from then on.
+/// Writes the bytes of a block to a free one, which the inode names from then on. Where none is free it isn't
+/// done (false).
 pub(crate) fn map_near(
     alloc: Global,
     draft: &mut Draft,
@@ -53,17 +54,19 @@ pub(crate) fn map_near(
     index: usize,
     bytes: Vec<u8>,
     size: u64,
-) -> Result<(), Stop>
+) -> Result<bool, Stop>
     requires near { index < DIRECT_INDEXES }
     requires len { length bytes.items ≡ BLOCK_BYTES }
-    ensures ok { OnOk result ((blocks : Image) (tree : Tree) (offset : ℕ) (piece : List ℕ)
-        → IsDraft draft.old blocks tree
+    ensures ok { IfOk result (λ done. done ≡ true
+        → (blocks : Image) (tree : Tree) (offset : ℕ) (piece : List ℕ) → IsDraft draft.old blocks tree
         → IsWrite draft.old.there.geometry (image_of blocks draft.old) tree number inode.now offset piece
         bytes.items size → index ≡ offset / BLOCK_BYTES
         → nat_eq (number_at draft.old.there.geometry (image_of blocks draft.old) inode.now (offset / BLOCK_BYTES)) 0
-        ≡ true → 1 ≤ free tree
+        ≡ true
         → IsDraft draft.new blocks (with_node tree number
         (node_written draft.old.there.geometry (image_of blocks draft.old) inode.now offset piece))) }
+    ensures room { IfOk result (λ done. (blocks : Image) (tree : Tree) → IsDraft draft.old blocks tree
+        → 1 ≤ free tree → done ≡ true) }
     ensures seen { draft.new.seen ≡ draft.old.seen }
     ensures spent { spent draft.new ≤ spent draft.old + 2 }
     ensures err { IfErr result (λ stop. MayStop draft.old.seen stop) }
@@ -73,14 +76,18 @@ pub(crate) fn map_near(
     match take_block(alloc, draft) {
         Ok(Some(block)) => {
             let named = naming(inode, size, index, block);
-            store(alloc, draft, number, block, bytes, &named)
+            match store(alloc, draft, number, block, bytes, &named) {
+                Ok(()) => Ok(true),
+                Err(stop) => Err(stop),
+            }
         }
-        Ok(None) => Ok(()),
+        Ok(None) => Ok(false),
         Err(stop) => Err(stop),
     }
 }
 
 /// Writes the bytes of a block to a free one, which the indirect block names from then on.
+/// Where none is free it isn't done (false).
 pub(crate) fn map_far(
     alloc: Global,
     draft: &mut Draft,
@@ -89,19 +96,21 @@ pub(crate) fn map_far(
     index: usize,
     bytes: Vec<u8>,
     size: u64,
-) -> Result<(), Stop>
+) -> Result<bool, Stop>
     requires far { is_data draft.old.there.geometry inode.now.indirect ≡ true }
     requires past { DIRECT_INDEXES ≤ index }
     requires within { index < FILE_INDEXES }
     requires len { length bytes.items ≡ BLOCK_BYTES }
-    ensures ok { OnOk result ((blocks : Image) (tree : Tree) (offset : ℕ) (piece : List ℕ)
-        → IsDraft draft.old blocks tree
+    ensures ok { IfOk result (λ done. done ≡ true
+        → (blocks : Image) (tree : Tree) (offset : ℕ) (piece : List ℕ) → IsDraft draft.old blocks tree
         → IsWrite draft.old.there.geometry (image_of blocks draft.old) tree number inode.now offset piece
         bytes.items size → index ≡ offset / BLOCK_BYTES
         → nat_eq (number_at draft.old.there.geometry (image_of blocks draft.old) inode.now (offset / BLOCK_BYTES)) 0
-        ≡ true → 1 ≤ free tree
+        ≡ true
         → IsDraft draft.new blocks (with_node tree number
         (node_written draft.old.there.geometry (image_of blocks draft.old) inode.now offset piece))) }
+    ensures room { IfOk result (λ done. (blocks : Image) (tree : Tree) → IsDraft draft.old blocks tree
+        → 1 ≤ free tree → done ≡ true) }
     ensures seen { draft.new.seen ≡ draft.old.seen }
     ensures spent { spent draft.new ≤ spent draft.old + 3 }
     ensures err { IfErr result (λ stop. MayStop draft.old.seen stop) }
@@ -117,14 +126,19 @@ pub(crate) fn map_far(
             let place = 4 * (index - DIRECT_INDEXES);
             let numbers = with_piece(alloc, &old, place, &block.to_le_bytes())?;
             let same = sized(inode, size);
-            store_far(alloc, draft, number, inode.indirect, numbers, block, bytes, &same)
+            let indirect = inode.indirect;
+            match store_far(alloc, draft, number, indirect, numbers, block, bytes, &same) {
+                Ok(()) => Ok(true),
+                Err(stop) => Err(stop),
+            }
         }
-        Ok(None) => Ok(()),
+        Ok(None) => Ok(false),
         Err(stop) => Err(stop),
     }
 }
 
-/// Writes the bytes of a block to a free one, which another free one names, the indirect block from then on.
+/// Writes the bytes of a block to a free one, which another free one names, the indirect block
+/// from then on. Where no two are free it isn't done (false).
 pub(crate) fn map_first(
     alloc: Global,
     draft: &mut Draft,
@@ -133,19 +147,21 @@ pub(crate) fn map_first(
     index: usize,
     bytes: Vec<u8>,
     size: u64,
-) -> Result<(), Stop>
+) -> Result<bool, Stop>
     requires none { nat_eq inode.now.indirect 0 ≡ true }
     requires past { DIRECT_INDEXES ≤ index }
     requires within { index < FILE_INDEXES }
     requires len { length bytes.items ≡ BLOCK_BYTES }
-    ensures ok { OnOk result ((blocks : Image) (tree : Tree) (offset : ℕ) (piece : List ℕ)
-        → IsDraft draft.old blocks tree
+    ensures ok { IfOk result (λ done. done ≡ true
+        → (blocks : Image) (tree : Tree) (offset : ℕ) (piece : List ℕ) → IsDraft draft.old blocks tree
         → IsWrite draft.old.there.geometry (image_of blocks draft.old) tree number inode.now offset piece
         bytes.items size → index ≡ offset / BLOCK_BYTES
         → nat_eq (number_at draft.old.there.geometry (image_of blocks draft.old) inode.now (offset / BLOCK_BYTES)) 0
-        ≡ true → 2 ≤ free tree
+        ≡ true
         → IsDraft draft.new blocks (with_node tree number
         (node_written draft.old.there.geometry (image_of blocks draft.old) inode.now offset piece))) }
+    ensures room { IfOk result (λ done. (blocks : Image) (tree : Tree) → IsDraft draft.old blocks tree
+        → 2 ≤ free tree → done ≡ true) }
     ensures seen { draft.new.seen ≡ draft.old.seen }
     ensures spent { spent draft.new ≤ spent draft.old + 3 }
     ensures err { IfErr result (λ stop. MayStop draft.old.seen stop) }
@@ -154,7 +170,7 @@ pub(crate) fn map_first(
 {
     let block = match take_block(alloc, draft) {
         Ok(Some(block)) => block,
-        Ok(None) => return Ok(()),
+        Ok(None) => return Ok(false),
         Err(stop) => return Err(stop),
     };
     match take_block(alloc, draft) {
@@ -163,9 +179,12 @@ pub(crate) fn map_first(
             let zeros = [0; BLOCK_BYTES];
             let numbers = with_piece(alloc, &zeros, place, &block.to_le_bytes())?;
             let led = led_far(inode, size, far);
-            store_far(alloc, draft, number, far, numbers, block, bytes, &led)
+            match store_far(alloc, draft, number, far, numbers, block, bytes, &led) {
+                Ok(()) => Ok(true),
+                Err(stop) => Err(stop),
+            }
         }
-        Ok(None) => Ok(()),
+        Ok(None) => Ok(false),
         Err(stop) => Err(stop),
     }
 }

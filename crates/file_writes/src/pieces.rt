@@ -1,5 +1,5 @@
 //! Pieces of bytes, each of which lies in one block of a regular file.
-ghost use Rattle.std.specs.Prelude.{ℕ, ◌≡◌, ◌+◌, ◌-◌, ◌/◌, ◌%◌, ◌<◌, ◌≤◌, List, length, max, true, Some, IfErr, OnOk};
+ghost use Rattle.std.specs.Prelude.{ℕ, ◌≡◌, ◌+◌, ◌-◌, ◌/◌, ◌%◌, ◌<◌, ◌≤◌, List, length, max, true, Some, IfErr, IfOk};
 ghost use Rattle.limits.specs.declared.TheConstants.{BLOCK_BYTES, FILE_INDEXES, LARGEST_FILE};
 ghost use Rattle.disk.specs.Crash.{Image};
 ghost use Rattle.model.specs.Cost.{cost};
@@ -11,7 +11,7 @@ ghost use Rattle.inode.specs.Over.{IsPause, MayStop, number_at};
 ghost use Rattle.inode.specs.Shown.{body_in};
 ghost use Rattle.drafts.specs.Drafted.{IsDraft, image_of, spent};
 ghost use Rattle.file_writes.specs.Filling.{HasRegular};
-ghost use Rattle.file_writes.specs.Written.{IsWrite, node_written, rewritten};
+ghost use Rattle.file_writes.specs.Written.{IsWrite, WritesText, node_written};
 
 use crate::blocks::filled;
 use crate::mapping::{map_far, map_first, map_near, rewrite};
@@ -28,7 +28,7 @@ fn greater(size: u64, end: u64) -> u64
     if size < end { end } else { size }
 }
 
-// Puts the bytes of a block where the file has it, or in a free one.
+// Puts the bytes of a block where the file has it, or in a free one. It is done if there is room.
 fn place(
     alloc: Global,
     draft: &mut Draft,
@@ -38,19 +38,25 @@ fn place(
     block: u32,
     bytes: Vec<u8>,
     size: u64,
-) -> Result<(), Stop>
+) -> Result<bool, Stop>
     requires within { index < FILE_INDEXES }
     requires placed { is_data_block_or_none draft.old.there.geometry block ≡ true }
     requires len { length bytes.items ≡ BLOCK_BYTES }
-    ensures ok { OnOk result ((blocks : Image) (tree : Tree) (offset : ℕ) (piece : List ℕ)
+    ensures ok { IfOk result (λ done. done ≡ true
+        → (blocks : Image) (tree : Tree) (offset : ℕ) (piece : List ℕ) → IsDraft draft.old blocks tree
+        → IsWrite draft.old.there.geometry (image_of blocks draft.old) tree number inode.now offset piece
+        bytes.items size → index ≡ offset / BLOCK_BYTES
+        → block ≡ number_at draft.old.there.geometry (image_of blocks draft.old) inode.now (offset / BLOCK_BYTES)
+        → IsDraft draft.new blocks (with_node tree number
+        (node_written draft.old.there.geometry (image_of blocks draft.old) inode.now offset piece))) }
+    ensures room { IfOk result (λ done. (blocks : Image) (tree : Tree) (offset : ℕ) (piece : List ℕ)
         → IsDraft draft.old blocks tree
         → IsWrite draft.old.there.geometry (image_of blocks draft.old) tree number inode.now offset piece
         bytes.items size → index ≡ offset / BLOCK_BYTES
         → block ≡ number_at draft.old.there.geometry (image_of blocks draft.old) inode.now (offset / BLOCK_BYTES)
         → cost (with_text offset piece (body_in draft.old.there.geometry (image_of blocks draft.old) inode.now))
         - cost (body_in draft.old.there.geometry (image_of blocks draft.old) inode.now) ≤ free tree
-        → IsDraft draft.new blocks (with_node tree number
-        (node_written draft.old.there.geometry (image_of blocks draft.old) inode.now offset piece))) }
+        → done ≡ true) }
     ensures seen { draft.new.seen ≡ draft.old.seen }
     ensures spent { spent draft.new ≤ spent draft.old + 3 }
     ensures err { IfErr result (λ stop. MayStop draft.old.seen stop) }
@@ -59,7 +65,10 @@ fn place(
         → is_data_block_or_none draft.old.there.geometry inode.now.indirect ≡ true → IsPause stop) }
 {
     if block != 0 {
-        return rewrite(alloc, draft, number, inode, block, bytes, size);
+        return match rewrite(alloc, draft, number, inode, block, bytes, size) {
+            Ok(()) => Ok(true),
+            Err(stop) => Err(stop),
+        };
     }
     if index < DIRECT_INDEXES {
         return map_near(alloc, draft, number, inode, index, bytes, size);
@@ -81,16 +90,19 @@ fn write_in(
     inode: &Inode,
     offset: u64,
     piece: &[u8],
-) -> Result<(), Stop>
+) -> Result<bool, Stop>
     requires some { 0 < length piece.now }
     requires within { offset % BLOCK_BYTES + length piece.now ≤ BLOCK_BYTES }
     requires small { offset + length piece.now ≤ LARGEST_FILE }
-    ensures ok { OnOk result ((blocks : Image) (tree : Tree) → IsDraft draft.old blocks tree
+    ensures ok { IfOk result (λ done. done ≡ true → (blocks : Image) (tree : Tree) → IsDraft draft.old blocks tree
+        → HasRegular draft.old.there.geometry (image_of blocks draft.old) tree number inode.now
+        → IsDraft draft.new blocks (with_node tree number
+        (node_written draft.old.there.geometry (image_of blocks draft.old) inode.now offset piece.now))) }
+    ensures room { IfOk result (λ done. (blocks : Image) (tree : Tree) → IsDraft draft.old blocks tree
         → HasRegular draft.old.there.geometry (image_of blocks draft.old) tree number inode.now
         → cost (with_text offset piece.now (body_in draft.old.there.geometry (image_of blocks draft.old) inode.now))
         - cost (body_in draft.old.there.geometry (image_of blocks draft.old) inode.now) ≤ free tree
-        → IsDraft draft.new blocks (with_node tree number
-        (node_written draft.old.there.geometry (image_of blocks draft.old) inode.now offset piece.now))) }
+        → done ≡ true) }
     ensures seen { draft.new.seen ≡ draft.old.seen }
     ensures spent { spent draft.new ≤ spent draft.old + 3 }
     ensures err { IfErr result (λ stop. MayStop draft.old.seen stop) }
@@ -110,22 +122,23 @@ fn write_in(
     }
 }
 
-/// Writes bytes that lie in one block to a regular file, where there is room for what they take. To a file that
-/// is no regular one nothing is done.
+/// Writes bytes that lie in one block to a regular file; to another nothing is done. It isn't done (false) where
+/// there is no room for what they take, and where there is no file.
 pub fn write_piece(
     alloc: Global,
     draft: &mut Draft,
     number: u32,
     offset: u64,
     piece: &[u8],
-) -> Result<(), Stop>
+) -> Result<bool, Stop>
     requires some { 0 < length piece.now }
     requires within { offset % BLOCK_BYTES + length piece.now ≤ BLOCK_BYTES }
     requires small { offset + length piece.now ≤ LARGEST_FILE }
-    ensures ok { OnOk result ((blocks : Image) (tree : Tree) (node : Node) → IsDraft draft.old blocks tree
-        → node_at tree number ≡ Some node
-        → cost (with_text offset piece.now node.body) - cost node.body ≤ free tree
-        → IsDraft draft.new blocks (with_node tree number (rewritten offset piece.now node))) }
+    ensures ok { IfOk result (λ done. done ≡ true → (blocks : Image) (tree : Tree) → IsDraft draft.old blocks tree
+        → WritesText draft.new blocks tree number offset piece.now) }
+    ensures room { IfOk result (λ done. (blocks : Image) (tree : Tree) (node : Node)
+        → IsDraft draft.old blocks tree → node_at tree number ≡ Some node
+        → cost (with_text offset piece.now node.body) - cost node.body ≤ free tree → done ≡ true) }
     ensures seen { draft.new.seen ≡ draft.old.seen }
     ensures spent { spent draft.new ≤ spent draft.old + 3 }
     ensures err { IfErr result (λ stop. MayStop draft.old.seen stop) }
@@ -135,10 +148,10 @@ pub fn write_piece(
     match held(draft.there(), number) {
         Ok(Some(inode)) => match inode.kind {
             InodeKind::Regular => write_in(alloc, draft, number, &inode, offset, piece),
-            InodeKind::Directory => Ok(()),
-            InodeKind::Link => Ok(()),
+            InodeKind::Directory => Ok(true),
+            InodeKind::Link => Ok(true),
         },
-        Ok(None) => Ok(()),
+        Ok(None) => Ok(false),
         Err(stop) => Err(stop),
     }
 }

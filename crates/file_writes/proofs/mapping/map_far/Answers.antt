@@ -8,7 +8,7 @@ use Rattle.layout.specs.Parts.{content_in, put, with_bytes, with_inode}
 use Rattle.inode.specs.declared.snap.Snap.{Snap}
 use Rattle.inode.specs.Over.{IsOver}
 use Rattle.drafts.specs.Drafted.{Shows, image_of}
-use Rattle.drafts.proofs.PutThere.{both_ok, moved_draft, over_of}
+use Rattle.drafts.proofs.PutThere.{moved_draft, over_of}
 use Rattle.bitmap.specs.NewBlock.{HasTaken}
 use Rattle.bitmap.proofs.NewBlocks.{none_taken}
 use Rattle.file_writes.specs.Filling.{Fills, mapping}
@@ -19,8 +19,8 @@ use Rattle.file_writes.proofs.MappedFile.{as_mapped}
 use Rattle.file_writes.proofs.Stored.{content_are, named_are, stored_far}
 use Rattle.file_writes.proofs.mapping.map_far.Goals as goal
 
-pub returns-in_ok-numbers-in-Ok-Some-clause-ok : goal.returns-in_ok-numbers-in-Ok-Some-clause-ok
-returns-in_ok-numbers-in-Ok-Some-clause-ok c =
+pub returns-in-Ok-store_far-clause-ok : goal.returns-in-Ok-store_far-clause-ok
+returns-in-Ok-store_far-clause-ok c =
     let g = c.args.draft.now.there.geometry in
     let n = c.args.number in
     let inode = c.args.inode.now in
@@ -29,7 +29,7 @@ returns-in_ok-numbers-in-Ok-Some-clause-ok c =
     let bytes = c.args.bytes.items in
     let numbers = c.in_ok-numbers-in-Ok-Some.numbers.items in
     let size = c.args.size in
-    both_ok c.store_far.result (λ shows images blocks tree offset piece draft write at none room.
+    λ done blocks tree offset piece draft write at none.
     let base = image_of blocks c.args.draft.now in
     let middle = image_of blocks c.take_block.new.draft in
     let new = mapping inode size inode.direct far in
@@ -53,8 +53,8 @@ returns-in_ok-numbers-in-Ok-Some-clause-ok c =
     ≡ with_inode g image n new =
     λ i. with_inode (c.take_block.ensures.geometry i) image n (c.sized-same.ensures i) in
     moved_draft c.args.draft.now c.store_far.new.draft blocks (with_inode g image n new) _
-    (c.store_far.ensures.geometry ∙ c.take_block.ensures.geometry) (images blocks ∙ written)
-    (subst (Shows c.store_far.new.draft) written (shows middle seen))
+    (c.store_far.ensures.geometry ∙ c.take_block.ensures.geometry) (c.in-Ok-store_far.ensures.image blocks ∙ written)
+    (subst (Shows c.store_far.new.draft) written (c.in-Ok-store_far.ensures.shows middle seen))
     (stored_far g base tree n inode offset piece bytes size write (b ∷ []) middle taken
     (λ q low. seen.long q (subst (λ (s : Geometry). q < s.blocks) (sym c.take_block.ensures.geometry) low))
     c.requires.len b inode.direct far numbers
@@ -69,19 +69,18 @@ returns-in_ok-numbers-in-Ok-Some-clause-ok c =
     (subst (λ l. Fills g base inode offset piece b inode.direct far (put (put (content_in g base) far l) b bytes)
     (b ∷ [])) (sym named)
     (block_named_far g base tree n inode (as_mapped g base tree n inode write.has) offset piece write.fits b bytes taken.were_free.0 none
-    write.bytes_are (subst (λ k. DIRECT_INDEXES ≤ k) at c.requires.past) (not_zero g far c.requires.far)))))
-    c.store_far.ensures.shows c.store_far.ensures.image
+    write.bytes_are (subst (λ k. DIRECT_INDEXES ≤ k) at c.requires.past) (not_zero g far c.requires.far))))
 
-pub returns-in-Ok-None-clause-ok : goal.returns-in-Ok-None-clause-ok
-returns-in-Ok-None-clause-ok c = λ blocks tree offset piece draft write at none room.
+pub returns-in-Ok-None-clause-room : goal.returns-in-Ok-None-clause-room
+returns-in-Ok-None-clause-room c = λ blocks tree draft room.
     let g = c.args.draft.now.there.geometry in
     let base = image_of blocks c.args.draft.now in
     let full = rw c.in-Ok-None.field-0-is at
     (c.in-Ok-None.ensures.ok blocks base tree [] draft.shows (none_taken g base tree draft.holds)) in
     absurd (omega (arith, full, room))
 
-pub returns-in-Err-take_block-clause-pause : goal.returns-in-Err-take_block-clause-pause
-returns-in-Err-take_block-clause-pause c = λ blocks tree draft less.
+pub returns-clause-pause : goal.returns-clause-pause
+returns-clause-pause c = λ blocks tree draft less.
     let g = c.args.draft.now.there.geometry in
     let base = image_of blocks c.args.draft.now in
     c.in-Err-take_block.ensures.pause blocks base tree [] draft.shows (none_taken g base tree draft.holds)

@@ -9,7 +9,7 @@ use Rattle.layout.specs.declared.geometry.Geometry.{Geometry}
 use Rattle.layout.specs.Fields.{four_bytes}
 use Rattle.layout.specs.Parts.{content_in, put, with_bytes, with_inode}
 use Rattle.drafts.specs.Drafted.{IsDraft, Shows, image_of}
-use Rattle.drafts.proofs.PutThere.{both_ok, moved_draft}
+use Rattle.drafts.proofs.PutThere.{moved_draft}
 use Rattle.bitmap.specs.NewBlock.{HasTaken}
 use Rattle.bitmap.proofs.NewBlocks.{none_taken}
 use Rattle.file_writes.specs.Filling.{Fills, mapping}
@@ -19,8 +19,8 @@ use Rattle.file_writes.proofs.MappedFile.{as_mapped}
 use Rattle.file_writes.proofs.Stored.{named_are, stored_far, zeros_are}
 use Rattle.file_writes.proofs.mapping.map_first.Goals as goal
 
-pub returns-in-Ok-None-clause-ok : goal.returns-in-Ok-None-clause-ok
-returns-in-Ok-None-clause-ok c = λ blocks tree offset piece draft write at none room.
+pub returns-in-Ok-None-clause-room : goal.returns-in-Ok-None-clause-room
+returns-in-Ok-None-clause-room c = λ blocks tree draft room.
     let g = c.args.draft.now.there.geometry in
     let base = image_of blocks c.args.draft.now in
     let full = rw c.in-Ok-None.field-0-is at
@@ -33,8 +33,8 @@ returns-in-Err-clause-pause c = λ blocks tree draft less.
     let base = image_of blocks c.args.draft.now in
     c.in-Err.ensures.pause blocks base tree [] draft.shows (none_taken g base tree draft.holds)
 
-pub returns-in_ok-numbers-in-Ok-Some-take_block-clause-ok : goal.returns-in_ok-numbers-in-Ok-Some-take_block-clause-ok
-returns-in_ok-numbers-in-Ok-Some-take_block-clause-ok c =
+pub returns-in-Ok-clause-ok : goal.returns-in-Ok-clause-ok
+returns-in-Ok-clause-ok c =
     let g = c.args.draft.now.there.geometry in
     let n = c.args.number in
     let inode = c.args.inode.now in
@@ -45,7 +45,7 @@ returns-in_ok-numbers-in-Ok-Some-take_block-clause-ok c =
     let size = c.args.size in
     let geometry : c.take_block-2.new.draft.there.geometry ≡ g =
     c.take_block-2.ensures.geometry ∙ c.take_block.ensures.geometry in
-    both_ok c.store_far.result (λ shows images blocks tree offset piece draft write at none room.
+    λ done blocks tree offset piece draft write at none.
     let base = image_of blocks c.args.draft.now in
     let first = image_of blocks c.take_block.new.draft in
     let middle = image_of blocks c.take_block-2.new.draft in
@@ -70,8 +70,8 @@ returns-in_ok-numbers-in-Ok-Some-take_block-clause-ok c =
     ≡ with_inode g image n new =
     λ i. with_inode (geometry i) image n (c.led_far-led.ensures i) in
     moved_draft c.args.draft.now c.store_far.new.draft blocks (with_inode g image n new) _
-    (c.store_far.ensures.geometry ∙ geometry) (images blocks ∙ written)
-    (subst (Shows c.store_far.new.draft) written (shows middle seen))
+    (c.store_far.ensures.geometry ∙ geometry) (c.in-Ok.ensures.image blocks ∙ written)
+    (subst (Shows c.store_far.new.draft) written (c.in-Ok.ensures.shows middle seen))
     (stored_far g base tree n inode offset piece bytes size write (far ∷ b ∷ []) middle taken
     (λ q low. seen.long q (subst (λ (s : Geometry). q < s.blocks) (sym geometry) low))
     c.requires.len b inode.direct far numbers
@@ -85,11 +85,10 @@ returns-in_ok-numbers-in-Ok-Some-take_block-clause-ok c =
     (far ∷ b ∷ [])) (sym named)
     (block_named_first g base tree n inode (as_mapped g base tree n inode write.has) offset piece write.fits b bytes taken.were_free.1.0 none
     write.bytes_are (subst (λ k. DIRECT_INDEXES ≤ k) at c.requires.past) c.requires.none far
-    taken.were_free.0 taken.once))))
-    c.store_far.ensures.shows c.store_far.ensures.image
+    taken.were_free.0 taken.once)))
 
-pub returns-in-Ok-None-take_block-clause-ok : goal.returns-in-Ok-None-take_block-clause-ok
-returns-in-Ok-None-take_block-clause-ok c = λ blocks tree offset piece draft write at none room.
+pub returns-in-Ok-None-take_block-clause-room : goal.returns-in-Ok-None-take_block-clause-room
+returns-in-Ok-None-take_block-clause-room c = λ blocks tree draft room.
     let g = c.args.draft.now.there.geometry in
     let b = c.in-Ok-Some.block in
     let base = image_of blocks c.args.draft.now in

@@ -4,7 +4,7 @@ use Rattle.std.proofs.lemmas.Result.{IfErr-weaker}
 use Rattle.layout.specs.declared.geometry.Geometry.{Geometry}
 use Rattle.layout.specs.Parts.{with_bytes, with_inode}
 use Rattle.drafts.specs.Drafted.{Shows, image_of}
-use Rattle.drafts.proofs.PutThere.{both_ok, moved_draft}
+use Rattle.drafts.proofs.PutThere.{moved_draft}
 use Rattle.bitmap.specs.NewBlock.{HasTaken}
 use Rattle.bitmap.proofs.NewBlocks.{none_taken}
 use Rattle.file_writes.specs.Filling.{mapping}
@@ -13,15 +13,15 @@ use Rattle.file_writes.proofs.MappedFile.{as_mapped}
 use Rattle.file_writes.proofs.Stored.{stored}
 use Rattle.file_writes.proofs.mapping.map_near.Goals as goal
 
-pub returns-in-Ok-Some-clause-ok : goal.returns-in-Ok-Some-clause-ok
-returns-in-Ok-Some-clause-ok c =
+pub returns-in-Ok-clause-ok : goal.returns-in-Ok-clause-ok
+returns-in-Ok-clause-ok c =
     let g = c.args.draft.now.there.geometry in
     let n = c.args.number in
     let inode = c.args.inode.now in
     let b = c.in-Ok-Some.block in
     let bytes = c.args.bytes.items in
     let size = c.args.size in
-    both_ok c.store.result (λ shows images blocks tree offset piece draft write at none room.
+    λ done blocks tree offset piece draft write at none.
     let base = image_of blocks c.args.draft.now in
     let middle = image_of blocks c.take_block.new.draft in
     let direct = set inode.direct (offset / BLOCK_BYTES) b in
@@ -36,17 +36,16 @@ returns-in-Ok-Some-clause-ok c =
     ≡ with_inode g (with_bytes middle b 0 bytes) n new =
     λ i. with_inode (c.take_block.ensures.geometry i) (with_bytes middle b 0 bytes) n (named i) in
     moved_draft c.args.draft.now c.store.new.draft blocks (with_inode g (with_bytes middle b 0 bytes) n new) _
-    (c.store.ensures.geometry ∙ c.take_block.ensures.geometry) (images blocks ∙ written)
-    (subst (Shows c.store.new.draft) written (shows middle seen))
+    (c.store.ensures.geometry ∙ c.take_block.ensures.geometry) (c.in-Ok.ensures.image blocks ∙ written)
+    (subst (Shows c.store.new.draft) written (c.in-Ok.ensures.shows middle seen))
     (stored g base tree n inode offset piece bytes size write (b ∷ []) middle taken
     (λ q low. seen.long q (subst (λ (s : Geometry). q < s.blocks) (sym c.take_block.ensures.geometry) low))
     c.requires.len b direct inode.indirect
     (block_named g base tree n inode (as_mapped g base tree n inode write.has) offset piece write.fits b bytes taken.were_free.0 none
-    write.bytes_are (subst (λ k. k < DIRECT_INDEXES) at c.requires.near))))
-    c.store.ensures.shows c.store.ensures.image
+    write.bytes_are (subst (λ k. k < DIRECT_INDEXES) at c.requires.near)))
 
-pub returns-in-Ok-None-clause-ok : goal.returns-in-Ok-None-clause-ok
-returns-in-Ok-None-clause-ok c = λ blocks tree offset piece draft write at none room.
+pub returns-in-Ok-None-clause-room : goal.returns-in-Ok-None-clause-room
+returns-in-Ok-None-clause-room c = λ blocks tree draft room.
     let g = c.args.draft.now.there.geometry in
     let base = image_of blocks c.args.draft.now in
     let full = rw c.in-Ok-None.field-0-is at

@@ -1,54 +1,84 @@
 use Rattle.std.proofs.Common.{◌≡◌, ◌/◌, ◌%◌, refl, true, sym, ap, ◌∙◌, subst, List, ℕ, arith}
-use Rattle.std.proofs.lemmas.Result.{IfErr-weaker, on_ok_weaker}
+use Rattle.std.proofs.lemmas.Result.{IfErr-weaker}
 use Rattle.limits.specs.declared.TheConstants.{BLOCK_BYTES}
+use Rattle.disk.specs.Crash.{Image}
 use Rattle.nfs_types.specs.Fits.{AreBytes}
 use Rattle.objects.specs.Spliced.{spliced}
+use Rattle.model.specs.Tree.{Tree}
+use Rattle.layout.specs.declared.geometry.Geometry.{Geometry}
+use Rattle.layout.specs.declared.inode.Inode.{Inode}
 use Rattle.layout.specs.Decode.{content_of}
 use Rattle.layout.specs.InodeForm.{is_data_block_or_none}
 use Rattle.layout.specs.Parts.{content_in}
 use Rattle.inode.specs.declared.snap.Snap.{Snap}
 use Rattle.inode.specs.Over.{HasInode, IsOver, number_at}
-use Rattle.drafts.specs.Drafted.{image_of}
+use Rattle.drafts.specs.Drafted.{IsDraft, image_of}
 use Rattle.drafts.proofs.PutThere.{over_of}
+use Rattle.bitmap.proofs.OfResults.{mapped}
+use Rattle.file_writes.specs.Filling.{HasRegular}
 use Rattle.file_writes.specs.Written.{IsWrite}
 use Rattle.file_writes.proofs.Whole.{far_placed, filled_are, has_inode}
 use Rattle.file_writes.proofs.pieces.write_in.Goals as goal
 
+-- what is to be written
+module _ (c : goal.After-place) where
+  abbrev g : Geometry
+  g = c.args.draft.now.there.geometry
+
+  abbrev inode : Inode
+  inode = c.args.inode.now
+
+  abbrev base : Image → Image
+  base blocks = image_of blocks c.args.draft.now
+
+  block_is : (blocks : Image) (tree : Tree) → IsDraft c.args.draft.now blocks tree
+      → HasRegular g (base blocks) tree c.args.number inode
+      → c.in-Ok.block ≡ number_at g (base blocks) inode (c.args.offset / BLOCK_BYTES)
+  block_is blocks tree draft has =
+      let there = c.there.ensures.there in
+      subst (λ (s : Snap). c.in-Ok.block ≡ number_at s.geometry (base blocks) inode (c.args.offset / BLOCK_BYTES)) there
+      (c.in-Ok.ensures.ok (base blocks) tree c.args.number
+      (subst (λ (s : Snap). HasInode s (base blocks) tree c.args.number inode) (sym there)
+      (has_inode c.args.draft.now blocks tree c.args.number inode draft has)))
+
+  writes : (blocks : Image) (tree : Tree) → IsDraft c.args.draft.now blocks tree
+      → HasRegular g (base blocks) tree c.args.number inode
+      → IsWrite g (base blocks) tree c.args.number inode c.args.offset c.args.piece.now c.in-Ok-filled.bytes.items
+      c.greater-size.result
+  writes blocks tree draft has =
+      let there = c.there.ensures.there in
+      let again = c.there-2.ensures.there in
+      let block = c.in-Ok.block in
+      let from = c.args.offset % BLOCK_BYTES in
+      let piece = c.args.piece.now in
+      let bytes : c.in-Ok-filled.bytes.items ≡ spliced (content_of (content_in g (base blocks)) block) from piece =
+      subst (λ (s : Snap). c.in-Ok-filled.bytes.items
+      ≡ spliced (content_of (content_in s.geometry (base blocks)) block) from piece) again
+      (c.in-Ok-filled.ensures.are (base blocks) tree
+      (subst (λ (s : Snap). IsOver s (base blocks) tree) (sym again) (over_of c.args.draft.now blocks tree draft))) in
+      let placed = subst (λ (s : Snap). is_data_block_or_none s.geometry block ≡ true) there c.in-Ok.ensures.data in
+      record {
+        has = has;
+        fits = record { some = c.requires.some; within = c.requires.within; small = c.requires.small };
+        bytes_are = bytes
+            ∙ ap (λ k. spliced (content_of (content_in g (base blocks)) k) from piece) (block_is blocks tree draft has);
+        each = subst (λ (l : List ℕ). AreBytes l) (sym bytes)
+            (filled_are g (base blocks) tree draft.holds block from piece placed
+            (λ i. omega (arith, c.type_inv.piece i)));
+        size_is = c.greater-size.ensures;
+      }
+
 pub returns-in-Ok-filled-clause-ok : goal.returns-in-Ok-filled-clause-ok
 returns-in-Ok-filled-clause-ok c =
-    let g = c.args.draft.now.there.geometry in
-    let n = c.args.number in
-    let inode = c.args.inode.now in
-    let offset = c.args.offset in
-    let piece = c.args.piece.now in
-    let block = c.in-Ok.block in
-    let there = c.there.ensures.there in
-    let again = c.there-2.ensures.there in
-    on_ok_weaker c.place.result (λ leads blocks tree draft has room.
-    let base = image_of blocks c.args.draft.now in
-    let is : block ≡ number_at g base inode (offset / BLOCK_BYTES) =
-    subst (λ (s : Snap). block ≡ number_at s.geometry base inode (offset / BLOCK_BYTES)) there
-    (c.in-Ok.ensures.ok base tree n
-    (subst (λ (s : Snap). HasInode s base tree n inode) (sym there)
-    (has_inode c.args.draft.now blocks tree n inode draft has))) in
-    let bytes : c.in-Ok-filled.bytes.items ≡ spliced (content_of (content_in g base) block) (offset % BLOCK_BYTES) piece =
-    subst (λ (s : Snap). c.in-Ok-filled.bytes.items
-    ≡ spliced (content_of (content_in s.geometry base) block) (offset % BLOCK_BYTES) piece) again
-    (c.in-Ok-filled.ensures.are base tree
-    (subst (λ (s : Snap). IsOver s base tree) (sym again) (over_of c.args.draft.now blocks tree draft))) in
-    let placed = subst (λ (s : Snap). is_data_block_or_none s.geometry block ≡ true) there c.in-Ok.ensures.data in
-    let write : IsWrite g base tree n inode offset piece c.in-Ok-filled.bytes.items c.greater-size.result = record {
-      has = has;
-      fits = record { some = c.requires.some; within = c.requires.within; small = c.requires.small };
-      bytes_are = bytes
-          ∙ ap (λ k. spliced (content_of (content_in g base) k) (offset % BLOCK_BYTES) piece) is;
-      each = subst (λ (l : List ℕ). AreBytes l) (sym bytes)
-          (filled_are g base tree draft.holds block (offset % BLOCK_BYTES) piece placed
-          (λ i. omega (arith, c.type_inv.piece i)));
-      size_is = c.greater-size.ensures;
-    } in
-    leads blocks tree offset piece draft write refl is room)
-    c.place.ensures.ok
+    mapped _ _ (λ done leads yes blocks tree draft has.
+    leads yes blocks tree c.args.offset c.args.piece.now draft (writes c blocks tree draft has) refl
+    (block_is c blocks tree draft has)) c.place.result c.place.ensures.ok
+
+pub returns-in-Ok-filled-clause-room : goal.returns-in-Ok-filled-clause-room
+returns-in-Ok-filled-clause-room c =
+    mapped _ _ (λ done leads blocks tree draft has room.
+    leads blocks tree c.args.offset c.args.piece.now draft (writes c blocks tree draft has) refl
+    (block_is c blocks tree draft has) room) c.place.result c.place.ensures.room
 
 pub returns-in-Ok-filled-clause-pause : goal.returns-in-Ok-filled-clause-pause
 returns-in-Ok-filled-clause-pause c =
