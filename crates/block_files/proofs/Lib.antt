@@ -4,3 +4,4 @@ pub mod SetThere
 pub mod Drafts
 pub mod Departed
 pub mod EnteredThere
+pub mod Refreshed

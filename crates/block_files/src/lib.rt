@@ -7,12 +7,16 @@ mod departing;
 mod drafted;
 mod entering;
 mod heads;
+mod refreshing;
 mod setting;
 mod space;
+mod writing;
 
 pub use asking::BlockFiles;
 pub use departing::depart;
 pub use drafted::DraftFiles;
 pub use entering::enter;
 pub use heads::head_of;
+pub use refreshing::refresh;
 pub use setting::set;
+pub use writing::write;

@@ -36,11 +36,11 @@ count_more (x ∷ xs) (suc index) less none =
     let two = one_first x xs in
     let rest = count_more xs index (omega (arith, less)) none in omega (arith, one, two, rest)
 
-none_far : (k : ℕ) → list_any is_some (replicate k 0) ≡ false
+pub none_far : (k : ℕ) → list_any is_some (replicate k 0) ≡ false
 none_far zero = refl
 none_far (suc k) = none_far k
 
-drop_behind : (xs ys : List ℕ) → drop (length xs) (xs ++ ys) ≡ ys
+pub drop_behind : (xs ys : List ℕ) → drop (length xs) (xs ++ ys) ≡ ys
 drop_behind [] ys = refl
 drop_behind (x ∷ xs) ys = drop_behind xs ys
 

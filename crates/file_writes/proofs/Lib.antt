@@ -10,3 +10,4 @@ pub mod Costs
 pub mod Whole
 pub mod Adjoining
 pub mod Steps
+pub mod FilledUp

@@ -1,12 +1,14 @@
 //! Bytes that are written to regular files.
 #![tactic(auto)]
 
+mod adding;
 mod blocks;
 mod inodes;
 mod mapping;
 mod pieces;
 mod writing;
 
+pub use adding::unmapped;
 pub use blocks::{put_block, with_piece};
 pub use inodes::{led_far, naming, sized, store, store_far};
 pub use pieces::write_piece;
