@@ -2,6 +2,7 @@
 ghost use Rattle.std.specs.Prelude.{◌≡◌, ◌+◌, ◌<◌, ◌≤◌, length};
 ghost use Rattle.limits.specs.declared.TheConstants.{LARGEST_FILE};
 
+use crate::adding::unmapped;
 use crate::departing::depart;
 use crate::drafted::DraftFiles;
 use crate::making::{make, new_number};
@@ -26,8 +27,8 @@ impl<'a> ChangingFiles for DraftFiles<'a> {
         self.now().is_empty(file)
     }
 
-    fn unmapped(&self, _file: &Head, _offset: u64, _count: usize) -> Result<u32, Stop> {
-        Err(Stop::NoMemory)
+    fn unmapped(&self, file: &Head, offset: u64, count: usize) -> Result<u32, Stop> {
+        unmapped(&self.draft, file, offset, count)
     }
 
     fn new_number(&self) -> Result<Option<u32>, Stop> {

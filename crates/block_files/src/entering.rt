@@ -6,7 +6,7 @@ ghost use Rattle.model.specs.Names.{is_directory};
 ghost use Rattle.model.specs.Node.{Body, DirectoryEntry, Node};
 ghost use Rattle.model.specs.Tree.{Tree, free, node_at, with_node};
 ghost use Rattle.procedures.specs.Changes.{with_entry};
-ghost use Rattle.files.specs.Changing.{CanEnter, SoundHead, adds, headed, spanned};
+ghost use Rattle.files.specs.Changing.{CanEnter, SoundHead, adds, headed};
 ghost use Rattle.files.specs.Heads.{IsBodyOf, entry_of, node_of};
 ghost use Rattle.inode.specs.Over.{IsPause, MayStop};
 ghost use Rattle.drafts.specs.Drafted.{IsDraft, spent};
@@ -53,11 +53,10 @@ fn enter_there(
         → node_at tree head.now.number ≡ Some node → IsBodyOf head.now node.body
         → SoundHead tree.geometry.inodes head.now → CanEnter tree node.body name.now (entry_of entry)
         → adds (with_entry name.now (entry_of entry) node.body) node.body ≤ free tree
-        → entry.slot < SLOTS_PER_BLOCK * spanned node.body
         → IsDraft draft.new blocks (with_node tree head.now.number
         (node_of head.now (with_entry name.now (entry_of entry) node.body)))) }
     ensures seen { draft.new.seen ≡ draft.old.seen }
-    ensures spent { spent draft.new ≤ spent draft.old + 3 }
+    ensures spent { spent draft.new ≤ spent draft.old + 4 }
     ensures err { IfErr result (λ stop. MayStop draft.old.seen stop) }
     ensures pause { IfErr result (λ stop. (blocks : Image) (tree : Tree) → IsDraft draft.old blocks tree
         → IsPause stop) }
@@ -84,12 +83,11 @@ pub fn enter(
         → node_at tree head.now.number ≡ Some node → IsBodyOf head.now node.body
         → SoundHead tree.geometry.inodes head.now → CanEnter tree node.body name.now (entry_of entry)
         → adds (with_entry name.now (entry_of entry) node.body) node.body ≤ free tree
-        → entry.slot < SLOTS_PER_BLOCK * spanned node.body
         → (next ≡ headed head.now (with_entry name.now (entry_of entry) node.body))
         × IsDraft draft.new blocks (with_node tree head.now.number
         (node_of head.now (with_entry name.now (entry_of entry) node.body)))) }
     ensures seen { draft.new.seen ≡ draft.old.seen }
-    ensures spent { spent draft.new ≤ spent draft.old + 3 }
+    ensures spent { spent draft.new ≤ spent draft.old + 4 }
     ensures err { IfErr result (λ stop. MayStop draft.old.seen stop) }
     ensures pause { IfErr result (λ stop. (blocks : Image) (tree : Tree) → IsDraft draft.old blocks tree
         → IsPause stop) }

@@ -11,11 +11,11 @@ use Rattle.block_files.proofs.entering.enter_there.Goals as goal
 
 pub returns-in-Ok-Some-clause-ok : goal.returns-in-Ok-Some-clause-ok
 returns-in-Ok-Some-clause-ok c =
-    both_ok c.put_inode.result (λ shows images blocks tree node draft was fits sound can room less.
+    both_ok c.put_inode.result (λ shows images blocks tree node draft was fits sound can room.
     let head = c.args.head.now in
     let mid = c.enter.new.draft in
     let one = c.in-Ok-Some.inode in
-    let entered = c.in-Ok-Some.ensures.ok blocks tree node draft was can less in
+    let entered = c.in-Ok-Some.ensures.ok blocks tree node draft was can room in
     let spelled = c.attributed.ensures ∙ ap (attributed one) c.looks_of.ensures in
     entered_there mid c.put_inode.new.self blocks tree head node c.args.name.now c.args.entry.number c.args.entry.slot
     one c.put_inode.ensures.geometry
@@ -32,6 +32,6 @@ returns-in-Ok-Some-clause-pause c =
     c.put_inode.ensures.pause
 
 pub returns-in-Ok-None-clause-ok : goal.returns-in-Ok-None-clause-ok
-returns-in-Ok-None-clause-ok c = λ blocks tree node draft was fits sound can room less.
-    let some = (c.in-Ok-None.ensures.ok blocks tree node draft was can less).2 in
+returns-in-Ok-None-clause-ok c = λ blocks tree node draft was fits sound can room.
+    let some = (c.in-Ok-None.ensures.ok blocks tree node draft was can room).2 in
     let clash : false ≡ true = (rw c.in-Ok-None.field-0-is at some) in cc
