@@ -5,6 +5,7 @@ ghost use Rattle.limits.specs.declared.TheConstants.{LARGEST_FILE};
 use crate::adding::unmapped;
 use crate::departing::depart;
 use crate::drafted::DraftFiles;
+use crate::entering::enter;
 use crate::making::{make, new_number};
 use crate::setting::set;
 use crate::sizing::resize;
@@ -45,12 +46,12 @@ impl<'a> ChangingFiles for DraftFiles<'a> {
 
     fn enter(
         &mut self,
-        _alloc: Global,
-        _head: &Head,
-        _name: &[u8],
-        _entry: Entry,
+        alloc: Global,
+        head: &Head,
+        name: &[u8],
+        entry: Entry,
     ) -> Result<Head, Stop> {
-        Err(Stop::NoMemory)
+        enter(alloc, &mut self.draft, head, name, entry)
     }
 
     fn write(
