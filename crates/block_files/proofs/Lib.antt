@@ -4,5 +4,6 @@ pub mod SetThere
 pub mod Drafts
 pub mod Departed
 pub mod MadeThere
+pub mod EnteredThere
 pub mod SizedThere
 pub mod Refreshed

@@ -3,11 +3,14 @@
 
 mod adding;
 mod asking;
+mod changing;
 mod contents;
 mod departing;
 mod drafted;
+mod entering;
 mod heads;
 mod making;
+mod naming;
 mod refreshing;
 mod setting;
 mod sizing;
@@ -18,6 +21,7 @@ pub use adding::unmapped;
 pub use asking::BlockFiles;
 pub use departing::depart;
 pub use drafted::DraftFiles;
+pub use entering::enter;
 pub use heads::head_of;
 pub use inode_writes::remove;
 pub use making::{make, new_number};
