@@ -1,4 +1,4 @@
-use Rattle.std.proofs.Common.{◌≡◌, sym, ap, ◌∙◌, subst, Some}
+use Rattle.std.proofs.Common.{◌≡◌, ◌∙◌, subst, Some}
 use Rattle.model.specs.Node.{Body}
 use Rattle.model.specs.Tree.{node_at, with_node}
 use Rattle.procedures.specs.Rename.{with_parent}
