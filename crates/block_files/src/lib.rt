@@ -1,6 +1,7 @@
 //! The files on the blocks of an image, as far as these were read.
 #![tactic(auto)]
 
+mod adding;
 mod asking;
 mod contents;
 mod departing;
@@ -12,6 +13,7 @@ mod setting;
 mod space;
 mod writing;
 
+pub use adding::unmapped;
 pub use asking::BlockFiles;
 pub use departing::depart;
 pub use drafted::DraftFiles;
