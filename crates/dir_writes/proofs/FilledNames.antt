@@ -1,5 +1,5 @@
 -- A directory of which a slot got a name.
-use Rattle.std.proofs.Common.{◌≡◌, ℕ, ◌*◌, ◌<◌, ◌≤◌, inl, inr, sym, ap, ◌∙◌, List, length, Option, Some, None, Ok, arith}
+use Rattle.std.proofs.Common.{◌≡◌, ℕ, ◌*◌, ◌<◌, ◌≤◌, inl, inr, sym, ap, ◌∙◌, List, length, Some, None, Ok, arith}
 use Rattle.std.specs.Cmp.Lexicographic.{nat_list_cmp_total, slice_cmp}
 use Rattle.std.specs.FinMap.{find, from_entries, get, get-from_entries, insert}
 use Rattle.std.specs.Ordering.{nat_cmp}
