@@ -2,7 +2,7 @@
 -- all that were free are taken.
 use Rattle.std.proofs.Common.{◌≡◌, ℕ, zero, suc, ◌+◌, ◌*◌, ◌<◌, ◌≤◌, inl, inr, sym, ap, ◌∙◌, refl, subst}
 use Rattle.std.proofs.Common.{Bool, true, false, cond, not, List, [], ◌∷◌, length}
-use Rattle.std.proofs.Common.{◌||◌, ◌&&◌, nat_eq, nat_lt, nat_le, sum_by, count_by, Option, Some, None, arith}
+use Rattle.std.proofs.Common.{◌||◌, ◌&&◌, nat_eq, nat_lt, nat_le, sum_by, Option, Some, None, arith}
 use Rattle.std.specs.List.{AllByRecursion, list_any, range_with_len}
 use Rattle.std.proofs.lemmas.Bool.{cases_eq, eq-eqb, lt-ltb, leb-false}
 use Rattle.std.proofs.lemmas.Bool.Decides.{nat_tests}
@@ -13,7 +13,7 @@ use Rattle.model.specs.Tree.{Tree, free}
 use Rattle.layout.specs.declared.geometry.Geometry.{Geometry}
 use Rattle.layout.specs.Geometry.{bitmap_blocks, data_at}
 use Rattle.layout.specs.Holds.{Holds}
-use Rattle.layout.specs.Owners.{is_marked_block, owned}
+use Rattle.layout.specs.Owners.{owned}
 use Rattle.layout.specs.Parts.{Parts, bit_at, parts_of, put}
 use Rattle.layout.specs.Places.{is_data}
 use Rattle.layout.proofs.OnGrid.{data_within}
@@ -22,7 +22,7 @@ use Rattle.drafts.proofs.Marks.{clear_is_free, times}
 use Rattle.bitmap.specs.Bits.{IsClearOf, MarksBlock}
 use Rattle.bitmap.specs.NewBlock.{HasTaken, IsFreeBlock, IsNewBlock, marking}
 use Rattle.bitmap.proofs.FreeBits.{free_blocks}
-use Rattle.bitmap.proofs.Ranges.{both_sums, met_once, nothing, one_if, same_sums}
+use Rattle.bitmap.proofs.Ranges.{met_once, one_if}
 
 -- ---- sums
 

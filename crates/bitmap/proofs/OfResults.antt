@@ -1,5 +1,5 @@
 -- What holds of a result.
-use Rattle.std.proofs.Common.{◌≡◌, IfOk, OnOk, Option, Some, Result, Ok, Err, ℕ}
+use Rattle.std.proofs.Common.{IfOk, OnOk, Result, Ok, Err}
 
 -- what holds of a result that is there, something else does too
 pub mapped : {A E : Type 0} (P Q : A → Type 0) → ((x : A) → P x → Q x) → (r : Result A E)

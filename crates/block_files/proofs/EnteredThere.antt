@@ -1,20 +1,18 @@
 -- A directory that got a name and then the attributes of a head.
-use Rattle.std.proofs.Common.{◌≡◌, ℕ, suc, ◌+◌, ◌*◌, ◌/◌, ◌<◌, ◌≤◌, max, inl, inr, sym, ap, ◌∙◌, refl, subst, Bool, true}
+use Rattle.std.proofs.Common.{◌≡◌, ℕ, suc, ◌+◌, ◌*◌, ◌/◌, ◌<◌, ◌≤◌, max, sym, ap, ◌∙◌, refl, subst, true}
 use Rattle.std.proofs.Common.{cond, nat_lt, List, Ok, Some, arith}
 use Rattle.std.specs.FinMap.{insert}
 use Rattle.limits.specs.declared.TheConstants.{BLOCK_BYTES, DIRECT_INDEXES, SLOTS_PER_BLOCK}
 use Rattle.disk.specs.Crash.{Image}
-use Rattle.model.specs.Cost.{cost}
 use Rattle.model.specs.Names.{is_directory}
 use Rattle.model.specs.Node.{Body, DirectoryEntry, Node}
 use Rattle.model.specs.Node as model
-use Rattle.model.specs.Tree.{Tree, node_at, with_node}
+use Rattle.model.specs.Tree.{Tree, with_node}
 use Rattle.procedures.specs.Changes.{with_entry}
 use Rattle.procedures.specs.Rename.{with_parent}
 use Rattle.files.specs.declared.head.Head.{Head}
 use Rattle.files.specs.Changing.{SoundHead, headed}
 use Rattle.files.specs.Heads.{IsBodyOf, node_of}
-use Rattle.layout.specs.declared.geometry.Geometry.{Geometry}
 use Rattle.layout.specs.declared.inode.Inode.{Inode}
 use Rattle.layout.specs.Decode.{inode_at}
 use Rattle.layout.specs.Parts.{with_inode}

@@ -1,17 +1,14 @@
 -- Whether names lie in a directory, and in which slots, by what its slots are.
-use Rattle.std.proofs.Common.{◌≡◌, ℕ, zero, suc, ◌+◌, ◌*◌, ◌<◌, ◌≤◌, inl, inr, sym, ap, ◌∙◌, refl, Bool, true, false}
-use Rattle.std.proofs.Common.{cond, not, List, [], ◌∷◌, length, Option, Some, None, Ok, nat_lt, arith, subst}
+use Rattle.std.proofs.Common.{◌≡◌, ℕ, zero, suc, ◌+◌, ◌*◌, ◌<◌, sym, ap, ◌∙◌, refl, true, false}
+use Rattle.std.proofs.Common.{not, List, [], ◌∷◌, length, Some, None, nat_lt, arith}
 use Rattle.std.proofs.lemmas.Bool.{lt-ltb}
-use Rattle.std.specs.Cmp.Lexicographic.{nat_list_cmp_total, slice_cmp}
 use Rattle.std.specs.FinMap as map
 use Rattle.std.specs.List.{cons_option}
-use Rattle.std.specs.Ordering.{nat_cmp}
 use Rattle.limits.specs.declared.TheConstants.{SLOTS_PER_BLOCK}
 use Rattle.disk.specs.Crash.{Image}
 use Rattle.layout.specs.declared.geometry.Geometry.{Geometry}
 use Rattle.layout.specs.declared.inode.Inode.{Inode}
 use Rattle.layout.specs.Decode.{IsDirectory, directory_in, entries_in, entry_in, named_in, span_of}
-use Rattle.model.specs.Node.{DirectoryEntry}
 use Rattle.procedures.specs.RmDir.{has_names}
 use Rattle.files.specs.declared.entry.SlotName.{SlotName}
 use Rattle.dir.specs.Slots.{AreFree, IsNext, Lying, slot_at}

@@ -20,7 +20,7 @@ use Rattle.layout.specs.SlotForm.{is_sound_slot, read_slot, slot_of}
 use Rattle.layout.proofs.Respelled.{all_zeros}
 use Rattle.layout.proofs.SlotBytes.{free_read}
 use Rattle.procedures.specs.Places.{is_taken_slot, least_free_slot}
-use Rattle.dir.specs.Slots.{Lying, block_slot, slot_at}
+use Rattle.dir.specs.Slots.{Lying, slot_at}
 use Rattle.dir.specs.Vacant.{IsFirstFree, NoneFree, is_free}
 use Rattle.dir.proofs.Members.{at_or_past, found_is}
 use Rattle.dir.proofs.NextIn.{in_the_slot, of_few_slots}

@@ -1,10 +1,10 @@
 -- Blocks in which a slot of a directory got a name hold the tree with the name.
-use Rattle.std.proofs.Common.{◌≡◌, ℕ, suc, ◌+◌, ◌*◌, ◌/◌, ◌<◌, ◌≤◌, ◌⊎◌, inl, inr, sym, ap, ◌∙◌, refl, subst, Bool}
-use Rattle.std.proofs.Common.{true, false, not, max, List, length, Option, Some, None, Result, Ok, Err, IsOk, arith}
+use Rattle.std.proofs.Common.{◌≡◌, ℕ, suc, ◌*◌, ◌/◌, ◌<◌, inl, inr, sym, ap, ◌∙◌, refl, subst}
+use Rattle.std.proofs.Common.{true, false, not, max, List, length, Option, Some, None, Result, Ok, Err, arith}
 use Rattle.std.specs.Cmp.Lexicographic.{nat_list_cmp_total, slice_cmp}
 use Rattle.std.specs.FinMap.{find, from_entries, get, get-from_entries, insert}
 use Rattle.std.specs.Ordering.{nat_cmp}
-use Rattle.limits.specs.declared.TheConstants.{MOST_SPAN, SLOTS_PER_BLOCK}
+use Rattle.limits.specs.declared.TheConstants.{SLOTS_PER_BLOCK}
 use Rattle.disk.specs.Crash.{Image}
 use Rattle.model.specs.Node.{Body, DirectoryEntry, Entries, Node}
 use Rattle.model.specs.Node as nodes
@@ -21,7 +21,7 @@ use Rattle.layout.specs.declared.inode.InodeKind.{InodeKind}
 use Rattle.layout.specs.declared.inode.InodeKind.TheVariants as kinds
 use Rattle.layout.specs.declared.slot.Slot.{Slot}
 use Rattle.layout.specs.declared.slot.TheConstants.{SLOT_BYTES}
-use Rattle.layout.specs.Decode.{body_of, directory_in, entries_in, inode_at, node_with, span_of}
+use Rattle.layout.specs.Decode.{body_of, directory_in, entries_in, inode_at, span_of}
 use Rattle.layout.specs.Holds.{Holds}
 use Rattle.layout.specs.Parts.{content_in, with_bytes}
 use Rattle.layout.specs.SlotForm.{SoundSlot, number_under, read_slot, used_bytes}

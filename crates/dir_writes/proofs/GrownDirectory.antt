@@ -1,7 +1,7 @@
 -- A directory that has one block more, in whose first slot a name lies.
 use Rattle.std.proofs.Common.{◌≡◌, ℕ, zero, suc, ◌+◌, ◌-◌, ◌*◌, ◌/◌, ◌%◌, ◌<◌, ◌≤◌, max, min, inl, inr, sym, ap, ◌∙◌, refl}
-use Rattle.std.proofs.Common.{subst, Bool, true, false, cond, not, ◌&&◌, ◌||◌, List, [], ◌∷◌, ◌++◌, length, take, drop}
-use Rattle.std.proofs.Common.{get_or, set, replicate, nat_eq, nat_le, nat_lt, is_none, IsOk, Option, Some, None, Result, Ok, arith}
+use Rattle.std.proofs.Common.{subst, Bool, true, false, cond, not, ◌&&◌, ◌||◌, List, [], ◌∷◌, length, take, drop}
+use Rattle.std.proofs.Common.{get_or, set, replicate, nat_eq, nat_le, nat_lt, is_none, IsOk, Some, None, Ok, arith}
 use Rattle.std.proofs.Math.Seq.{take-append_seam, drop-append_seam}
 use Rattle.std.specs.Cmp.Lexicographic.{nat_list_cmp_total, slice_cmp}
 use Rattle.std.specs.FinMap as map
@@ -23,7 +23,6 @@ use Rattle.model.specs.Node as nodes
 use Rattle.model.specs.Tree.{Tree, node_at, with_node}
 use Rattle.model.specs.Tree as trees
 use Rattle.procedures.specs.Changes.{with_entry}
-use Rattle.procedures.specs.Places.{entry_at}
 use Rattle.files.specs.Changing.{IsOwnSlot, adds}
 use Rattle.layout.specs.declared.geometry.Geometry.{Geometry}
 use Rattle.layout.specs.declared.inode.Inode.{Inode}
@@ -31,7 +30,7 @@ use Rattle.layout.specs.declared.inode.InodeKind.{InodeKind}
 use Rattle.layout.specs.declared.inode.InodeKind.TheVariants as kinds
 use Rattle.layout.specs.declared.slot.Slot.{Slot}
 use Rattle.layout.specs.declared.slot.TheConstants.{SLOT_BYTES}
-use Rattle.layout.specs.Decode.{IsDirectory, IsOfKind, body_of, bytes_of, content_of, directory_in, entries_in, entry_in}
+use Rattle.layout.specs.Decode.{IsDirectory, IsOfKind, body_of, bytes_of, content_of, directory_in, entries_in}
 use Rattle.layout.specs.Decode.{named_in, node_with, numbers_of, slot_bytes, slots_of, span_of}
 use Rattle.layout.specs.Fields.{numbers_at}
 use Rattle.layout.proofs.Written.{not_same}
@@ -44,10 +43,9 @@ use Rattle.layout.specs.SlotForm.{SoundSlot, read_slot, used_bytes}
 use Rattle.layout.proofs.SlotBytes.{free_read}
 use Rattle.inode.specs.declared.snap.Snap.{Snap}
 use Rattle.inode.proofs.AllTests.{all_three, all_two}
-use Rattle.inode.proofs.InodeThere.{is_read}
 use Rattle.inode.proofs.Pieces.{in_block}
 use Rattle.bitmap.proofs.Gained.{grown, grown_holds}
-use Rattle.dir.specs.Slots.{IsDirectoryOf, Lying, slot_at}
+use Rattle.dir.specs.Slots.{Lying, slot_at}
 use Rattle.dir.proofs.FoundIn.{entries}
 use Rattle.dir.proofs.SlotBlocks.{of_directory}
 use Rattle.drafts.proofs.Marks.{times}

@@ -1,6 +1,6 @@
 -- Blocks of an image to which a directory's new block was written hold the tree with the name in it.
-use Rattle.std.proofs.Common.{◌≡◌, ℕ, suc, ◌+◌, ◌-◌, ◌*◌, ◌/◌, ◌%◌, ◌<◌, ◌≤◌, sym, ap, ◌∙◌, refl, subst, Bool, true, false, cond}
-use Rattle.std.proofs.Common.{List, [], ◌∷◌, ◌++◌, length, set, replicate, nat_eq, nat_lt, not, Some, Ok, arith}
+use Rattle.std.proofs.Common.{◌≡◌, ℕ, ◌+◌, ◌-◌, ◌*◌, ◌/◌, ◌<◌, ◌≤◌, sym, ap, refl, subst, Bool, true, false, cond}
+use Rattle.std.proofs.Common.{List, [], ◌∷◌, length, set, replicate, nat_eq, nat_lt, not, Some, Ok, arith}
 use Rattle.limits.specs.declared.TheConstants.{BLOCK_BYTES, DIRECT_INDEXES, INDIRECT_INDEXES, SLOTS_PER_BLOCK}
 use Rattle.disk.specs.Crash.{Image}
 use Rattle.nfs_types.specs.Fits.{AreBytes}
@@ -9,7 +9,6 @@ use Rattle.model.specs.Node.{Node}
 use Rattle.model.specs.Tree.{Tree, with_node}
 use Rattle.layout.specs.declared.geometry.Geometry.{Geometry}
 use Rattle.layout.specs.declared.inode.Inode.{Inode}
-use Rattle.layout.specs.declared.slot.Slot.{Slot}
 use Rattle.layout.specs.declared.slot.TheConstants.{SLOT_BYTES}
 use Rattle.layout.specs.Decode.{inode_at, span_of}
 use Rattle.layout.specs.Fields.{four_bytes}

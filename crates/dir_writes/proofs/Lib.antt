@@ -16,3 +16,4 @@ pub mod WideSlots
 pub mod GrownDirectory
 pub mod StoredGrowth
 pub mod GrownHolds
+pub mod FilledNames

@@ -1,9 +1,8 @@
 -- Blocks in which the slot of a name became zeros hold the tree without the name.
-use Rattle.std.proofs.Common.{◌≡◌, ℕ, zero, suc, ◌*◌, ◌<◌, sym, ap, ◌∙◌, refl, List, replicate, Option, Some, None, Ok, arith}
+use Rattle.std.proofs.Common.{◌≡◌, ℕ, ◌*◌, ◌<◌, sym, ap, ◌∙◌, refl, List, replicate, Some, None, Ok, arith}
 use Rattle.std.specs.FinMap.{remove}
 use Rattle.limits.specs.declared.TheConstants.{SLOTS_PER_BLOCK}
 use Rattle.disk.specs.Crash.{Image}
-use Rattle.nfs_types.specs.Fits.{AreBytes}
 use Rattle.model.specs.Node.{Body, Entries, Node}
 use Rattle.model.specs.Node as nodes
 use Rattle.model.specs.Tree.{Tree, node_at, with_node}

@@ -1,5 +1,5 @@
 -- The numbers of a directory's blocks with one more.
-use Rattle.std.proofs.Common.{◌≡◌, ℕ, zero, suc, ◌+◌, ◌<◌, ◌≤◌, min, sym, ap, ◌∙◌, refl, Bool, true, false, cond, not, ◌&&◌}
+use Rattle.std.proofs.Common.{◌≡◌, ℕ, zero, suc, ◌<◌, min, ap, ◌∙◌, refl, Bool, true, false, not, ◌&&◌}
 use Rattle.std.proofs.Common.{List, [], ◌∷◌, ◌++◌, length, take, drop, get_or, set, nat_eq, arith}
 use Rattle.std.specs.List.{list_all}
 use Rattle.layout.specs.InodeForm.{names_first}

@@ -1,7 +1,7 @@
 -- The names of a directory of which a slot got other bytes.
 use Rattle.std.proofs.Common.{◌≡◌, ℕ, zero, suc, ◌+◌, ◌*◌, ◌/◌, ◌<◌, ◌≤◌, inl, inr, sym, ap, ◌∙◌, refl, subst}
 use Rattle.std.proofs.Common.{Bool, true, false, cond, not, ◌||◌, List, [], ◌∷◌, ◌++◌, length, take, drop, get_or}
-use Rattle.std.proofs.Common.{replicate, nat_eq, IsOk, Option, Some, None, Ok, arith}
+use Rattle.std.proofs.Common.{replicate, nat_eq, IsOk, Option, Ok, arith}
 use Rattle.std.specs.Cmp.Lexicographic.{slice_cmp}
 use Rattle.std.specs.FinMap as map
 use Rattle.std.specs.List.{cons_option, flat_map, list_all, list_any}

@@ -1,9 +1,9 @@
 -- What a file spans, by its inode, and files that have no names.
-use Rattle.std.proofs.Common.{◌≡◌, ℕ, ap, ◌∙◌, sym, refl, subst, true, false, Option, Some}
+use Rattle.std.proofs.Common.{◌≡◌, ℕ, ap, ◌∙◌, sym, refl, true, Option, Some}
 use Rattle.std.specs.Option.{unwrap_or}
 use Rattle.disk.specs.Crash.{Image}
 use Rattle.model.specs.Names.{is_directory}
-use Rattle.model.specs.Node.{Body, Node}
+use Rattle.model.specs.Node.{Node}
 use Rattle.model.specs.Tree.{Tree, node_at}
 use Rattle.files.specs.Changing.{spanned}
 use Rattle.layout.specs.declared.geometry.Geometry.{Geometry}
@@ -15,7 +15,6 @@ use Rattle.layout.specs.Parts.{content_in}
 use Rattle.inode.specs.declared.snap.Snap.{Snap}
 use Rattle.inode.specs.Over.{HasInode}
 use Rattle.inode.proofs.HeldThere as held
-use Rattle.dir.specs.Slots.{IsDirectoryOf}
 
 module _ (snap : Snap) (image : Image) (tree : Tree) (n : ℕ) (inode : Inode) (node : Node)
     (has : HasInode snap image tree n inode) (was : node_at tree n ≡ Some node) where

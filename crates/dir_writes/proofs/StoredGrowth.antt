@@ -29,23 +29,23 @@ module _ (g : Geometry) (base : Image) (tree next : Tree) (n : ℕ) (less : n < 
   module _ (image : Image) (content : Image) (blocks : AreBlocks g image)
       (is : parts_of g image
       ≡ record (parts_of g base) { content = content; block_bits = marking gained (parts_of g base).block_bits })
-      where
-    all_parts : parts_of g (with_inode g image n new) ≡ grown g base n new content gained
-    all_parts =
-        inode_parts g image n new blocks less sound
-        ∙ (λ i. record (is i) { table = put (is i).table n (Ok (Some new)) })
+    where
+      all_parts : parts_of g (with_inode g image n new) ≡ grown g base n new content gained
+      all_parts =
+          inode_parts g image n new blocks less sound
+          ∙ (λ i. record (is i) { table = put (is i).table n (Ok (Some new)) })
 
-    holds : PartsHold g (grown g base n new content gained) next → Holds g (with_inode g image n new) next
-    holds parts = record {
-      bytes = inode_kept g image n new blocks less sound;
-      parts = subst (λ one. PartsHold g one next) (sym all_parts) parts;
-    }
+      holds : PartsHold g (grown g base n new content gained) next → Holds g (with_inode g image n new) next
+      holds parts = record {
+        bytes = inode_kept g image n new blocks less sound;
+        parts = subst (λ one. PartsHold g one next) (sym all_parts) parts;
+      }
 
-    read : inode_at g (with_inode g image n new) n ≡ Ok (Some new)
-    read =
-        sym (ap (λ t. cond t (inode_at g (with_inode g image n new) n) (Err Range)) (lt-ltb n g.inodes less))
-        ∙ ap (λ (parts : Parts). parts.table n) all_parts
-        ∙ ap (λ t. cond t (Ok (Some new)) ((parts_of g base).table n)) (eq-eqb n n refl)
+      read : inode_at g (with_inode g image n new) n ≡ Ok (Some new)
+      read =
+          sym (ap (λ t. cond t (inode_at g (with_inode g image n new) n) (Err Range)) (lt-ltb n g.inodes less))
+          ∙ ap (λ (parts : Parts). parts.table n) all_parts
+          ∙ ap (λ t. cond t (Ok (Some new)) ((parts_of g base).table n)) (eq-eqb n n refl)
 
   module _ (b : ℕ) (bytes : List ℕ) (lies : is_data g b ≡ true) (count : length bytes ≡ BLOCK_BYTES)
       (each : AreBytes bytes) where

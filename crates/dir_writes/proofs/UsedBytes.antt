@@ -1,5 +1,5 @@
 -- The bytes of a slot in which a name lies.
-use Rattle.std.proofs.Common.{◌≡◌, ℕ, zero, suc, ◌+◌, ◌-◌, ◌≤◌, refl, List, ◌++◌, length, replicate, Some, Ok, arith}
+use Rattle.std.proofs.Common.{◌≡◌, ℕ, zero, suc, ◌-◌, ◌≤◌, refl, List, ◌++◌, length, replicate, Some, Ok, arith}
 use Rattle.std.proofs.Common.{length-append}
 use Rattle.std.proofs.lemmas.List.{length-replicate}
 use Rattle.limits.specs.declared.TheConstants.{NAME_BYTES}

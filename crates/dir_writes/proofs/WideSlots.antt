@@ -1,10 +1,9 @@
 -- The entries of slots behind which more are free.
-use Rattle.std.proofs.Common.{◌≡◌, ℕ, zero, suc, ◌+◌, ◌<◌, ◌≤◌, inl, inr, sym, ap, ◌∙◌, refl, true, false, cond, nat_lt}
-use Rattle.std.proofs.Common.{List, [], ◌∷◌, None, Ok, arith}
+use Rattle.std.proofs.Common.{◌≡◌, ℕ, zero, suc, ◌+◌, ◌<◌, ◌≤◌, ap, ◌∙◌, refl, cond, nat_lt}
+use Rattle.std.proofs.Common.{[], None, Ok, arith}
 use Rattle.std.specs.List.{cons_option}
 use Rattle.std.proofs.lemmas.Bool.{le-ltb, lt-ltb}
 use Rattle.layout.specs.Decode.{entry_in}
-use Rattle.model.specs.Node.{DirectoryEntry}
 use Rattle.dir.specs.Slots.{Lying}
 use Rattle.dir.proofs.FoundIn.{entries}
 

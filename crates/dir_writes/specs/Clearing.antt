@@ -33,15 +33,11 @@ pub record HasOnce (content : Image) (inode : Inode) (block : ℕ) : Type 0 wher
 abbrev pub without_name : List ℕ → Node → Node
 without_name name node = record node { body = without_entry name node.body }
 
--- the block in which the slot lies, and its bytes with the slot cleared
+-- the bytes of the block in which the slot lies, with the slot cleared
 abbrev pub cleared_bytes : Image → Inode → ℕ → List ℕ
 cleared_bytes content inode slot =
     spliced (content (slot_block content inode slot)) (SLOT_BYTES * (slot % SLOTS_PER_BLOCK))
     (replicate SLOT_BYTES 0)
-
-abbrev pub IsCleared : Image → Inode → ℕ → ℕ → List ℕ → Type 0
-IsCleared content inode slot block bytes =
-    (block ≡ slot_block content inode slot) × (bytes ≡ cleared_bytes content inode slot)
 
 -- blocks in which the slot is cleared
 abbrev pub IsClearedIn : Geometry → Inode → ℕ → Image → Image → Type 0

@@ -108,7 +108,16 @@ fn grow_far(
             let place = 4 * (index - DIRECT_INDEXES);
             let numbers = with_piece(alloc, &old, place, &block.to_le_bytes())?;
             let same = sized(inode, size_with(index));
-            match store_far(alloc, draft, number, inode.indirect, numbers, block, bytes, &same) {
+            match store_far(
+                alloc,
+                draft,
+                number,
+                inode.indirect,
+                numbers,
+                block,
+                bytes,
+                &same,
+            ) {
                 Ok(()) => Ok(same),
                 Err(stop) => Err(stop),
             }

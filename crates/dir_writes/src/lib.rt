@@ -1,4 +1,4 @@
-//! Names that are taken out of directories.
+//! Names that come into directories and go.
 #![tactic(auto)]
 
 mod entering;
@@ -8,5 +8,5 @@ mod losing;
 mod slotting;
 
 pub use entering::enter;
-pub use laws::a_cleared_slot_loses_its_name;
+pub use laws::{a_cleared_slot_loses_its_name, a_filled_slot_gains_its_name};
 pub use losing::lose;

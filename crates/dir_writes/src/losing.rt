@@ -13,65 +13,14 @@ ghost use Rattle.layout.specs.Places.{is_data};
 ghost use Rattle.inode.specs.Over.{IsPause, MayStop};
 ghost use Rattle.dir.specs.Slots.{IsDirectoryOf};
 ghost use Rattle.drafts.specs.Drafted.{IsDraft, Shows, image_of, spent};
-ghost use Rattle.dir_writes.specs.Clearing.{IsCleared, IsClearedIn, without_name};
+ghost use Rattle.dir_writes.specs.Clearing.{IsClearedIn, without_name};
 
+use crate::slotting::put_slot;
 use dir::find;
-use disk::BlockNo;
 use drafts::Draft;
-use inode::{Snap, Stop, block_number, data_block, held};
+use inode::{Stop, held};
 use layout::{Inode, InodeKind, SLOT_BYTES};
-use limits::{FILE_INDEXES, SLOTS_PER_BLOCK};
-use objects::Addr;
-use std::alloc::{AllocError, Global};
-
-// The bytes of a block in which a slot is cleared.
-fn without_slot(alloc: Global, block: &[u8], slot: u32) -> Result<Vec<u8>, AllocError>
-    requires len { length block.now ≡ BLOCK_BYTES }
-    requires slot { slot < SLOTS_PER_BLOCK }
-    ensures { IfOk result (λ bytes. bytes.items
-        ≡ spliced block.now (SLOT_BYTES * slot) (replicate SLOT_BYTES 0)) }
-{
-    let from = SLOT_BYTES * slot as usize;
-    let mut bytes = Vec::new(alloc);
-    bytes.extend_from_slice(&block[..from])?;
-    bytes.resize(from + SLOT_BYTES, 0)?;
-    bytes.extend_from_slice(&block[from + SLOT_BYTES..])?;
-    Ok(bytes)
-}
-
-// The block of a directory in which a slot lies, and its bytes with the slot cleared.
-fn cleared_block(
-    alloc: Global,
-    snap: &Snap,
-    inode: &Inode,
-    slot: u32,
-) -> Result<(u32, Vec<u8>), Stop>
-    ensures data { IfOk result (λ made. is_data snap.now.geometry made.0 ≡ true) }
-    ensures len { IfOk result (λ made. length made.1.items ≡ BLOCK_BYTES) }
-    ensures ok { IfOk result (λ made. (blocks : Image) (tree : Tree) (file : ℕ)
-        → IsDirectoryOf snap.now blocks tree file inode.now → slot < SLOTS_PER_BLOCK * span_of inode.now
-        → IsCleared (content_in snap.now.geometry blocks) inode.now slot made.0 made.1.items) }
-    ensures err { IfErr result (λ stop. MayStop snap.now stop) }
-    ensures pause { IfErr result (λ stop. (blocks : Image) (tree : Tree) (file : ℕ)
-        → IsDirectoryOf snap.now blocks tree file inode.now → slot < SLOTS_PER_BLOCK * span_of inode.now
-        → IsPause stop) }
-{
-    let index = (slot / SLOTS_PER_BLOCK) as usize;
-    if index >= FILE_INDEXES {
-        return Err(Stop::Io);
-    }
-    let number = match block_number(snap, inode, index) {
-        Ok(number) => number,
-        Err(stop) => return Err(stop),
-    };
-    if number == 0 {
-        return Err(Stop::Io);
-    }
-    match data_block(snap, number) {
-        Ok(block) => Ok((number, without_slot(alloc, block, slot % SLOTS_PER_BLOCK)?)),
-        Err(stop) => Err(stop),
-    }
-}
+use std::alloc::Global;
 
 // Clears a slot of a directory.
 fn clear_slot(alloc: Global, draft: &mut Draft, inode: &Inode, slot: u32) -> Result<(), Stop>
@@ -89,13 +38,7 @@ fn clear_slot(alloc: Global, draft: &mut Draft, inode: &Inode, slot: u32) -> Res
         → IsDirectoryOf draft.old.there (image_of blocks draft.old) tree file inode.now
         → slot < SLOTS_PER_BLOCK * span_of inode.now → IsPause stop) }
 {
-    match cleared_block(alloc, draft.there(), inode, slot) {
-        Ok((number, bytes)) => {
-            draft.put(Addr::whole(BlockNo(number)), bytes)?;
-            Ok(())
-        }
-        Err(stop) => Err(stop),
-    }
+    put_slot(alloc, draft, inode, slot, &[0; SLOT_BYTES])
 }
 
 // Takes a name out of the directory of an inode.

@@ -67,7 +67,10 @@ fn slotted_block(
         return Err(Stop::Io);
     }
     match data_block(snap, number) {
-        Ok(block) => Ok((number, with_slot(alloc, block, slot % SLOTS_PER_BLOCK, bytes)?)),
+        Ok(block) => Ok((
+            number,
+            with_slot(alloc, block, slot % SLOTS_PER_BLOCK, bytes)?,
+        )),
         Err(stop) => Err(stop),
     }
 }

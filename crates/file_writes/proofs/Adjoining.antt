@@ -1,5 +1,5 @@
 -- Pieces that are written one behind another are one text that is written.
-use Rattle.std.proofs.Common.{◌≡◌, ℕ, zero, suc, ◌+◌, ◌-◌, ◌/◌, ◌%◌, ◌<◌, ◌≤◌, inl, inr, sym, ap, ◌∙◌, refl, subst}
+use Rattle.std.proofs.Common.{◌≡◌, ℕ, zero, suc, ◌+◌, ◌-◌, ◌/◌, ◌%◌, ◌<◌, ◌≤◌, inl, inr, sym, ap, ◌∙◌, refl}
 use Rattle.std.proofs.Common.{Bool, true, false, cond, ◌||◌, List, [], ◌∷◌, ◌++◌, length, length-append, get_or, nat_le}
 use Rattle.std.proofs.Common.{Option, Some, arith}
 use Rattle.std.specs.Cmp.{nat_cmp_total}
@@ -14,12 +14,11 @@ use Rattle.limits.specs.declared.TheConstants.{BLOCK_BYTES, DIRECT_INDEXES}
 use Rattle.model.specs.Cost.{cost, file_cost}
 use Rattle.model.specs.Node as nodes
 use Rattle.model.specs.Node.{Body, Node}
-use Rattle.model.specs.Tree.{Tree, free, node_at, used, with_node}
+use Rattle.model.specs.Tree.{Tree, free, node_at, with_node}
 use Rattle.model.proofs.Maps.{sum_insert}
 use Rattle.model.proofs.Sets.{any_more, has}
 use Rattle.procedures.specs.Write.{mapped_with, overwritten, touched, with_text}
 use Rattle.procedures.proofs.Overwriting.{kept_before, kept_behind, length_overwritten, written_at}
-use Rattle.file_writes.specs.Written.{rewritten}
 
 -- ---- bytes
 

@@ -1,10 +1,10 @@
 -- How a file's blocks take a piece of bytes: its block is there, or a free one is named by the inode, by the
 -- indirect block, or by a free one that becomes the indirect block.
-use Rattle.std.proofs.Common.{◌≡◌, ℕ, zero, suc, ◌+◌, ◌-◌, ◌*◌, ◌/◌, ◌%◌, ◌<◌, ◌≤◌, ◌^◌, inl, inr, sym, ap, ◌∙◌, refl, subst}
+use Rattle.std.proofs.Common.{◌≡◌, ℕ, zero, suc, ◌+◌, ◌-◌, ◌*◌, ◌/◌, ◌%◌, ◌<◌, ◌≤◌, ◌^◌, sym, ap, ◌∙◌, refl, subst}
 use Rattle.std.proofs.Common.{Bool, true, false, cond, ◌||◌, not, List, [], ◌∷◌, ◌++◌, length, get_or, drop, set}
-use Rattle.std.proofs.Common.{replicate, nat_eq, filter, Some, Ok, Err, arith}
+use Rattle.std.proofs.Common.{replicate, nat_eq, Some, Ok, Err, arith}
 use Rattle.std.specs.List.{AllByRecursion, list_all, list_any}
-use Rattle.std.proofs.lemmas.Bool.{cases_eq, eq-eqb, lt-ltb}
+use Rattle.std.proofs.lemmas.Bool.{eq-eqb, lt-ltb}
 use Rattle.std.proofs.lemmas.List.{get_or-set_other, length-set, set-append_left, set-append_right, set-get_or, set-set}
 use Rattle.std.proofs.lemmas.List.Sums.{sum_by-cons}
 use Rattle.limits.specs.declared.TheConstants.{BLOCK_BYTES, DIRECT_INDEXES, INDIRECT_INDEXES}
@@ -18,7 +18,7 @@ use Rattle.layout.specs.Decode.{content_of, inode_at, numbers_of}
 use Rattle.layout.specs.Fields.{four_bytes, numbers_at}
 use Rattle.layout.specs.InodeForm.{is_data_block_or_none}
 use Rattle.layout.specs.Owners.{owned, owned_by}
-use Rattle.layout.specs.Parts.{Parts, content_in, parts_of, put}
+use Rattle.layout.specs.Parts.{parts_of, put}
 use Rattle.layout.specs.Places.{is_data}
 use Rattle.layout.proofs.AllNumbers.{maps}
 use Rattle.layout.proofs.OnGrid.{data_within}
@@ -383,7 +383,7 @@ module _ (g : Geometry) (base : Image) (tree : Tree) (n : ℕ) (inode : Inode)
                 let some_q = own_far some_far in
                 let no = ap (λ k. times k own) same in absurd (omega (arith, some_q, no, not_own)));
             counted = λ q. one_more_in_all q inode.indirect b all index low b_is_some none
-              ∙ ap (λ k. k + times q own) (sym (alone q b));
+                ∙ ap (λ k. k + times q own) (sym (alone q b));
             were_free = (free, tt);
             once = one_gained;
           }

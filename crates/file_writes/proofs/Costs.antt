@@ -1,5 +1,5 @@
 -- What a piece adds to the blocks that a file uses.
-use Rattle.std.proofs.Common.{◌≡◌, ℕ, zero, suc, ◌+◌, ◌-◌, ◌/◌, ◌%◌, ◌<◌, ◌≤◌, sym, ap, ◌∙◌, refl, Bool, true, false}
+use Rattle.std.proofs.Common.{◌≡◌, ℕ, zero, suc, ◌+◌, ◌-◌, ◌/◌, ◌<◌, ◌≤◌, sym, ap, ◌∙◌, refl, Bool, true, false}
 use Rattle.std.proofs.Common.{cond, not, List, [], ◌∷◌, ◌++◌, length, get_or, drop, set, replicate, nat_eq}
 use Rattle.std.proofs.Common.{count_by, arith}
 use Rattle.std.specs.List.{list_any, range_with_len}
@@ -11,7 +11,7 @@ use Rattle.model.specs.Tree.{Tree}
 use Rattle.procedures.specs.Write.{mapped_with, touched, with_text}
 use Rattle.layout.specs.declared.geometry.Geometry.{Geometry}
 use Rattle.layout.specs.declared.inode.Inode.{Inode}
-use Rattle.layout.specs.Decode.{body_of, mapped_of, numbers_of, regular_in}
+use Rattle.layout.specs.Decode.{body_of, mapped_of, numbers_of}
 use Rattle.layout.specs.Fields.{numbers_at}
 use Rattle.layout.specs.Parts.{content_in}
 use Rattle.layout.proofs.Mapped.{regular-cost}

@@ -1,9 +1,8 @@
 -- The indexes of a file that get blocks, and what they add to its cost.
 use Rattle.std.proofs.Common.{◌≡◌, ℕ, zero, suc, ◌+◌, ◌-◌, ◌<◌, ◌≤◌, sym, ap, ◌∙◌, refl, Bool, true, false, cond}
-use Rattle.std.proofs.Common.{not, ◌||◌, List, [], ◌∷◌, length, get_or, drop, set, nat_eq, count_by, replicate, arith}
-use Rattle.std.specs.FinSet.{FinSet, insert}
+use Rattle.std.proofs.Common.{not, ◌||◌, List, length, get_or, drop, set, nat_eq, replicate, arith}
+use Rattle.std.specs.FinSet.{insert}
 use Rattle.std.specs.List.{list_any, range_with_len}
-use Rattle.std.specs.Ordering.{nat_cmp}
 use Rattle.std.proofs.lemmas.List.{get_or-set_other, length-set, set-get_or}
 use Rattle.limits.specs.declared.TheConstants.{DIRECT_INDEXES, FILE_INDEXES, INDIRECT_INDEXES}
 use Rattle.disk.specs.Crash.{Image}

@@ -1,5 +1,5 @@
 -- Blocks of an image in which a file's blocks and its inode were written.
-use Rattle.std.proofs.Common.{◌≡◌, ℕ, ◌+◌, ◌<◌, ◌≤◌, sym, ap, ◌∙◌, refl, true, List, [], ◌++◌, length, drop}
+use Rattle.std.proofs.Common.{◌≡◌, ℕ, ◌+◌, ◌<◌, ◌≤◌, sym, ap, ◌∙◌, true, List, ◌++◌, length}
 use Rattle.std.proofs.Common.{append-nil, Some, Ok, arith}
 use Rattle.std.proofs.lemmas.List.{drop_all}
 use Rattle.limits.specs.declared.TheConstants.{BLOCK_BYTES, INODE_BYTES}
@@ -12,14 +12,12 @@ use Rattle.layout.specs.Geometry.{data_at}
 use Rattle.layout.specs.InodeForm.{SoundInode, inode_bytes}
 use Rattle.layout.specs.Parts.{content_in, parts_of, put, with_bytes, with_inode}
 use Rattle.layout.specs.Places.{inode_block, inode_offset, is_data}
-use Rattle.layout.proofs.FreshBytes.{IsBytes}
 use Rattle.layout.proofs.OnGrid.{data_within}
 use Rattle.layout.proofs.Spelled.{read_back, written-length}
 use Rattle.layout.proofs.Written.{parts_written}
 use Rattle.layout.proofs.WrittenBytes.{inode_are}
 use Rattle.drafts.proofs.OneFile.{IsBlock, blocks_still}
 use Rattle.drafts.proofs.OtherWrites.{data_written}
-use Rattle.bitmap.proofs.Gained.{grown}
 
 -- a whole block that is put takes the place of what was there
 whole_spliced : (old new : List ℕ) → length old ≡ length new → spliced old 0 new ≡ new

@@ -1,19 +1,18 @@
 -- The numbers of a file's blocks after one of them was set.
-use Rattle.std.proofs.Common.{◌≡◌, ℕ, zero, suc, ◌+◌, ◌-◌, ◌<◌, ◌≤◌, inl, inr, sym, ap, ◌∙◌, refl, subst}
+use Rattle.std.proofs.Common.{◌≡◌, ℕ, zero, suc, ◌+◌, ◌<◌, ◌≤◌, inl, inr, sym, ap, ◌∙◌, refl}
 use Rattle.std.proofs.Common.{Bool, true, false, cond, not, ◌||◌, ◌&&◌, List, [], ◌∷◌, length, drop, get_or}
 use Rattle.std.proofs.Common.{filter, nat_eq, set, arith}
 use Rattle.std.specs.Cmp.{nat_cmp_total}
 use Rattle.std.specs.FinMap.{nat_cmp-IsAntisymmetric}
-use Rattle.std.specs.FinSet.{FinSet, contains, contains-from_list, contains-insert, from_list, insert, same_set}
+use Rattle.std.specs.FinSet.{contains, contains-from_list, contains-insert, insert, same_set}
 use Rattle.std.specs.List.{list_all, list_any, range_with_len}
 use Rattle.std.specs.Ordering.{eq_by_cmp, nat_cmp}
-use Rattle.std.proofs.lemmas.Bool.{cases_eq, cases_lt, eq-eqb}
+use Rattle.std.proofs.lemmas.Bool.{cases_eq, cases_lt}
 use Rattle.std.proofs.lemmas.List.{get_or-set_other, get_or-set_same, length-set}
 use Rattle.std.proofs.lemmas.List.Sums.{sum_by-cons}
-use Rattle.model.proofs.Sets.{eq_by_cmp-is, itself}
+use Rattle.model.proofs.Sets.{itself}
 use Rattle.layout.specs.Decode.{mapped_of}
 use Rattle.layout.proofs.FreshFiles.{not_equal}
-use Rattle.layout.proofs.Written.{not_same}
 use Rattle.drafts.proofs.Marks.{times}
 use Rattle.inode.proofs.AllTests.{all_two}
 

@@ -1,8 +1,8 @@
 -- The bytes of a file's blocks after bytes were written over some in one of them, and those of the file.
 use Rattle.std.proofs.Common.{◌≡◌, ℕ, zero, suc, ◌+◌, ◌-◌, ◌*◌, ◌<◌, ◌≤◌, max, inl, inr, sym, ap, ◌∙◌, refl}
-use Rattle.std.proofs.Common.{true, ◌&&◌, List, [], ◌∷◌, ◌++◌, length, take, drop, get_or, replicate, nat_eq}
-use Rattle.std.proofs.Common.{append_assoc, length-append, set, arith, append-nil}
-use Rattle.std.specs.List.{flat_map, list_all}
+use Rattle.std.proofs.Common.{true, List, [], ◌∷◌, ◌++◌, length, take, drop, get_or, replicate, nat_eq}
+use Rattle.std.proofs.Common.{append_assoc, set, arith, append-nil}
+use Rattle.std.specs.List.{flat_map}
 use Rattle.std.proofs.lemmas.Bool.{cases_lt}
 use Rattle.std.proofs.lemmas.List.{drop-append-le, drop-drop, ext_get_or, get_or-drop, get_or-take, get_or_past}
 use Rattle.std.proofs.lemmas.List.{length-drop, length-take, take-append-le}

@@ -1,27 +1,23 @@
 -- A regular file in one of whose blocks a piece of bytes was written: the parts hold the tree with these bytes
 -- in the file.
-use Rattle.std.proofs.Common.{◌≡◌, ℕ, suc, ◌+◌, ◌-◌, ◌*◌, ◌/◌, ◌%◌, ◌<◌, ◌≤◌, ◌^◌, max, sym, ap, ◌∙◌, refl, subst}
-use Rattle.std.proofs.Common.{Bool, true, false, cond, ◌&&◌, ◌||◌, not, List, [], ◌∷◌, length, get_or, take, drop, set}
-use Rattle.std.proofs.Common.{replicate, nat_eq, nat_le, nat_lt, filter, Some, Ok, Err, arith}
-use Rattle.std.specs.FinSet.{FinSet, insert}
+use Rattle.std.proofs.Common.{◌≡◌, ℕ, suc, ◌+◌, ◌-◌, ◌*◌, ◌/◌, ◌%◌, ◌<◌, ◌≤◌, sym, ap, ◌∙◌, refl, subst}
+use Rattle.std.proofs.Common.{Bool, true, false, cond, ◌&&◌, ◌||◌, not, List, [], ◌∷◌, length, get_or, take, drop}
+use Rattle.std.proofs.Common.{replicate, nat_eq, nat_le, filter, Some, Ok, arith}
 use Rattle.std.specs.List.{flat_map, list_all, list_any, range_with_len}
-use Rattle.std.specs.Ordering.{nat_cmp}
-use Rattle.std.proofs.lemmas.Bool.{lt-ltb}
 use Rattle.std.proofs.lemmas.Bool.Decides.{nat_tests}
-use Rattle.limits.specs.declared.TheConstants.{BLOCK_BYTES, DIRECT_INDEXES, FILE_INDEXES, LARGEST_FILE}
+use Rattle.limits.specs.declared.TheConstants.{BLOCK_BYTES, FILE_INDEXES, LARGEST_FILE}
 use Rattle.disk.specs.Crash.{Image}
 use Rattle.objects.specs.Spliced.{spliced}
 use Rattle.model.specs.Node as nodes
 use Rattle.model.specs.Node.{Body}
 use Rattle.model.specs.Tree.{Tree, with_node}
-use Rattle.procedures.specs.Write.{mapped_with, overwritten, touched, with_text}
+use Rattle.procedures.specs.Write.{mapped_with, touched, with_text}
 use Rattle.layout.specs.declared.geometry.Geometry.{Geometry}
 use Rattle.layout.specs.declared.inode.Inode.{Inode}
 use Rattle.layout.specs.declared.inode.InodeKind.TheVariants as kinds
 use Rattle.layout.specs.Decode.{IsOfKind, IsRegular, body_of, bytes_of, content_of, mapped_of, node_with}
 use Rattle.layout.specs.Decode.{numbers_of, regular_in}
 use Rattle.layout.specs.Fields.{is_zeros}
-use Rattle.layout.specs.Geometry.{data_at}
 use Rattle.layout.specs.Holds.{PartsHold}
 use Rattle.layout.specs.InodeForm.{SoundInode, is_data_block_or_none, is_sound_file, is_sound_inode}
 use Rattle.layout.specs.InodeForm.{is_sound_kind, is_sound_map, is_sound_regular}

@@ -1,27 +1,26 @@
 -- Blocks of an image in which a file's block was written, its indirect block where one names it, and its inode.
-use Rattle.std.proofs.Common.{◌≡◌, ℕ, ◌/◌, ◌<◌, inl, inr, sym, ap, ◌∙◌, refl, subst, true, cond, List, length, replicate}
-use Rattle.std.proofs.Common.{get_or, Some, Ok, arith}
+use Rattle.std.proofs.Common.{◌≡◌, ℕ, ◌<◌, inl, inr, sym, ap, ◌∙◌, subst, true, cond, List, length, replicate}
+use Rattle.std.proofs.Common.{Some, Ok, arith}
 use Rattle.std.proofs.lemmas.Bool.{cases_lt}
-use Rattle.std.proofs.lemmas.List.{get_or-replicate, get_or_past, length-replicate}
+use Rattle.std.proofs.lemmas.List.{get_or-replicate, get_or_past}
 use Rattle.limits.specs.declared.TheConstants.{BLOCK_BYTES}
 use Rattle.disk.specs.Crash.{Image}
 use Rattle.nfs_types.specs.Fits.{AreBytes}
 use Rattle.objects.specs.Spliced.{spliced}
-use Rattle.objects.proofs.Splices.{spliced-length}
 use Rattle.model.specs.Tree.{Tree, with_node}
 use Rattle.layout.specs.declared.geometry.Geometry.{Geometry}
 use Rattle.layout.specs.declared.inode.Inode.{Inode}
 use Rattle.layout.specs.Fields.{four_bytes}
 use Rattle.layout.specs.Holds.{Holds, PartsHold}
 use Rattle.layout.specs.InodeForm.{SoundInode}
-use Rattle.layout.specs.Parts.{Parts, content_in, parts_of, put, with_bytes, with_inode}
+use Rattle.layout.specs.Parts.{content_in, parts_of, put, with_bytes, with_inode}
 use Rattle.layout.specs.Places.{is_data}
 use Rattle.layout.proofs.FreshBytes.{four}
 use Rattle.layout.proofs.OnGrid.{data_within}
 use Rattle.layout.proofs.WrittenBytes.{spliced-bytes}
 use Rattle.bitmap.specs.NewBlock.{HasTaken, marking}
 use Rattle.bitmap.proofs.Gained.{grown}
-use Rattle.file_writes.specs.Filling.{Fills, HasRegular, grown_size, mapping}
+use Rattle.file_writes.specs.Filling.{Fills, grown_size, mapping}
 use Rattle.file_writes.specs.Written.{IsWrite, node_written}
 use Rattle.file_writes.proofs.ImageWritten.{AreBlocks, block_parts, blocks_kept, inode_kept, inode_parts}
 use Rattle.file_writes.proofs.PieceWritten.{new_sound, piece_holds}

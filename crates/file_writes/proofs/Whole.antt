@@ -1,6 +1,6 @@
 -- A file and its inode, and what is written to a file that is no regular one: nothing.
-use Rattle.std.proofs.Common.{◌≡◌, ℕ, ◌<◌, inl, inr, sym, ap, ◌∙◌, refl, subst, Bool, true, false, cond, ◌||◌}
-use Rattle.std.proofs.Common.{List, replicate, nat_eq, Option, Some, Ok}
+use Rattle.std.proofs.Common.{◌≡◌, ℕ, inl, inr, sym, ap, ◌∙◌, refl, subst, Bool, true, false, cond, ◌||◌}
+use Rattle.std.proofs.Common.{List, replicate, nat_eq, Option, Some}
 use Rattle.std.specs.Option.{unwrap_or}
 use Rattle.std.proofs.lemmas.Bool.{cases_eq}
 use Rattle.limits.specs.declared.TheConstants.{BLOCK_BYTES}
@@ -20,15 +20,14 @@ use Rattle.layout.specs.InodeForm.{is_data_block_or_none}
 use Rattle.layout.specs.Parts.{content_in}
 use Rattle.layout.specs.Places.{is_data}
 use Rattle.layout.proofs.AllNumbers.{maps}
-use Rattle.layout.proofs.FreshBytes.{IsBytes}
 use Rattle.layout.proofs.WrittenBytes.{spliced-bytes}
 use Rattle.inode.specs.declared.snap.Snap.{Snap}
-use Rattle.inode.specs.Over.{HasInode, IsOver}
+use Rattle.inode.specs.Over.{HasInode}
 use Rattle.inode.specs.Shown.{IsInodeOf, body_in}
 use Rattle.drafts.specs.Drafted.{Drafted, IsDraft, image_of}
 use Rattle.drafts.proofs.OneFile.{here_next, there_next}
 use Rattle.file_writes.specs.Filling.{HasRegular}
-use Rattle.file_writes.specs.Written.{node_written, rewritten}
+use Rattle.file_writes.specs.Written.{rewritten}
 use Rattle.file_writes.proofs.PieceWritten.{sound}
 use Rattle.file_writes.proofs.Stored.{content_are, zeros_are}
 

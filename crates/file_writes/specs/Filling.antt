@@ -1,5 +1,5 @@
 -- What a file's blocks and its inode are, where a piece of bytes was written in one of them.
-use Rattle.std.specs.Prelude.{◌≡◌, ℕ, ◌+◌, ◌/◌, ◌%◌, ◌<◌, ◌≤◌, ◌^◌, max, Bool, true, false, not, ◌||◌, List, ◌∷◌}
+use Rattle.std.specs.Prelude.{◌≡◌, ℕ, ◌+◌, ◌/◌, ◌%◌, ◌<◌, ◌≤◌, ◌^◌, max, true, false, not, ◌||◌, List, ◌∷◌}
 use Rattle.std.specs.Prelude.{length, get_or, drop, set, filter, nat_eq, count_by, Some, Ok}
 use Rattle.std.specs.List.{AllByRecursion, list_all, list_any}
 use Rattle.limits.specs.declared.TheConstants.{BLOCK_BYTES, DIRECT_INDEXES, LARGEST_FILE}

@@ -9,7 +9,7 @@ use Rattle.model.specs.Tree.{Tree, node_at, with_node}
 use Rattle.procedures.specs.Write.{with_text}
 use Rattle.layout.specs.declared.geometry.Geometry.{Geometry}
 use Rattle.layout.specs.declared.inode.Inode.{Inode}
-use Rattle.layout.specs.Decode.{content_of, node_with, numbers_of}
+use Rattle.layout.specs.Decode.{content_of, node_with}
 use Rattle.layout.specs.Parts.{content_in}
 use Rattle.inode.specs.Over.{number_at}
 use Rattle.inode.specs.Shown.{body_in}

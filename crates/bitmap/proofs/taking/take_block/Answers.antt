@@ -1,6 +1,4 @@
-use Rattle.std.proofs.Common.{◌≡◌, sym, subst, Option, Result, Some, None, Ok, Err, IfOk, OnOk}
-use Rattle.disk.specs.Crash.{Image}
-use Rattle.model.specs.Tree.{Tree}
+use Rattle.std.proofs.Common.{sym, subst, Some}
 use Rattle.inode.specs.declared.snap.Snap.{Snap}
 use Rattle.inode.specs.Read.{Saw}
 use Rattle.drafts.specs.Drafted.{image_of}

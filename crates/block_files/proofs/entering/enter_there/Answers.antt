@@ -1,11 +1,10 @@
-use Rattle.std.proofs.Common.{rules, ◌≡◌, ◌<◌, true, false, ap, sym, ◌∙◌, subst, Some, None, arith}
+use Rattle.std.proofs.Common.{◌≡◌, ◌<◌, true, false, ap, sym, ◌∙◌, subst}
 use Rattle.std.proofs.lemmas.Result.{IfErr-weaker}
 use Rattle.layout.specs.declared.geometry.Geometry.{Geometry}
 use Rattle.layout.specs.Parts.{with_inode}
 use Rattle.drafts.specs.Attributes.{attributed}
 use Rattle.drafts.specs.Drafted.{Shows, image_of}
 use Rattle.drafts.proofs.PutThere.{both_ok}
-use Rattle.block_files.specs.Heads.{looks_of}
 use Rattle.block_files.proofs.EnteredThere.{entered_there}
 use Rattle.block_files.proofs.entering.enter_there.Goals as goal
 

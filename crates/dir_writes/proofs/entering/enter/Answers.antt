@@ -1,5 +1,4 @@
 use Rattle.std.proofs.Common.{◌≡◌, refl, sym, ◌∙◌, Option, Some, None}
-use Rattle.std.proofs.lemmas.Result.{IfErr-weaker, on_ok_weaker}
 use Rattle.layout.specs.declared.inode.InodeKind.TheVariants as kinds
 use Rattle.model.specs.Node.{Node}
 use Rattle.drafts.specs.Drafted.{image_of}

@@ -1,14 +1,12 @@
-use Rattle.std.proofs.Common.{◌≡◌, ◌<◌, ◌≤◌, ◌*◌, ap, sym, ◌∙◌, subst, arith}
-use Rattle.std.proofs.lemmas.Result.{IfErr-weaker, IfOk-weaker}
+use Rattle.std.proofs.Common.{◌≡◌, ◌≤◌, ◌*◌, ap, sym, ◌∙◌, subst, arith}
+use Rattle.std.proofs.lemmas.Result.{IfOk-weaker}
 use Rattle.limits.specs.declared.TheConstants.{SLOTS_PER_BLOCK}
 use Rattle.layout.specs.Decode.{span_of}
 use Rattle.model.specs.Tree.{free}
 use Rattle.procedures.specs.Changes.{with_entry}
 use Rattle.files.specs.Changing.{CanEnter, adds}
-use Rattle.drafts.specs.Drafted.{image_of}
 use Rattle.dir_writes.specs.Entering.{entry_in, with_name}
 use Rattle.dir_writes.specs.Growing.{HoldsWith}
-use Rattle.dir_writes.proofs.Spanned.{spans_there}
 use Rattle.dir_writes.proofs.entering.enter_in.Goals as goal
 
 pub returns-then-name-gt-NAME_BYTES-clause-ok : goal.returns-then-name-gt-NAME_BYTES-clause-ok

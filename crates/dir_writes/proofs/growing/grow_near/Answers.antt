@@ -1,26 +1,17 @@
-use Rattle.std.proofs.Common.{rules, ◌≡◌, ◌≤◌, ◌<◌, ◌+◌, ◌-◌, ◌*◌, [], ◌∷◌, ℕ, List, length, replicate, set, sym, ap, ◌∙◌, refl, subst, Some, Ok, arith}
-use Rattle.limits.specs.declared.TheConstants.{BLOCK_BYTES, DIRECT_INDEXES, SLOTS_PER_BLOCK}
+use Rattle.std.proofs.Common.{◌≡◌, ◌<◌, ◌+◌, ◌*◌, [], ◌∷◌, set, sym, ap, ◌∙◌, subst, Some, Ok, arith}
+use Rattle.limits.specs.declared.TheConstants.{BLOCK_BYTES, DIRECT_INDEXES}
 use Rattle.layout.specs.declared.geometry.Geometry.{Geometry}
 use Rattle.layout.specs.declared.inode.Inode.{Inode}
-use Rattle.layout.specs.declared.slot.Slot.{Slot}
 use Rattle.layout.specs.Decode.{inode_at, span_of}
-use Rattle.layout.specs.Fields.{four_bytes}
-use Rattle.layout.specs.Holds.{Holds}
-use Rattle.layout.specs.Parts.{content_in, with_bytes, with_inode}
-use Rattle.objects.specs.Spliced.{spliced}
-use Rattle.model.specs.Tree.{with_node}
-use Rattle.inode.specs.declared.snap.Snap.{Snap}
-use Rattle.inode.specs.Over.{IsOver}
+use Rattle.layout.specs.Parts.{with_bytes, with_inode}
 use Rattle.drafts.specs.Drafted.{Shows, image_of}
-use Rattle.drafts.proofs.PutThere.{moved_draft, over_of}
+use Rattle.drafts.proofs.PutThere.{moved_draft}
 use Rattle.bitmap.specs.NewBlock.{HasTaken}
 use Rattle.bitmap.proofs.NewBlocks.{none_taken}
 use Rattle.file_writes.specs.Filling.{mapping}
-use Rattle.file_writes.proofs.FarNumbers.{le_four}
-use Rattle.dir_writes.specs.Entering.{with_name}
 use Rattle.dir_writes.specs.Growing.{first_slot}
-use Rattle.dir_writes.proofs.GrownDirectory.{first_far, takes_one, takes_two}
-use Rattle.dir_writes.proofs.GrownHolds.{far_grows, first_grows, near_grows}
+use Rattle.dir_writes.proofs.GrownDirectory.{takes_one}
+use Rattle.dir_writes.proofs.GrownHolds.{near_grows}
 use Rattle.dir_writes.proofs.growing.grow_near.Goals as goal
 
 pub returns-in-Ok-clause-ok : goal.returns-in-Ok-clause-ok

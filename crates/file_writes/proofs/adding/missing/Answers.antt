@@ -1,4 +1,4 @@
-use Rattle.std.proofs.Common.{◌≡◌, ◌+◌, ◌<◌, suc, nat_eq, cond, sym, ap, ◌∙◌, length, get_or, arith, ℕ}
+use Rattle.std.proofs.Common.{◌≡◌, ◌+◌, ◌<◌, suc, nat_eq, cond, ap, ◌∙◌, length, get_or, arith, ℕ}
 use Rattle.limits.specs.declared.TheConstants.{FILE_INDEXES}
 use Rattle.layout.specs.Decode.{numbers_of}
 use Rattle.layout.specs.Fields.{count_of}

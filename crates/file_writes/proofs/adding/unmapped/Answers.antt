@@ -1,9 +1,8 @@
-use Rattle.std.proofs.Common.{◌≡◌, ℕ, suc, ◌+◌, ◌-◌, ◌/◌, ◌≤◌, sym, ap, ◌∙◌, length, arith}
+use Rattle.std.proofs.Common.{◌≡◌, suc, ◌+◌, ◌-◌, ◌/◌, sym, ap, ◌∙◌, length, arith}
 use Rattle.std.specs.List.{range_with_len}
 use Rattle.limits.specs.declared.TheConstants.{BLOCK_BYTES}
 use Rattle.model.specs.Cost.{cost, file_cost}
 use Rattle.procedures.specs.Write.{mapped_with, with_text}
-use Rattle.layout.specs.declared.inode.InodeKind.{InodeKind}
 use Rattle.layout.specs.Decode.{body_of, mapped_of, numbers_of}
 use Rattle.layout.specs.Parts.{content_in}
 use Rattle.bitmap.proofs.OfResults.{mapped}

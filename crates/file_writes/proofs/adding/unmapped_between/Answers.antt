@@ -1,5 +1,4 @@
-use Rattle.std.proofs.Common.{rules, ◌≡◌, ◌≤◌, true, false, nat_eq, arith}
-use Rattle.limits.specs.declared.TheConstants.{DIRECT_INDEXES}
+use Rattle.std.proofs.Common.{rules, ◌≡◌, true, false, nat_eq, arith}
 use Rattle.file_writes.proofs.FilledUp.{far_added, first_added, near_added}
 use Rattle.file_writes.proofs.adding.unmapped_between.Goals as goal
 

@@ -1,5 +1,4 @@
-use Rattle.std.proofs.Common.{◌≡◌, [], sym, ap, ◌∙◌, subst, false, true, nat_eq}
-use Rattle.layout.specs.declared.geometry.Geometry.{Geometry}
+use Rattle.std.proofs.Common.{◌≡◌, [], ◌∙◌, subst}
 use Rattle.layout.specs.Parts.{with_bytes, with_inode}
 use Rattle.drafts.specs.Drafted.{Shows, image_of}
 use Rattle.drafts.proofs.PutThere.{both_ok, moved_draft}

@@ -1,4 +1,4 @@
-use Rattle.std.proofs.Common.{rules, ◌≡◌, ◌≤◌, ◌<◌, ◌/◌, true, false, nat_eq, sym, ap, ◌∙◌, subst, arith}
+use Rattle.std.proofs.Common.{rules, ◌≡◌, ◌<◌, true, nat_eq, sym, ap, ◌∙◌, subst, arith}
 use Rattle.limits.specs.declared.TheConstants.{DIRECT_INDEXES}
 use Rattle.drafts.specs.Drafted.{image_of}
 use Rattle.bitmap.proofs.OfResults.{mapped}

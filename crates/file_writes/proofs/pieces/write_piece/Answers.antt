@@ -1,4 +1,4 @@
-use Rattle.std.proofs.Common.{◌≡◌, ◌-◌, ◌≤◌, sym, ap, ◌∙◌, subst, Some}
+use Rattle.std.proofs.Common.{◌≡◌, ◌-◌, ◌≤◌, sym, ◌∙◌, subst, Some}
 use Rattle.std.proofs.lemmas.Result.{IfErr-weaker}
 use Rattle.model.specs.Cost.{cost}
 use Rattle.model.specs.Node.{Node}

@@ -1,5 +1,4 @@
-use Rattle.std.proofs.Common.{◌≡◌, ◌-◌, ◌≤◌, ◌+◌, ◌%◌, true, sym, ◌∙◌, subst, take, drop, arith}
-use Rattle.limits.specs.declared.TheConstants.{BLOCK_BYTES}
+use Rattle.std.proofs.Common.{◌-◌, ◌≤◌, ◌+◌, sym, ◌∙◌, subst, take, drop, arith}
 use Rattle.model.specs.Cost.{cost}
 use Rattle.model.specs.Node.{Node}
 use Rattle.model.specs.Tree.{free, with_node}
