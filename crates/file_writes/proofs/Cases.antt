@@ -55,12 +55,12 @@ there_once q numbers j less is some_q =
     zero_there (x ∷ xs) zero less = refl
     zero_there (x ∷ xs) (suc j) less = zero_there xs j (omega (arith, less))
 
-at_least_once : (q : ℕ) (numbers : List ℕ) (j : ℕ) → j < length numbers → get_or numbers j 0 ≡ q
+pub at_least_once : (q : ℕ) (numbers : List ℕ) (j : ℕ) → j < length numbers → get_or numbers j 0 ≡ q
     → is_some q ≡ true → 1 ≤ times q (some numbers)
 at_least_once q numbers j less is some_q =
     let once = there_once q numbers j less is some_q in omega (arith, once)
 
-twice : (q : ℕ) (numbers : List ℕ) (i j : ℕ) → (i ≡ j → ⊥) → i < length numbers → j < length numbers
+pub twice : (q : ℕ) (numbers : List ℕ) (i j : ℕ) → (i ≡ j → ⊥) → i < length numbers → j < length numbers
     → get_or numbers i 0 ≡ q → get_or numbers j 0 ≡ q → is_some q ≡ true → 2 ≤ times q (some numbers)
 twice q numbers i j not one two at_i at_j some_q =
     let long = length-set numbers j 0 in
@@ -84,18 +84,18 @@ one_more_in_all q x b numbers index less is none = by_test (nat_eq x 0) refl (on
         let two = in_front q x numbers (ap not e) in omega (arith, one, two, rest)
 
 -- in front of all
-front_once : (q : ℕ) (numbers : List ℕ) → is_some q ≡ true → 1 ≤ times q (some (q ∷ numbers))
+pub front_once : (q : ℕ) (numbers : List ℕ) → is_some q ≡ true → 1 ≤ times q (some (q ∷ numbers))
 front_once q numbers is =
     let front = in_front q q numbers is in let one = one_if_same q in omega (arith, front, one)
 
-front_twice : (q : ℕ) (numbers : List ℕ) (j : ℕ) → j < length numbers → get_or numbers j 0 ≡ q → is_some q ≡ true
+pub front_twice : (q : ℕ) (numbers : List ℕ) (j : ℕ) → j < length numbers → get_or numbers j 0 ≡ q → is_some q ≡ true
     → 2 ≤ times q (some (q ∷ numbers))
 front_twice q numbers j less at is =
     let front = in_front q q numbers is in
     let one = one_if_same q in
     let rest = at_least_once q numbers j less at is in omega (arith, front, one, rest)
 
-no_fewer : (q x : ℕ) (numbers : List ℕ) → times q (some numbers) ≤ times q (some (x ∷ numbers))
+pub no_fewer : (q x : ℕ) (numbers : List ℕ) → times q (some numbers) ≤ times q (some (x ∷ numbers))
 no_fewer q x numbers = by_test (nat_eq x 0) refl
   where
     by_test : (t : Bool) → nat_eq x 0 ≡ t → times q (some numbers) ≤ times q (some (x ∷ numbers))

@@ -5,9 +5,9 @@ pub mod PieceWritten
 pub mod Cases
 pub mod ImageWritten
 pub mod Stored
-pub mod MappedFile
 pub mod Costs
 pub mod Whole
+pub mod MappedFile
 pub mod Adjoining
 pub mod Steps
 pub mod FilledUp

@@ -15,8 +15,8 @@ use Rattle.file_writes.specs.Filling.{Fills, mapping}
 use Rattle.file_writes.proofs.Cases.{block_named_far}
 use Rattle.file_writes.proofs.FarNumbers.{le_four, named_count}
 use Rattle.file_writes.proofs.PieceWritten.{long_content, not_zero}
-use Rattle.file_writes.proofs.MappedFile.{as_mapped}
 use Rattle.file_writes.proofs.Stored.{content_are, named_are, stored_far}
+use Rattle.file_writes.proofs.MappedFile.{as_mapped}
 use Rattle.file_writes.proofs.mapping.map_far.Goals as goal
 
 pub returns-in-Ok-store_far-clause-ok : goal.returns-in-Ok-store_far-clause-ok
