@@ -14,8 +14,6 @@ import struct
 from cases import checking, conversing, nfs, plain, wire
 from cases.running import MADE, expect, same
 
-# The server sets no size so far, as docs/PROTOCOL.md says.
-SETS_NO_SIZE = True
 FIRST_SEED = int(os.environ.get("FIRST_SEED", "0"))
 SEEDS, SEEDS_OF_A_CASE, CALLS, NOW = 200, 10, 80, 2000
 # Counts of blocks and inodes: enough of both; and few numbers, or few data blocks, which are soon used up.
@@ -60,8 +58,6 @@ def credential_of(caller):
 
 class Stream:
     """A stream that grows call by call, by what the plain program answers."""
-
-    sets_no_size = SETS_NO_SIZE
 
     def __init__(self, client, drawn, weights):
         self.client, self.drawn, self.weights = client, drawn, weights
@@ -145,7 +141,7 @@ class Stream:
         """New attributes, each of which may stay."""
         one, some = self.drawn.choice, lambda values: self.drawn.choice(values) if self.is_likely(0.3) else None
         times = [one([nfs.KEPT, nfs.KEPT, nfs.SERVER_TIME, (2, self.time())]) for _ in range(2)]
-        size = None if self.sets_no_size else some(SIZES if self.is_likely(0.9) else FAR_SIZES)
+        size = some(SIZES if self.is_likely(0.9) else FAR_SIZES)
         return nfs.NewAttributes(some(MODES), some(OWNERS), some(OWNERS), size, *times)
 
     def time(self):

@@ -220,11 +220,9 @@ PATHCONF = Procedure("PATHCONF", 20, ASKED,
                      {**TELLS, "links": WORD, "name_bytes": WORD, **dict.fromkeys(RULES, FLAG)}, TELLS)
 COMMIT = Procedure("COMMIT", 21, {**ASKED, "offset": DOUBLE, "count": WORD}, {**CHANGED, "verifier": EIGHT}, CHANGED)
 
-# Those that the program serves, but for a SETATTR of the size: the others answer NOTSUPP.
-SERVED = (
-    GETATTR, SETATTR, LOOKUP, ACCESS, READLINK, READ, MKNOD, READDIR, READDIRPLUS, FSSTAT, FSINFO, PATHCONF, COMMIT,
-)
 PROCEDURES = {it.number: it for it in list(globals().values()) if isinstance(it, Procedure)}
+# Those that the program serves: all of them.
+SERVED = tuple(PROCEDURES.values())
 
 
 def credential(uid, gid, gids=()):

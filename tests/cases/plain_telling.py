@@ -98,7 +98,6 @@ def test_the_plain_program_tells_the_bytes_of_long_files(place):
 def test_the_plain_program_sets_attributes(place):
     root = images.directory({b"guarded": telling.guarded(), b"holder": telling.holder()})
     (client, image), draws = made(place, root), setting.Draws(3)
-    draws.sets_no_size = False
     assert_answers(client, [draws.question(draws.drawn.choice(image.files)) for _ in range(1500)])
     same("the tree", client.tree(), conversing.tree_on(root))
     same("the end", client.end(), (b"", b"", 0))

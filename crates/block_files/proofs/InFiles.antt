@@ -1,5 +1,6 @@
 -- What is in the file of an inode of a kind.
 use Rattle.std.proofs.Common.{◌≡◌, ℕ, zero, suc, ◌*◌, refl, sym, ap, ◌∙◌, subst, List, [], take, drop, min, Option, Some, None, Ok}
+use Rattle.std.proofs.Common.{Bool, true, not}
 use Rattle.std.specs.FinMap.{get}
 use Rattle.std.specs.Option.{option_map}
 use Rattle.limits.specs.declared.TheConstants.{SLOTS_PER_BLOCK, TRANSFER_BYTES}
@@ -13,9 +14,10 @@ use Rattle.layout.specs.declared.inode.InodeKind.TheVariants as kinds
 use Rattle.layout.specs.Decode.{body_of, entries_in, span_of}
 use Rattle.layout.specs.Decode as decode
 use Rattle.layout.specs.Parts.{content_in}
-use Rattle.procedures.specs.Places.{entry_at}
+use Rattle.procedures.specs.Places.{entry_at, least_free_slot}
 use Rattle.procedures.specs.Read.{bytes_of, piece}
 use Rattle.procedures.specs.ReadLink.{target_of}
+use Rattle.procedures.specs.RmDir.{has_names}
 use Rattle.files.specs.declared.entry.Entry.{Entry}
 use Rattle.files.specs.declared.entry.SlotName.{SlotName}
 use Rattle.files.specs.Heads.{IsNextName, entry_of}
@@ -59,6 +61,28 @@ module _ (g : Geometry) (blocks : Image) (inode : Inode) where
   regular_bytes offset count few bytes is few_is bytes_are =
       bytes_are ∙ ap (λ n. take n (drop offset (take inode.size (all_bytes g blocks inode)))) few_is
       ∙ ap (λ kind. piece offset count (bytes_of (body_of g.inodes content kind inode))) (sym is)
+
+  pub directory_filled : (empty : Bool) → inode.kind ≡ kinds.Directory
+      → empty ≡ not (has_names (decode.directory_in g.inodes content inode))
+      → empty ≡ not (has_names (body_in g blocks inode))
+  directory_filled empty is so = so ∙ ap (λ kind. not (has_names (body_of g.inodes content kind inode))) (sym is)
+
+  pub regular_filled : inode.kind ≡ kinds.Regular → true ≡ not (has_names (body_in g blocks inode))
+  regular_filled is = ap (λ kind. not (has_names (body_of g.inodes content kind inode))) (sym is)
+
+  pub link_filled : inode.kind ≡ kinds.Link → true ≡ not (has_names (body_in g blocks inode))
+  link_filled is = ap (λ kind. not (has_names (body_of g.inodes content kind inode))) (sym is)
+
+  pub directory_vacant : (free : Option ℕ) → inode.kind ≡ kinds.Directory
+      → free ≡ least_free_slot (decode.directory_in g.inodes content inode)
+      → free ≡ least_free_slot (body_in g blocks inode)
+  directory_vacant free is so = so ∙ ap (λ kind. least_free_slot (body_of g.inodes content kind inode)) (sym is)
+
+  pub regular_vacant : inode.kind ≡ kinds.Regular → Some 0 ≡ least_free_slot (body_in g blocks inode)
+  regular_vacant is = ap (λ kind. least_free_slot (body_of g.inodes content kind inode)) (sym is)
+
+  pub link_vacant : inode.kind ≡ kinds.Link → Some 0 ≡ least_free_slot (body_in g blocks inode)
+  link_vacant is = ap (λ kind. least_free_slot (body_of g.inodes content kind inode)) (sym is)
 
   nothing : (k : ℕ) → ◌≡◌ {A = List ℕ} (take k []) []
   nothing zero = refl

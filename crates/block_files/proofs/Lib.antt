@@ -3,4 +3,7 @@ pub mod InFiles
 pub mod SetThere
 pub mod Drafts
 pub mod Departed
+pub mod MadeThere
+pub mod EnteredThere
+pub mod SizedThere
 pub mod Refreshed

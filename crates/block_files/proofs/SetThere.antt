@@ -77,7 +77,7 @@ module _ (g : Geometry) (image : Image) (inodes : ℕ) (inode : Inode) (head : H
   abbrev new : Inode
   new = attributed inode (looks_of head)
 
-  file_good : is_sound_file new ≡ true
+  pub file_good : is_sound_file new ≡ true
   file_good = λ i. le-leb head.mode MODE_BITS sound.mode i
       && le-leb 1 head.nlink (let some = sound.linked in omega (arith, some)) i
       && le-leb head.nlink MOST_LINKS sound.nlink i
@@ -90,7 +90,7 @@ module _ (g : Geometry) (image : Image) (inodes : ℕ) (inode : Inode) (head : H
   all_eight true true true true true true true true e = (refl, refl, refl, refl)
   all_eight _ _ _ _ _ _ _ _ e = cc
 
-  made_of : (kind : FileKind) → kind ≡ head.kind
+  pub made_of : (kind : FileKind) → kind ≡ head.kind
       → SoundVerifier (cond (is_kind_directory kind) (model.Directory map.empty 0 head.parent)
       (cond (is_kind_regular kind) (model.Regular [] set.empty) (model.Link []))) head.verifier
   made_of kind is =
@@ -98,7 +98,7 @@ module _ (g : Geometry) (image : Image) (inodes : ℕ) (inode : Inode) (head : H
       (cond (is_kind_regular k) (model.Regular [] set.empty) (model.Link []))) head.verifier) (sym is)
       sound.verifier
 
-  in_range : head.kind ≡ told.Directory → (2 ≤ head.nlink) × (0 < head.parent) × (head.parent < inodes)
+  pub in_range : head.kind ≡ told.Directory → (2 ≤ head.nlink) × (0 < head.parent) × (head.parent < inodes)
   in_range is = sound.directory (ap is_kind_directory is)
 
   good : (kind : InodeKind) → is_sound_kind g kind inode ≡ true
@@ -129,7 +129,7 @@ module _ (g : Geometry) (image : Image) (inodes : ℕ) (inode : Inode) (head : H
       λ i. file_good i && three.1 i && (rest.0 i && rest.1 i && eq-eqb head.parent 0 (sym fits.parent) i
       && rest.3 i && rest.4 i && is_none (made_of told.Link fits.kind i))
 
-  no_verifier : (verifier : Option Verifier) → verifier ≡ None → IfSome verifier VerifierFits
+  pub no_verifier : (verifier : Option Verifier) → verifier ≡ None → IfSome verifier VerifierFits
   no_verifier verifier is = subst (λ (v : Option Verifier). IfSome v VerifierFits) (sym is) tt
 
   verifier_fits : (kind : InodeKind)

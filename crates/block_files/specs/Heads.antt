@@ -3,6 +3,7 @@ use Rattle.std.specs.Prelude.{ℕ, ◌*◌, replicate}
 use Rattle.limits.specs.declared.TheConstants.{BLOCK_BYTES, DIRECT_INDEXES}
 use Rattle.files.specs.declared.head.Head.{Head}
 use Rattle.layout.specs.declared.inode.Inode.{Inode}
+use Rattle.layout.specs.declared.inode.InodeKind.{InodeKind}
 use Rattle.layout.specs.declared.inode.InodeKind.TheVariants.{Regular}
 use Rattle.inode.specs.Shown.{file_kind}
 
@@ -43,3 +44,7 @@ looks_of head = record {
   direct = replicate DIRECT_INDEXES 0;
   indirect = 0;
 }
+
+-- an inode of this kind with the attributes of a head, and no blocks
+abbrev pub inode_of : Head → InodeKind → Inode
+inode_of head kind = record (looks_of head) { kind = kind }

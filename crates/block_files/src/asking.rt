@@ -12,8 +12,8 @@ use std::alloc::Global;
 /// The files on the blocks that were read so far.
 #[derive(Drop)]
 pub struct BlockFiles<'a> {
-    snap: &'a Snap,
-    alloc: Global,
+    pub(crate) snap: &'a Snap,
+    pub(crate) alloc: Global,
 }
 
 impl<'a> BlockFiles<'a> {

@@ -1,18 +1,19 @@
 //! What is in the file of an inode.
-ghost use Rattle.std.specs.Prelude.{◌≡◌, ◌≤◌, Ok, ℕ, min, IfErr, IfOk, IfSome};
+ghost use Rattle.std.specs.Prelude.{◌≡◌, ◌≤◌, Ok, ℕ, min, not, IfErr, IfOk, IfSome};
 ghost use Rattle.std.specs.Option.{option_map};
 ghost use Rattle.limits.specs.declared.TheConstants.{TRANSFER_BYTES};
 ghost use Rattle.disk.specs.Crash.{Image};
 ghost use Rattle.layout.specs.declared.inode.InodeKind.TheVariants as kinds;
 ghost use Rattle.model.specs.Tree.{Tree};
-ghost use Rattle.procedures.specs.Places.{entry_at};
+ghost use Rattle.procedures.specs.Places.{entry_at, least_free_slot};
 ghost use Rattle.procedures.specs.Read.{bytes_of, piece};
 ghost use Rattle.procedures.specs.ReadLink.{target_of};
+ghost use Rattle.procedures.specs.RmDir.{has_names};
 ghost use Rattle.files.specs.Heads.{IsNextName, entry_of};
 ghost use Rattle.inode.specs.Over.{HasInode, IsPause, MayStop};
 ghost use Rattle.inode.specs.Shown.{body_in};
 
-use dir::{find, next_name};
+use dir::{find, free_slot, is_empty, next_name};
 use files::{Entry, SlotName};
 use inode::{Snap, Stop, piece, target};
 use layout::{Inode, InodeKind};
@@ -55,6 +56,38 @@ pub(crate) fn name_from(
         InodeKind::Directory => next_name(alloc, snap, inode, from),
         InodeKind::Regular => Ok(None),
         InodeKind::Link => Ok(None),
+    }
+}
+
+/// Whether no name lies in it.
+pub(crate) fn has_no_names(alloc: Global, snap: &Snap, inode: &Inode) -> Result<bool, Stop>
+    ensures ok { IfOk result (λ empty. (blocks : Image) (tree : Tree) (file : ℕ)
+        → HasInode snap.now blocks tree file inode.now
+        → empty ≡ not (has_names (body_in snap.now.geometry blocks inode.now))) }
+    ensures err { IfErr result (λ stop. MayStop snap.now stop) }
+    ensures pause { IfErr result (λ stop. (blocks : Image) (tree : Tree) (file : ℕ)
+        → HasInode snap.now blocks tree file inode.now → IsPause stop) }
+{
+    match inode.kind {
+        InodeKind::Directory => is_empty(alloc, snap, inode),
+        InodeKind::Regular => Ok(true),
+        InodeKind::Link => Ok(true),
+    }
+}
+
+/// The least slot in which no name lies: the first one, but of a directory.
+pub(crate) fn first_free_slot(snap: &Snap, inode: &Inode) -> Result<Option<u32>, Stop>
+    ensures ok { IfOk result (λ free. (blocks : Image) (tree : Tree) (file : ℕ)
+        → HasInode snap.now blocks tree file inode.now
+        → free ≡ least_free_slot (body_in snap.now.geometry blocks inode.now)) }
+    ensures err { IfErr result (λ stop. MayStop snap.now stop) }
+    ensures pause { IfErr result (λ stop. (blocks : Image) (tree : Tree) (file : ℕ)
+        → HasInode snap.now blocks tree file inode.now → IsPause stop) }
+{
+    match inode.kind {
+        InodeKind::Directory => free_slot(snap, inode),
+        InodeKind::Regular => Ok(Some(0)),
+        InodeKind::Link => Ok(Some(0)),
     }
 }
 

@@ -13,8 +13,8 @@ use std::alloc::Global;
 /// The files on the blocks that were read so far, with what was written over them.
 #[derive(Drop)]
 pub struct DraftFiles<'a> {
-    draft: Draft<'a>,
-    alloc: Global,
+    pub(crate) draft: Draft<'a>,
+    pub(crate) alloc: Global,
 }
 
 impl<'a> DraftFiles<'a> {
@@ -25,8 +25,15 @@ impl<'a> DraftFiles<'a> {
         DraftFiles { draft, alloc }
     }
 
+    /// The draft in which they lie.
+    pub fn into_draft(self) -> Draft<'a>
+        ensures { result ≡ self.entry.draft }
+    {
+        self.draft
+    }
+
     // The files as they are now. A reading of them stops for nothing that was read.
-    fn now(&self) -> BlockFiles<'_>
+    pub(crate) fn now(&self) -> BlockFiles<'_>
         ensures there { result.snap.now ≡ self.now.draft.there }
         ensures stops { (stop : Stopped) → MayStop result.snap.now stop → MayStop self.now.draft.seen stop }
     {

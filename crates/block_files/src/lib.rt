@@ -3,12 +3,17 @@
 
 mod adding;
 mod asking;
+mod changing;
 mod contents;
 mod departing;
 mod drafted;
+mod entering;
 mod heads;
+mod making;
+mod naming;
 mod refreshing;
 mod setting;
+mod sizing;
 mod space;
 mod writing;
 
@@ -16,7 +21,11 @@ pub use adding::unmapped;
 pub use asking::BlockFiles;
 pub use departing::depart;
 pub use drafted::DraftFiles;
+pub use entering::enter;
 pub use heads::head_of;
+pub use inode_writes::remove;
+pub use making::{make, new_number};
 pub use refreshing::refresh;
 pub use setting::set;
+pub use sizing::resize;
 pub use writing::write;

@@ -17,8 +17,8 @@ use layout::{Inode, InodeKind};
 use limits::DIRECT_INDEXES;
 use std::alloc::Global;
 
-// An inode with the attributes of a head, and no blocks.
-fn looks_of(head: &Head) -> Inode
+/// An inode with the attributes of a head, and no blocks.
+pub(crate) fn looks_of(head: &Head) -> Inode
     ensures { result ≡ looks_of head.now }
 {
     Inode {

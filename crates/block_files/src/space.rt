@@ -2,10 +2,11 @@
 ghost use Rattle.std.specs.Prelude.{◌≡◌, nat_le, IfErr, IfOk};
 ghost use Rattle.disk.specs.Crash.{Image};
 ghost use Rattle.model.specs.Tree.{Tree, free};
+ghost use Rattle.procedures.specs.Fresh.{IsNewNumber};
 ghost use Rattle.procedures.specs.FsStat.{unused_numbers};
 ghost use Rattle.inode.specs.Over.{IsOver, IsPause, MayStop};
 
-use bitmap::{free_blocks, free_numbers};
+use bitmap::{free_blocks, free_numbers, new_number};
 use inode::{Snap, Stop};
 
 /// The data blocks that no file uses.
@@ -28,6 +29,17 @@ pub(crate) fn numbers_left(snap: &Snap) -> Result<u32, Stop>
         → IsPause stop) }
 {
     free_numbers(snap)
+}
+
+/// A number that a file may have and none has.
+pub(crate) fn unused_number(snap: &Snap) -> Result<Option<u32>, Stop>
+    ensures ok { IfOk result (λ number. (blocks : Image) (tree : Tree) → IsOver snap.now blocks tree
+        → IsNewNumber tree number) }
+    ensures err { IfErr result (λ stop. MayStop snap.now stop) }
+    ensures pause { IfErr result (λ stop. (blocks : Image) (tree : Tree) → IsOver snap.now blocks tree
+        → IsPause stop) }
+{
+    new_number(snap)
 }
 
 /// Whether so many data blocks are free.

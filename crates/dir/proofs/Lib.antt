@@ -5,3 +5,5 @@ pub mod NextIn
 pub mod SlotBlocks
 pub mod Moved
 pub mod Passed
+pub mod Filled
+pub mod VacantIn

@@ -73,6 +73,19 @@ module _ (lies : Lying) (n : ℕ) (once : map.len (map.from_entries {R = slice_c
       (found_in nat_list_cmp_total exact (entries lies 0 n) entry.0 entry.1 named) in
       ap gives (in_slot at.0 (lies at.0) entry at.3) ∙ at.3
 
+  -- each entry of the map lies in one of these slots
+  pub of_few_slots : (entry : Lies) → In entry (map.entries made) → entry.1.slot < n
+  of_few_slots entry is =
+      let there : map.find (slice_cmp nat_cmp) entry.0 (map.entries made) ≡ Some entry.1 =
+      found_once nat_list_cmp_total exact (map.entries made) (entries_once nat_list_cmp_total exact made)
+      entry.0 entry.1 is in
+      let named : map.find (slice_cmp nat_cmp) entry.0 (entries lies 0 n) ≡ Some entry.1 =
+      sym (map.get-from_entries nat_list_cmp_total (entries lies 0 n) entry.0) ∙ map.get-entries made entry.0 ∙ there in
+      let at = from_range gives 0 n entry
+      (found_in nat_list_cmp_total exact (entries lies 0 n) entry.0 entry.1 named) in
+      let here : entry.1.slot ≡ at.0 = in_slot at.0 (lies at.0) entry at.3 in
+      let less = at.2 in omega (arith, here, less)
+
   -- the entry of a slot is one of the map's
   of_the_map : (slot : ℕ) (entry : Lies) → slot < n → gives slot ≡ Some entry → In entry (map.entries made)
   of_the_map slot entry less is =

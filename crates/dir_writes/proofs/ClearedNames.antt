@@ -1,75 +1,26 @@
 -- A directory of which a slot became zeros.
-use Rattle.std.proofs.Common.{◌≡◌, ℕ, zero, suc, ◌+◌, ◌*◌, ◌/◌, ◌<◌, ◌≤◌, inl, inr, sym, ap, ◌∙◌, refl, subst}
-use Rattle.std.proofs.Common.{Bool}
-use Rattle.std.proofs.Common.{true, false, cond, not, ◌||◌, List, [], ◌∷◌, ◌++◌, length, take, drop, get_or}
-use Rattle.std.proofs.Common.{replicate}
-use Rattle.std.proofs.Common.{nat_eq, IsOk, Some, None, Ok, arith}
-use Rattle.std.specs.Cmp.Lexicographic.{slice_cmp}
+use Rattle.std.proofs.Common.{◌≡◌, ℕ, ◌*◌, ◌<◌, ◌≤◌, refl, ◌∙◌, List, length, replicate, Some, None, Ok, arith}
 use Rattle.std.specs.FinMap as map
-use Rattle.std.specs.List.{cons_option, flat_map, list_all, list_any}
-use Rattle.std.specs.Ordering.{nat_cmp}
-use Rattle.std.proofs.lemmas.Bool.{cases_eq, eq-eqb}
-use Rattle.std.proofs.lemmas.List.{get_or-take, length-take-le}
-use Rattle.std.proofs.lemmas.List.FromFn.{get_or-range_with_len, length-range_with_len}
-use Rattle.std.proofs.lemmas.List.Elements.{All-from_get_or}
-use Rattle.limits.specs.declared.TheConstants.{BLOCK_BYTES, INDIRECT_INDEXES, SLOTS_PER_BLOCK}
+use Rattle.limits.specs.declared.TheConstants.{BLOCK_BYTES, SLOTS_PER_BLOCK}
 use Rattle.disk.specs.Crash.{Image}
 use Rattle.layout.specs.declared.geometry.Geometry.{Geometry}
 use Rattle.layout.specs.declared.inode.Inode.{Inode}
 use Rattle.layout.specs.declared.slot.TheConstants.{SLOT_BYTES}
-use Rattle.layout.specs.Decode.{IsDirectory, bytes_of, content_of, entries_in, entry_in, named_in, numbers_of}
-use Rattle.layout.specs.Decode.{slot_bytes, slots_of, span_of}
-use Rattle.layout.specs.Fields.{four_at, numbers_at}
-use Rattle.layout.specs.InodeForm.{is_data_block_or_none, names_first}
-use Rattle.layout.specs.SlotForm.{number_under, read_slot}
-use Rattle.layout.proofs.Written.{not_same}
-use Rattle.inode.proofs.AllTests.{all_two}
+use Rattle.layout.specs.Decode.{IsDirectory, entries_in, named_in, numbers_of, span_of}
+use Rattle.layout.specs.SlotForm.{number_under}
+use Rattle.layout.proofs.SlotBytes.{free_read}
 use Rattle.dir.specs.Slots.{Lying, slot_at}
-use Rattle.dir.proofs.FoundIn.{entries}
 use Rattle.dir_writes.specs.Clearing.{HasOnce, cleared, slot_block}
-use Rattle.dir_writes.proofs.Lost.{IsOnce, loses, lost, removed}
-use Rattle.dir_writes.proofs.SlotCleared.{itself, other_block, others}
-
-pub some_at : (numbers : List ℕ) (index : ℕ) → index < length numbers
-    → list_all (λ number. not (nat_eq number 0)) numbers ≡ true → nat_eq (get_or numbers index 0) 0 ≡ false
-some_at [] index less all = absurd (omega (arith, less))
-some_at (n ∷ numbers) zero less all =
-    negated (nat_eq n 0) (all_two (not (nat_eq n 0)) (list_all (λ number. not (nat_eq number 0)) numbers) all).0
-  where
-    negated : (b : Bool) → not b ≡ true → b ≡ false
-    negated true e = cc
-    negated false e = refl
-some_at (n ∷ numbers) (suc index) less all =
-    some_at numbers index (omega (arith, less))
-    (all_two (not (nat_eq n 0)) (list_all (λ number. not (nat_eq number 0)) numbers) all).1
-
-alike_entries : (lies other : Lying) (a n : ℕ) → ((k : ℕ) → a ≤ k → k < a + n → lies k ≡ other k)
-    → entries lies a n ≡ entries other a n
-alike_entries lies other a zero same = refl
-alike_entries lies other a (suc n) same = λ i.
-    cons_option (entry_in a (same a (omega arith) (omega arith) i))
-    (alike_entries lies other (a + 1) n (λ k low less. same k (omega (arith, low)) (omega (arith, less))) i)
-
-free_slot : (inodes : ℕ) → read_slot inodes (replicate SLOT_BYTES 0) ≡ Ok None
-unfolding read_slot four_at
-free_slot inodes = refl
+use Rattle.dir_writes.proofs.Lost.{loses, removed}
+use Rattle.dir_writes.proofs.SlotNames as slots
 
 module _ (g : Geometry) (content : Image) (inode : Inode) (name : List ℕ) (s number : ℕ)
     (long : (block : ℕ) → length (content block) ≡ BLOCK_BYTES)
     (spans : span_of inode ≤ length (numbers_of content inode)) (dir : IsDirectory g content inode)
     (less : s < SLOTS_PER_BLOCK * span_of inode) (once : HasOnce content inode (slot_block content inode s))
     (is : number_under name (slot_at g.inodes content inode s) ≡ Ok (Some number)) where
-  abbrev numbers : List ℕ
-  numbers = numbers_of content inode
-
-  abbrev spanned : List ℕ
-  spanned = take (span_of inode) numbers
-
-  abbrev b : ℕ
-  b = slot_block content inode s
-
-  abbrev after : Image
-  after = cleared content inode s
+  abbrev zeros : List ℕ
+  zeros = replicate SLOT_BYTES 0
 
   abbrev lies : Lying
   lies = slot_at g.inodes content inode
@@ -77,112 +28,16 @@ module _ (g : Geometry) (content : Image) (inode : Inode) (name : List ℕ) (s n
   abbrev end : ℕ
   end = SLOTS_PER_BLOCK * span_of inode
 
-  spanned_long : length spanned ≡ span_of inode
-  spanned_long = length-take-le (span_of inode) numbers spans
-
-  index : s / SLOTS_PER_BLOCK < span_of inode
-  index = omega (arith, less)
-
-  b_is : b ≡ get_or spanned (s / SLOTS_PER_BLOCK) 0
-  b_is = sym (get_or-take (span_of inode) numbers (s / SLOTS_PER_BLOCK) 0 index)
-
-  some : nat_eq b 0 ≡ false
-  some = ap (λ n. nat_eq n 0) b_is
-      ∙ some_at spanned (s / SLOTS_PER_BLOCK) (let all = spanned_long in let low = index in omega (arith, all, low))
-      (all_two (list_all (λ n. not (nat_eq n 0)) spanned)
-      (list_all (λ n. nat_eq n 0) (drop (span_of inode) numbers)) dir.spans).0
-
-  within : s / SLOTS_PER_BLOCK < length spanned
-  within = let all = spanned_long in let low = index in omega (arith, all, low)
-
-  alone : (j : ℕ) → j < length spanned → get_or spanned j 0 ≡ b → j ≡ s / SLOTS_PER_BLOCK
-  alone j low e =
-      let all = spanned_long in let first = index in
-      once.index j (s / SLOTS_PER_BLOCK) (omega (arith, low, all, spans)) (omega (arith, first, spans))
-      (sym (get_or-take (span_of inode) numbers j 0 (omega (arith, low, all))) ∙ e) refl
-
-  pub same_numbers : numbers_of after inode ≡ numbers
-  unfolding numbers_of
-  same_numbers = ap (λ block. inode.direct ++ cond (nat_eq inode.indirect 0) (replicate INDIRECT_INDEXES 0)
-      (numbers_at INDIRECT_INDEXES 0 block))
-      (other_block content spanned s b long b_is some within alone inode.indirect once.indirect)
-
-  -- ---- its slots
-
-  bytes_after : (k : ℕ) → slot_bytes after inode k
-      ≡ take SLOT_BYTES (drop (SLOT_BYTES * k) (flat_map (content_of after) spanned))
-  unfolding slot_bytes bytes_of
-  bytes_after k = ap (λ ns. take SLOT_BYTES (drop (SLOT_BYTES * k)
-      (flat_map (content_of after) (take (span_of inode) ns)))) same_numbers
-
-  bytes_before : (k : ℕ) → slot_bytes content inode k
-      ≡ take SLOT_BYTES (drop (SLOT_BYTES * k) (flat_map (content_of content) spanned))
-  unfolding slot_bytes bytes_of
-  bytes_before k = refl
-
-  alike : (k : ℕ) → k < end → slot_at g.inodes after inode k ≡ lost lies s k
-  alike k low = elim (cases_eq k s) [
-    | inl same ↦
-        ap (λ j. slot_at g.inodes after inode j) same
-        ∙ ap (read_slot g.inodes) (bytes_after s
-        ∙ itself content spanned s b long b_is some within alone)
-        ∙ free_slot g.inodes
-        ∙ sym (ap (λ t. cond t (Ok None) (lies k)) (eq-eqb k s same))
-    | inr differ ↦
-        ap (read_slot g.inodes) (bytes_after k
-        ∙ others content spanned s b long b_is some within alone k
-        (let all = spanned_long in omega (arith, low, all)) differ ∙ sym (bytes_before k))
-        ∙ sym (ap (λ t. cond t (Ok None) (lies k)) (not_same k s differ))
-  ]
-
-  named : named_in g.inodes after inode ≡ entries (lost lies s) 0 end
+  pub names : entries_in g.inodes (cleared content inode s) inode
+      ≡ map.remove (entries_in g.inodes content inode) name
   unfolding named_in
-  named = alike_entries (slot_at g.inodes after inode) (lost lies s) 0 end
-      (λ k low high. alike k (omega (arith, high)))
+  names =
+      slots.made_of g content inode s zeros None refl (free_read g.inodes) long spans dir less once
+      ∙ removed lies name s number is end less
+      (slots.was_once g content inode s zeros None refl (free_read g.inodes) long spans dir less once)
 
-  was_once : IsOnce (entries lies 0 end)
-  unfolding named_in
-  was_once = dir.once
-
-  pub names : entries_in g.inodes after inode ≡ map.remove (entries_in g.inodes content inode) name
-  unfolding named_in
-  names = ap (λ es. map.from_entries {R = slice_cmp nat_cmp} es) named
-      ∙ removed lies name s number is end less was_once
-
-  slot_ok : (k : ℕ) → k < end → IsOk (slot_at g.inodes after inode k)
-  slot_ok k low = subst (λ r. IsOk r) (sym (alike k low)) (by_test (nat_eq k s))
-    where
-      all : length (slots_of inode) ≡ end
-      all = length-range_with_len 0 end
-
-      was : IsOk (lies k)
-      was = subst (λ j. IsOk (lies j)) (get_or-range_with_len 0 end k 0 low ∙ plus)
-          (dir.slots k 0 (let count = all in omega (arith, low, count)))
-        where
-          plus : 0 + k ≡ k
-          plus = omega arith
-
-      by_test : (t : Bool) → IsOk (cond t (Ok None) (lies k))
-      by_test true = refl
-      by_test false = was
-
-  pub rules : IsDirectory g after inode
-  rules = record {
-    mapped = record {
-      numbers = ap (list_all (is_data_block_or_none g)) same_numbers ∙ dir.mapped.numbers;
-      used = ap (λ ns. nat_eq inode.indirect 0
-          || list_any (λ n. not (nat_eq n 0)) (drop (length inode.direct) ns)) same_numbers ∙ dir.mapped.used;
-    };
-    spans = ap (names_first (span_of inode)) same_numbers ∙ dir.spans;
-    slots = All-from_get_or (λ k. IsOk (read_slot g.inodes (slot_bytes after inode k))) (slots_of inode) 0
-        (λ k low.
-        let count = length-range_with_len 0 end in
-        let inside : k < end = omega (arith, low, count) in
-        subst (λ j. IsOk (slot_at g.inodes after inode j))
-        (sym (get_or-range_with_len 0 end k 0 inside ∙ plus k)) (slot_ok k inside));
-    once = subst (λ es. map.len (map.from_entries {R = slice_cmp nat_cmp} es) ≡ length es) (sym named)
-        (loses lies name s number is 0 end (omega arith) (omega (arith, less)) was_once).0;
-  }
-    where
-      plus : (k : ℕ) → 0 + k ≡ k
-      plus k = omega arith
+  pub rules : IsDirectory g (cleared content inode s) inode
+  rules =
+      slots.rules g content inode s zeros None refl (free_read g.inodes) long spans dir less once
+      (loses lies name s number is 0 end (omega arith) (omega (arith, less))
+      (slots.was_once g content inode s zeros None refl (free_read g.inodes) long spans dir less once)).0

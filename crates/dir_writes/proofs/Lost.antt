@@ -40,7 +40,7 @@ abbrev pub lost : Lying → ℕ → Lying
 lost lies s k = cond (nat_eq k s) (Ok None) (lies k)
 
 -- a list behind one more that is not in it
-once_more : (x : Named) (es : List Named) → IsOnce es → seek x.0 es ≡ None → IsOnce (x ∷ es)
+pub once_more : (x : Named) (es : List Named) → IsOnce es → seek x.0 es ≡ None → IsOnce (x ∷ es)
 once_more x es once none =
     let new : contains_key (from_entries {R = slice_cmp nat_cmp} es) x.0 ≡ false =
     ap is_some (get-from_entries nat_list_cmp_total es x.0 ∙ none) in

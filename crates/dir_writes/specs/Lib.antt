@@ -1,1 +1,4 @@
 pub mod Clearing
+pub mod Slotting
+pub mod Entering
+pub mod Growing

@@ -35,7 +35,7 @@ moved_draft old new blocks image next geometry is shows holds = record {
       (subst (λ one. Holds old.there.geometry one next) (sym is) holds);
 }
 
-same_inode : (a b : Inode) → ◌≡◌ {A = Result (Option Inode) LayoutFault} (Ok (Some a)) (Ok (Some b)) → a ≡ b
+pub same_inode : (a b : Inode) → ◌≡◌ {A = Result (Option Inode) LayoutFault} (Ok (Some a)) (Ok (Some b)) → a ≡ b
 same_inode a b e = cc
 
 pub attributes_there : (old new : Drafted) (blocks : Image) (tree : Tree) (n : ℕ) (node : Node)

@@ -112,6 +112,7 @@ impl<'a> Draft<'a> {
     /// What is written, in its order.
     pub fn into_written(self) -> Vec<Object>
         ensures written { result.items ≡ self.entry.written }
+        ensures geometry { self.entry.there.geometry ≡ self.entry.seen.geometry }
         ensures given { All (λ (object : ObjectBytes). MayWrite self.entry.seen object.addr) result.items }
         ensures few { spent self.entry ≤ MOST_SPENT → length (blocks_of result.items) ≤ CHANGED_BLOCKS }
     {

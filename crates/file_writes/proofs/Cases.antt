@@ -28,11 +28,12 @@ use Rattle.inode.proofs.InodeThere.{data_of}
 use Rattle.inode.proofs.Placed.{passes_at}
 use Rattle.bitmap.specs.NewBlock.{IsFreeBlock}
 use Rattle.bitmap.proofs.Gained.{own_part}
-use Rattle.file_writes.specs.Filling.{Fills, HasRegular, IsPiece, grown_size, mapping}
+use Rattle.file_writes.specs.Filling.{Fills, HasMapped, IsPiece, grown_size, mapping}
 use Rattle.file_writes.proofs.FarNumbers.{far_none, far_set}
 use Rattle.file_writes.proofs.OneNumber.{all_still, any_behind, in_front, is_some, none_in_front, once_more}
 use Rattle.file_writes.proofs.OneNumber.{same_behind, some}
-use Rattle.file_writes.proofs.PieceWritten.{content, count, long_content, not_zero, numbers, or_data, rules, sound}
+use Rattle.file_writes.proofs.MappedFile.{content, count, long_content, numbers, sound}
+use Rattle.file_writes.proofs.PieceWritten.{not_zero, or_data}
 
 -- ---- numbers in a list
 
@@ -54,12 +55,12 @@ there_once q numbers j less is some_q =
     zero_there (x ∷ xs) zero less = refl
     zero_there (x ∷ xs) (suc j) less = zero_there xs j (omega (arith, less))
 
-at_least_once : (q : ℕ) (numbers : List ℕ) (j : ℕ) → j < length numbers → get_or numbers j 0 ≡ q
+pub at_least_once : (q : ℕ) (numbers : List ℕ) (j : ℕ) → j < length numbers → get_or numbers j 0 ≡ q
     → is_some q ≡ true → 1 ≤ times q (some numbers)
 at_least_once q numbers j less is some_q =
     let once = there_once q numbers j less is some_q in omega (arith, once)
 
-twice : (q : ℕ) (numbers : List ℕ) (i j : ℕ) → (i ≡ j → ⊥) → i < length numbers → j < length numbers
+pub twice : (q : ℕ) (numbers : List ℕ) (i j : ℕ) → (i ≡ j → ⊥) → i < length numbers → j < length numbers
     → get_or numbers i 0 ≡ q → get_or numbers j 0 ≡ q → is_some q ≡ true → 2 ≤ times q (some numbers)
 twice q numbers i j not one two at_i at_j some_q =
     let long = length-set numbers j 0 in
@@ -83,18 +84,18 @@ one_more_in_all q x b numbers index less is none = by_test (nat_eq x 0) refl (on
         let two = in_front q x numbers (ap not e) in omega (arith, one, two, rest)
 
 -- in front of all
-front_once : (q : ℕ) (numbers : List ℕ) → is_some q ≡ true → 1 ≤ times q (some (q ∷ numbers))
+pub front_once : (q : ℕ) (numbers : List ℕ) → is_some q ≡ true → 1 ≤ times q (some (q ∷ numbers))
 front_once q numbers is =
     let front = in_front q q numbers is in let one = one_if_same q in omega (arith, front, one)
 
-front_twice : (q : ℕ) (numbers : List ℕ) (j : ℕ) → j < length numbers → get_or numbers j 0 ≡ q → is_some q ≡ true
+pub front_twice : (q : ℕ) (numbers : List ℕ) (j : ℕ) → j < length numbers → get_or numbers j 0 ≡ q → is_some q ≡ true
     → 2 ≤ times q (some (q ∷ numbers))
 front_twice q numbers j less at is =
     let front = in_front q q numbers is in
     let one = one_if_same q in
     let rest = at_least_once q numbers j less at is in omega (arith, front, one, rest)
 
-no_fewer : (q x : ℕ) (numbers : List ℕ) → times q (some numbers) ≤ times q (some (x ∷ numbers))
+pub no_fewer : (q x : ℕ) (numbers : List ℕ) → times q (some numbers) ≤ times q (some (x ∷ numbers))
 no_fewer q x numbers = by_test (nat_eq x 0) refl
   where
     by_test : (t : Bool) → nat_eq x 0 ≡ t → times q (some numbers) ≤ times q (some (x ∷ numbers))
@@ -139,7 +140,7 @@ same_far one two far same = by_test (nat_eq far 0) refl
     by_test false e = ap (numbers_at INDIRECT_INDEXES 0) (same e)
 
 module _ (g : Geometry) (base : Image) (tree : Tree) (n : ℕ) (inode : Inode)
-    (has : HasRegular g base tree n inode) where
+    (has : HasMapped g base tree n inode) where
   abbrev was : Image
   was = content g base tree n inode has
 
@@ -213,7 +214,7 @@ module _ (g : Geometry) (base : Image) (tree : Tree) (n : ℕ) (inode : Inode)
       lies_there : is_data g b ≡ true
       lies_there = data_of (nat_eq b 0) (is_data g b) b_some
           (ap (is_data_block_or_none g) b_is
-          ∙ passes_at (is_data_block_or_none g) all index refl (rules g base tree n inode has).mapped.numbers)
+          ∙ passes_at (is_data_block_or_none g) all index refl has.mapped.numbers)
 
       b_own : 1 ≤ times b own
       b_own = subst (λ k. 1 ≤ times k own) (sym b_is) (own_at index low there_some)
@@ -236,7 +237,7 @@ module _ (g : Geometry) (base : Image) (tree : Tree) (n : ℕ) (inode : Inode)
             let more = no_fewer b inode.indirect all in
             let most = few b in absurd (omega (arith, two, more, most)));
         used = ap (λ l. nat_eq inode.indirect 0 || list_any is_some (drop (length inode.direct) l)) kept
-            ∙ (rules g base tree n inode has).mapped.used;
+            ∙ has.mapped.used;
         count = direct_count;
         fit = direct_fits;
         placed = placed.0;
@@ -300,7 +301,7 @@ module _ (g : Geometry) (base : Image) (tree : Tree) (n : ℕ) (inode : Inode)
               (length-set inode.direct index b)
               ∙ ap (λ l. nat_eq inode.indirect 0 || list_any is_some l)
               (same_behind all index (length inode.direct) b (let long = direct_count in omega (arith, long, near)))
-              ∙ (rules g base tree n inode has).mapped.used;
+              ∙ has.mapped.used;
           count = length-set inode.direct index b ∙ direct_count;
           fit = all_set (λ number. number < 2 ^ 32) inode.direct index b (data_fits b free.lies) direct_fits;
           placed = all_still (is_data_block_or_none g) inode.direct index b placed.0 (or_data g b free.lies);

@@ -7,6 +7,7 @@ pub mod ImageWritten
 pub mod Stored
 pub mod Costs
 pub mod Whole
+pub mod MappedFile
 pub mod Adjoining
 pub mod Steps
 pub mod FilledUp

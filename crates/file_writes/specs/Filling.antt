@@ -9,7 +9,7 @@ use Rattle.model.specs.Tree.{Tree}
 use Rattle.layout.specs.declared.geometry.Geometry.{Geometry}
 use Rattle.layout.specs.declared.inode.Inode.{Inode}
 use Rattle.layout.specs.declared.inode.InodeKind.TheVariants as kinds
-use Rattle.layout.specs.Decode.{content_of, inode_at, numbers_of}
+use Rattle.layout.specs.Decode.{IsMapped, content_of, inode_at, numbers_of}
 use Rattle.layout.specs.Holds.{Holds}
 use Rattle.layout.specs.InodeForm.{is_data_block_or_none}
 use Rattle.layout.specs.Owners.{owned_by}
@@ -23,6 +23,13 @@ pub record HasRegular (g : Geometry) (base : Image) (tree : Tree) (n : ℕ) (ino
   pub less : n < g.inodes
   pub read : inode_at g base n ≡ Ok (Some inode)
   pub regular : inode.kind ≡ kinds.Regular
+
+-- The blocks hold the tree, in which a file has this inode under this number, that has blocks by their indexes.
+pub record HasMapped (g : Geometry) (base : Image) (tree : Tree) (n : ℕ) (inode : Inode) : Type 0 where
+  pub holds : Holds g base tree
+  pub less : n < g.inodes
+  pub read : inode_at g base n ≡ Ok (Some inode)
+  pub mapped : IsMapped g (content_in g base) inode
 
 -- The bytes lie in one block of a file.
 pub record IsPiece (offset : ℕ) (piece : List ℕ) : Type 0 where

@@ -19,7 +19,7 @@ use objects::Addr;
 use std::alloc::{AllocError, Global};
 
 /// These bytes with others in the place of those from an offset on.
-pub(crate) fn with_piece(
+pub fn with_piece(
     alloc: Global,
     bytes: &[u8],
     from: usize,
@@ -60,7 +60,7 @@ pub(crate) fn filled(
 }
 
 /// Writes a data block.
-pub(crate) fn put_block(draft: &mut Draft, number: u32, bytes: Vec<u8>) -> Result<(), Stop>
+pub fn put_block(draft: &mut Draft, number: u32, bytes: Vec<u8>) -> Result<(), Stop>
     requires lies { is_data draft.old.there.geometry number ≡ true }
     requires len { length bytes.items ≡ BLOCK_BYTES }
     ensures shows { OnOk result ((image : Image) → Shows draft.old image

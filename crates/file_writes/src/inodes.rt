@@ -15,7 +15,7 @@ use layout::Inode;
 use std::alloc::Global;
 
 /// The inode with another size.
-pub(crate) fn sized(inode: &Inode, size: u64) -> Inode
+pub fn sized(inode: &Inode, size: u64) -> Inode
     ensures { result ≡ mapping inode.now size inode.now.direct inode.now.indirect }
 {
     let mut new = *inode;
@@ -24,7 +24,7 @@ pub(crate) fn sized(inode: &Inode, size: u64) -> Inode
 }
 
 /// The inode with another size, which names a block at an index.
-pub(crate) fn naming(inode: &Inode, size: u64, index: usize, number: u32) -> Inode
+pub fn naming(inode: &Inode, size: u64, index: usize, number: u32) -> Inode
     requires { index < DIRECT_INDEXES }
     ensures { result ≡ mapping inode.now size (set inode.now.direct index number) inode.now.indirect }
 {
@@ -37,7 +37,7 @@ pub(crate) fn naming(inode: &Inode, size: u64, index: usize, number: u32) -> Ino
 }
 
 /// The inode with another size and another indirect block.
-pub(crate) fn led_far(inode: &Inode, size: u64, indirect: u32) -> Inode
+pub fn led_far(inode: &Inode, size: u64, indirect: u32) -> Inode
     ensures { result ≡ mapping inode.now size inode.now.direct indirect }
 {
     let mut new = *inode;
@@ -47,7 +47,7 @@ pub(crate) fn led_far(inode: &Inode, size: u64, indirect: u32) -> Inode
 }
 
 /// Writes a block of a file, and its inode.
-pub(crate) fn store(
+pub fn store(
     alloc: Global,
     draft: &mut Draft,
     number: u32,
@@ -76,7 +76,7 @@ pub(crate) fn store(
 }
 
 /// Writes an indirect block, a block that it names, and the inode.
-pub(crate) fn store_far(
+pub fn store_far(
     alloc: Global,
     draft: &mut Draft,
     number: u32,

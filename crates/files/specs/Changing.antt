@@ -32,6 +32,12 @@ pub record SoundHead (inodes : ℕ) (head : Head) : Type 0 where
 abbrev pub adds : Body → Body → ℕ
 adds new old = cost new - cost old
 
+-- how many blocks a directory spans
+abbrev pub spanned : Body → ℕ
+spanned (Regular bytes mapped) = 0
+spanned (Directory entries span parent) = span
+spanned (Link target) = 0
+
 -- what is in a new file of this head: nothing, or of a link its target
 abbrev pub first_body : Head → List ℕ → Body
 first_body head target = cond (is_kind_directory head.kind) (Directory map.empty 0 head.parent)
@@ -43,13 +49,15 @@ IsOwnSlot directory name entry =
     ((entry_at directory name ≡ None) × (is_taken_slot directory entry.slot ≡ false))
     ⊎ ((old : DirectoryEntry) × (entry_at directory name ≡ Some old) × (old.slot ≡ entry.slot))
 
--- A directory can be given this name for a file.
+-- A directory can be given this name for a file. Its slot is at most the first behind those that the directory
+-- spans.
 pub record CanEnter (tree : Tree) (body : Body) (name : List ℕ) (entry : DirectoryEntry) : Type 0 where
   pub directory : is_directory body ≡ true
   pub lawful : SoundName name
   pub some : 0 < entry.number
   pub within : entry.number < tree.geometry.inodes
   pub slot : entry.slot < SLOTS_PER_BLOCK * MOST_SPAN
+  pub near : entry.slot ≤ SLOTS_PER_BLOCK * spanned body
   pub own : IsOwnSlot body name entry
 
 -- the head of the file with this in it, whose other attributes are these

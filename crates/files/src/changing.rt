@@ -99,7 +99,7 @@ pub trait ChangingFiles: Files {
     ) -> Result<Head, Self::Stop>
         ensures err { IfErr result (λ stop. Self.may_stop (Self.source self.old) stop) }
         ensures source { Self.source self.new ≡ Self.source self.old }
-        ensures spent { spent self.new ≤ spent self.old + 3 }
+        ensures spent { spent self.new ≤ spent self.old + 4 }
         ensures pause { IfErr result (λ stop. (world : Self.World) (tree : Tree)
             → Self.stands self.old world tree → Self.is_pause stop) }
         ensures ok { IfOk result (λ next. (world : Self.World) (tree : Tree) (node : Node)

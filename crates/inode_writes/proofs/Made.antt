@@ -42,7 +42,7 @@ use Rattle.inode_writes.proofs.Removed.{nothing_else}
 
 -- ---- an inode that no file has
 
-no_use : (inodes : ℕ) (content : Image) (read : Result (Option Inode) LayoutFault)
+pub no_use : (inodes : ℕ) (content : Image) (read : Result (Option Inode) LayoutFault)
     → file_of inodes content read ≡ None → owned_by content read ≡ []
 no_use inodes content (Ok (Some inode)) e = cc
 no_use inodes content (Ok None) e = refl
@@ -101,7 +101,7 @@ module _ (g : Geometry) (content : Image) (inode : Inode) where
       (is_sound_link (emptied inode)) good in
       let clash : false ≡ true = three.2 in cc
 
-either_true : (a b c : Bool) → c ≡ true → (a || b || c) ≡ true
+pub either_true : (a b c : Bool) → c ≡ true → (a || b || c) ≡ true
 either_true true b c e = refl
 either_true false true c e = refl
 either_true false false c e = e

@@ -1,2 +1,3 @@
 pub mod Frees
 pub mod Emptied
+pub mod Linked

@@ -1,6 +1,5 @@
 -- What is known of a call before it is served (RFC 1813, section 3.3).
-use Rattle.std.specs.Prelude.{Bool, true, false, not, is_none}
-use Rattle.nfs_types.specs.declared.attributes.NewAttributes.{NewAttributes}
+use Rattle.std.specs.Prelude.{Bool, true, false, not}
 use Rattle.nfs_types.specs.declared.call.Call.{Call}
 use Rattle.nfs_types.specs.declared.call.Call.TheVariants as call
 use Rattle.nfs_types.specs.declared.call.Stability.{Stability}
@@ -14,35 +13,10 @@ use Rattle.nfs_types.specs.declared.status.Status.TheVariants as status
 use Rattle.model.specs.Mount.{mount_reply}
 use Rattle.model.specs.Refused.{refused}
 
--- no size is given
-abbrev pub keeps_size : NewAttributes → Bool
-keeps_size wanted = is_none wanted.size
-
--- The calls that are served so far: each begins a transaction of its own. NULL has no rules, as it does
--- nothing.
+-- The calls that are served: each begins a transaction of its own. NULL has no rules, as it does nothing.
 abbrev pub has_rules : Call → Bool
-has_rules (call.GetAttr _) = true
-has_rules (call.SetAttr _ attributes _) = keeps_size attributes
-has_rules (call.Lookup _) = true
-has_rules (call.Access _ _) = true
-has_rules (call.ReadLink _) = true
-has_rules (call.Read _ _ _) = true
-has_rules (call.MkNod _ _) = true
-has_rules (call.ReadDir _ _ _ _) = true
-has_rules (call.ReadDirPlus _ _ _ _ _) = true
-has_rules (call.FsStat _) = true
-has_rules (call.FsInfo _) = true
-has_rules (call.PathConf _) = true
-has_rules (call.Commit _ _ _) = true
 has_rules call.Null = false
-has_rules (call.Write _ _ _ _ _) = false
-has_rules (call.Create _ _) = false
-has_rules (call.MkDir _ _) = false
-has_rules (call.SymLink _ _ _) = false
-has_rules (call.Remove _) = false
-has_rules (call.RmDir _) = false
-has_rules (call.Rename _ _) = false
-has_rules (call.Link _ _) = false
+has_rules _ = true
 
 -- The reply to a call that isn't served: NOTSUPP, with nothing told of any file. NULL is never refused.
 abbrev pub unsupported : Call → Reply

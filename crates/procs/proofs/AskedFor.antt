@@ -16,7 +16,7 @@ use Rattle.layout.specs.Fields.{four_at, is_zeros}
 use Rattle.layout.proofs.AllNumbers.{map_is}
 use Rattle.inode.specs.declared.snap.Snap.{Snap}
 use Rattle.inode.specs.declared.stop.Stop.{Stop}
-use Rattle.inode.specs.declared.stop.Stop.TheVariants.{Need, Io, NoMemory}
+use Rattle.inode.specs.declared.stop.Stop.TheVariants.{Need, Claim, Io, NoMemory}
 use Rattle.inode.specs.Read.{IsAskedInode, IsAskedWhole, WasReadInode}
 use Rattle.inode.proofs.AllTests.{all_two}
 use Rattle.inode.proofs.InodeThere.{data_of}
@@ -65,6 +65,7 @@ names_data g one good some =
 pub asks_inode : (snap : Snap) (number : ℕ) → number < snap.geometry.inodes → (why : Stop)
     → IsAskedInode snap.geometry number why → IsAsked snap why
 asks_inode snap number within (Need addr) at = inode number within at.block at.offset at.len
+asks_inode snap number within (Claim block) at = absurd at
 asks_inode snap number within Io at = tt
 asks_inode snap number within NoMemory at = tt
 
@@ -75,5 +76,6 @@ asks_indirect snap number one read (Need addr) at =
     let lies = names_data snap.geometry one (read_sound snap.geometry read.bytes one read.is_inode) at.2 in
     let same : addr.block.0 ≡ one.indirect = ap (λ (b : BlockNo). b.0) at.3.0 ∙ at.1 in
     whole (ap (is_data snap.geometry) same ∙ lies) at.3.1 at.3.2
+asks_indirect snap number one read (Claim block) at = absurd at
 asks_indirect snap number one read Io at = tt
 asks_indirect snap number one read NoMemory at = tt

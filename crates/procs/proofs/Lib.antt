@@ -1,9 +1,7 @@
 pub mod AskedFor
-pub mod KeepsSize
-pub mod WrittenAttributes
-pub mod FoundThere
 pub mod StepsOf
 pub mod TellsOf
 pub mod FewAsked
 pub mod FewClaimed
 pub mod RefusedThere
+pub mod ChangesOf

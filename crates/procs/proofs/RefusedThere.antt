@@ -1,7 +1,8 @@
 -- What was read shows that the layout doesn't refuse the file of a handle.
 use Rattle.std.proofs.Common.{rules, ◌≡◌, ◌≢◌, ℕ, ◌^◌, ◌<◌, inl, inr, sym, ap, ◌∙◌, subst, true, false}
-use Rattle.std.proofs.Common.{List, [], length, Option, Some, None, Result, Ok, Err, arith}
+use Rattle.std.proofs.Common.{◌&&◌, nat_eq, not, refl, List, [], length, Option, Some, None, Result, Ok, Err, arith}
 use Rattle.std.specs.List.{list_all}
+use Rattle.std.proofs.lemmas.Bool.{eq-eqb}
 use Rattle.limits.specs.declared.TheConstants.{BLOCK_BYTES, INDIRECT_INDEXES}
 use Rattle.disk.specs.Crash.{Image}
 use Rattle.nfs_types.specs.Handle.{handle_bytes}
@@ -91,6 +92,15 @@ module _ (g : Geometry) (blocks : Image) (handle : List ℕ) (number : ℕ) (sta
           (sym some.1 ∙ at_is (Ok (Some inode)) read)) some.3 in
           never (sym (places names.whole names.some) ∙ names.refused))
     ]
+
+-- ---- the test of stamps
+
+pub stamps_differ : (a b : Stamp) → not (nat_eq a.boot b.boot && nat_eq a.transaction b.transaction) ≡ true
+    → a ≡ b → ⊥
+stamps_differ a b e is =
+    let clash : false ≡ true =
+    sym (ap (λ (s : Stamp). not (nat_eq s.boot b.boot && nat_eq s.transaction b.transaction)) is
+    ∙ (λ i. not (eq-eqb b.boot b.boot refl i && eq-eqb b.transaction b.transaction refl i))) ∙ e in cc
 
 -- ---- plans
 

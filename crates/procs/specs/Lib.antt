@@ -1,5 +1,4 @@
 pub mod Outcome
-pub mod FoundFile
 pub mod SoundCalls
 pub mod Steps
 pub mod Asks

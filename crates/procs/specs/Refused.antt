@@ -1,9 +1,10 @@
 -- When the layout refuses what a call's file has.
-use Rattle.std.specs.Prelude.{◌≡◌, ◌≢◌, ℕ, ◌<◌, ◌⊎◌, false, List, [], Some, Ok, Err, length}
+use Rattle.std.specs.Prelude.{◌≡◌, ◌≢◌, ℕ, ◌<◌, ◌⊎◌, false, List, [], Option, Some, None, Ok, Err, length}
 use Rattle.std.specs.List.{list_all}
 use Rattle.limits.specs.declared.TheConstants.{BLOCK_BYTES, HANDLE_BYTES, INDIRECT_INDEXES}
 use Rattle.nfs_types.specs.declared.call.Call.{Call}
 use Rattle.nfs_types.specs.declared.call.Call.TheVariants as call
+use Rattle.nfs_types.specs.declared.handle.Handle.{Handle}
 use Rattle.nfs_types.specs.declared.status.Status.TheVariants.{Io}
 use Rattle.disk.specs.Crash.{Image}
 use Rattle.layout.specs.declared.fault.LayoutFault.TheVariants.{Range}
@@ -36,30 +37,39 @@ pub record IsRefusedFile (g : Geometry) (blocks : Image) (handle : List ℕ) : T
       ⊎ ((inode : Inode) × (inode_at g blocks (number_in handle) ≡ Ok (Some inode))
       × (inode.stamp ≡ stamp_in handle) × NamesNoData g blocks inode)
 
--- so it is for what a call asks for
+-- so it is for a handle, if there is one
+abbrev pub IsRefusedBy : Geometry → Image → Option Handle → Type 0
+IsRefusedBy g blocks (Some handle) = IsRefusedFile g blocks handle.bytes
+IsRefusedBy g blocks None = ⊥
+
+-- the handle of a call that is looked at first, if it has one
+abbrev pub first_handle : Call → Option Handle
+first_handle call.Null = None
+first_handle (call.GetAttr object) = Some object
+first_handle (call.SetAttr object attributes guard) = Some object
+first_handle (call.Lookup name) = Some name.directory
+first_handle (call.Access object bits) = Some object
+first_handle (call.ReadLink link) = Some link
+first_handle (call.Read file offset count) = Some file
+first_handle (call.Write file offset count stability bytes) = Some file
+first_handle (call.Create name how) = Some name.directory
+first_handle (call.MkDir name attributes) = Some name.directory
+first_handle (call.SymLink name attributes target) = Some name.directory
+first_handle (call.MkNod name special) = Some name.directory
+first_handle (call.Remove name) = Some name.directory
+first_handle (call.RmDir name) = Some name.directory
+first_handle (call.Rename source target) = Some source.directory
+first_handle (call.Link file name) = Some file
+first_handle (call.ReadDir directory cookie verifier count) = Some directory
+first_handle (call.ReadDirPlus directory cookie verifier directory_count greatest_count) = Some directory
+first_handle (call.FsStat object) = Some object
+first_handle (call.FsInfo object) = Some object
+first_handle (call.PathConf object) = Some object
+first_handle (call.Commit file offset count) = Some file
+
+-- in these blocks the layout refuses the file of a call's first handle
 abbrev pub IsRefusedIn : Geometry → Image → Call → Type 0
-IsRefusedIn g blocks (call.GetAttr object) = IsRefusedFile g blocks object.bytes
-IsRefusedIn g blocks (call.SetAttr object attributes guard) = IsRefusedFile g blocks object.bytes
-IsRefusedIn g blocks call.Null = ⊥
-IsRefusedIn g blocks (call.Lookup name) = ⊥
-IsRefusedIn g blocks (call.Access object bits) = ⊥
-IsRefusedIn g blocks (call.ReadLink link) = ⊥
-IsRefusedIn g blocks (call.Read file offset count) = ⊥
-IsRefusedIn g blocks (call.Write file offset count stability bytes) = ⊥
-IsRefusedIn g blocks (call.Create name how) = ⊥
-IsRefusedIn g blocks (call.MkDir name attributes) = ⊥
-IsRefusedIn g blocks (call.SymLink name attributes target) = ⊥
-IsRefusedIn g blocks (call.MkNod name special) = ⊥
-IsRefusedIn g blocks (call.Remove name) = ⊥
-IsRefusedIn g blocks (call.RmDir name) = ⊥
-IsRefusedIn g blocks (call.Rename source target) = ⊥
-IsRefusedIn g blocks (call.Link file name) = ⊥
-IsRefusedIn g blocks (call.ReadDir directory cookie verifier count) = ⊥
-IsRefusedIn g blocks (call.ReadDirPlus directory cookie verifier directory_count greatest_count) = ⊥
-IsRefusedIn g blocks (call.FsStat object) = ⊥
-IsRefusedIn g blocks (call.FsInfo object) = ⊥
-IsRefusedIn g blocks (call.PathConf object) = ⊥
-IsRefusedIn g blocks (call.Commit file offset count) = ⊥
+IsRefusedIn g blocks asked = IsRefusedBy g blocks (first_handle asked)
 
 -- no blocks that have what was read are refused
 abbrev pub NoneRefused : Snap → List ℕ → Type 0

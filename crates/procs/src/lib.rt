@@ -2,15 +2,13 @@
 #![tactic(auto)]
 
 mod asks;
-mod attributes;
+mod changing;
 mod done;
 mod draft;
-mod find;
 mod next;
+mod reading;
 mod refused;
 mod rules;
-mod set_attr;
-mod steps;
 mod telling;
 mod work;
 
@@ -23,5 +21,4 @@ pub use inode::Snap;
 pub use next::Plan;
 pub use refused::refused_reply;
 pub use rules::{has_rules, is_answered_stable};
-pub use steps::written_attributes_are_a_step;
 pub use work::plan;

@@ -4,35 +4,11 @@ ghost use Rattle.model.specs.Calls.{has_rules, is_answered_stable, is_unstable};
 
 use nfs_types::{Call, Stability};
 
-/// Whether the call is served so far: what only tells something, MKNOD, which is refused, and a SETATTR that gives
-/// no size (RFC 1813, section 3.3).
+/// Whether the call is served: each but NULL, which does nothing (RFC 1813, section 3.3).
 pub fn has_rules(call: &Call) -> bool
     ensures { result ≡ has_rules call.now }
 {
-    match call {
-        Call::GetAttr { .. }
-        | Call::Lookup { .. }
-        | Call::Access { .. }
-        | Call::ReadLink { .. }
-        | Call::Read { .. }
-        | Call::MkNod { .. }
-        | Call::ReadDir { .. }
-        | Call::ReadDirPlus { .. }
-        | Call::FsStat { .. }
-        | Call::FsInfo { .. }
-        | Call::PathConf { .. }
-        | Call::Commit { .. } => true,
-        Call::SetAttr { attributes, .. } => attributes.size.is_none(),
-        Call::Null
-        | Call::Write { .. }
-        | Call::Create { .. }
-        | Call::MkDir { .. }
-        | Call::SymLink { .. }
-        | Call::Remove { .. }
-        | Call::RmDir { .. }
-        | Call::Rename { .. }
-        | Call::Link { .. } => false,
-    }
+    !matches!(call, Call::Null)
 }
 
 fn is_unstable(stability: Stability) -> bool

@@ -1,12 +1,11 @@
 //! Calls that only tell something, over the blocks of an image.
 ghost use Rattle.std.specs.Prelude.{◌≡◌, true, [], IfErr, IfOk};
-ghost use Rattle.inode.specs.Read.{NoneStand};
 ghost use Rattle.inode.specs.Snap.{IsNew};
 ghost use Rattle.procs_steps.specs.Kinds.{tells};
 ghost use Rattle.procs.specs.Asks.{IsAsked};
 ghost use Rattle.procs.specs.Finished.{EndsFrom};
 ghost use Rattle.procs.specs.Outcome.{IsDoneFor};
-ghost use Rattle.procs.specs.Steps.{IsStepOf};
+ghost use Rattle.procs.specs.Steps.{IsStepOf, NoneStandFor};
 
 use crate::draft::Draft;
 use block_files::BlockFiles;
@@ -31,7 +30,7 @@ pub(crate) fn tell_call(alloc: Global, ctx: &Ctx, call: &Call, snap: &Snap) -> R
     ensures step { IfOk result (λ done. IsStepOf snap.now.geometry ctx.now call.now done) }
     ensures err { IfErr result (λ stop. IsNew snap.now stop) }
     ensures asks { IfErr result (λ stop. IsAsked snap.now stop) }
-    ensures io { IfErr result (λ stop. NoneStand snap.now stop) }
+    ensures io { IfErr result (λ stop. NoneStandFor ctx.now call.now snap.now stop) }
 {
     let files = BlockFiles::new(alloc, snap);
     match tell(alloc, &files, ctx, call) {

@@ -16,6 +16,7 @@ use Rattle.procedures.proofs.Soundness.{no_entry}
 use Rattle.procedures.specs.Changes.{entered, parent_links, with_entry}
 use Rattle.procedures.specs.Places.{is_taken_slot, least_free_slot, named_file}
 use Rattle.files.specs.Changing.{CanEnter, adds}
+use Rattle.procs_changes.proofs.Near.{least_is_near}
 use Rattle.procs_changes.proofs.SoundShapes.{sound_shape}
 use Rattle.procs_changes.specs.Shapes.{CanEnterAt, IsShaped}
 
@@ -117,6 +118,8 @@ can_enter_new tree good at directory stands moment now name placed bytes absent 
       some = some;
       within = within;
       slot = (least_is_free directory.body entry.slot slot).1;
+      near = least_is_near directory.body entry.slot (good.files at directory stands).itself.body
+          (least_is_free directory.body entry.slot slot).1 slot;
       own = inl (
         no_entry tree good at directory stands name absent,
         not_taken directory.body entry.slot slot,

@@ -93,7 +93,7 @@ pub fn enter_name<F: ChangingFiles>(
 ) -> Result<(), F::Stop>
     ensures err { IfErr result (λ stop. F.may_stop (F.source files.old) stop) }
     ensures source { F.source files.new ≡ F.source files.old }
-    ensures spent { F.spent files.new ≤ F.spent files.old + 3 }
+    ensures spent { F.spent files.new ≤ F.spent files.old + 4 }
     ensures pause { IfErr result (λ stop. (world : F.World) (tree : Tree) → F.stands files.old world tree
         → F.is_pause stop) }
     ensures ok { OnOk result ((world : F.World) (tree : Tree) (body : Body) → F.stands files.old world tree

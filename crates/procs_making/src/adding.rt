@@ -57,7 +57,7 @@ pub fn add<F: ChangingFiles>(
     requires { given size (λ size. nat_lt LARGEST_FILE size) ≡ false }
     ensures err { IfErr result (λ stop. F.may_stop (F.source files.old) stop) }
     ensures source { F.source files.new ≡ F.source files.old }
-    ensures spent { F.spent files.new ≤ F.spent files.old + 8 }
+    ensures spent { F.spent files.new ≤ F.spent files.old + 9 }
     ensures pause { IfErr result (λ stop. (world : F.World) (tree : Tree) (body : Body)
         → F.stands files.old world tree → IsBodyOf head.now body → first_body head.now target.now ≡ body
         → CanEnterAt tree moment directory name.now (record { number = head.now.number; slot = slot }) body

@@ -58,7 +58,7 @@ fn add_link<F: ChangingFiles>(
 ) -> Result<(), F::Stop>
     ensures err { IfErr result (λ stop. F.may_stop (F.source files.old) stop) }
     ensures source { F.source files.new ≡ F.source files.old }
-    ensures spent { F.spent files.new ≤ F.spent files.old + 4 }
+    ensures spent { F.spent files.new ≤ F.spent files.old + 5 }
     ensures pause { IfErr result (λ stop. (world : F.World) (tree : Tree) (body : Body)
         → F.stands files.old world tree → IsBodyOf file.now body
         → CanEnterAt tree moment directory name.now (record { number = file.now.number; slot = slot }) body
@@ -91,7 +91,7 @@ fn link_in<F: ChangingFiles>(
 ) -> Result<Result<(), Status>, F::Stop>
     ensures err { IfErr result (λ stop. F.may_stop (F.source files.old) stop) }
     ensures source { F.source files.new ≡ F.source files.old }
-    ensures spent { F.spent files.new ≤ F.spent files.old + 4 }
+    ensures spent { F.spent files.new ≤ F.spent files.old + 5 }
     ensures pause { IfErr result (λ stop. (world : F.World) (tree : Tree) (body inside : Body)
         → F.stands files.old world tree → IsFileIn tree file.now body → IsFileIn tree directory.now inside
         → Sound tree → SoundCtx ctx.now → AreBytes name.now → F.is_pause stop) }
@@ -183,7 +183,7 @@ pub fn link<F: ChangingFiles>(
 ) -> Result<LinkTold, F::Stop>
     ensures err { IfErr result (λ stop. F.may_stop (F.source files.old) stop) }
     ensures source { F.source files.new ≡ F.source files.old }
-    ensures spent { F.spent files.new ≤ F.spent files.old + 4 }
+    ensures spent { F.spent files.new ≤ F.spent files.old + 5 }
     ensures pause { IfErr result (λ stop. (world : F.World) (tree : Tree) → F.stands files.old world tree
         → Sound tree → SoundCtx ctx.now → AreBytes name.now.name → F.is_pause stop) }
     ensures step { IfOk result (λ r. (world : F.World) (tree : Tree) → F.stands files.old world tree

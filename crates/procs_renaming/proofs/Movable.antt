@@ -37,13 +37,14 @@ use Rattle.procedures.specs.Places.{entry_at}
 use Rattle.procedures.specs.Rename.{Place, file_in, goes_below_itself, has_no_link, is_other_sort, is_within}
 use Rattle.procedures.specs.Rename.{move_refusal, moved, new_slot, slot_for, with_moved, with_parent}
 use Rattle.procedures.specs.RmDir.{has_names, is_found_filled}
-use Rattle.files.specs.Changing.{CanEnter, adds}
+use Rattle.files.specs.Changing.{CanEnter, adds, spanned}
 use Rattle.procs_changes.proofs.Entered.{can_enter_at, shaped_entered}
+use Rattle.procs_changes.proofs.Near.{least_is_near, named_is_near, same_span, slot_untaken}
 use Rattle.procs_changes.proofs.Needs.{need_put}
 use Rattle.procs_changes.proofs.Shaped.{elsewhere, same_inodes}
 use Rattle.procs_changes.proofs.SoundShapes.{can_lose, can_take, shape_of, sound_shape}
 use Rattle.procs_changes.specs.Shapes.{CanTake, IsShaped}
-use Rattle.procs_renaming.proofs.Spaces.{same_cost_departed, same_more_departed, same_need, slot_untaken, unnamed_need}
+use Rattle.procs_renaming.proofs.Spaces.{same_cost_departed, same_more_departed, same_need, unnamed_need}
 use Rattle.procs_renaming.proofs.Spaces.{unnamed_there}
 use Rattle.procs_renaming.specs.Placing.{CanMove, CanPlace, CanReplace, left_tree}
 
@@ -531,6 +532,7 @@ module _ (tree : Tree) (good : Sound tree) (moment : Moment) (soon : SoundTime m
 
   record Slot : Type 0 where
     small : slot < SLOTS_PER_BLOCK * MOST_SPAN
+    near : slot ≤ SLOTS_PER_BLOCK * spanned target.directory.body
     taken : (name : List ℕ) (entry : DirectoryEntry) → entry_at target.directory.body name ≡ Some entry
         → entry.slot ≡ slot
         → (name ≡ target.name) ⊎ ((target.number ≡ source.number) × (name ≡ source.name))
@@ -544,8 +546,11 @@ module _ (tree : Tree) (good : Sound tree) (moment : Moment) (soon : SoundTime m
       sym d.target_stands ∙ ap (node_at tree) same ∙ d.source_stands in
       let directory_is : target.directory ≡ source.directory = cc in
       let small = body_slots source.directory.body source.name entry source_sound.body is in
+      let low = named_is_near source.directory.body source.name entry source_sound.body is in
+      let wide = ap (λ (n : Node). spanned n.body) directory_is in
       record {
         small = omega (arith, slot_so, small);
+        near = omega (arith, slot_so, low, wide);
         taken = λ name other has same_slot.
             inr (
               same,
@@ -560,8 +565,10 @@ module _ (tree : Tree) (good : Sound tree) (moment : Moment) (soon : SoundTime m
   slot_by within old (Some entry) same is has found =
       let slot_so : entry.slot ≡ slot = cc in
       let small = body_slots target.directory.body target.name entry target_sound.body has in
+      let low = named_is_near target.directory.body target.name entry target_sound.body has in
       record {
         small = omega (arith, slot_so, small);
+        near = omega (arith, slot_so, low);
         taken = λ name other there same_slot.
             inl (body_distinct target.directory.body name target.name other entry target_sound.body there has
             (same_slot ∙ sym slot_so));
@@ -572,6 +579,7 @@ module _ (tree : Tree) (good : Sound tree) (moment : Moment) (soon : SoundTime m
       let free = least_is_free target.directory.body slot found in
       record {
         small = free.1;
+        near = least_is_near target.directory.body slot target_sound.body free.1 found;
         taken = λ name other there same_slot. absurd (free.0 name other there same_slot);
       }
 
@@ -639,6 +647,8 @@ module _ (tree : Tree) (good : Sound tree) (moment : Moment) (soon : SoundTime m
           some = number_is_some;
           within = subst (λ g. number < g.inodes) (sym c.geometry) most;
           slot = slot_so.small;
+          near = let wide = same_span c.directory.body target.directory.body c.kind d.placed.directory_is c.cost_is in
+              let low = slot_so.near in omega (arith, low, wide);
           own = inl (c.absent, slot_untaken c.directory.body slot (free_in c));
         }
 

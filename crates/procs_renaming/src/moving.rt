@@ -89,7 +89,7 @@ fn enter_place<F: ChangingFiles>(
 ) -> Result<(), F::Stop>
     ensures err { IfErr result (λ stop. F.may_stop (F.source files.old) stop) }
     ensures source { F.source files.new ≡ F.source files.old }
-    ensures spent { F.spent files.new ≤ F.spent files.old + 4 }
+    ensures spent { F.spent files.new ≤ F.spent files.old + 5 }
     ensures pause { IfErr result (λ stop. (world : F.World) (tree : Tree) (body : Body)
         → F.stands files.old world tree → IsBodyOf file.now body
         → CanPlace tree moment target new_name.now file.now.number body slot → F.is_pause stop) }
@@ -119,7 +119,7 @@ fn replace<F: ChangingFiles>(
 ) -> Result<(), F::Stop>
     ensures err { IfErr result (λ stop. F.may_stop (F.source files.old) stop) }
     ensures source { F.source files.new ≡ F.source files.old }
-    ensures spent { F.spent files.new ≤ F.spent files.old + 7 }
+    ensures spent { F.spent files.new ≤ F.spent files.old + 8 }
     ensures pause { IfErr result (λ stop. (world : F.World) (tree : Tree) (body : Body)
         (found : Option (ℕ × Node)) → F.stands files.old world tree → IsBodyOf file.now body
         → IsFound tree found replaced.now
@@ -150,7 +150,7 @@ pub fn move_file<F: ChangingFiles>(
 ) -> Result<(), F::Stop>
     ensures err { IfErr result (λ stop. F.may_stop (F.source files.old) stop) }
     ensures source { F.source files.new ≡ F.source files.old }
-    ensures spent { F.spent files.new ≤ F.spent files.old + 9 }
+    ensures spent { F.spent files.new ≤ F.spent files.old + 10 }
     ensures pause { IfErr result (λ stop. (world : F.World) (tree : Tree) (body : Body)
         (found : Option (ℕ × Node)) → F.stands files.old world tree → IsFileIn tree file.now body
         → IsFound tree found replaced.now

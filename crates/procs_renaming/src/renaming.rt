@@ -41,7 +41,7 @@ fn rename_file<F: ChangingFiles>(
 ) -> Result<Result<(), Status>, F::Stop>
     ensures err { IfErr result (λ stop. F.may_stop (F.source files.old) stop) }
     ensures source { F.source files.new ≡ F.source files.old }
-    ensures spent { F.spent files.new ≤ F.spent files.old + 9 }
+    ensures spent { F.spent files.new ≤ F.spent files.old + 10 }
     ensures pause { IfErr result (λ stop. (world : F.World) (tree : Tree) (body goal inside : Body)
         → F.stands files.old world tree → IsFileIn tree source.now body → IsFileIn tree target.now goal
         → CanRename tree ctx.now (place_of source.now body name.now) (place_of target.now goal new_name.now)
@@ -80,7 +80,7 @@ fn rename_in<F: ChangingFiles>(
 ) -> Result<Result<(), Status>, F::Stop>
     ensures err { IfErr result (λ stop. F.may_stop (F.source files.old) stop) }
     ensures source { F.source files.new ≡ F.source files.old }
-    ensures spent { F.spent files.new ≤ F.spent files.old + 9 }
+    ensures spent { F.spent files.new ≤ F.spent files.old + 10 }
     ensures pause { IfErr result (λ stop. (world : F.World) (tree : Tree) (body goal : Body)
         → F.stands files.old world tree → IsFileIn tree source.now body → IsFileIn tree target.now goal
         → Sound tree → SoundCtx ctx.now → AreBytes new_name.now → F.is_pause stop) }
@@ -157,7 +157,7 @@ pub fn rename<F: ChangingFiles>(
 ) -> Result<RenameTold, F::Stop>
     ensures err { IfErr result (λ stop. F.may_stop (F.source files.old) stop) }
     ensures source { F.source files.new ≡ F.source files.old }
-    ensures spent { F.spent files.new ≤ F.spent files.old + 9 }
+    ensures spent { F.spent files.new ≤ F.spent files.old + 10 }
     ensures pause { IfErr result (λ stop. (world : F.World) (tree : Tree) → F.stands files.old world tree
         → Sound tree → SoundCtx ctx.now → AreBytes target.now.name → F.is_pause stop) }
     ensures step { IfOk result (λ r. (world : F.World) (tree : Tree) → F.stands files.old world tree

@@ -3,6 +3,7 @@ pub mod Courses
 pub mod Filed
 pub mod ShortCodes
 pub mod ShortListings
+pub mod ShortMade
 pub mod ShortReplies
 pub mod Taken
 pub mod ServedFiles

@@ -22,7 +22,10 @@ use Rattle.procedures.specs.Read as reads
 use Rattle.procedures.specs.ReadDir.{listing_refusal}
 use Rattle.procedures.specs.ReadDirPlus.{fitting_both, plus}
 use Rattle.procedures.specs.ReadLink.{target_of}
+use Rattle.procedures.specs.Places.{named_file}
 use Rattle.procedures.specs.Step.{numbered_step, step}
+use Rattle.procedures.specs.Write as writing
+use Rattle.nfs_types.specs.declared.reply.Written.{Written}
 use Rattle.procedures.specs.Told.{Effect, answer_of, handle_of}
 use Rattle.nfs_types.specs.Verifier.{boot_verifier}
 use Rattle.nfs_types.specs.declared.attributes.WeakCacheData.{WeakCacheData}
@@ -64,6 +67,7 @@ use Rattle.session.specs.Serving.{reply_for}
 use Rattle.session.proofs.ShortCodes.{IsShort, all_attributes, alones, any_outcome, attributes_told, befores}
 use Rattle.session.proofs.ShortCodes.{behinds, changes_told, double-length, flag-length, flags, handed_out}
 use Rattle.session.proofs.ShortCodes.{nothings, texts, thens, verifiers, words}
+use Rattle.session.proofs.ShortMade.{create_short, made_short, with_room, written_short}
 use Rattle.session.proofs.ShortListings.{listing_short, listing_plus_short}
 
 pub record IsShortReply (reply : Reply) : Type 0 where
@@ -255,8 +259,8 @@ boots boot = verifiers (boot_verifier boot) (search rules)
 module _ (tree : Tree) (ctx : Ctx) (new : Option ℕ) (next : Tree) (sound : Sound tree) where
   numbered_is_short : (c : types.Call) (reply : Reply) → has_rules c ≡ true
       → numbered_step tree ctx new c reply next → IsShortReply reply
-  unfolding get_attr set_attr lookup access read_link read create read_dir read_dir_plus fs_stat fs_info path_conf
-      commit
+  unfolding get_attr set_attr lookup access read_link read write create remove rename link read_dir read_dir_plus
+      fs_stat fs_info path_conf commit
   numbered_is_short (call.GetAttr object) (replies.GetAttr outcome) rules is =
       reply_of _ (alone_short 84 attributes outcome (omega arith)
       (any_outcome 84 attributes all_attributes outcome))
@@ -288,6 +292,55 @@ module _ (tree : Tree) (ctx : Ctx) (new : Option ℕ) (next : Tree) (sound : Sou
       of_unless (IsShort 32783 read_bytes) (reads.read_refusal ctx.credential node)
       (Ok (reads.read_bytes offset (reads.bytes_of node.body) (reads.piece offset count (reads.bytes_of node.body))))
       (read_short offset count (reads.bytes_of node.body))))))
+  numbered_is_short (call.Write file offset count how text_given) (replies.Write outcome told) rules is =
+      reply_of _ (behind_short 116 16 weak_cache written outcome told (omega arith) (changes_told told)
+      (answers (IsShort 16 written) outcome _ is.answered
+      (of_effect (IsShort 16 written) _
+      (of_found (λ (one : Effect Written). IsShort 16 written one.answer) tree file.bytes _ (λ number node at.
+      of_unless (λ (one : Effect Written). IsShort 16 written one.answer)
+      (writing.write_refusal ctx.credential offset count text_given node) _
+      (with_room (λ (one : Effect Written). IsShort 16 written one.answer) tree _ (written_short ctx count how)))))))
+  numbered_is_short (call.Create name how) (replies.Create outcome told) rules is =
+      reply_of _ (before_short 116 116 created weak_cache outcome told (omega arith)
+      (answers (IsShort 116 created) outcome _ is.answered
+      (of_effect (IsShort 116 created) _
+      (of_found (λ (one : Effect Created). IsShort 116 created one.answer) tree name.directory.bytes _
+      (λ number node at.
+      of_unless (λ (one : Effect Created). IsShort 116 created one.answer) _ _
+      (create_short tree ctx how new number node name.name (named_file tree node name.name))))))
+      (changes_told told))
+  numbered_is_short (call.MkDir name wanted) (replies.MkDir outcome told) rules is =
+      reply_of _ (before_short 116 116 created weak_cache outcome told (omega arith)
+      (answers (IsShort 116 created) outcome _ is.answered
+      (of_effect (IsShort 116 created) _
+      (of_found (λ (one : Effect Created). IsShort 116 created one.answer) tree name.directory.bytes _
+      (λ number node at.
+      of_unless (λ (one : Effect Created). IsShort 116 created one.answer) _ _
+      (made_short tree ctx new number node name.name _ _)))))
+      (changes_told told))
+  numbered_is_short (call.SymLink name wanted target) (replies.SymLink outcome told) rules is =
+      reply_of _ (before_short 116 116 created weak_cache outcome told (omega arith)
+      (answers (IsShort 116 created) outcome _ is.answered
+      (of_effect (IsShort 116 created) _
+      (of_found (λ (one : Effect Created). IsShort 116 created one.answer) tree name.directory.bytes _
+      (λ number node at.
+      of_unless (λ (one : Effect Created). IsShort 116 created one.answer) _ _
+      (made_short tree ctx new number node name.name _ _)))))
+      (changes_told told))
+  numbered_is_short (call.Remove name) (replies.Remove outcome told) rules is =
+      reply_of _ (behind_short 116 0 weak_cache nothing outcome told (omega arith) (changes_told told)
+      (any_outcome 0 nothing nothings outcome))
+  numbered_is_short (call.RmDir name) (replies.RmDir outcome told) rules is =
+      reply_of _ (behind_short 116 0 weak_cache nothing outcome told (omega arith) (changes_told told)
+      (any_outcome 0 nothing nothings outcome))
+  numbered_is_short (call.Rename source target) (replies.Rename outcome told tells) rules is =
+      reply_of _ (behind_short 232 0 (weak_cache then weak_cache) nothing outcome (told, tells) (omega arith)
+      (thens 116 116 weak_cache weak_cache told tells (changes_told told) (changes_told tells))
+      (any_outcome 0 nothing nothings outcome))
+  numbered_is_short (call.Link file name) (replies.Link outcome told tells) rules is =
+      reply_of _ (behind_short 204 0 (optional_attributes then weak_cache) nothing outcome (told, tells) (omega arith)
+      (thens 88 116 optional_attributes weak_cache told tells (attributes_told told) (changes_told tells))
+      (any_outcome 0 nothing nothings outcome))
   numbered_is_short (call.MkNod name special) (replies.MkNod outcome told) rules is =
       reply_of _ (before_short 0 116 created weak_cache outcome told (omega arith)
       (answers (IsShort 0 created) outcome _ is.answered
@@ -347,15 +400,15 @@ module _ (tree : Tree) (ctx : Ctx) (new : Option ℕ) (next : Tree) (sound : Sou
   numbered_is_short (call.FsInfo object) _ rules is = absurd is
   numbered_is_short (call.PathConf object) _ rules is = absurd is
   numbered_is_short (call.Commit file offset count) _ rules is = absurd is
+  numbered_is_short (call.Write _ _ _ _ _) _ rules is = absurd is
+  numbered_is_short (call.Create _ _) _ rules is = absurd is
+  numbered_is_short (call.MkDir _ _) _ rules is = absurd is
+  numbered_is_short (call.SymLink _ _ _) _ rules is = absurd is
+  numbered_is_short (call.Remove _) _ rules is = absurd is
+  numbered_is_short (call.RmDir _) _ rules is = absurd is
+  numbered_is_short (call.Rename _ _) _ rules is = absurd is
+  numbered_is_short (call.Link _ _) _ rules is = absurd is
   numbered_is_short call.Null reply rules is = absurd (true≢false (sym rules))
-  numbered_is_short (call.Write _ _ _ _ _) reply rules is = absurd (true≢false (sym rules))
-  numbered_is_short (call.Create _ _) reply rules is = absurd (true≢false (sym rules))
-  numbered_is_short (call.MkDir _ _) reply rules is = absurd (true≢false (sym rules))
-  numbered_is_short (call.SymLink _ _ _) reply rules is = absurd (true≢false (sym rules))
-  numbered_is_short (call.Remove _) reply rules is = absurd (true≢false (sym rules))
-  numbered_is_short (call.RmDir _) reply rules is = absurd (true≢false (sym rules))
-  numbered_is_short (call.Rename _ _) reply rules is = absurd (true≢false (sym rules))
-  numbered_is_short (call.Link _ _) reply rules is = absurd (true≢false (sym rules))
 
 pub step_is_short : (tree : Tree) (ctx : Ctx) (c : types.Call) (reply : Reply) (next : Tree) → Sound tree
     → has_rules c ≡ true → step tree ctx c reply next → IsShortReply reply

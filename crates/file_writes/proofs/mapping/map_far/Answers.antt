@@ -16,6 +16,7 @@ use Rattle.file_writes.proofs.Cases.{block_named_far}
 use Rattle.file_writes.proofs.FarNumbers.{le_four, named_count}
 use Rattle.file_writes.proofs.PieceWritten.{long_content, not_zero}
 use Rattle.file_writes.proofs.Stored.{content_are, named_are, stored_far}
+use Rattle.file_writes.proofs.MappedFile.{as_mapped}
 use Rattle.file_writes.proofs.mapping.map_far.Goals as goal
 
 pub returns-in-Ok-store_far-clause-ok : goal.returns-in-Ok-store_far-clause-ok
@@ -67,7 +68,7 @@ returns-in-Ok-store_far-clause-ok c =
     c.requires.far
     (subst (λ l. Fills g base inode offset piece b inode.direct far (put (put (content_in g base) far l) b bytes)
     (b ∷ [])) (sym named)
-    (block_named_far g base tree n inode write.has offset piece write.fits b bytes taken.were_free.0 none
+    (block_named_far g base tree n inode (as_mapped g base tree n inode write.has) offset piece write.fits b bytes taken.were_free.0 none
     write.bytes_are (subst (λ k. DIRECT_INDEXES ≤ k) at c.requires.past) (not_zero g far c.requires.far))))
 
 pub returns-in-Ok-None-clause-room : goal.returns-in-Ok-None-clause-room

@@ -13,6 +13,7 @@ use Rattle.bitmap.proofs.NewBlocks.{none_taken}
 use Rattle.file_writes.specs.Filling.{Fills, mapping}
 use Rattle.file_writes.proofs.Cases.{block_named_first}
 use Rattle.file_writes.proofs.FarNumbers.{le_four, named_count}
+use Rattle.file_writes.proofs.MappedFile.{as_mapped}
 use Rattle.file_writes.proofs.Stored.{named_are, stored_far, zeros_are}
 use Rattle.file_writes.proofs.mapping.map_first.Goals as goal
 
@@ -80,7 +81,7 @@ returns-in-Ok-clause-ok c =
     taken.were_free.0.lies
     (subst (λ l. Fills g base inode offset piece b inode.direct far (put (put (content_in g base) far l) b bytes)
     (far ∷ b ∷ [])) (sym named)
-    (block_named_first g base tree n inode write.has offset piece write.fits b bytes taken.were_free.1.0 none
+    (block_named_first g base tree n inode (as_mapped g base tree n inode write.has) offset piece write.fits b bytes taken.were_free.1.0 none
     write.bytes_are (subst (λ k. DIRECT_INDEXES ≤ k) at c.requires.past) c.requires.none far
     taken.were_free.0 taken.once)))
 

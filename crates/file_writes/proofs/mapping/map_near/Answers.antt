@@ -9,6 +9,7 @@ use Rattle.bitmap.proofs.NewBlocks.{none_taken}
 use Rattle.file_writes.specs.Filling.{mapping}
 use Rattle.file_writes.proofs.Cases.{block_named}
 use Rattle.file_writes.proofs.Stored.{stored}
+use Rattle.file_writes.proofs.MappedFile.{as_mapped}
 use Rattle.file_writes.proofs.mapping.map_near.Goals as goal
 
 pub returns-in-Ok-clause-ok : goal.returns-in-Ok-clause-ok
@@ -39,7 +40,7 @@ returns-in-Ok-clause-ok c =
     (stored g base tree n inode offset piece bytes size write (b ∷ []) middle taken
     (λ q low. seen.long q (subst (λ (s : Geometry). q < s.blocks) (sym c.take_block.ensures.geometry) low))
     c.requires.len b direct inode.indirect
-    (block_named g base tree n inode write.has offset piece write.fits b bytes taken.were_free.0 none
+    (block_named g base tree n inode (as_mapped g base tree n inode write.has) offset piece write.fits b bytes taken.were_free.0 none
     write.bytes_are (subst (λ k. k < DIRECT_INDEXES) at c.requires.near)))
 
 pub returns-in-Ok-None-clause-room : goal.returns-in-Ok-None-clause-room

@@ -6,6 +6,7 @@ use Rattle.bitmap.proofs.NewBlocks.{none_taken}
 use Rattle.file_writes.specs.Filling.{mapping}
 use Rattle.file_writes.proofs.Cases.{block_there}
 use Rattle.file_writes.proofs.PieceWritten.{not_zero}
+use Rattle.file_writes.proofs.MappedFile.{as_mapped}
 use Rattle.file_writes.proofs.Stored.{stored}
 use Rattle.file_writes.proofs.mapping.rewrite.Goals as goal
 
@@ -28,6 +29,6 @@ returns-clause-ok c =
     (subst (Shows c.store.new.draft) written (shows base draft.shows))
     (stored g base tree n inode offset piece bytes size write [] base (none_taken g base tree draft.holds)
     draft.shows.long c.requires.len b inode.direct inode.indirect
-    (block_there g base tree n inode write.has offset piece write.fits b bytes at (not_zero g b c.requires.lies)
+    (block_there g base tree n inode (as_mapped g base tree n inode write.has) offset piece write.fits b bytes at (not_zero g b c.requires.lies)
     write.bytes_are)))
     c.store.ensures.shows c.store.ensures.image

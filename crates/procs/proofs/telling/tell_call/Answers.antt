@@ -1,5 +1,6 @@
 use Rattle.std.proofs.Common.{subst, sym}
 use Rattle.inode.specs.Over.{IsOver, MayStop}
+use Rattle.procs.proofs.ChangesOf.{for_calls}
 use Rattle.procs.proofs.TellsOf.{told_is_step, is_asked, is_new, none_stand}
 use Rattle.procs.proofs.telling.tell_call.Goals as goal
 
@@ -22,6 +23,7 @@ returns-in-Err-clause-asks c =
 
 pub returns-in-Err-clause-io : goal.returns-in-Err-clause-io
 returns-in-Err-clause-io c =
-    none_stand c.args.snap.now c.in-Err.stop (λ blocks tree over.
+    for_calls c.args.ctx.now c.args.call.now c.args.snap.now c.in-Err.stop
+    (none_stand c.args.snap.now c.in-Err.stop (λ blocks tree over.
     c.in-Err.ensures.pause blocks tree
-    (subst (λ snap. IsOver snap blocks tree) (sym c.new-files.ensures) over))
+    (subst (λ snap. IsOver snap blocks tree) (sym c.new-files.ensures) over)))

@@ -1,9 +1,9 @@
 use Rattle.std.proofs.Common.{rules, ◌≡◌, subst}
 use Rattle.inode.specs.declared.stop.Stop.TheVariants as stop
-use Rattle.inode.specs.Read.{AreAsRead, NoneStand}
+use Rattle.inode.specs.Read.{AreAsRead}
 use Rattle.inode.specs.Snap.{IsNew}
-use Rattle.layout.proofs.Holding.{holds_of}
 use Rattle.procs.specs.Asks.{IsAsked}
+use Rattle.procs.specs.Steps.{NoneStandFor}
 use Rattle.procs.proofs.RefusedThere.{io_by_none, io_by_reply}
 use Rattle.procs.proofs.work.plan.Goals as goal
 
@@ -14,12 +14,18 @@ returns-in-Err-Need-clause-plan c =
       subst (IsAsked c.args.snap.now) is c.in-Err-Need.ensures.asks,
     )
 
+pub returns-in-Err-Claim-clause-plan : goal.returns-in-Err-Claim-clause-plan
+returns-in-Err-Claim-clause-plan c =
+    let is : c.in-Err-Claim.field-0 ≡ stop.Claim c.in-Err-Claim.block = search rules in (
+      subst (IsNew c.args.snap.now) is c.in-Err-Claim.ensures.err,
+      subst (IsAsked c.args.snap.now) is c.in-Err-Claim.ensures.asks,
+    )
+
 pub finish-requires-in-Ok-told-clause-step : goal.finish-requires-in-Ok-told-clause-step
 finish-requires-in-Ok-told-clause-step c = λ blocks tree sound stands read.
     let is : c.in-Err-Io.field-0 ≡ stop.Io = search rules in
-    absurd (subst (NoneStand c.args.snap.now) is c.in-Err-Io.ensures.io blocks tree
-    (holds_of c.args.snap.now.geometry blocks tree stands)
-    (subst (AreAsRead blocks) c.in-Ok-told.ensures.done.read read))
+    absurd (subst (NoneStandFor c.args.ctx.now c.args.call.now c.args.snap.now) is c.in-Err-Io.ensures.io
+    blocks tree sound stands (subst (AreAsRead blocks) c.in-Ok-told.ensures.done.read read))
 
 pub returns-in-Ok-clause-io : goal.returns-in-Ok-clause-io
 returns-in-Ok-clause-io c =

@@ -1,0 +1,15 @@
+-- no slot of the blocks so far is free
+use Rattle.std.proofs.Common.{ℕ, ◌*◌}
+use Rattle.limits.specs.declared.TheConstants.{SLOTS_PER_BLOCK}
+use Rattle.disk.specs.Crash.{Image}
+use Rattle.model.specs.Tree.{Tree}
+use Rattle.layout.specs.Parts.{content_in}
+use Rattle.dir.specs.Slots.{IsDirectoryOf, slot_at}
+use Rattle.dir.specs.Vacant.{NoneFree}
+use Rattle.dir.proofs.vacant.free_slot.Given as goal
+
+abbrev pub invariant-indexes : goal.invariant-indexes
+invariant-indexes l =
+    (blocks : Image) (tree : Tree) (file : ℕ) → IsDirectoryOf l.snap blocks tree file l.inode
+    → NoneFree (slot_at l.snap.geometry.inodes (content_in l.snap.geometry blocks) l.inode) 0
+    (SLOTS_PER_BLOCK * l.index)

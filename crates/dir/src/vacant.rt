@@ -1,0 +1,81 @@
+//! Slots of directories in which no name lies.
+ghost use Rattle.std.specs.Prelude.{◌≡◌, ◌+◌, ◌*◌, ◌<◌, ◌≤◌, ℕ, length, IfErr, IfOk};
+ghost use Rattle.limits.specs.declared.TheConstants.{BLOCK_BYTES, FILE_INDEXES, SLOTS_PER_BLOCK};
+ghost use Rattle.disk.specs.Crash.{Image};
+ghost use Rattle.model.specs.Tree.{Tree};
+ghost use Rattle.procedures.specs.Places.{least_free_slot};
+ghost use Rattle.layout.specs.Decode.{directory_in, span_of};
+ghost use Rattle.layout.specs.Fields.{is_zeros};
+ghost use Rattle.layout.specs.Parts.{content_in};
+ghost use Rattle.inode.specs.Over.{IsPause, MayStop};
+ghost use Rattle.dir.specs.Slots.{IsDirectoryOf, block_slot, slot_at};
+ghost use Rattle.dir.specs.Vacant.{IsFirstFree};
+
+use crate::span::{directory_block, span_of};
+use inode::{Snap, Stop};
+use layout::{Inode, Slot};
+use limits::{MOST_SPAN, SLOTS_PER_BLOCK};
+
+// Whether each byte is zero.
+fn is_zeros(bytes: &[u8]) -> bool
+    ensures { result ≡ is_zeros bytes.now }
+{
+    bytes.iter().all(|byte| *byte == 0)
+}
+
+// The first free slot of a block, where the block's slots are numbered from one on.
+fn free_in_block(block: &[u8], first: u32) -> Option<u32>
+    requires len { length block.now ≡ BLOCK_BYTES }
+    requires small { first + SLOTS_PER_BLOCK ≤ 40000 }
+    ensures { (inodes : ℕ)
+        → IsFirstFree (block_slot inodes first block.now) first (first + SLOTS_PER_BLOCK) result }
+{
+    'slots: for slot in first..first + SLOTS_PER_BLOCK {
+        if is_zeros(Slot::bytes_in(block, slot - first)) {
+            return Some(slot);
+        }
+    }
+    None
+}
+
+// The first free slot of those in the block at an index.
+fn free_at(snap: &Snap, inode: &Inode, index: usize) -> Result<Option<u32>, Stop>
+    requires { index < FILE_INDEXES }
+    ensures ok { IfOk result (λ free. (blocks : Image) (tree : Tree) (file : ℕ)
+        → IsDirectoryOf snap.now blocks tree file inode.now → index < span_of inode.now
+        → IsFirstFree (slot_at snap.now.geometry.inodes (content_in snap.now.geometry blocks) inode.now)
+        (SLOTS_PER_BLOCK * index) (SLOTS_PER_BLOCK * index + SLOTS_PER_BLOCK) free) }
+    ensures err { IfErr result (λ stop. MayStop snap.now stop) }
+    ensures pause { IfErr result (λ stop. (blocks : Image) (tree : Tree) (file : ℕ)
+        → IsDirectoryOf snap.now blocks tree file inode.now → index < span_of inode.now → IsPause stop) }
+{
+    match directory_block(snap, inode, index) {
+        Ok(block) => Ok(free_in_block(block, SLOTS_PER_BLOCK * index as u32)),
+        Err(stop) => Err(stop),
+    }
+}
+
+/// The least slot of a directory in which no name lies, of all that one may ever have.
+pub fn free_slot(snap: &Snap, inode: &Inode) -> Result<Option<u32>, Stop>
+    ensures ok { IfOk result (λ free. (blocks : Image) (tree : Tree) (file : ℕ)
+        → IsDirectoryOf snap.now blocks tree file inode.now
+        → free ≡ least_free_slot (directory_in snap.now.geometry.inodes (content_in snap.now.geometry blocks)
+        inode.now)) }
+    ensures err { IfErr result (λ stop. MayStop snap.now stop) }
+    ensures pause { IfErr result (λ stop. (blocks : Image) (tree : Tree) (file : ℕ)
+        → IsDirectoryOf snap.now blocks tree file inode.now → IsPause stop) }
+{
+    let Some(span) = span_of(inode) else {
+        return Err(Stop::Io);
+    };
+    'indexes: for index in 0..span {
+        match free_at(snap, inode, index)? {
+            Some(slot) => return Ok(Some(slot)),
+            None => {}
+        }
+    }
+    if span < MOST_SPAN {
+        return Ok(Some(SLOTS_PER_BLOCK * span as u32));
+    }
+    Ok(None)
+}

@@ -1,0 +1,41 @@
+use Rattle.std.proofs.Common.{◌≡◌, ◌<◌, ◌≤◌, ◌*◌, ap, sym, ◌∙◌, subst, arith}
+use Rattle.std.proofs.lemmas.Result.{IfErr-weaker, IfOk-weaker}
+use Rattle.limits.specs.declared.TheConstants.{SLOTS_PER_BLOCK}
+use Rattle.layout.specs.Decode.{span_of}
+use Rattle.model.specs.Tree.{free}
+use Rattle.procedures.specs.Changes.{with_entry}
+use Rattle.files.specs.Changing.{CanEnter, adds}
+use Rattle.drafts.specs.Drafted.{image_of}
+use Rattle.dir_writes.specs.Entering.{entry_in, with_name}
+use Rattle.dir_writes.specs.Growing.{HoldsWith}
+use Rattle.dir_writes.proofs.Spanned.{spans_there}
+use Rattle.dir_writes.proofs.entering.enter_in.Goals as goal
+
+pub returns-then-name-gt-NAME_BYTES-clause-ok : goal.returns-then-name-gt-NAME_BYTES-clause-ok
+returns-then-name-gt-NAME_BYTES-clause-ok c = λ blocks tree node draft was is can room.
+    let short = can.lawful.short in
+    let long = c.if-name-gt-NAME_BYTES.true in
+    absurd (omega (arith, short, long))
+
+pub returns-in-Ok-clause-ok : goal.returns-in-Ok-clause-ok
+returns-in-Ok-clause-ok c = λ blocks tree node draft was is can room.
+    c.in-Ok.ensures.ok blocks tree c.args.number node draft was is
+    (c.is_spanned.ensures.within c.if-is_spanned.true) can
+
+pub returns-in-Some-clause-ok : goal.returns-in-Some-clause-ok
+returns-in-Some-clause-ok c =
+    IfOk-weaker c.enter_behind.result _ _ (λ made told blocks tree node draft was is can room.
+    let name = c.args.name.now in
+    let number = c.args.entry_number in
+    let at = c.in-Some.ensures.some in
+    let slot_is : c.args.slot ≡ SLOTS_PER_BLOCK * span_of c.args.inode.now =
+    at.1 ∙ ap (λ k. SLOTS_PER_BLOCK * k) at.0 in
+    subst (λ s. HoldsWith c.enter_behind.new.draft blocks tree c.args.number (with_name name number s node) made)
+    (sym slot_is)
+    (told blocks tree node draft (record {
+      is = is;
+      was = was;
+      can = subst (λ s. CanEnter tree node.body name (entry_in number s)) slot_is can;
+    }) at.0
+    (subst (λ s. adds (with_entry name (entry_in number s) node.body) node.body ≤ free tree) slot_is room)))
+    c.enter_behind.ensures.ok

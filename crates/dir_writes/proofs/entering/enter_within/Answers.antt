@@ -1,0 +1,31 @@
+use Rattle.std.proofs.Common.{◌≡◌, ℕ, ◌∙◌, ap, refl, subst, List}
+use Rattle.std.proofs.lemmas.Result.{on_ok_weaker}
+use Rattle.model.specs.Tree.{with_node}
+use Rattle.layout.specs.Decode.{inode_at}
+use Rattle.layout.specs.SlotForm.{used_bytes}
+use Rattle.drafts.specs.Drafted.{image_of}
+use Rattle.drafts.proofs.PutThere.{moved_draft}
+use Rattle.dir_writes.specs.Entering.{with_name}
+use Rattle.dir_writes.specs.Slotting.{IsSlottedIn}
+use Rattle.dir_writes.proofs.EnteredHolds.{entered_holds, entered_inode}
+use Rattle.dir_writes.proofs.entering.enter_within.Goals as goal
+
+pub returns-clause-ok : goal.returns-clause-ok
+returns-clause-ok c =
+    on_ok_weaker c.put_slot.result (λ leads blocks tree number node draft was is less can.
+    let snap = c.args.draft.now.there in
+    let image = image_of blocks c.args.draft.now in
+    let inode = c.args.inode.now in
+    let name = c.args.name.now in
+    let entry = c.args.entry_number in
+    let both = leads blocks tree number draft is less in
+    let last = image_of blocks c.put_slot.new.draft in
+    let spelled : c.deref.result.now ≡ used_bytes (record { number = entry; name = name }) =
+    c.deref.ensures.value ∙ c.in_ok-bytes.ensures.bytes in
+    let put = subst (λ (b : List ℕ). IsSlottedIn snap.geometry inode c.args.slot b image last) spelled both.1 in (
+      moved_draft c.args.draft.now c.put_slot.new.draft blocks last
+          (with_node tree number (with_name name entry c.args.slot node)) c.put_slot.ensures.geometry refl both.0
+          (entered_holds snap image tree number inode name entry c.args.slot is node was can less last put),
+      ap (λ g. inode_at g last number) c.put_slot.ensures.geometry
+          ∙ entered_inode snap image tree number inode name entry c.args.slot is node was can less last put,
+    )) c.put_slot.ensures.ok

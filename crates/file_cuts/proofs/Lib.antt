@@ -1,0 +1,5 @@
+pub mod Shrunk
+pub mod Grown
+pub mod CutNumbers
+pub mod CutBytes
+pub mod CutFile

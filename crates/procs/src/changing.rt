@@ -1,0 +1,43 @@
+//! Calls that change files, over the blocks of an image.
+ghost use Rattle.std.specs.Prelude.{◌≡◌, ◌^◌, ◌<◌, true, IfErr, IfOk};
+ghost use Rattle.inode.specs.Snap.{IsNew};
+ghost use Rattle.procs_steps.specs.Kinds.{changes};
+ghost use Rattle.procs.specs.Asks.{IsAsked};
+ghost use Rattle.procs.specs.Finished.{EndsFrom};
+ghost use Rattle.procs.specs.Steps.{IsStepOf, NoneStandFor};
+
+use crate::draft::Draft;
+use block_files::DraftFiles;
+use inode::{Snap, Stop};
+use nfs_types::{Call, Ctx};
+use procs_steps::change;
+use std::alloc::Global;
+
+// Numbers that are told in 64 bits.
+fn are_told(boot: u64, transaction: u64)
+    ensures boot { boot < 2 ^ 64 }
+    ensures transaction { transaction < 2 ^ 64 }
+{
+    let _ = (boot, transaction);
+}
+
+/// A call that changes files (RFC 1813, section 3.3).
+pub(crate) fn change_call(alloc: Global, ctx: &Ctx, call: &Call, snap: &Snap) -> Result<Draft, Stop>
+    requires { changes call.now ≡ true }
+    ensures ok { IfOk result (λ done. EndsFrom snap.now done) }
+    ensures step { IfOk result (λ done. IsStepOf snap.now.geometry ctx.now call.now done) }
+    ensures err { IfErr result (λ stop. IsNew snap.now stop) }
+    ensures asks { IfErr result (λ stop. IsAsked snap.now stop) }
+    ensures io { IfErr result (λ stop. NoneStandFor ctx.now call.now snap.now stop) }
+{
+    are_told(ctx.boot, ctx.transaction);
+    let mut files = DraftFiles::new(alloc, drafts::Draft::begin(alloc, snap)?);
+    match change(alloc, &mut files, ctx, call) {
+        Ok(Some(reply)) => {
+            let written = files.into_draft().into_written();
+            Ok(Draft::new(snap, reply, written)?)
+        }
+        Ok(None) => unreachable!(),
+        Err(stop) => Err(stop),
+    }
+}

@@ -1,0 +1,64 @@
+//! The file of a call's first handle, as far as what was read of it is refused.
+ghost use Rattle.std.specs.Prelude.{◌≡◌, Some, None, IfErr, IfNone, IfOk, IfSome};
+ghost use Rattle.inode.specs.Read.{NoneStand};
+ghost use Rattle.inode.specs.Snap.{IsNew};
+ghost use Rattle.procs.specs.Asks.{IsAsked};
+ghost use Rattle.procs.specs.Refused.{NoneRefused, first_handle};
+
+use inode::{Snap, Stop, inode_of, used_by};
+use nfs_types::{Call, Handle};
+use std::alloc::Global;
+
+/// The handle of a call that is looked at first, if it has one.
+pub(crate) fn first_handle(call: &Call) -> Option<&Handle>
+    ensures some { IfSome result (λ handle. first_handle call.now ≡ Some handle.now) }
+    ensures none { IfNone result (first_handle call.now ≡ None) }
+{
+    match call {
+        Call::Null => None,
+        Call::GetAttr { object }
+        | Call::SetAttr { object, .. }
+        | Call::Access { object, .. }
+        | Call::FsStat { object }
+        | Call::FsInfo { object }
+        | Call::PathConf { object } => Some(object),
+        Call::Lookup { name }
+        | Call::Create { name, .. }
+        | Call::MkDir { name, .. }
+        | Call::SymLink { name, .. }
+        | Call::MkNod { name, .. }
+        | Call::Remove { name }
+        | Call::RmDir { name } => Some(&name.directory),
+        Call::Rename { source, .. } => Some(&source.directory),
+        Call::ReadLink { link } => Some(link),
+        Call::Read { file, .. }
+        | Call::Write { file, .. }
+        | Call::Link { file, .. }
+        | Call::Commit { file, .. } => Some(file),
+        Call::ReadDir { directory, .. } | Call::ReadDirPlus { directory, .. } => Some(directory),
+    }
+}
+
+/// Asks for the inode that a handle names and for its indirect block, if there are any, and stops for IO where the
+/// layout refuses one of them.
+pub(crate) fn read_file(alloc: Global, snap: &Snap, handle: &Handle) -> Result<(), Stop>
+    ensures err { IfErr result (λ stop. IsNew snap.now stop) }
+    ensures io { IfErr result (λ stop. NoneStand snap.now stop) }
+    ensures asks { IfErr result (λ stop. IsAsked snap.now stop) }
+    ensures sound { IfOk result (λ _. NoneRefused snap.now handle.now.bytes) }
+{
+    let Some((number, stamp)) = handle.parts() else {
+        return Ok(());
+    };
+    if number == 0 || number >= snap.geometry.inodes {
+        return Ok(());
+    }
+    let Some(inode) = inode_of(snap, number)? else {
+        return Ok(());
+    };
+    if inode.stamp != stamp {
+        return Ok(());
+    }
+    used_by(alloc, snap, inode.indirect)?;
+    Ok(())
+}
