@@ -67,8 +67,8 @@ module _ (g : Geometry) (addr : Addr) where
   is_object is = elim (cases_eq addr.len BLOCK_BYTES) [
     | inl len ↦ (let within = addr.within in
         whole (ap (λ b. cond b (is_data g addr.block.0)
-            (cond (nat_eq addr.len 512) (is_piece g addr.block.0 addr.offset) (is_inode g addr.block.0 addr.offset addr.len)))
-            (sym (eq-eqb addr.len BLOCK_BYTES len)) ∙ is) (omega (arith, within, len)) len)
+        (cond (nat_eq addr.len 512) (is_piece g addr.block.0 addr.offset) (is_inode g addr.block.0 addr.offset addr.len)))
+        (sym (eq-eqb addr.len BLOCK_BYTES len)) ∙ is) (omega (arith, within, len)) len)
     | inr not ↦ (elim (cases_eq addr.len 512) [
       | inl len ↦ bits_are len (ap (λ b. cond b (is_piece g addr.block.0 addr.offset) (is_inode g addr.block.0 addr.offset addr.len))
           (sym (eq-eqb addr.len 512 len)) ∙ past not ∙ is)
