@@ -1,6 +1,7 @@
 -- What is told of a file that was made, found or written is short.
 use Rattle.std.proofs.Common.{◌≡◌, ℕ, ◌+◌, Bool, true, false, cond, List, Option, Some, None, Result, Ok, Err, IfOk}
 use Rattle.std.proofs.Common.{refl, arith, rules, length-append}
+use Rattle.limits.specs.declared.TheConstants.{EXCLUSIVE_MODE, NEW_FILE_MODE}
 use Rattle.nfs_types.specs.declared.attributes.NewAttributes.{NewAttributes}
 use Rattle.nfs_types.specs.declared.call.CreateHow.{CreateHow}
 use Rattle.nfs_types.specs.declared.call.CreateHow.TheVariants.{Unchecked, Guarded, Exclusive}
@@ -13,10 +14,10 @@ use Rattle.nfs_types.specs.declared.status.Status.{Status}
 use Rattle.nfs_types.specs.declared.status.Status.TheVariants as status
 use Rattle.nfs_types.specs.Verifier.{boot_verifier}
 use Rattle.model.specs.Node.{DirectoryEntry, Node}
-use Rattle.model.specs.SetAttr.{is_regular, refusal}
+use Rattle.model.specs.SetAttr.{is_regular, refusal, with_attributes}
 use Rattle.model.specs.Tree.{Tree}
 use Rattle.procedures.specs.Changes.{if_entry, if_room, lacks_room}
-use Rattle.procedures.specs.Create.{create_at, create_new, create_over, is_made_with, only_size, resize}
+use Rattle.procedures.specs.Create.{becomes, no_bytes, create_at, create_new, create_over, is_made_with, only_size, resize}
 use Rattle.procedures.specs.FirstTests.{unless}
 use Rattle.procedures.specs.Fresh as making
 use Rattle.procedures.specs.Fresh.{nothing_given}
@@ -79,8 +80,9 @@ resized_short : (tree : Tree) (ctx : Ctx) (size : Option ℕ) (number : ℕ) (no
     → TellsShort (resize tree ctx size number node)
 resized_short tree ctx None number node = created_short number node
 resized_short tree ctx (Some size) number node =
-    if_not (λ (one : Effect Created). IsShort 116 created one.answer) (refusal ctx (only_size size) None node) _
-    (created_short number _)
+    if_not (λ (one : Effect Created). IsShort 116 created one.answer) (refusal ctx (only_size size) None node)
+    (Ok (becomes tree number (with_attributes ctx.moment (only_size size) node)))
+    (created_short number (with_attributes ctx.moment (only_size size) node))
 
 over_short : (tree : Tree) (ctx : Ctx) (how : CreateHow) (number : ℕ) (node : Node)
     → TellsShort (create_over tree ctx how number node)
@@ -94,10 +96,12 @@ over_short tree ctx (Exclusive verifier) number node =
 
 new_short : (tree : Tree) (ctx : Ctx) (new : Option ℕ) (at : ℕ) (directory : Node) (name : List ℕ) (how : CreateHow)
     → TellsShort (create_new tree ctx new at directory name how)
-new_short tree ctx new at directory name (Unchecked wanted) = made_short tree ctx new at directory name wanted _
-new_short tree ctx new at directory name (Guarded wanted) = made_short tree ctx new at directory name wanted _
+new_short tree ctx new at directory name (Unchecked wanted) =
+    made_short tree ctx new at directory name wanted (making.fresh ctx NEW_FILE_MODE None no_bytes)
+new_short tree ctx new at directory name (Guarded wanted) =
+    made_short tree ctx new at directory name wanted (making.fresh ctx NEW_FILE_MODE None no_bytes)
 new_short tree ctx new at directory name (Exclusive verifier) =
-    made_short tree ctx new at directory name nothing_given _
+    made_short tree ctx new at directory name nothing_given (making.fresh ctx EXCLUSIVE_MODE (Some verifier) no_bytes)
 
 pub create_short : (tree : Tree) (ctx : Ctx) (how : CreateHow) (new : Option ℕ) (at : ℕ) (directory : Node)
     (name : List ℕ) (found : Option (ℕ × Node))

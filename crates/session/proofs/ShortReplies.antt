@@ -1,11 +1,13 @@
 -- What a procedure may tell is short: its results in a sound tree, and each refusal.
 use Rattle.std.proofs.Common.{◌≡◌, inl, inr, ℕ, ◌+◌, ◌*◌, ◌/◌, ◌≤◌, zero, suc, [], ◌∷◌, Bool, true, false, List}
-use Rattle.std.proofs.Common.{◌++◌, length, map, Option, Some}
+use Rattle.std.proofs.Common.{◌++◌, length, Option, Some}
 use Rattle.std.proofs.Common.{None, min, take, drop}
+use Rattle.std.proofs.Common.{map as list_map}
 use Rattle.nfs_results.specs.Results.{alone, behind, before}
 use Rattle.std.proofs.Common.{IfOk, Result, Ok, Err, ◌∙◌, arith, length-append, refl, rules, subst, sym, true≢false}
+use Rattle.std.specs.FinMap as map
 use Rattle.std.specs.Option.{ok_or, option_map}
-use Rattle.limits.specs.declared.TheConstants.{LISTING_BYTES, TARGET_BYTES, TRANSFER_BYTES}
+use Rattle.limits.specs.declared.TheConstants.{LISTING_BYTES, NEW_DIRECTORY_MODE, NEW_LINK_MODE, TARGET_BYTES, TRANSFER_BYTES}
 use Rattle.model.specs.Attributes.{untold}
 use Rattle.model.specs.Calls.{has_rules}
 use Rattle.model.specs.Find.{find_file}
@@ -16,6 +18,7 @@ use Rattle.model.specs.Tree.{Tree, node_at}
 use Rattle.model.proofs.Answered.{found-stands}
 use Rattle.procedures.specs.FirstTests.{found_then, unless}
 use Rattle.procedures.specs.Commit as committing
+use Rattle.procedures.specs.Fresh as making
 use Rattle.procedures.specs.Listing.{entry_bytes, entry_room, fitting, is_end, listed_behind, listing_verifier}
 use Rattle.procedures.specs.Lookup as lookups
 use Rattle.procedures.specs.Read as reads
@@ -316,7 +319,8 @@ module _ (tree : Tree) (ctx : Ctx) (new : Option ℕ) (next : Tree) (sound : Sou
       (of_found (λ (one : Effect Created). IsShort 116 created one.answer) tree name.directory.bytes _
       (λ number node at.
       of_unless (λ (one : Effect Created). IsShort 116 created one.answer) _ _
-      (made_short tree ctx new number node name.name _ _)))))
+      (made_short tree ctx new number node name.name (making.without_size wanted)
+      (making.fresh ctx NEW_DIRECTORY_MODE None (Directory map.empty 0 number)))))))
       (changes_told told))
   numbered_is_short (call.SymLink name wanted target) (replies.SymLink outcome told) rules is =
       reply_of _ (before_short 116 116 created weak_cache outcome told (omega arith)
@@ -325,7 +329,8 @@ module _ (tree : Tree) (ctx : Ctx) (new : Option ℕ) (next : Tree) (sound : Sou
       (of_found (λ (one : Effect Created). IsShort 116 created one.answer) tree name.directory.bytes _
       (λ number node at.
       of_unless (λ (one : Effect Created). IsShort 116 created one.answer) _ _
-      (made_short tree ctx new number node name.name _ _)))))
+      (made_short tree ctx new number node name.name (making.without_size wanted)
+      (making.fresh ctx NEW_LINK_MODE None (Link target)))))))
       (changes_told told))
   numbered_is_short (call.Remove name) (replies.Remove outcome told) rules is =
       reply_of _ (behind_short 116 0 weak_cache nothing outcome told (omega arith) (changes_told told)
@@ -368,7 +373,7 @@ module _ (tree : Tree) (ctx : Ctx) (new : Option ℕ) (next : Tree) (sound : Sou
       let given = fitting_both names_count (entry_room count) left in
       of_unless (IsShort (LISTING_BYTES + 16) listed_plus)
       (listing_refusal ctx.credential cookie sent count node left given)
-      (Ok (record { verifier = listing_verifier; entries = map (plus tree) given; eof = is_end left given }))
+      (Ok (record { verifier = listing_verifier; entries = list_map (plus tree) given; eof = is_end left given }))
       (listing_plus_short tree names_count count left (is_end left given))))))
   numbered_is_short (call.FsStat object) (replies.FsStat outcome told) rules is =
       reply_of _ (behind_short 88 52 optional_attributes space outcome told (omega arith) (attributes_told told)
