@@ -11,7 +11,7 @@ import time
 from cases import wire
 
 # After how many seconds a command is taken to hang.
-SECONDS = 120
+SECONDS = 600
 BLOCKS, INODES, MADE = 1024, 64, 1000
 # The mode of a new root.
 NEW_MODE = 0o755
