@@ -334,15 +334,21 @@ def test_a_write_that_fails_breaks_the_store(place):
         expect(f"call {behind} of the session", ran, 1, b"".join(told), b"nfsd: 6 Device\n")
 
 
+def status_of(message):
+    """The status of a reply, where its call was done."""
+    return (nfs.result_of(message) or b"")[:4]
+
+
 def assert_served_without(place, what, stream, messages, tree):
     """A read has failed, and that breaks nothing: the call that asked for it is answered IO, and the others are answered as
-    if it weren't there."""
+    if it had only told something, in a transaction of its own."""
     client = conversing.with_plain(place, plain.command_of(place), BLOCKS, INODES, NOW)
-    failed = [nfs.result_of(it)[:4] == wire.words(nfs.IO) for it in messages]
+    failed = [status_of(it) == wire.words(nfs.IO) for it in messages]
     same(f"{what}: how many calls are answered IO", (len(messages), sum(failed)), (len(stream.records), 1))
     for record, asked, message, is_failed in zip(stream.records, stream.asked, messages, failed):
+        told = client.reply(nfs.GETATTR.call(0, wire.AUTH_NONE, compared.ROOT) if is_failed else record)
         if not is_failed:
-            same(f"{what}: {asked}", message, client.reply(record))
+            same(f"{what}: {asked}", message, told)
     same(f"{what}: the tree", tree, client.tree())
     client.end()
 
@@ -366,7 +372,7 @@ def test_a_call_of_the_file_that_fails_loses_nothing_that_was_answered(place):
         for at, message in enumerate(wire.records(ran.output)):
             # The first call that isn't answered as it would be is answered IO.
             if wire.record(message) != stream.replies[at]:
-                same(f"{what}: status of {stream.asked[at]}", nfs.result_of(message)[:4], wire.words(nfs.IO))
+                same(f"{what}: status of {stream.asked[at]}", status_of(message), wire.words(nfs.IO))
                 break
             answered = at + 1
         stream.assert_prefix(what, tree_of(contents(image)), answered)
