@@ -6,3 +6,4 @@ pub mod Next
 pub mod OneCut
 pub mod Pieces
 pub mod Streams
+pub mod Taken
