@@ -7,3 +7,4 @@ pub mod OneCut
 pub mod Pieces
 pub mod Streams
 pub mod Taken
+pub mod Sound
