@@ -1,10 +1,9 @@
 //! READDIR and READDIRPLUS on the small tree, whose root lists `.`, `..` and `a`.
 
-use nfs_types::{ListedEntry, ListedEntryPlus, Status, Verifier};
-use plain_listing::{read_directory, read_directory_plus};
+use nfs_types::{Call, Handle, ListedEntry, ListedEntryPlus, Reply, Status, Verifier};
 use plain_server::PlainTree;
 use small_tree::{
-    ONES, ZEROS, are_linked, are_removed, called_by, handle_of, handle_of_new, is_directory_made,
+    ONES, ZEROS, answered, are_linked, are_removed, handle_of, handle_of_new, is_directory_made,
     is_removed, root, tree,
 };
 use std::alloc::{AllocError, Global};
@@ -28,141 +27,167 @@ fn plus_ends(entries: &[ListedEntryPlus]) -> (usize, u64) {
     }
 }
 
-fn listed(
-    alloc: Global,
-    tree: &PlainTree,
+pub(crate) fn read_directory(
+    directory: Result<Handle, AllocError>,
     cookie: u64,
     verifier: Verifier,
     count: u32,
-) -> Result<Given, AllocError> {
-    let ctx = called_by(alloc, 8);
-    let root = root(alloc)?;
-    let answer = read_directory(alloc, tree, &ctx, &root, cookie, &verifier, count)?;
-    match &answer.outcome {
-        Ok(listed) => {
-            let (entries, last) = ends(listed.entries.as_slice());
-            Ok(Ok((entries, last, listed.eof)))
-        }
-        Err(status) => Ok(Err(*status)),
+) -> Result<Call, AllocError> {
+    Ok(Call::ReadDir {
+        directory: directory?,
+        cookie,
+        verifier,
+        count,
+    })
+}
+
+fn read_directory_plus(
+    directory: Result<Handle, AllocError>,
+    cookie: u64,
+    verifier: Verifier,
+    names_count: u32,
+    count: u32,
+) -> Result<Call, AllocError> {
+    Ok(Call::ReadDirPlus {
+        directory: directory?,
+        cookie,
+        verifier,
+        directory_count: names_count,
+        greatest_count: count,
+    })
+}
+
+// What a reply gives.
+fn given(reply: &Reply) -> Option<Given> {
+    match reply {
+        Reply::ReadDir { outcome, .. } => match outcome {
+            Ok(listed) => {
+                let (entries, last) = ends(listed.entries.as_slice());
+                Some(Ok((entries, last, listed.eof)))
+            }
+            Err(status) => Some(Err(*status)),
+        },
+        Reply::ReadDirPlus { outcome, .. } => match outcome {
+            Ok(listed) => {
+                let (entries, last) = plus_ends(listed.entries.as_slice());
+                Some(Ok((entries, last, listed.eof)))
+            }
+            Err(status) => Some(Err(*status)),
+        },
+        _ => None,
+    }
+}
+
+fn is_given(
+    alloc: Global,
+    tree: &mut PlainTree,
+    call: Result<Call, AllocError>,
+    wanted: Given,
+) -> bool {
+    match answered(alloc, tree, 8, call) {
+        Ok(Some(reply)) => given(&reply) == Some(wanted),
+        _ => false,
     }
 }
 
 fn is_listed_from(
     alloc: Global,
-    tree: &PlainTree,
+    tree: &mut PlainTree,
     cookie: u64,
     verifier: Verifier,
     count: u32,
     wanted: Given,
 ) -> bool {
-    listed(alloc, tree, cookie, verifier, count) == Ok(wanted)
+    let call = read_directory(root(alloc), cookie, verifier, count);
+    is_given(alloc, tree, call, wanted)
 }
 
-pub(crate) fn is_listed(alloc: Global, tree: &PlainTree, count: u32, wanted: Given) -> bool {
+pub(crate) fn is_listed(alloc: Global, tree: &mut PlainTree, count: u32, wanted: Given) -> bool {
     is_listed_from(alloc, tree, 0, ZEROS, count, wanted)
-}
-
-fn listed_plus(
-    alloc: Global,
-    tree: &PlainTree,
-    names_count: u32,
-    count: u32,
-) -> Result<Given, AllocError> {
-    let ctx = called_by(alloc, 8);
-    let root = root(alloc)?;
-    let answer = read_directory_plus(alloc, tree, &ctx, &root, 0, &ZEROS, names_count, count)?;
-    match &answer.outcome {
-        Ok(listed) => {
-            let (entries, last) = plus_ends(listed.entries.as_slice());
-            Ok(Ok((entries, last, listed.eof)))
-        }
-        Err(status) => Ok(Err(*status)),
-    }
 }
 
 fn is_listed_plus(
     alloc: Global,
-    tree: &PlainTree,
+    tree: &mut PlainTree,
     names_count: u32,
     count: u32,
     wanted: Given,
 ) -> bool {
-    listed_plus(alloc, tree, names_count, count) == Ok(wanted)
+    let call = read_directory_plus(root(alloc), 0, ZEROS, names_count, count);
+    is_given(alloc, tree, call, wanted)
 }
 
 #[test]
 fn as_many_names_as_fit(rt: HostRuntime) -> Result<(), AllocError> {
     let alloc = rt.alloc();
-    let tree = tree(alloc, 64)?;
+    let mut tree = tree(alloc, 64)?;
     // 104 bytes, and 28 for each entry
-    assert!(rt; is_listed(alloc, &tree, 160, Ok((2, 2, false))));
-    assert!(rt; is_listed(alloc, &tree, 159, Ok((1, 1, false))));
-    assert!(rt; is_listed(alloc, &tree, 132, Ok((1, 1, false))));
-    assert!(rt; is_listed(alloc, &tree, 131, Err(Status::TooSmall)));
-    assert!(rt; is_listed(alloc, &tree, 188, Ok((3, 3, true))));
-    assert!(rt; is_listed(alloc, &tree, 4_294_967_295, Ok((3, 3, true))));
+    assert!(rt; is_listed(alloc, &mut tree, 160, Ok((2, 2, false))));
+    assert!(rt; is_listed(alloc, &mut tree, 159, Ok((1, 1, false))));
+    assert!(rt; is_listed(alloc, &mut tree, 132, Ok((1, 1, false))));
+    assert!(rt; is_listed(alloc, &mut tree, 131, Err(Status::TooSmall)));
+    assert!(rt; is_listed(alloc, &mut tree, 188, Ok((3, 3, true))));
+    assert!(rt; is_listed(alloc, &mut tree, 4_294_967_295, Ok((3, 3, true))));
     Ok(())
 }
 
 #[test]
 fn as_many_names_with_attributes_as_fit(rt: HostRuntime) -> Result<(), AllocError> {
     let alloc = rt.alloc();
-    let tree = tree(alloc, 64)?;
+    let mut tree = tree(alloc, 64)?;
     // 104 bytes, and 144 for each entry, of which 28 without attributes and handle
-    assert!(rt; is_listed_plus(alloc, &tree, 84, 536, Ok((3, 3, true))));
-    assert!(rt; is_listed_plus(alloc, &tree, 84, 535, Ok((2, 2, false))));
-    assert!(rt; is_listed_plus(alloc, &tree, 83, 536, Ok((2, 2, false))));
-    assert!(rt; is_listed_plus(alloc, &tree, 27, 536, Err(Status::TooSmall)));
-    assert!(rt; is_listed_plus(alloc, &tree, 84, 103, Err(Status::TooSmall)));
+    assert!(rt; is_listed_plus(alloc, &mut tree, 84, 536, Ok((3, 3, true))));
+    assert!(rt; is_listed_plus(alloc, &mut tree, 84, 535, Ok((2, 2, false))));
+    assert!(rt; is_listed_plus(alloc, &mut tree, 83, 536, Ok((2, 2, false))));
+    assert!(rt; is_listed_plus(alloc, &mut tree, 27, 536, Err(Status::TooSmall)));
+    assert!(rt; is_listed_plus(alloc, &mut tree, 84, 103, Err(Status::TooSmall)));
     Ok(())
 }
 
 #[test]
 fn what_is_listed_behind_a_cookie(rt: HostRuntime) -> Result<(), AllocError> {
     let alloc = rt.alloc();
-    let tree = tree(alloc, 64)?;
-    assert!(rt; is_listed_from(alloc, &tree, 2, ZEROS, 160, Ok((1, 3, true))));
+    let mut tree = tree(alloc, 64)?;
+    assert!(rt; is_listed_from(alloc, &mut tree, 2, ZEROS, 160, Ok((1, 3, true))));
     // nothing is left behind the last one, nor behind one that no slot has
-    assert!(rt; is_listed_from(alloc, &tree, 3, ZEROS, 104, Ok((0, 0, true))));
+    assert!(rt; is_listed_from(alloc, &mut tree, 3, ZEROS, 104, Ok((0, 0, true))));
     let greatest = 18_446_744_073_709_551_615;
-    assert!(rt; is_listed_from(alloc, &tree, greatest, ZEROS, 104, Ok((0, 0, true))));
-    assert!(rt; is_listed_from(alloc, &tree, 3, ZEROS, 103, Err(Status::TooSmall)));
+    assert!(rt; is_listed_from(alloc, &mut tree, greatest, ZEROS, 104, Ok((0, 0, true))));
+    assert!(rt; is_listed_from(alloc, &mut tree, 3, ZEROS, 103, Err(Status::TooSmall)));
     // a bad cookie comes before too small a count, and a first one with any verifier is none
-    assert!(rt; is_listed_from(alloc, &tree, 3, ONES, 103, Err(Status::BadCookie)));
-    assert!(rt; is_listed_from(alloc, &tree, 0, ONES, 188, Ok((3, 3, true))));
+    assert!(rt; is_listed_from(alloc, &mut tree, 3, ONES, 103, Err(Status::BadCookie)));
+    assert!(rt; is_listed_from(alloc, &mut tree, 0, ONES, 188, Ok((3, 3, true))));
     Ok(())
 }
 
 // Whether a READDIR of the file 2 is refused with NOTDIR, and tells its attributes.
-fn is_no_directory(alloc: Global, tree: &PlainTree) -> bool {
-    let ctx = called_by(alloc, 8);
-    let Ok(file) = handle_of(alloc, 2, 1) else {
-        return false;
-    };
-    match read_directory(alloc, tree, &ctx, &file, 1, &ONES, 0) {
-        Ok(answer) => { matches!(&answer.outcome, Err(Status::NotDir)) && answer.object.is_some() }
-        Err(_) => false,
+fn is_no_directory(alloc: Global, tree: &mut PlainTree) -> bool {
+    let call = read_directory(handle_of(alloc, 2, 1), 1, ONES, 0);
+    match answered(alloc, tree, 8, call) {
+        Ok(Some(Reply::ReadDir { outcome, directory })) => {
+            matches!(&outcome, Err(Status::NotDir)) && directory.is_some()
+        }
+        _ => false,
     }
 }
 
 // Whether a READDIRPLUS of the file 2 with another stamp is refused with STALE, and tells no attributes.
-fn is_stale(alloc: Global, tree: &PlainTree) -> bool {
-    let ctx = called_by(alloc, 8);
-    let Ok(stale) = handle_of(alloc, 2, 0) else {
-        return false;
-    };
-    match read_directory_plus(alloc, tree, &ctx, &stale, 1, &ONES, 0, 0) {
-        Ok(answer) => matches!(&answer.outcome, Err(Status::Stale)) && answer.object.is_none(),
-        Err(_) => false,
+fn is_stale(alloc: Global, tree: &mut PlainTree) -> bool {
+    let call = read_directory_plus(handle_of(alloc, 2, 0), 1, ONES, 0, 0);
+    match answered(alloc, tree, 8, call) {
+        Ok(Some(Reply::ReadDirPlus { outcome, directory })) => {
+            matches!(&outcome, Err(Status::Stale)) && directory.is_none()
+        }
+        _ => false,
     }
 }
 
 #[test]
 fn why_a_directory_is_not_listed(rt: HostRuntime) -> Result<(), AllocError> {
     let alloc = rt.alloc();
-    let tree = tree(alloc, 64)?;
-    assert!(rt; is_no_directory(alloc, &tree));
-    assert!(rt; is_stale(alloc, &tree));
+    let mut tree = tree(alloc, 64)?;
+    assert!(rt; is_no_directory(alloc, &mut tree));
+    assert!(rt; is_stale(alloc, &mut tree));
     Ok(())
 }
 
@@ -175,20 +200,21 @@ fn tells(entry: &ListedEntryPlus, number: u64) -> bool {
 }
 
 // Whether the new directory of a number lists itself and then its parent, and tells of both.
-fn tells_of_two(alloc: Global, tree: &PlainTree, number: u32, parent: u64) -> bool {
-    let ctx = called_by(alloc, 0);
-    let Ok(directory) = handle_of_new(alloc, number) else {
-        return false;
-    };
-    match read_directory_plus(alloc, tree, &ctx, &directory, 0, &ZEROS, 512, 512) {
-        Ok(answer) => match &answer.outcome {
-            Ok(listed) => match listed.entries.as_slice() {
-                [first, last] => tells(first, number as u64) && tells(last, parent),
-                _ => false,
-            },
-            Err(_) => false,
+fn tells_of_two(alloc: Global, tree: &mut PlainTree, number: u32, parent: u64) -> bool {
+    let call = read_directory_plus(handle_of_new(alloc, number), 0, ZEROS, 512, 512);
+    match answered(alloc, tree, 0, call) {
+        Ok(
+            Some(
+                Reply::ReadDirPlus {
+                    outcome: Ok(listed),
+                    ..
+                },
+            ),
+        ) => match listed.entries.as_slice() {
+            [first, last] => tells(first, number as u64) && tells(last, parent),
+            _ => false,
         },
-        Err(_) => false,
+        _ => false,
     }
 }
 
@@ -198,7 +224,7 @@ fn what_is_told_of_listed_files(rt: HostRuntime) -> Result<(), AllocError> {
     let mut tree = tree(alloc, 64)?;
     assert!(rt; is_directory_made(alloc, &mut tree, 1, b"d", Ok((3, 493))));
     // directory 3 lists itself and its parent, which is the root
-    assert!(rt; tells_of_two(alloc, &tree, 3, 1));
+    assert!(rt; tells_of_two(alloc, &mut tree, 3, 1));
     Ok(())
 }
 
@@ -208,9 +234,9 @@ fn a_directory_that_lost_its_names_lists_two(rt: HostRuntime) -> Result<(), Allo
     let mut tree = tree(alloc, 64)?;
     assert!(rt; are_linked(alloc, &mut tree, 100, 132, b'x', (8192, 8192)));
     // 33 names of two bytes or one, and the two dots
-    assert!(rt; is_listed(alloc, &tree, 8192, Ok((35, 35, true))));
+    assert!(rt; is_listed(alloc, &mut tree, 8192, Ok((35, 35, true))));
     assert!(rt; are_removed(alloc, &mut tree, 100, 132));
     assert!(rt; is_removed(alloc, &mut tree, b"a", Ok(())));
-    assert!(rt; is_listed(alloc, &tree, 160, Ok((2, 2, true))));
+    assert!(rt; is_listed(alloc, &mut tree, 160, Ok((2, 2, true))));
     Ok(())
 }

@@ -1,33 +1,27 @@
 //! RENAME on the small tree: the root of user 0 has mode 755 and the one name `a`, in its first
 //! slot, of the file 2.
 
-use nfs_types::{Ctx, DirectoryName, ListedEntry, Moment, Status, WeakCacheData};
-use plain_listing::read_directory;
-use plain_procedures::found;
-use plain_renaming::rename;
+use crate::listings::read_directory;
+use nfs_types::{Call, Ctx, DirectoryName, ListedEntry, Moment, Reply, Status, WeakCacheData};
 use plain_server::PlainTree;
+use plain_steps::answer;
 use small_tree::{
-    Done, ZEROS, called_by, handle_of_new, has_links, is_directory_made, is_linked, leads_to,
-    name_in, place, root, set_links, tree,
+    Done, ZEROS, answered, called_by, handle_of_new, has_links, is_directory_made, is_done,
+    is_linked, leads_to, name_in, place, root, set_links, tree,
 };
 use std::alloc::{AllocError, Global};
 
-// What a RENAME by user 0 is answered from one directory to another, which are given by their numbers.
-fn moved(
-    alloc: Global,
-    tree: &mut PlainTree,
-    from: u32,
-    name: &[u8],
-    to: u32,
-    new_name: &[u8],
-) -> Result<Done, AllocError> {
-    let ctx = called_by(alloc, 0);
-    let source = name_in(alloc, from, name)?;
-    let target = name_in(alloc, to, new_name)?;
-    Ok(rename(alloc, tree, &ctx, &source, &target)?.outcome)
+fn rename(
+    source: Result<DirectoryName, AllocError>,
+    target: Result<DirectoryName, AllocError>,
+) -> Result<Call, AllocError> {
+    Ok(Call::Rename {
+        source: source?,
+        target: target?,
+    })
 }
 
-// Whether a RENAME by user 0 is answered so.
+// Whether a RENAME by user 0 is answered so from one directory to another, which are given by their numbers.
 fn is_moved(
     alloc: Global,
     tree: &mut PlainTree,
@@ -37,7 +31,8 @@ fn is_moved(
     new_name: &[u8],
     wanted: Done,
 ) -> bool {
-    moved(alloc, tree, from, name, to, new_name) == Ok(wanted)
+    let call = rename(name_in(alloc, from, name), name_in(alloc, to, new_name));
+    is_done(alloc, tree, 0, call, wanted)
 }
 
 // Whether a RENAME by user 0 within the root is answered so.
@@ -48,7 +43,7 @@ fn is_renamed(
     new_name: &[u8],
     wanted: Done,
 ) -> bool {
-    moved(alloc, tree, 1, name, 1, new_name) == Ok(wanted)
+    is_moved(alloc, tree, 1, name, 1, new_name, wanted)
 }
 
 // The cookie of a name.
@@ -62,17 +57,18 @@ fn cookie_in(entries: &[ListedEntry], name: &[u8]) -> Option<u64> {
 }
 
 // Whether the root lists a name with this cookie, or where none is given not at all.
-fn has_cookie(alloc: Global, tree: &PlainTree, name: &[u8], wanted: Option<u64>) -> bool {
-    let ctx = called_by(alloc, 0);
-    let Ok(root) = root(alloc) else {
-        return false;
-    };
-    match read_directory(alloc, tree, &ctx, &root, 0, &ZEROS, 4096) {
-        Ok(answer) => match &answer.outcome {
-            Ok(listed) => cookie_in(listed.entries.as_slice(), name) == wanted,
-            Err(_) => false,
-        },
-        Err(_) => false,
+fn has_cookie(alloc: Global, tree: &mut PlainTree, name: &[u8], wanted: Option<u64>) -> bool {
+    let call = read_directory(root(alloc), 0, ZEROS, 4096);
+    match answered(alloc, tree, 0, call) {
+        Ok(
+            Some(
+                Reply::ReadDir {
+                    outcome: Ok(listed),
+                    ..
+                },
+            ),
+        ) => cookie_in(listed.entries.as_slice(), name) == wanted,
+        _ => false,
     }
 }
 
@@ -83,6 +79,17 @@ fn is_told(data: &WeakCacheData) -> (bool, bool) {
     (data.before.is_some(), data.after.is_some())
 }
 
+fn told(reply: &Reply) -> Option<Told> {
+    match reply {
+        Reply::Rename {
+            outcome,
+            source,
+            target,
+        } => Some((*outcome, is_told(source), is_told(target))),
+        _ => None,
+    }
+}
+
 // Whether a RENAME by user 0 is answered so.
 fn is_answered(
     alloc: Global,
@@ -91,23 +98,10 @@ fn is_answered(
     target: Result<DirectoryName, AllocError>,
     wanted: Told,
 ) -> bool {
-    match told(alloc, tree, source, target) {
-        Ok(told) => told == wanted,
-        Err(_) => false,
+    match answered(alloc, tree, 0, rename(source, target)) {
+        Ok(Some(reply)) => told(&reply) == Some(wanted),
+        _ => false,
     }
-}
-
-fn told(
-    alloc: Global,
-    tree: &mut PlainTree,
-    source: Result<DirectoryName, AllocError>,
-    target: Result<DirectoryName, AllocError>,
-) -> Result<Told, AllocError> {
-    let ctx = called_by(alloc, 0);
-    let source = source?;
-    let target = target?;
-    let told = rename(alloc, tree, &ctx, &source, &target)?;
-    Ok((told.outcome, is_told(&told.source), is_told(&told.target)))
 }
 
 #[test]
@@ -146,15 +140,20 @@ fn is_done_at_9000(alloc: Global, tree: &mut PlainTree, wanted: (u32, u32)) -> b
         },
         ..called_by(alloc, 0)
     };
-    let Ok(source) = name_in(alloc, 1, b"a") else {
+    let Ok(call) = rename(name_in(alloc, 1, b"a"), name_in(alloc, 1, b"b")) else {
         return false;
     };
-    let Ok(target) = name_in(alloc, 1, b"b") else {
-        return false;
-    };
-    match rename(alloc, tree, &later, &source, &target) {
-        Ok(told) => told.outcome.is_ok() && changed_at(&told.target) == Some(wanted),
-        Err(_) => false,
+    match answer(alloc, tree, &later, &call) {
+        Ok(
+            Some(
+                Reply::Rename {
+                    outcome: Ok(()),
+                    target,
+                    ..
+                },
+            ),
+        ) => changed_at(&target) == Some(wanted),
+        _ => false,
     }
 }
 
@@ -178,8 +177,8 @@ fn a_link_over_itself_changes_nothing(rt: HostRuntime) -> Result<(), AllocError>
     // LINK was at second 2000, and nothing has changed since
     assert!(rt; is_done_at_9000(alloc, &mut tree, (2000, 2000)));
     assert!(rt; has_links(&tree, 2, 2));
-    assert!(rt; leads_to(alloc, &tree, 1, b"a", 2));
-    assert!(rt; leads_to(alloc, &tree, 1, b"b", 2));
+    assert!(rt; leads_to(alloc, &mut tree, 1, b"a", 2));
+    assert!(rt; leads_to(alloc, &mut tree, 1, b"b", 2));
     assert!(rt; was_changed_at(&tree, 2, 2000));
     Ok(())
 }
@@ -193,10 +192,10 @@ fn no_directory_goes_below_itself(rt: HostRuntime) -> Result<(), AllocError> {
     assert!(rt; is_directory_made(alloc, &mut tree, 3, b"e", Ok((4, 493))));
     assert!(rt; is_moved(alloc, &mut tree, 1, b"d", 4, b"c", Err(Status::Inval)));
     assert!(rt; is_moved(alloc, &mut tree, 1, b"d", 3, b"c", Err(Status::Inval)));
-    assert!(rt; leads_to(alloc, &tree, 1, b"d", 3));
+    assert!(rt; leads_to(alloc, &mut tree, 1, b"d", 3));
     // a file may go there
     assert!(rt; is_moved(alloc, &mut tree, 1, b"a", 4, b"c", Ok(())));
-    assert!(rt; leads_to(alloc, &tree, 4, b"c", 2));
+    assert!(rt; leads_to(alloc, &mut tree, 4, b"c", 2));
     Ok(())
 }
 
@@ -209,14 +208,14 @@ fn a_moved_directory_has_its_new_parent(rt: HostRuntime) -> Result<(), AllocErro
     assert!(rt; has_links(&tree, 1, 3) && has_links(&tree, 3, 3));
     assert!(rt; is_moved(alloc, &mut tree, 3, b"b", 1, b"b", Ok(())));
     assert!(rt; has_links(&tree, 1, 4) && has_links(&tree, 3, 2));
-    assert!(rt; leads_to(alloc, &tree, 4, b"..", 1));
+    assert!(rt; leads_to(alloc, &mut tree, 4, b"..", 1));
     Ok(())
 }
 
 // Whether the new file of a number is gone.
 fn is_gone(alloc: Global, tree: &PlainTree, number: u32) -> bool {
     match handle_of_new(alloc, number) {
-        Ok(handle) => found(tree, &handle).is_err(),
+        Ok(handle) => tree.find(&handle).is_err(),
         Err(_) => false,
     }
 }
@@ -235,7 +234,7 @@ fn what_a_name_replaces(rt: HostRuntime) -> Result<(), AllocError> {
     assert!(rt; has_links(&tree, 1, 4));
     assert!(rt; is_renamed(alloc, &mut tree, b"d", b"g", Ok(())));
     assert!(rt; has_links(&tree, 1, 3));
-    assert!(rt; leads_to(alloc, &tree, 1, b"g", 3));
+    assert!(rt; leads_to(alloc, &mut tree, 1, b"g", 3));
     assert!(rt; is_gone(alloc, &tree, 5));
     Ok(())
 }
@@ -248,14 +247,14 @@ fn the_slots_of_new_names(rt: HostRuntime) -> Result<(), AllocError> {
     assert!(rt; is_directory_made(alloc, &mut tree, 1, b"d", Ok((3, 493))));
     assert!(rt; is_directory_made(alloc, &mut tree, 1, b"g", Ok((4, 493))));
     assert!(rt; is_renamed(alloc, &mut tree, b"g", b"h", Ok(())));
-    assert!(rt; has_cookie(alloc, &tree, b"h", Some(5)));
+    assert!(rt; has_cookie(alloc, &mut tree, b"h", Some(5)));
     assert!(rt; is_renamed(alloc, &mut tree, b"h", b"d", Ok(())));
-    assert!(rt; has_cookie(alloc, &tree, b"d", Some(4)));
-    assert!(rt; has_cookie(alloc, &tree, b"h", None));
+    assert!(rt; has_cookie(alloc, &mut tree, b"d", Some(4)));
+    assert!(rt; has_cookie(alloc, &mut tree, b"h", None));
     // `d` is directory 4 now, and its first free slot is 0
     assert!(rt; is_moved(alloc, &mut tree, 1, b"a", 4, b"b", Ok(())));
     assert!(rt; is_moved(alloc, &mut tree, 4, b"b", 1, b"a", Ok(())));
-    assert!(rt; has_cookie(alloc, &tree, b"a", Some(3)));
+    assert!(rt; has_cookie(alloc, &mut tree, b"a", Some(3)));
     Ok(())
 }
 
@@ -282,6 +281,6 @@ fn no_name_without_a_block(rt: HostRuntime) -> Result<(), AllocError> {
     let mut tree = tree(alloc, 1)?;
     assert!(rt; is_directory_made(alloc, &mut tree, 1, b"d", Ok((3, 493))));
     assert!(rt; is_moved(alloc, &mut tree, 1, b"a", 3, b"a", Err(Status::NoSpc)));
-    assert!(rt; leads_to(alloc, &tree, 1, b"a", 2));
+    assert!(rt; leads_to(alloc, &mut tree, 1, b"a", 2));
     Ok(())
 }

@@ -4,11 +4,13 @@ ghost use Rattle.plain_server.specs.Plain.{tree_of};
 ghost use Rattle.procedures.specs.FsStat.{unused_numbers};
 
 use crate::PlainFiles;
+use crate::contents::{bytes_of, entry_at, piece};
 use crate::heads::head_of;
 use crate::listing::next_name;
+use crate::nodes::file_at;
+use crate::space::{count_of, free_blocks};
 use files::{Entry, Files, Head, SlotName};
 use nfs_types::Octets;
-use plain_procedures::{bytes_of, count_of, entry_at, file_at, free_blocks, piece};
 use plain_server::{PlainBody, PlainTree};
 use std::alloc::{AllocError, Global};
 

@@ -10,13 +10,14 @@ ghost use Rattle.plain_server.specs.Plain.{body_of, tree_of};
 ghost use Rattle.files.specs.Heads.{node_of};
 
 use crate::PlainFiles;
+use crate::contents::{add_entry, has_names, remove_entry};
 use crate::heads::{first_body, headed, set_parent, with_body};
+use crate::nodes::{file_at, with_node, without_node};
+use crate::numbers::least_unused;
+use crate::slots::least_free_slot;
+use crate::writing::{overwritten, with_touched};
 use files::{ChangingFiles, Entry, Head};
 use nfs_types::Octets;
-use plain_procedures::{
-    add_entry, file_at, has_names, least_free_slot, least_unused, overwritten, remove_entry,
-    with_node, with_touched, without_node,
-};
 use plain_server::{PlainBody, set_length};
 use std::alloc::{AllocError, Global};
 

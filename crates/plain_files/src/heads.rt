@@ -8,9 +8,9 @@ ghost use Rattle.plain_server.specs.Plain.{body_of, node_of as plain_node};
 ghost use Rattle.files.specs.Changing.{first_body, headed};
 ghost use Rattle.files.specs.Heads.{IsBodyOf, node_of};
 
+use crate::contents::parent_of;
 use files::Head;
 use nfs_types::{FileKind, Octets};
-use plain_procedures::parent_of;
 use plain_server::{MappedIndexes, NumberedNode, PlainBody, PlainNames, PlainNode, PlainTree};
 use std::alloc::{AllocError, Global};
 

@@ -6,3 +6,5 @@ pub mod Next
 pub mod OneCut
 pub mod Pieces
 pub mod Streams
+pub mod Taken
+pub mod Sound

@@ -1,8 +1,9 @@
 -- What a record is answered, and which files it leaves.
-use Rattle.std.specs.Prelude.{◌≡◌, ℕ, ◌+◌, ◌-◌, ◌<◌, ◌≤◌, ◌^◌, ◌⊎◌, min, true, false, List, [], ◌∷◌, ◌++◌}
-use Rattle.std.specs.Prelude.{length}
+use Rattle.std.specs.Prelude.{◌≡◌, ℕ, ◌+◌, ◌-◌, ◌<◌, ◌^◌, ◌⊎◌, min, true, false, List}
 use Rattle.model.specs.Mount.{mount_reply}
+use Rattle.model.specs.Sound.{Sound, SoundTime}
 use Rattle.model.specs.Tree.{Tree}
+use Rattle.nfs_types.specs.Fits.{CallFits}
 use Rattle.nfs_types.specs.declared.call.Call.{Call}
 use Rattle.nfs_types.specs.declared.ctx.Credential.{Credential}
 use Rattle.nfs_types.specs.declared.ctx.Ctx.{Ctx}
@@ -57,10 +58,19 @@ context files caller = record {
 abbrev pub next_files : Files → Tree → Files
 next_files files tree = record { tree = tree; moment = files.moment; transactions = next_number files }
 
--- a call of NFS is a step of the sequential server
+-- files that a server may have
+pub record SoundFiles (files : Files) : Type 0 where
+  pub tree : Sound files.tree
+  pub moment : SoundTime files.moment
+
+-- A call of NFS can be spelled, and is a step of the sequential server. The files of a session are sound: a
+-- law.
 pub record IsStep (before : Files) (caller : Credential) (call : Call) (told : Reply) (after : Files)
     : Type 0 where
-  pub leads : step before.tree (context before caller) call told after.tree
+  pub uid : caller.uid < 2 ^ 32
+  pub gid : caller.gid < 2 ^ 32
+  pub fits : CallFits call
+  pub leads : SoundFiles before → step before.tree (context before caller) call told after.tree
   pub counted : after ≡ next_files before after.tree
 
 -- what a call of NFS is replied; NULL takes no number and does nothing

@@ -1,5 +1,6 @@
 //! Answering one record.
-ghost use Rattle.std.specs.Prelude.{◌≡◌, ℕ, List, Ok, None, false, IfOk, IfSome, OnErr};
+ghost use Rattle.std.specs.Prelude.{◌≡◌, ◌<◌, ◌^◌, ℕ, List, Ok, None, false, IfOk, IfSome, OnErr, get_or};
+ghost use Rattle.nfs_types.specs.Fits.{CallFits, ProgramCallFits};
 ghost use Rattle.plain_session.specs.Answering.{Closes, IsAnswered, IsCallAnswered, IsNfsReply, IsReply};
 ghost use Rattle.plain_session.specs.Answering.{IsStep, IsTold, IsUndone, files_of, next_files};
 ghost use Rattle.plain_session.specs.Answering.{refusal_record};
@@ -38,6 +39,7 @@ pub fn answer_record(
     ensures lost { OnErr result ((bytes : List ℕ) × IsAnswered (files_of files.old) message.now bytes
         (files_of files.new)) }
 {
+    are_bytes(message);
     match judge(alloc, message) {
         Judged::Closed => Ok(None),
         Judged::Refused { xid, refusal } => Ok(Some(refused(alloc, xid, refusal)?)),
@@ -49,6 +51,11 @@ pub fn answer_record(
     }
 }
 
+// Each byte of a message is below 256.
+fn are_bytes(message: &[u8])
+    ensures { (index : ℕ) → get_or message.now index 0 < 256 }
+{}
+
 // The record of the reply to a call. Where memory fails before it is done, that is told.
 fn answer_call(
     alloc: Global,
@@ -57,6 +64,9 @@ fn answer_call(
     credential: Credential,
     call: &ProgramCall,
 ) -> Result<Vec<u8>, AllocError>
+    requires uid { credential.uid < 2 ^ 32 }
+    requires gid { credential.gid < 2 ^ 32 }
+    requires fits { ProgramCallFits call.now }
     ensures ok { IfOk result (λ whole. IsCallAnswered (files_of files.old) xid credential call.now
         whole.items (files_of files.new)) }
     ensures lost { OnErr result ((bytes : List ℕ) × IsCallAnswered (files_of files.old) xid credential
@@ -107,6 +117,9 @@ fn reply_to(
     credential: Credential,
     call: &ProgramCall,
 ) -> Result<ProgramReply, AllocError>
+    requires uid { credential.uid < 2 ^ 32 }
+    requires gid { credential.gid < 2 ^ 32 }
+    requires fits { ProgramCallFits call.now }
     ensures ok { IfOk result (λ reply. IsReply (files_of files.old) credential call.now reply
         (files_of files.new)) }
     ensures err { OnErr result (IsUndone (files_of files.old) call.now (files_of files.new)) }
@@ -124,6 +137,9 @@ fn nfs_reply(
     credential: Credential,
     call: &Call,
 ) -> Result<Reply, AllocError>
+    requires uid { credential.uid < 2 ^ 32 }
+    requires gid { credential.gid < 2 ^ 32 }
+    requires fits { CallFits call.now }
     ensures ok { IfOk result (λ reply. IsNfsReply (files_of files.old) credential call.now reply
         (files_of files.new)) }
     ensures err { OnErr result ((is_null_call call.now ≡ false)
@@ -149,7 +165,10 @@ fn step(
     credential: Credential,
     call: &Call,
 ) -> Result<Reply, AllocError>
-    requires { is_null_call call.now ≡ false }
+    requires asks { is_null_call call.now ≡ false }
+    requires uid { credential.uid < 2 ^ 32 }
+    requires gid { credential.gid < 2 ^ 32 }
+    requires fits { CallFits call.now }
     ensures ok { IfOk result (λ reply. IsStep (files_of files.old) credential call.now reply
         (files_of files.new)) }
     ensures err { OnErr result (files_of files.new

@@ -1,5 +1,5 @@
 -- What holds of what is given, if anything is.
-use Rattle.std.proofs.Common.{Option, Some, None, Result, Ok, Err, IfOk, IfSome}
+use Rattle.std.proofs.Common.{◌≡◌, subst, Option, Some, None, Result, Ok, Err, IfOk, IfSome}
 
 some_then : {A : Type 0} (given : Option A) (P Q : A → Type 0) → IfSome given P → ((x : A) → P x → Q x)
     → IfSome given Q
@@ -10,3 +10,6 @@ pub ok_some_then : {A E : Type 0} (r : Result (Option A) E) (P Q : A → Type 0)
     → ((x : A) → P x → Q x) → IfOk r (λ given. IfSome given Q)
 ok_some_then (Ok given) P Q holds then = some_then given P Q holds then
 ok_some_then (Err e) P Q holds then = tt
+
+pub told : {A : Type 0} (given : Option A) (x : A) (P : A → Type 0) → given ≡ Some x → IfSome given P → P x
+told given x P is all = subst (λ o. IfSome o P) is all

@@ -1,29 +1,22 @@
 //! Calls that make and remove files, on the small tree: the root of user 0 has mode 755 and the one name `a`.
 
 use nfs_types::{Call, CreateHow, NewAttributes, Octets, Reply, Status, Verifier};
-use plain_naming::{create, make_link, remove_directory};
-use plain_procedures::{least_unused, read_link};
 use plain_server::PlainTree;
-use plain_steps::answer;
 use small_tree::{
-    Done, Made, are_linked, called_by, handle_of, handle_of_new, has_links, is_directory_made,
-    is_removed, made, name_in, tree,
+    Made, answered, are_linked, handle_of, handle_of_new, has_links, is_directory_made, is_done,
+    is_made, is_removed, name_in, tree,
 };
 use std::alloc::{AllocError, Global};
 use worked_procedures::UNSET;
 
-// What a CREATE by user 0 of a name in the root is answered.
-fn created(
-    alloc: Global,
-    tree: &mut PlainTree,
-    name: &[u8],
-    how: CreateHow,
-) -> Result<Made, AllocError> {
-    let ctx = called_by(alloc, 0);
-    let place = name_in(alloc, 1, name)?;
-    Ok(made(create(alloc, tree, &ctx, &place, &how)?))
+fn create(alloc: Global, name: &[u8], how: CreateHow) -> Result<Call, AllocError> {
+    Ok(Call::Create {
+        name: name_in(alloc, 1, name)?,
+        how,
+    })
 }
 
+// Whether a CREATE by user 0 of a name in the root is answered so.
 fn is_created(
     alloc: Global,
     tree: &mut PlainTree,
@@ -31,7 +24,7 @@ fn is_created(
     how: CreateHow,
     wanted: Made,
 ) -> bool {
-    created(alloc, tree, name, how) == Ok(wanted)
+    is_made(alloc, tree, create(alloc, name, how), wanted)
 }
 
 const GUARDED: CreateHow = CreateHow::Guarded(UNSET);
@@ -68,16 +61,16 @@ fn is_told_of_unchecked(
     size: u64,
     wanted: (u64, u32, u64, u64),
 ) -> bool {
-    let ctx = called_by(alloc, 0);
-    let Ok(place) = name_in(alloc, 1, b"a") else {
-        return false;
-    };
-    match create(alloc, tree, &ctx, &place, &unchecked(size)) {
-        Ok(answer) => match &answer.outcome {
-            Ok(made) => made.attributes.map(|a| (a.number, a.mode, a.size, a.used)) == Some(wanted),
-            Err(_) => false,
-        },
-        Err(_) => false,
+    match answered(alloc, tree, 0, create(alloc, b"a", unchecked(size))) {
+        Ok(
+            Some(
+                Reply::Create {
+                    outcome: Ok(made),
+                    ..
+                },
+            ),
+        ) => made.attributes.map(|a| (a.number, a.mode, a.size, a.used)) == Some(wanted),
+        _ => false,
     }
 }
 
@@ -102,20 +95,20 @@ fn the_handle_of_a_removed_file_is_stale(rt: HostRuntime) -> Result<(), AllocErr
     assert!(rt; is_removed(alloc, &mut tree, b"a", Err(Status::NoEnt)));
     // the number 2 is the least unused one again, with another stamp
     assert!(rt; is_created(alloc, &mut tree, b"a", GUARDED, Ok((2, 420))));
-    assert!(rt; plain_procedures::found(&tree, &old).is_err());
-    assert!(rt; plain_procedures::found(&tree, &new).is_ok());
+    assert!(rt; tree.find(&old).is_err());
+    assert!(rt; tree.find(&new).is_ok());
     Ok(())
 }
 
-// What a RMDIR by user 0 of a name in the root is answered.
-fn directory_removed(alloc: Global, tree: &mut PlainTree, name: &[u8]) -> Result<Done, AllocError> {
-    let ctx = called_by(alloc, 0);
-    let place = name_in(alloc, 1, name)?;
-    Ok(remove_directory(tree, &ctx, &place)?.outcome)
+fn remove_directory(alloc: Global, name: &[u8]) -> Result<Call, AllocError> {
+    Ok(Call::RmDir {
+        name: name_in(alloc, 1, name)?,
+    })
 }
 
+// Whether a RMDIR by user 0 of a name in the root is done.
 fn is_directory_removed(alloc: Global, tree: &mut PlainTree, name: &[u8]) -> bool {
-    directory_removed(alloc, tree, name) == Ok(Ok(()))
+    is_done(alloc, tree, 0, remove_directory(alloc, name), Ok(()))
 }
 
 #[test]
@@ -130,19 +123,15 @@ fn directories_are_links_of_their_parent(rt: HostRuntime) -> Result<(), AllocErr
     Ok(())
 }
 
-// What a SYMLINK by user 0 in the root is answered.
-fn link_made(
-    alloc: Global,
-    tree: &mut PlainTree,
-    name: &[u8],
-    target: &[u8],
-) -> Result<Made, AllocError> {
-    let ctx = called_by(alloc, 0);
-    let place = name_in(alloc, 1, name)?;
-    let target = Octets::copied(alloc, target)?;
-    Ok(made(make_link(alloc, tree, &ctx, &place, &UNSET, &target)?))
+fn make_link(alloc: Global, name: &[u8], target: &[u8]) -> Result<Call, AllocError> {
+    Ok(Call::SymLink {
+        name: name_in(alloc, 1, name)?,
+        attributes: UNSET,
+        target: Octets::copied(alloc, target)?,
+    })
 }
 
+// Whether a SYMLINK by user 0 in the root is answered so.
 fn is_link_made(
     alloc: Global,
     tree: &mut PlainTree,
@@ -150,20 +139,27 @@ fn is_link_made(
     target: &[u8],
     wanted: Made,
 ) -> bool {
-    link_made(alloc, tree, name, target) == Ok(wanted)
+    is_made(alloc, tree, make_link(alloc, name, target), wanted)
+}
+
+fn read_link(alloc: Global, number: u32) -> Result<Call, AllocError> {
+    Ok(Call::ReadLink {
+        link: handle_of_new(alloc, number)?,
+    })
 }
 
 // Whether the new file of a number is a link to these bytes.
-fn has_target(alloc: Global, tree: &PlainTree, number: u32, wanted: &[u8]) -> bool {
-    let Ok(link) = handle_of_new(alloc, number) else {
-        return false;
-    };
-    match read_link(tree, &link) {
-        Ok(answer) => match &answer.outcome {
-            Ok(target) => target.as_slice() == wanted,
-            Err(_) => false,
-        },
-        Err(_) => false,
+fn has_target(alloc: Global, tree: &mut PlainTree, number: u32, wanted: &[u8]) -> bool {
+    match answered(alloc, tree, 0, read_link(alloc, number)) {
+        Ok(
+            Some(
+                Reply::ReadLink {
+                    outcome: Ok(target),
+                    ..
+                },
+            ),
+        ) => target.as_slice() == wanted,
+        _ => false,
     }
 }
 
@@ -172,37 +168,13 @@ fn a_link_keeps_its_target(rt: HostRuntime) -> Result<(), AllocError> {
     let alloc = rt.alloc();
     let mut tree = tree(alloc, 64)?;
     assert!(rt; is_link_made(alloc, &mut tree, b"l", b"a/../b", Ok((3, 511))));
-    assert!(rt; has_target(alloc, &tree, 3, b"a/../b"));
+    assert!(rt; has_target(alloc, &mut tree, 3, b"a/../b"));
     Ok(())
-}
-
-// Whether a call is answered as a MKDIR that is done.
-fn is_directory_answered(alloc: Global, tree: &mut PlainTree, call: &Call) -> bool {
-    let ctx = called_by(alloc, 0);
-    match answer(alloc, tree, &ctx, call) {
-        Ok(Some(Reply::MkDir { outcome, .. })) => outcome.is_ok(),
-        _ => false,
-    }
-}
-
-// Whether the call MKDIR of `d` in the root is done.
-fn makes_directory(alloc: Global, tree: &mut PlainTree) -> bool {
-    match name_in(alloc, 1, b"d") {
-        Ok(name) => {
-            let call = Call::MkDir {
-                name,
-                attributes: UNSET,
-            };
-            is_directory_answered(alloc, tree, &call)
-        }
-        Err(_) => false,
-    }
 }
 
 // Whether the call NULL is answered by nothing.
 fn is_null_left_out(alloc: Global, tree: &mut PlainTree) -> bool {
-    let ctx = called_by(alloc, 0);
-    match answer(alloc, tree, &ctx, &Call::Null) {
+    match answered(alloc, tree, 0, Ok(Call::Null)) {
         Ok(reply) => reply.is_none(),
         Err(_) => false,
     }
@@ -212,10 +184,10 @@ fn is_null_left_out(alloc: Global, tree: &mut PlainTree) -> bool {
 fn one_call_after_another(rt: HostRuntime) -> Result<(), AllocError> {
     let alloc = rt.alloc();
     let mut tree = tree(alloc, 64)?;
-    assert!(rt; least_unused(&tree) == Some(3));
-    assert!(rt; makes_directory(alloc, &mut tree));
-    assert!(rt; least_unused(&tree) == Some(4));
+    // each gets the least unused number
+    assert!(rt; is_directory_made(alloc, &mut tree, 1, b"d", Ok((3, 493))));
     assert!(rt; is_null_left_out(alloc, &mut tree));
+    assert!(rt; is_directory_made(alloc, &mut tree, 1, b"e", Ok((4, 493))));
     Ok(())
 }
 

@@ -1,42 +1,35 @@
 //! Calls on the small tree. A helper whose name asks something answers false also where memory is wanted.
 
-use nfs_types::{Call, NewAttributes, Reply, Stability, Status, Verifier};
-use plain_procedures::{Told, access, commit, read, write};
-use plain_server::{PlainTree, serve};
-use small_tree::{called_by, handle_of, leads_to, sizes, tree};
+use nfs_types::{Call, NewAttributes, Octets, Reply, Stability, Status, Verifier};
+use plain_server::PlainTree;
+use small_tree::{answered, handle_of, is_done, leads_to, sizes, tree};
 use std::alloc::{AllocError, Global};
 use worked_procedures::UNSET;
 
 // What a WRITE is answered, and the size and the used bytes that are told with it.
 type Wrote = (Option<Status>, Option<(u64, u64)>);
 
-// A WRITE of user 7 to the file.
-fn wrote(
-    alloc: Global,
-    tree: &mut PlainTree,
-    offset: u64,
-    count: u32,
-    text: &[u8],
-) -> Result<Wrote, AllocError> {
-    let ctx = called_by(alloc, 7);
-    let file = handle_of(alloc, 2, 1)?;
-    let answer = write(
-        alloc,
-        tree,
-        &ctx,
-        &file,
+fn write(alloc: Global, offset: u64, count: u32, text: &[u8]) -> Result<Call, AllocError> {
+    Ok(Call::Write {
+        file: handle_of(alloc, 2, 1)?,
         offset,
         count,
-        Stability::Unstable,
-        text,
-    )?;
-    let told = sizes(&answer.file);
-    match answer.outcome {
-        Ok(_) => Ok((None, told)),
-        Err(status) => Ok((Some(status), told)),
+        stability: Stability::Unstable,
+        bytes: Octets::copied(alloc, text)?,
+    })
+}
+
+fn wrote(reply: &Reply) -> Option<Wrote> {
+    match reply {
+        Reply::Write { outcome, file } => match outcome {
+            Ok(_) => Some((None, sizes(file))),
+            Err(status) => Some((Some(*status), sizes(file))),
+        },
+        _ => None,
     }
 }
 
+// Whether a WRITE of user 7 to the file is answered so.
 fn is_written(
     alloc: Global,
     tree: &mut PlainTree,
@@ -45,7 +38,10 @@ fn is_written(
     text: &[u8],
     wanted: Wrote,
 ) -> bool {
-    wrote(alloc, tree, offset, count, text) == Ok(wanted)
+    match answered(alloc, tree, 7, write(alloc, offset, count, text)) {
+        Ok(Some(reply)) => wrote(&reply) == Some(wanted),
+        _ => false,
+    }
 }
 
 // Whether a WRITE of so many bytes is answered so.
@@ -62,18 +58,24 @@ fn are_many_written(
     }
 }
 
+fn read(alloc: Global, offset: u64) -> Result<Call, AllocError> {
+    Ok(Call::Read {
+        file: handle_of(alloc, 2, 1)?,
+        offset,
+        count: 100,
+    })
+}
+
 // Whether user 7 reads just these bytes there, and the file ends with them.
-fn ends_with(alloc: Global, tree: &PlainTree, offset: u64, wanted: &[u8]) -> bool {
-    let ctx = called_by(alloc, 7);
-    let Ok(file) = handle_of(alloc, 2, 1) else {
-        return false;
-    };
-    match read(alloc, tree, &ctx, &file, offset, 100) {
+fn ends_with(alloc: Global, tree: &mut PlainTree, offset: u64, wanted: &[u8]) -> bool {
+    match answered(alloc, tree, 7, read(alloc, offset)) {
         Ok(
-            Told {
-                outcome: Ok(given),
-                ..
-            },
+            Some(
+                Reply::Read {
+                    outcome: Ok(given),
+                    ..
+                },
+            ),
         ) => given.eof && given.bytes.as_slice() == wanted,
         _ => false,
     }
@@ -87,7 +89,7 @@ fn the_last_byte_of_the_largest_file(rt: HostRuntime) -> Result<(), AllocError> 
     assert!(rt; is_written(alloc, &mut tree, 4_227_072, 1, b"z", past));
     let last = (None, Some((4_227_072, 8192)));
     assert!(rt; is_written(alloc, &mut tree, 4_227_071, 1, b"z", last));
-    assert!(rt; ends_with(alloc, &tree, 4_227_071, b"z"));
+    assert!(rt; ends_with(alloc, &mut tree, 4_227_071, b"z"));
     Ok(())
 }
 
@@ -97,33 +99,25 @@ fn a_hole_and_then_hello(rt: HostRuntime) -> Result<(), AllocError> {
     let mut tree = tree(alloc, 64)?;
     let hello = (None, Some((8197, 4096)));
     assert!(rt; is_written(alloc, &mut tree, 8192, 5, b"hello", hello));
-    assert!(rt; ends_with(alloc, &tree, 8190, b"\0\0hello"));
-    assert!(rt; ends_with(alloc, &tree, 8197, b""));
+    assert!(rt; ends_with(alloc, &mut tree, 8190, b"\0\0hello"));
+    assert!(rt; ends_with(alloc, &mut tree, 8197, b""));
     Ok(())
 }
 
-// Whether a SETATTR of the size of the file, as its owner, is answered OK.
-fn is_sized(alloc: Global, tree: &mut PlainTree, size: u64) -> Result<bool, AllocError> {
-    let ctx = called_by(alloc, 7);
-    let call = Call::SetAttr {
+fn resize(alloc: Global, size: u64) -> Result<Call, AllocError> {
+    Ok(Call::SetAttr {
         object: handle_of(alloc, 2, 1)?,
         attributes: NewAttributes {
             size: Some(size),
             ..UNSET
         },
         guard: None,
-    };
-    let reply = serve(tree, &ctx, &call);
-    drop(call);
-    let is_done = matches!(
-        &reply,
-        Ok(Reply::SetAttr {
-            outcome: Ok(()),
-            ..
-        })
-    );
-    drop(reply);
-    Ok(is_done)
+    })
+}
+
+// Whether a SETATTR of the size of the file, as its owner, is answered OK.
+fn is_sized(alloc: Global, tree: &mut PlainTree, size: u64) -> bool {
+    is_done(alloc, tree, 7, resize(alloc, size), Ok(()))
 }
 
 #[test]
@@ -132,9 +126,9 @@ fn shrunk_and_then_grown(rt: HostRuntime) -> Result<(), AllocError> {
     let mut tree = tree(alloc, 64)?;
     let hello = (None, Some((5, 4096)));
     assert!(rt; is_written(alloc, &mut tree, 0, 5, b"hello", hello));
-    assert!(rt; is_sized(alloc, &mut tree, 2)?);
-    assert!(rt; is_sized(alloc, &mut tree, 5)?);
-    assert!(rt; ends_with(alloc, &tree, 0, b"he\0\0\0"));
+    assert!(rt; is_sized(alloc, &mut tree, 2));
+    assert!(rt; is_sized(alloc, &mut tree, 5));
+    assert!(rt; ends_with(alloc, &mut tree, 0, b"he\0\0\0"));
     Ok(())
 }
 
@@ -144,7 +138,7 @@ fn one_free_block_is_too_few_behind_the_direct_ones(rt: HostRuntime) -> Result<(
     let mut tree = tree(alloc, 2)?;
     let behind = (Some(Status::NoSpc), Some((0, 0)));
     assert!(rt; is_written(alloc, &mut tree, 32_768, 1, b"z", behind));
-    assert!(rt; ends_with(alloc, &tree, 0, b""));
+    assert!(rt; ends_with(alloc, &mut tree, 0, b""));
     let first = (None, Some((1, 4096)));
     assert!(rt; is_written(alloc, &mut tree, 0, 1, b"z", first));
     let second = (Some(Status::NoSpc), Some((1, 4096)));
@@ -166,59 +160,72 @@ fn over_the_indirect_border(rt: HostRuntime) -> Result<(), AllocError> {
 #[test]
 fn names_that_are_looked_up(rt: HostRuntime) -> Result<(), AllocError> {
     let alloc = rt.alloc();
-    let tree = tree(alloc, 64)?;
-    assert!(rt; leads_to(alloc, &tree, 1, b"a", 2));
-    assert!(rt; leads_to(alloc, &tree, 1, b".", 1));
-    assert!(rt; leads_to(alloc, &tree, 1, b"..", 1));
+    let mut tree = tree(alloc, 64)?;
+    assert!(rt; leads_to(alloc, &mut tree, 1, b"a", 2));
+    assert!(rt; leads_to(alloc, &mut tree, 1, b".", 1));
+    assert!(rt; leads_to(alloc, &mut tree, 1, b"..", 1));
     Ok(())
+}
+
+fn access(alloc: Global, number: u32, boot: u64) -> Result<Call, AllocError> {
+    Ok(Call::Access {
+        object: handle_of(alloc, number, boot)?,
+        bits: 63,
+    })
 }
 
 // Whether a user may do just this, of all bits, with the file of a number.
 fn is_granted(
     alloc: Global,
-    tree: &PlainTree,
+    tree: &mut PlainTree,
     uid: u32,
     number: u32,
     boot: u64,
     wanted: u32,
 ) -> bool {
-    let ctx = called_by(alloc, uid);
-    match handle_of(alloc, number, boot) {
-        Ok(object) => access(tree, &ctx, &object, 63).outcome == Ok(wanted),
-        Err(_) => false,
+    match answered(alloc, tree, uid, access(alloc, number, boot)) {
+        Ok(Some(Reply::Access { outcome, .. })) => outcome == Ok(wanted),
+        _ => false,
     }
 }
 
 #[test]
 fn what_users_may_do(rt: HostRuntime) -> Result<(), AllocError> {
     let alloc = rt.alloc();
-    let tree = tree(alloc, 64)?;
+    let mut tree = tree(alloc, 64)?;
     // the file: read, modify and extend for its owner, read for its group, and all but search for user 0
-    assert!(rt; is_granted(alloc, &tree, 7, 2, 1, 13));
-    assert!(rt; is_granted(alloc, &tree, 8, 2, 1, 1));
-    assert!(rt; is_granted(alloc, &tree, 0, 2, 1, 45));
+    assert!(rt; is_granted(alloc, &mut tree, 7, 2, 1, 13));
+    assert!(rt; is_granted(alloc, &mut tree, 8, 2, 1, 1));
+    assert!(rt; is_granted(alloc, &mut tree, 0, 2, 1, 45));
     // the root: read and search for others, and all but execute for user 0
-    assert!(rt; is_granted(alloc, &tree, 8, 1, 0, 3));
-    assert!(rt; is_granted(alloc, &tree, 0, 1, 0, 31));
+    assert!(rt; is_granted(alloc, &mut tree, 8, 1, 0, 3));
+    assert!(rt; is_granted(alloc, &mut tree, 0, 1, 0, 31));
     Ok(())
 }
 
+fn commit(alloc: Global) -> Result<Call, AllocError> {
+    Ok(Call::Commit {
+        file: handle_of(alloc, 2, 1)?,
+        offset: 0,
+        count: 0,
+    })
+}
+
 // Whether a COMMIT of the file by its owner is answered so.
-fn is_committed(alloc: Global, tree: &PlainTree, wanted: Verifier) -> bool {
-    let ctx = called_by(alloc, 7);
-    match handle_of(alloc, 2, 1) {
-        Ok(file) => commit(tree, &ctx, &file).outcome == Ok(wanted),
-        Err(_) => false,
+fn is_committed(alloc: Global, tree: &mut PlainTree, wanted: Verifier) -> bool {
+    match answered(alloc, tree, 7, commit(alloc)) {
+        Ok(Some(Reply::Commit { outcome, .. })) => outcome == Ok(wanted),
+        _ => false,
     }
 }
 
 #[test]
 fn a_commit_tells_the_boot(rt: HostRuntime) -> Result<(), AllocError> {
     let alloc = rt.alloc();
-    let tree = tree(alloc, 64)?;
+    let mut tree = tree(alloc, 64)?;
     let boot = Verifier {
         bytes: [0, 0, 0, 0, 0, 0, 0, 1],
     };
-    assert!(rt; is_committed(alloc, &tree, boot));
+    assert!(rt; is_committed(alloc, &mut tree, boot));
     Ok(())
 }

@@ -1,15 +1,11 @@
 //! Calls that make, link and remove names on the small tree.
 
-use crate::trees::{called_by, handle_of, sizes};
-use nfs_types::{Created, DirectoryName, Handle, Octets, Stamp, Status};
-use plain_naming::{link, make_directory, remove};
-use plain_procedures::{Changed, look_up};
+use crate::answers::{Done, Made, answered, is_done, is_made, is_told, sizes_by};
+use crate::trees::handle_of;
+use nfs_types::{Call, DirectoryName, Handle, Octets, Reply, Stamp};
 use plain_server::PlainTree;
 use std::alloc::{AllocError, Global};
 use worked_procedures::UNSET;
-
-/// The number and the mode of what was made, or why nothing was.
-pub type Made = Result<(u64, u32), Status>;
 
 /// The handle of the root.
 pub fn root(alloc: Global) -> Result<Handle, AllocError> {
@@ -42,80 +38,67 @@ pub fn name_in(alloc: Global, number: u32, name: &[u8]) -> Result<DirectoryName,
     })
 }
 
-// The number that a name in the directory of a number leads to, by user 8.
-fn number_of(
-    alloc: Global,
-    tree: &PlainTree,
-    directory: u32,
-    name: &[u8],
-) -> Result<Option<u64>, AllocError> {
-    let ctx = called_by(alloc, 8);
-    let place = name_in(alloc, directory, name)?;
-    let answer = look_up(alloc, tree, &ctx, &place)?;
-    match &answer.outcome {
-        Ok(looked) => Ok(looked.attributes.map(|attributes| attributes.number)),
-        Err(_) => Ok(None),
-    }
+fn look_up(alloc: Global, number: u32, name: &[u8]) -> Result<Call, AllocError> {
+    Ok(Call::Lookup {
+        name: name_in(alloc, number, name)?,
+    })
+}
+
+fn remove(alloc: Global, name: &[u8]) -> Result<Call, AllocError> {
+    Ok(Call::Remove {
+        name: name_in(alloc, 1, name)?,
+    })
+}
+
+fn make_directory(alloc: Global, number: u32, name: &[u8]) -> Result<Call, AllocError> {
+    Ok(Call::MkDir {
+        name: name_in(alloc, number, name)?,
+        attributes: UNSET,
+    })
+}
+
+// A LINK of the file of a number to a name in the root.
+fn link(alloc: Global, number: u32, name: &[u8]) -> Result<Call, AllocError> {
+    Ok(Call::Link {
+        file: handle_at(alloc, number)?,
+        name: name_in(alloc, 1, name)?,
+    })
 }
 
 /// Whether user 8 finds a file under a name in the directory of a number.
-pub fn leads_to(alloc: Global, tree: &PlainTree, directory: u32, name: &[u8], wanted: u64) -> bool {
-    number_of(alloc, tree, directory, name) == Ok(Some(wanted))
-}
-
-/// The number and the mode that an answer tells.
-pub fn made(answer: Changed<Created>) -> Made {
-    match answer.outcome {
-        Ok(created) => match created.attributes {
-            Some(attributes) => Ok((attributes.number, attributes.mode)),
-            None => Ok((0, 0)),
-        },
-        Err(status) => Err(status),
+pub fn leads_to(
+    alloc: Global,
+    tree: &mut PlainTree,
+    directory: u32,
+    name: &[u8],
+    wanted: u64,
+) -> bool {
+    match answered(alloc, tree, 8, look_up(alloc, directory, name)) {
+        Ok(
+            Some(
+                Reply::Lookup {
+                    outcome: Ok(looked),
+                    ..
+                },
+            ),
+        ) => looked.attributes.map(|attributes| attributes.number) == Some(wanted),
+        _ => false,
     }
-}
-
-/// What a call without a result is answered.
-pub type Done = Result<(), Status>;
-
-// What a removal by user 0 of a name in the root is answered.
-fn removed(alloc: Global, tree: &mut PlainTree, name: &[u8]) -> Result<Done, AllocError> {
-    let ctx = called_by(alloc, 0);
-    let place = name_in(alloc, 1, name)?;
-    Ok(remove(tree, &ctx, &place)?.outcome)
 }
 
 /// Whether a removal by user 0 of a name in the root is answered so.
 pub fn is_removed(alloc: Global, tree: &mut PlainTree, name: &[u8], wanted: Done) -> bool {
-    removed(alloc, tree, name) == Ok(wanted)
+    is_done(alloc, tree, 0, remove(alloc, name), wanted)
 }
 
-/// Whether a removal by user 0 tells this size and these used bytes of the root.
+/// Whether a removal by user 0 is done, and tells this size and these used bytes of the root.
 pub fn is_removal_told(
     alloc: Global,
     tree: &mut PlainTree,
     name: &[u8],
     wanted: (u64, u64),
 ) -> bool {
-    let ctx = called_by(alloc, 0);
-    let Ok(place) = name_in(alloc, 1, name) else {
-        return false;
-    };
-    match remove(tree, &ctx, &place) {
-        Ok(answer) => sizes(&answer.file) == Some(wanted),
-        Err(_) => false,
-    }
-}
-
-// What a MKDIR by user 0 of a name in the directory of a number is answered.
-fn directory_made(
-    alloc: Global,
-    tree: &mut PlainTree,
-    number: u32,
-    name: &[u8],
-) -> Result<Made, AllocError> {
-    let ctx = called_by(alloc, 0);
-    let place = name_in(alloc, number, name)?;
-    Ok(made(make_directory(alloc, tree, &ctx, &place, &UNSET)?))
+    is_told(alloc, tree, remove(alloc, name), wanted)
 }
 
 /// Whether a MKDIR by user 0 in the directory of a number is answered so.
@@ -126,7 +109,7 @@ pub fn is_directory_made(
     name: &[u8],
     wanted: Made,
 ) -> bool {
-    directory_made(alloc, tree, number, name) == Ok(wanted)
+    is_made(alloc, tree, make_directory(alloc, number, name), wanted)
 }
 
 /// Whether the file of a number has so many links.
@@ -135,23 +118,7 @@ pub fn has_links(tree: &PlainTree, number: u32, links: u32) -> bool {
     file.map(|file| file.node.nlink) == Some(links)
 }
 
-// What a LINK by user 0 is answered, and the size and the used bytes of its directory.
-type Linked = (Done, Option<(u64, u64)>);
-
-// A LINK of a file to a name in the root.
-fn linked(
-    alloc: Global,
-    tree: &mut PlainTree,
-    file: &Handle,
-    name: &[u8],
-) -> Result<Linked, AllocError> {
-    let ctx = called_by(alloc, 0);
-    let place = name_in(alloc, 1, name)?;
-    let answer = link(alloc, tree, &ctx, file, &place)?;
-    Ok((answer.outcome, sizes(&answer.directory)))
-}
-
-/// Whether a LINK of the file of a number is answered so.
+/// Whether a LINK by user 0 of the file of a number to a name in the root is answered so.
 pub fn is_linked(
     alloc: Global,
     tree: &mut PlainTree,
@@ -159,20 +126,23 @@ pub fn is_linked(
     name: &[u8],
     wanted: Done,
 ) -> bool {
-    match handle_at(alloc, number) {
-        Ok(file) => match linked(alloc, tree, &file, name) {
-            Ok((answer, _)) => answer == wanted,
-            Err(_) => false,
-        },
-        Err(_) => false,
-    }
+    is_done(alloc, tree, 0, link(alloc, number, name), wanted)
 }
 
 /// Whether a LINK of the file 2 is done, and tells this size and these used bytes of the root.
 pub fn is_link_told(alloc: Global, tree: &mut PlainTree, name: &[u8], wanted: (u64, u64)) -> bool {
-    match handle_of(alloc, 2, 1) {
-        Ok(file) => linked(alloc, tree, &file, name) == Ok((Ok(()), Some(wanted))),
-        Err(_) => false,
+    is_told(alloc, tree, link(alloc, 2, name), wanted)
+}
+
+// What a LINK of the file 2 tells of the root.
+fn told_of_link(
+    alloc: Global,
+    tree: &mut PlainTree,
+    name: &[u8],
+) -> Result<Option<(u64, u64)>, AllocError> {
+    match answered(alloc, tree, 0, link(alloc, 2, name))? {
+        Some(reply) => Ok(sizes_by(&reply)),
+        None => Ok(None),
     }
 }
 
@@ -184,10 +154,9 @@ fn link_names(
     end: u8,
     first: u8,
 ) -> Result<Option<(u64, u64)>, AllocError> {
-    let file = handle_of(alloc, 2, 1)?;
     let mut told = None;
     for second in from..end {
-        told = linked(alloc, tree, &file, &[first, second])?.1;
+        told = told_of_link(alloc, tree, &[first, second])?;
     }
     Ok(told)
 }

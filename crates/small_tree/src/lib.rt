@@ -3,12 +3,14 @@
 //! also where memory is wanted.
 #![tactic(auto)]
 
+mod answers;
 mod calls;
 mod trees;
 
+pub use answers::{Done, Made, answered, is_done, is_made, is_told};
 pub use calls::{
-    Done, Made, are_linked, are_removed, handle_at, handle_of_new, has_links, is_directory_made,
-    is_link_told, is_linked, is_removal_told, is_removed, leads_to, made, name_in, root,
+    are_linked, are_removed, handle_at, handle_of_new, has_links, is_directory_made, is_link_told,
+    is_linked, is_removal_told, is_removed, leads_to, name_in, root,
 };
 pub use trees::{
     ONES, ZEROS, add_file, called_by, handle_of, place, set_links, set_mode, set_root, sizes, tree,

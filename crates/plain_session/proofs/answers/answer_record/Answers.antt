@@ -1,7 +1,19 @@
 use Rattle.std.proofs.Common.{refl}
-use Rattle.plain_session.proofs.Closing.{called, refusal}
+use Rattle.session_wire.specs.Judging.{judged}
+use Rattle.plain_session.specs.Answering.{Files}
+use Rattle.plain_session.proofs.Closing.{called, closed, refusal}
 use Rattle.plain_session.proofs.Lost.{on_err}
+use Rattle.plain_session.proofs.Taken.{taken}
 use Rattle.plain_session.proofs.answers.answer_record.Goals as goal
+
+pub answer_call-requires-clause-fits : goal.answer_call-requires-clause-fits
+answer_call-requires-clause-fits c =
+    taken c.args.message.now c.in-Call.xid c.in-Call.credential c.in-Call.call (judged c.args.message.now) refl
+    c.are_bytes.ensures c.in-Call.ensures
+
+pub returns-in-Closed-clause-closed : goal.returns-in-Closed-clause-closed
+returns-in-Closed-clause-closed c = λ same.
+    (closed (judged c.args.message.now) c.in-Closed.ensures, refl {A = Files})
 
 pub returns-in_err-refused-in-Refused-clause-lost : goal.returns-in_err-refused-in-Refused-clause-lost
 returns-in_err-refused-in-Refused-clause-lost c =

@@ -1,2 +1,0 @@
-pub mod SlotsOf
-pub mod Told

@@ -1,4 +1,0 @@
-pub mod Effects
-pub mod Listed
-pub mod Tests
-pub mod Writing

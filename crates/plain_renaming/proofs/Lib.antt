@@ -1,3 +1,0 @@
-pub mod Parents
-pub mod RenameSteps
-pub mod Room
