@@ -146,19 +146,19 @@ def tree_of(image):
 
 
 class Stream:
-    """Calls by a seed, the tree behind each, and which of them are answered as stable."""
+    """Calls, the tree behind each, and which of them are answered as stable. What they are is said by a function of a
+    stream that grows."""
 
-    def __init__(self, place, seed, calls):
-        drawn = random.Random(seed)
+    def __init__(self, place, grow, seed=0):
         command = plain.command_of(place)
         client = conversing.with_plain(place, command, BLOCKS, INODES, NOW)
         weights = {it: compared.WEIGHTS[it] * compared.FILLING.get(it, 1) for it in CHANGING if it in nfs.SERVED}
-        grown = compared.Stream(client, drawn, weights)
-        grown.grow(calls)
+        grown = compared.Stream(client, random.Random(seed), weights)
+        grow(grown)
         client.end()
         self.records, self.replies, self.asked, self.calls = grown.records, grown.replies, grown.asked, grown.calls
-        self.trees = [self.tree_behind(place, command, count) for count in range(calls + 1)]
-        self.stable = [it for it in range(calls) if self.is_stable(it)]
+        self.trees = [self.tree_behind(place, command, count) for count in range(len(self.calls) + 1)]
+        self.stable = [it for it in range(len(self.calls)) if self.is_stable(it)]
 
     def tree_behind(self, place, command, count):
         client = conversing.with_plain(place, command, BLOCKS, INODES, NOW)
@@ -191,20 +191,26 @@ def shared_library(place):
     return library(place, LIBRARY)
 
 
-def assert_kept_in_crashes(place, seed, calls):
-    shared, image, stream = shared_library(place), place.image(), Stream(place, seed, calls)
-    before, drawn = contents(image), random.Random(seed)
+def drawn_calls(count):
+    return lambda grown: grown.grow(count)
+
+
+def assert_kept_in_crashes(place, what, stream, drawn):
+    """Runs the calls, and holds each image that a crash may leave to the calls that were answered by then. Each of them,
+    with how many were."""
+    shared, image = shared_library(place), place.image()
+    before = contents(image)
     ran, events = run_noted(place, shared, ["once", image, "--time", str(NOW)], b"".join(stream.records))
-    expect(f"seed {seed}", ran, 0, b"".join(stream.replies), b"")
-    same(f"seed {seed}: the answers that were noted", answered_by(events), len(stream.records))
+    expect(what, ran, 0, b"".join(stream.replies), b"")
+    same(f"{what}: the answers that were noted", answered_by(events), len(stream.records))
     seen = {}
     for stop in range(len(events) + 1):
         if stop < len(events) and events[stop][0] == "r":
             continue
         answered = answered_by(events[:stop])
         for left in left_by_a_crash(before, events[:stop], drawn):
-            stream.assert_prefix(f"seed {seed}, stop {stop}", tree_of(left), answered)
-            seen[hash(left)] = left
+            stream.assert_prefix(f"{what}, stop {stop}", tree_of(left), answered)
+            seen[hash(left)] = (answered, left)
     return list(seen.values())
 
 
@@ -230,8 +236,8 @@ def opened_in_crashes(place, image, what, drawn):
 def case_of(seed):
     def crash(place):
         drawn = random.Random(seed)
-        left = assert_kept_in_crashes(place, seed, 20)
-        for image in drawn.sample(left, min(4, len(left))):
+        left = assert_kept_in_crashes(place, f"seed {seed}", Stream(place, drawn_calls(20), seed), drawn)
+        for _, image in drawn.sample(left, min(4, len(left))):
             # Another opening is stopped in what a stopped one left.
             again = opened_in_crashes(place, image, f"seed {seed}", drawn)
             opened_in_crashes(place, drawn.choice(again), f"seed {seed}, once more", drawn)
@@ -241,6 +247,44 @@ def case_of(seed):
 
 for number in range(compared.FIRST_SEED, compared.FIRST_SEED + 3):
     globals()[f"test_a_crash_keeps_a_prefix_with_all_that_was_answered_as_stable_by_seed_{number}"] = case_of(number)
+
+
+def worked_calls(*asked):
+    """A new file, and then these calls of it: each a procedure, and its arguments behind the file."""
+
+    def grow(grown):
+        def ask(procedure, *values):
+            grown.client.xid += 1
+            arguments = procedure.arguments(*values)
+            record = procedure.call(grown.client.xid, nfs.credential(0, 0), *arguments)
+            status, fields = procedure.read_result(nfs.result_of(grown.send(record, procedure, arguments, procedure.title)))
+            same(f"{procedure.title}: status", status, nfs.OK)
+            return fields
+
+        file = ask(nfs.CREATE, compared.ROOT, b"f", (nfs.GUARDED, nfs.new_attributes())).object
+        for procedure, *values in asked:
+            ask(procedure, file, *values)
+
+    return grow
+
+
+def written(index, stable):
+    return nfs.WRITE, BLOCK * index, BLOCK, stable, bytes([index + 1]) * BLOCK
+
+
+def test_an_unstable_write_is_lost_in_a_crash(place):
+    stream = Stream(place, worked_calls(written(0, nfs.UNSTABLE)))
+    left = assert_kept_in_crashes(place, "an UNSTABLE WRITE", stream, random.Random(8))
+    found = [tree_of(image) for answered, image in left if answered == 2]
+    is_so("no crash behind its answer loses it", stream.trees[1] in found)
+    is_so("no crash behind its answer keeps it", stream.trees[2] in found)
+
+
+def test_a_commit_of_three_blocks(place):
+    stream = Stream(place, worked_calls(*(written(it, nfs.UNSTABLE) for it in range(3)), (nfs.COMMIT, 0, 0)))
+    left = assert_kept_in_crashes(place, "a COMMIT of three blocks", stream, random.Random(9))
+    same("what is left behind its answer", {tree_of(image) == stream.trees[4] for answered, image in left if answered == 5}, {True})
+    is_so("no crash before its answer loses one", any(tree_of(image) == stream.trees[1] for answered, image in left if answered == 4))
 
 
 # An image whose root has another mode by a SETATTR, which lies in the log.
@@ -354,7 +398,7 @@ def assert_served_without(place, what, stream, messages, tree):
 
 
 def test_a_call_of_the_file_that_fails_loses_nothing_that_was_answered(place):
-    shared, image, stream = shared_library(place), place.image(), Stream(place, 11, 12)
+    shared, image, stream = shared_library(place), place.image(), Stream(place, drawn_calls(12), 11)
     fresh, data = contents(image), b"".join(stream.records)
     arguments = ["once", image, "--time", str(NOW)]
     _, events = run_noted(place, shared, arguments, data)
