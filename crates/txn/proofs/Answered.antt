@@ -8,7 +8,7 @@ use Rattle.objects.specs.declared.mode.Mode.{Mode}
 use Rattle.wal_law.specs.Grows.{IsWholeChange}
 use Rattle.wal_law.specs.Log.{Log, IsLawful, newest}
 use Rattle.txn_law.specs.Commit.{Planned, with_record, refreshed_content}
-use Rattle.txn_law.specs.Core.{CoreState, IsOut, with_begun, without}
+use Rattle.txn_law.specs.Core.{CoreState, with_begun, without}
 use Rattle.txn_law.specs.CoreLaw.{IsLawfulCore}
 use Rattle.txn_law.specs.CoreWindow.{IsHomeOf, KeepsHome, KeepsReads, SetsOnly}
 use Rattle.txn_law.specs.Leaves.{Leaves, taken_by, is_fetching, in_memory, but_by}
@@ -56,27 +56,27 @@ module _ (P : ℕ → ℕ → List ObjectBytes → List ObjectBytes → Type 0) 
   same_law : (old new : CoreState) → new ≡ old → IsLawfulCore P old → IsLawfulCore P new
   same_law old new e h = subst (λ (core : CoreState). IsLawfulCore P core) (sym e) h
 
-  pub wanted_law : (old new : CoreState) (tx : ℕ) (addr : Addr) (mode : Mode) (answer : Want) → IsOut old tx
+  pub wanted_law : (old new : CoreState) (tx : ℕ) (addr : Addr) (mode : Mode) (answer : Want)
       → IsWantedExactly old tx addr mode answer new → IsLawfulCore P old → IsLawfulCore P new
-  wanted_law old new tx addr mode (want.Held back bytes) is_out h =
-      lawful_held P old new tx addr mode bytes.items is_out h.1 h.2
-  wanted_law old new tx addr mode (want.Fetch back io) is_out h =
-      lawful_fetch P old new tx addr mode io is_out h.1 h.2
-  wanted_law old new tx addr mode (want.Busy back) is_out h = same_law old new h.2
-  wanted_law old new tx addr mode (want.Loading back) is_out h = same_law old new h.2
-  wanted_law old new tx addr mode (want.Outside back) is_out h = same_law old new h.2
-  wanted_law old new tx addr mode (want.NoMemory back) is_out h = same_law old new h.2
+  wanted_law old new tx addr mode (want.Held back bytes) h =
+      lawful_held P old new tx addr mode bytes.items h.1 h.2
+  wanted_law old new tx addr mode (want.Fetch back io) h =
+      lawful_fetch P old new tx addr mode io h.1 h.2
+  wanted_law old new tx addr mode (want.Busy back) h = same_law old new h.2
+  wanted_law old new tx addr mode (want.Loading back) h = same_law old new h.2
+  wanted_law old new tx addr mode (want.Outside back) h = same_law old new h.2
+  wanted_law old new tx addr mode (want.NoMemory back) h = same_law old new h.2
 
   pub claimed_law : (old new : CoreState) (tx : ℕ) (block : BlockNo) (addr : Addr) (answer : Claim)
-      → IsWhole block addr → IsOut old tx → IsClaimedExactly old tx addr answer new → IsLawfulCore P old
+      → IsWhole block addr → IsClaimedExactly old tx addr answer new → IsLawfulCore P old
       → IsLawfulCore P new
-  claimed_law old new tx block addr (claim.Held back) whole is_out h core =
+  claimed_law old new tx block addr (claim.Held back) whole h core =
       subst (λ (now : CoreState). IsLawfulCore P now) (sym h.2)
-      (lawful_claim P old tx block addr whole is_out h.1 core)
-  claimed_law old new tx block addr (claim.Busy back) whole is_out h core = same_law old new h.2 core
-  claimed_law old new tx block addr (claim.Loading back) whole is_out h core = same_law old new h.2 core
-  claimed_law old new tx block addr (claim.Outside back) whole is_out h core = same_law old new h.2 core
-  claimed_law old new tx block addr (claim.NoMemory back) whole is_out h core = same_law old new h.2 core
+      (lawful_claim P old tx block addr whole h.1 core)
+  claimed_law old new tx block addr (claim.Busy back) whole h core = same_law old new h.2 core
+  claimed_law old new tx block addr (claim.Loading back) whole h core = same_law old new h.2 core
+  claimed_law old new tx block addr (claim.Outside back) whole h core = same_law old new h.2 core
+  claimed_law old new tx block addr (claim.NoMemory back) whole h core = same_law old new h.2 core
 
   pub commit_law : {C : Type 0} (old new : CoreState) (tx : ℕ) (plan : Planned) (change : C) (answer : Commit C)
       → IsCommitExactly old tx plan change answer new → IsLawful new.log → All IsWholeChange new.log.changes

@@ -1,5 +1,5 @@
-use Rattle.std.proofs.Common.{sym, subst}
-use Rattle.txn_law.specs.Core.{CoreState, IsOut}
+use Rattle.std.proofs.Common.{subst}
+use Rattle.txn_law.specs.Core.{CoreState}
 use Rattle.txn_law.specs.CoreWindow.{KeepsHome, KeepsReads}
 use Rattle.txn.specs.Outcomes.{IsClaimed}
 use Rattle.txn.proofs.Answered.{claimed_home, claimed_law}
@@ -11,8 +11,7 @@ invariant_of-self g c =
     let (addr, whole, done) = c.claim.ensures in
     claimed_law g.C.Change.is_plan c.self.inside.state c.claim.new.self c.args.tx c.args.block addr
     c.claim.result
-    whole (subst (λ (old : CoreState). IsOut old c.args.tx) (sym c.self.view_is) c.requires) done
-    c.self.invariant
+    whole done c.self.invariant
 
 pub returns-clause-answer : goal.returns-clause-answer
 returns-clause-answer g c =
