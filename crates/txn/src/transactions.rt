@@ -49,13 +49,14 @@ impl<C: Change> Model for Core<C> {
 
     ghost use Rattle.txn_law.specs.CoreLaw.{IsLawfulCore};
 
-    ghost invariant = { λ c. IsLawfulCore C.is_plan c.state };
+    ghost invariant = { λ c. IsLawfulCore C.is_plan c.state × C.are_counts c.state.log.blocks c.state.inodes };
 }
 
 impl<C: Change> Core<C> {
     /// A core over a log, for an image with the log's blocks and this count of inodes.
     pub fn new(alloc: Global, log: Wal, inodes: u32) -> Core<C>
-        requires { IsFresh log }
+        requires fresh { IsFresh log }
+        requires counts { C.are_counts log.blocks inodes }
         ensures { result ≡ record {
           log = log;
           inodes = inodes;
@@ -77,6 +78,13 @@ impl<C: Change> Core<C> {
     /// tidy, there are blocks that may be what is at home, and each commit that is kept is a plan's.
     pub fn lawful(&self)
         ensures { IsLawfulCore C.is_plan self.now }
+    {
+        let _ = &self.state;
+    }
+
+    /// An image may have the counts that it has.
+    pub fn counted(&self)
+        ensures { C.are_counts self.now.log.blocks self.now.inodes }
     {
         let _ = &self.state;
     }

@@ -104,7 +104,7 @@ home_log_done old true ok lawful base h = record {
 }
 home_log_done old false ok lawful base h = record { whole = h.whole; window = h.window }
 
-out_blocks : (log : Log) → (with_inst_out log).blocks ≡ log.blocks
+pub out_blocks : (log : Log) → (with_inst_out log).blocks ≡ log.blocks
 out_blocks log = elim (nat_lt 0 log.installing) as (λ t. (if t then record log { inst_out = true }
     else record log {
       installing = log.logged;

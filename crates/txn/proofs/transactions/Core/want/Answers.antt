@@ -6,14 +6,18 @@ use Rattle.txn.proofs.Answered.{wanted_home, wanted_law}
 use Rattle.txn.proofs.Answered.{wanted_reads}
 use Rattle.txn.specs.Outcomes.{IsWanted}
 use Rattle.txn.proofs.Answered.{wanted_leaves}
+use Rattle.txn.proofs.Answered.{wanted_counts}
 use Rattle.txn.proofs.transactions.Core.want.Goals as goal
 
 pub invariant_of-self : goal.invariant_of-self
-invariant_of-self g c =
-    wanted_law g.C.Change.is_plan c.self.inside.state c.want.new.self c.args.tx c.args.addr modes.Exclusive
-    c.want.result
-    c.want.ensures.answer
-    c.self.invariant
+invariant_of-self g c = (
+  wanted_law g.C.Change.is_plan c.self.inside.state c.want.new.self c.args.tx c.args.addr modes.Exclusive
+      c.want.result
+      c.want.ensures.answer
+      c.self.invariant.0,
+  wanted_counts g.C.Change.are_counts c.self.inside.state c.want.new.self c.args.tx c.args.addr
+      modes.Exclusive c.want.result c.want.ensures.answer c.self.invariant.1,
+)
 
 pub returns-clause-keeps : goal.returns-clause-keeps
 returns-clause-keeps g c =
