@@ -5,6 +5,7 @@ mod committing;
 mod fitting;
 mod parts;
 mod planning;
+mod sourced;
 mod steps;
 mod telling;
 

@@ -4,3 +4,4 @@ pub mod FetchedWish
 pub mod LoneTransaction
 pub mod OtherSteps
 pub mod OwnChange
+pub mod Fewer

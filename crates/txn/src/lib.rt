@@ -3,6 +3,7 @@
 
 mod change;
 mod commit;
+mod fetching;
 mod laws;
 mod outcomes;
 mod records;

@@ -23,6 +23,9 @@ ghost use Rattle.txn_law.specs.Leaves.{without_fetch};
 ghost use Rattle.txn_law.specs.Wishes.{IsWhole};
 ghost use Rattle.txn.specs.Outcomes.{IsWanted, IsWithin, IsClaimed, IsCommit, IsSetBy};
 
+mod ending;
+mod places;
+
 use crate::state::State;
 use crate::{BeginFault, Change, Claim, Commit, FetchIo, Object, Stable, Tx, Want};
 use disk::BlockNo;
