@@ -7,10 +7,11 @@ use Rattle.std.proofs.lemmas.Bool.Decides.{leb_tells, nat_tests}
 use Rattle.limits.specs.declared.TheConstants.{BLOCK_BYTES, FIRST_HOME_BLOCK, INODES_PER_BLOCK, INODE_BYTES}
 use Rattle.objects.specs.declared.addr.Addr.{Addr}
 use Rattle.layout.specs.declared.geometry.Geometry.{Geometry}
+use Rattle.layout.specs.declared.grid.TheConstants.{PIECE_BYTES}
 use Rattle.layout.specs.Geometry.{data_at, table_at}
 use Rattle.layout.specs.Objects.{IsObject, inode, bits, whole}
 use Rattle.layout.specs.Places.{is_data}
-use Rattle.drafts.specs.OnGrid.{is_inode, is_on_grid, is_piece}
+use Rattle.layout_records.specs.OnGrid.{is_inode, is_on_grid, is_piece}
 
 both : (a b : Bool) → (a && b) ≡ true → (a ≡ true) × (b ≡ true)
 both true b is = (refl, is)
@@ -30,15 +31,15 @@ tests_at_most : (x y : ℕ) → x ≤ y → nat_le x y ≡ true
 tests_at_most x y less = grind (arith, nat_tests)
 
 module _ (g : Geometry) (addr : Addr) where
-  bits_are : addr.len ≡ 512 → is_piece g addr.block.0 addr.offset ≡ true → IsObject g addr
+  bits_are : addr.len ≡ PIECE_BYTES → is_piece g addr.block.0 addr.offset ≡ true → IsObject g addr
   bits_are len is =
       let first = both (nat_le FIRST_HOME_BLOCK addr.block.0 && nat_lt addr.block.0 (table_at g.blocks g.inodes))
-      (nat_eq (addr.offset % 512) 0) is in
+      (nat_eq (addr.offset % PIECE_BYTES) 0) is in
       let ends = both (nat_le FIRST_HOME_BLOCK addr.block.0) (nat_lt addr.block.0 (table_at g.blocks g.inodes))
       first.0 in
-      let whole = eqb-true (addr.offset % 512) 0 first.1 in
+      let whole = eqb-true (addr.offset % PIECE_BYTES) 0 first.1 in
       let within = addr.within in
-      bits (addr.offset / 512) (omega (arith, within, len)) (at_most FIRST_HOME_BLOCK addr.block.0 ends.0)
+      bits (addr.offset / PIECE_BYTES) (omega (arith, within, len)) (at_most FIRST_HOME_BLOCK addr.block.0 ends.0)
       (at_most (suc addr.block.0) (table_at g.blocks g.inodes) ends.1) (omega (arith, whole)) len
 
   inode_is : is_inode g addr.block.0 addr.offset addr.len ≡ true → IsObject g addr
@@ -67,41 +68,41 @@ module _ (g : Geometry) (addr : Addr) where
   is_object is = elim (cases_eq addr.len BLOCK_BYTES) [
     | inl len ↦ (let within = addr.within in
         whole (ap (λ b. cond b (is_data g addr.block.0)
-        (cond (nat_eq addr.len 512) (is_piece g addr.block.0 addr.offset) (is_inode g addr.block.0 addr.offset addr.len)))
+        (cond (nat_eq addr.len PIECE_BYTES) (is_piece g addr.block.0 addr.offset) (is_inode g addr.block.0 addr.offset addr.len)))
         (sym (eq-eqb addr.len BLOCK_BYTES len)) ∙ is) (omega (arith, within, len)) len)
-    | inr not ↦ (elim (cases_eq addr.len 512) [
+    | inr not ↦ (elim (cases_eq addr.len PIECE_BYTES) [
       | inl len ↦ bits_are len (ap (λ b. cond b (is_piece g addr.block.0 addr.offset) (is_inode g addr.block.0 addr.offset addr.len))
-          (sym (eq-eqb addr.len 512 len)) ∙ past not ∙ is)
+          (sym (eq-eqb addr.len PIECE_BYTES len)) ∙ past not ∙ is)
       | inr other ↦ inode_is (ap (λ b. cond b (is_piece g addr.block.0 addr.offset) (is_inode g addr.block.0 addr.offset addr.len))
-          (sym (differs addr.len 512 other)) ∙ past not ∙ is)
+          (sym (differs addr.len PIECE_BYTES other)) ∙ past not ∙ is)
     ])
   ]
     where
       differs : (a b : ℕ) → (a ≡ b → ⊥) → nat_eq a b ≡ false
       differs a b not = grind (arith, nat_tests)
 
-      past : (addr.len ≡ BLOCK_BYTES → ⊥) → cond (nat_eq addr.len 512) (is_piece g addr.block.0 addr.offset) (is_inode g addr.block.0 addr.offset addr.len)
+      past : (addr.len ≡ BLOCK_BYTES → ⊥) → cond (nat_eq addr.len PIECE_BYTES) (is_piece g addr.block.0 addr.offset) (is_inode g addr.block.0 addr.offset addr.len)
           ≡ is_on_grid g addr
       past not = ap (λ b. cond b (is_data g addr.block.0)
-          (cond (nat_eq addr.len 512) (is_piece g addr.block.0 addr.offset) (is_inode g addr.block.0 addr.offset addr.len)))
+          (cond (nat_eq addr.len PIECE_BYTES) (is_piece g addr.block.0 addr.offset) (is_inode g addr.block.0 addr.offset addr.len)))
           (sym (differs addr.len BLOCK_BYTES not))
 
   of_len : (len : ℕ) → addr.len ≡ len
       → is_on_grid g addr ≡ cond (nat_eq len BLOCK_BYTES) (is_data g addr.block.0)
-      (cond (nat_eq len 512) (is_piece g addr.block.0 addr.offset) (is_inode g addr.block.0 addr.offset addr.len))
+      (cond (nat_eq len PIECE_BYTES) (is_piece g addr.block.0 addr.offset) (is_inode g addr.block.0 addr.offset addr.len))
   of_len len is = ap (λ n. cond (nat_eq n BLOCK_BYTES) (is_data g addr.block.0)
-      (cond (nat_eq n 512) (is_piece g addr.block.0 addr.offset) (is_inode g addr.block.0 addr.offset addr.len))) is
+      (cond (nat_eq n PIECE_BYTES) (is_piece g addr.block.0 addr.offset) (is_inode g addr.block.0 addr.offset addr.len))) is
 
   pub on_grid : IsObject g addr → is_on_grid g addr ≡ true
   on_grid (whole is offset len) = of_len BLOCK_BYTES len ∙ is
   on_grid (bits piece few from to offset len) =
-      of_len 512 len
+      of_len PIECE_BYTES len
       ∙ and_true (nat_le FIRST_HOME_BLOCK addr.block.0 && nat_lt addr.block.0 (table_at g.blocks g.inodes))
-      (nat_eq (addr.offset % 512) 0)
+      (nat_eq (addr.offset % PIECE_BYTES) 0)
       (and_true (nat_le FIRST_HOME_BLOCK addr.block.0) (nat_lt addr.block.0 (table_at g.blocks g.inodes))
       (tests_at_most FIRST_HOME_BLOCK addr.block.0 from)
       (tests_at_most (suc addr.block.0) (table_at g.blocks g.inodes) to))
-      (eq-eqb (addr.offset % 512) 0 (omega (arith, offset)))
+      (eq-eqb (addr.offset % PIECE_BYTES) 0 (omega (arith, offset)))
   on_grid (inode number less block offset len) =
       let rules = g.lawful.1.2 in
       of_len INODE_BYTES len

@@ -3,7 +3,7 @@ use Rattle.std.proofs.Common.{◌≡◌, ℕ, zero, suc, ◌+◌, ◌*◌, ◌/�
 use Rattle.std.proofs.Common.{arith}
 use Rattle.std.specs.Int.RustNames.{count_ones}
 use Rattle.std.proofs.lemmas.Nat.{ones_cat}
-use Rattle.bitmap.specs.Clear.{clear_in_byte}
+use Rattle.layout_records.specs.Bits.{clear_in_byte}
 
 abbrev ones : ℕ → ℕ
 ones n = count_ones n

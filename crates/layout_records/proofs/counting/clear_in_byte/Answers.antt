@@ -1,8 +1,8 @@
 use Rattle.std.proofs.Common.{◌≡◌, ◌-◌, arith, sym}
 use Rattle.std.specs.Int.RustNames.{count_ones}
-use Rattle.bitmap.specs.Clear.{clear_in_byte}
-use Rattle.bitmap.proofs.Ones.{clear_bits}
-use Rattle.bitmap.proofs.counting.clear_in_byte.Goals as goal
+use Rattle.layout_records.specs.Bits.{clear_in_byte}
+use Rattle.layout_records.proofs.Ones.{clear_bits}
+use Rattle.layout_records.proofs.counting.clear_in_byte.Goals as goal
 
 pub returns-clause-is : goal.returns-clause-is
 returns-clause-is c =

@@ -12,7 +12,7 @@ use Rattle.std.proofs.lemmas.Bool.{cases_eq}
 use Rattle.std.proofs.lemmas.Bool.Decides.{nat_tests}
 use Rattle.std.proofs.lemmas.Nat.Bits.{bit_at_set_same, bit_at_set_other, bit_at_clear_same}
 use Rattle.std.proofs.lemmas.Nat.Bits.{bit_at_clear_other}
-use Rattle.bitmap.specs.Bits.{HasBit, bit_in}
+use Rattle.layout_records.specs.Bits.{HasBit, bit_in}
 
 pub equal : (a b : ℕ) → a ≡ b → nat_eq a b ≡ true
 equal a b same = grind (arith, nat_tests)

@@ -1,6 +1,6 @@
 //! How many bits are clear.
 ghost use Rattle.std.specs.Prelude.{◌≡◌, ◌≤◌, ◌*◌, length};
-ghost use Rattle.bitmap.specs.Clear.{clear_in, clear_in_byte};
+ghost use Rattle.layout_records.specs.Bits.{clear_in, clear_in_byte};
 
 // How many bits of a byte are clear.
 fn clear_in_byte(byte: u8) -> u32
@@ -11,7 +11,7 @@ fn clear_in_byte(byte: u8) -> u32
 }
 
 /// How many bits of so few bytes are clear.
-pub(crate) fn clear_in(bytes: &[u8]) -> u32
+pub fn clear_in(bytes: &[u8]) -> u32
     requires { length bytes.now ≤ 4096 }
     ensures is { result ≡ clear_in bytes.now }
     ensures few { result ≤ 8 * length bytes.now }

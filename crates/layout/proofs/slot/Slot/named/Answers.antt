@@ -1,6 +1,6 @@
 use Rattle.std.proofs.Common.{rules}
 use Rattle.layout.specs.Fields.{four_bytes}
-use Rattle.dir_writes.proofs.entering.named_slot.Goals as goal
+use Rattle.layout.proofs.slot.Slot.named.Goals as goal
 
 pub returns-clause-bytes : goal.returns-clause-bytes
 unfolding four_bytes

@@ -1,5 +1,5 @@
-use Rattle.bitmap.proofs.OneBit.{cleared_as, set_as}
-use Rattle.bitmap.proofs.marking.put_bit.Goals as goal
+use Rattle.layout_records.proofs.OneBit.{cleared_as, set_as}
+use Rattle.layout_records.proofs.bits.put_bit.Goals as goal
 
 pub returns-then-is : goal.returns-then-is
 returns-then-is c = set_as c.args.bytes.now c.args.bit c.args.is c.requires c.if-is.true
