@@ -16,7 +16,6 @@ use Rattle.layout.specs.declared.geometry.Geometry.{Geometry}
 use Rattle.model.specs.Entry.{Entry}
 use Rattle.model.specs.Calls.{has_rules}
 use Rattle.model.specs.Tree.{Tree}
-use Rattle.nfs_types.specs.declared.call.Call.{Call}
 use Rattle.objects.specs.declared.addr.Addr.{Addr}
 use Rattle.objects.specs.declared.mode.Mode.TheVariants as modes
 use Rattle.procs.proofs.FewClaimed.{claimed_object}
@@ -42,13 +41,11 @@ use Rattle.txn_law.specs.Fetch.{Fetch}
 use Rattle.txn_law.specs.Group.{blocks_of}
 use Rattle.txn_law.specs.Leaves.{in_memory}
 use Rattle.txn_law.specs.Object.{ObjectBytes}
-use Rattle.txn_law.specs.Window.{IsAsRead, object_at}
 use Rattle.txn_law.proofs.Entries.{same_block}
 use Rattle.wal_law.specs.Log.{IsHomeOn, added_blocks, settled_place}
 use Rattle.wal_law.specs.Room.{HasPlaces}
 use Rattle.wal_law.specs.declared.outcomes.Seq.{Seq}
 use Rattle.store_promise.specs.LogTold.{LogTold, settled_told}
-use Rattle.store_promise.specs.OpenSince.{file_blocks}
 use Rattle.store_promise.specs.Progress.{Begun, Progress, Taken, addrs_of, is_loaded}
 use Rattle.store_promise.specs.Progress as how
 use Rattle.store_promise.specs.Running.{IsRunningOver, IsTold, StoreSide}
@@ -61,7 +58,6 @@ use Rattle.store_promise.specs.ToldOf.{log_told}
 use Rattle.store_promise.specs.declared.events.Ending.TheVariants as ending
 use Rattle.store_promise.specs.declared.events.Step.{Step}
 use Rattle.store_promise.specs.declared.events.Step.TheVariants as step
-use Rattle.store_promise.proofs.FileBlocks.{held_now}
 use Rattle.store_promise.proofs.ToldLog.{numbers_are, settled_is}
 use Rattle.store_runs.proofs.AtWorkStays.{some_of}
 use Rattle.store_workers.proofs.LoneWorker.{has_of, never_kept_off, seen_of}
