@@ -1,15 +1,14 @@
 -- What transactions have taken, and what their calls know, are aims of the image that rise: each step keeps it.
-use Rattle.std.proofs.Common.{◌≡◌, ◌∙◌, ◌≤◌, ◌<◌, refl, sym, ap, subst, ℕ, ◌⊎◌, inl, inr, Bool, true, false}
-use Rattle.std.proofs.Common.{if◌then◌else◌, nat_eq, List, [], ◌∷◌, ◌++◌, All, Option, Some, None, Ok, Err, arith}
+use Rattle.std.proofs.Common.{◌≡◌, ◌∙◌, refl, sym, ap, subst, ℕ, ◌⊎◌, inl, inr, Bool, true, false}
+use Rattle.std.proofs.lemmas.Bool.Decides.{nat_tests}
+use Rattle.std.proofs.Common.{◌||◌, if◌then◌else◌, nat_eq, List, [], ◌∷◌, ◌++◌, All, Option, Some, None, Ok, arith}
 use Rattle.std.specs.Prelude.{Contains, IfSome, drop}
-use Rattle.std.proofs.lemmas.List.{append-assoc, append-nil}
-use Rattle.std.proofs.lemmas.List.Elements.{All-append, All-cons, All-head, All-nil, All-push, All-tail}
+use Rattle.std.proofs.lemmas.List.{append_assoc, append-nil}
+use Rattle.std.proofs.lemmas.List.Elements.{All-head, All-nil, All-push, All-tail}
 use Rattle.std.proofs.lemmas.List.Elements.{All-weaker}
 use Rattle.disk.specs.declared.block.BlockNo.{BlockNo}
 use Rattle.layout.specs.declared.geometry.Geometry.{Geometry}
-use Rattle.objects.specs.declared.addr.Addr.{Addr}
-use Rattle.objects.specs.declared.mode.Mode.{Mode}
-use Rattle.model.specs.Calls.{has_rules, is_answered_stable}
+use Rattle.model.specs.Calls.{is_answered_stable}
 use Rattle.store_promise.specs.Aims.{Rises, inserted, is_above}
 use Rattle.store_promise.specs.declared.aims.Aim.{Aim}
 use Rattle.store_promise.specs.declared.aims.Aim.TheVariants as aim
@@ -23,12 +22,12 @@ use Rattle.store_promise.specs.declared.events.Wish.{Wish}
 use Rattle.store_promise.specs.declared.events.Wish.TheVariants as wish
 use Rattle.store_promise.specs.Progress.{Again, At, Begun, Called, Idle, Job, Planning, Progress, Read, Reading}
 use Rattle.store_promise.specs.Progress.{Refused, Stage, Taken, Waiting, after_called, after_claimed, after_commit}
-use Rattle.store_promise.specs.Progress.{after_planning, after_reading, after_waiting, after_wanted, aim_of}
+use Rattle.store_promise.specs.Progress.{after_planning, after_waiting, after_wanted, aim_of}
 use Rattle.store_promise.specs.Progress.{claimed_by, fresh, going_on, kept_off, known_then, progressed, told_by}
 use Rattle.store_promise.specs.Progress.{with_claimed, with_held, with_taken}
-use Rattle.store_promise.specs.Schedule.{AreTaken, IsRetaking, IsStepBeside, IsStepByPlan, IsStepOf, IsStepOfRead}
+use Rattle.store_promise.specs.Schedule.{AreTaken, IsRetaking, IsStepBeside, IsStepByPlan, IsStepOfRead}
 use Rattle.store_promise.specs.Schedule.{IsStepOfWork, IsStepWithin, IsTaken, Schedule, Setting, Told}
-use Rattle.store_promise.specs.Schedule.{progress_before, told_after, told_before}
+use Rattle.store_promise.specs.Schedule.{progress_before, told_after}
 use Rattle.store_promise.specs.Waiting.{AreAims, AreTakenAt, AreTakenBy, HasTakenWell, IsAim}
 use Rattle.store_promise.proofs.AlongEvents.{along}
 use Rattle.store_promise.proofs.RisingAims.{all_more, comes_last, kept, still_rises, there}
@@ -52,7 +51,7 @@ module _ (g : Geometry) where
   }
   with_one taken (next ∷ later) one same is are =
       subst (AreAims g) (sym (ap (λ (xs : List Aim). xs ++ later) (comes_last one taken later
-      (subst (λ (n : Aim). Rises (taken ++ n ∷ later)) same are.rise)) ∙ append-assoc taken (one ∷ []) later))
+      (subst (λ (n : Aim). Rises (taken ++ n ∷ later)) same are.rise)) ∙ append_assoc taken (one ∷ []) later))
       (subst (λ (n : Aim). AreAims g (taken ++ n ∷ later)) same are)
 
   -- what was taken is taken still
@@ -196,7 +195,7 @@ module _ (o : Setting) (told : Told) (worker : ℕ) where
   by_plan stable begun _ none is are = absurd is
 
   -- what is left is aims of the image
-  left_is : (begun : Begun) (next : Aim) (later : List Aim) → begun.left ≡ next ∷ later → AreTakenBy g begun
+  pub left_is : (begun : Begun) (next : Aim) (later : List Aim) → begun.left ≡ next ∷ later → AreTakenBy g begun
       → IsAim g next
   left_is begun next later some are =
       behind begun.taken (subst (λ (xs : List Aim). All (IsAim g) (begun.taken ++ xs)) some are.aims.of_image)

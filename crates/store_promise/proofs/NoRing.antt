@@ -1,6 +1,6 @@
 -- Lemma: waits make no ring.
 use Rattle.std.proofs.Common.{◌≡◌, ◌∙◌, ◌+◌, ◌*◌, ◌<◌, ◌≤◌, refl, sym, ap, subst, ℕ, ◌⊎◌, inl, inr, Bool, true, false}
-use Rattle.std.proofs.Common.{◌&&◌, ◌||◌, nat_eq, nat_lt, List, [], ◌∷◌, ◌++◌, All, arith}
+use Rattle.std.proofs.Common.{◌&&◌, ◌||◌, nat_eq, nat_lt, List, [], ◌∷◌, ◌++◌, arith}
 use Rattle.std.specs.Prelude.{Contains}
 use Rattle.std.specs.List.{list_any}
 use Rattle.std.proofs.lemmas.Bool.{true≢false}
@@ -100,13 +100,24 @@ module _ (g : Geometry) where
   both true false is also = also
   both false b is also = is
 
+  -- an object that has a byte of what is wished alone
+  shared : (block : BlockNo) (offset len : ℕ) (other : Addr) (by mode : Mode) → other.block.0 ≡ block.0
+      → other.offset < offset + len → offset < other.offset + other.len → mode ≡ modes.Exclusive
+      → ((nat_eq other.block.0 block.0 && nat_lt other.offset (offset + len)
+      && nat_lt offset (other.offset + other.len)) && (is_exclusive by || is_exclusive mode)) ≡ true
+  shared block offset len other by mode same low high is =
+      let one : nat_eq other.block.0 block.0 ≡ true = grind (arith, nat_tests) in
+      let two : nat_lt other.offset (offset + len) ≡ true = grind (arith, nat_tests) in
+      let three : nat_lt offset (other.offset + other.len) ≡ true = grind (arith, nat_tests) in
+      both _ _ (both _ _ (both _ _ one two) three) (exclusive by mode is)
+
   keeps_off_there : (wished one : Aim) → IsAim g wished → place_of one ≡ place_of wished
       → aim_keeps_off (wished_of wished) one ≡ true
   keeps_off_there (aim.Object addr mode) (aim.Object other by) is places =
       let (block, offset) = parts addr other places in
       let some = addr.some in let more = other.some in
-      both _ _ (both _ _ (grind (arith, nat_tests)) (both _ _ (grind (arith, nat_tests)) (grind (arith, nat_tests))))
-      (exclusive by mode is.1)
+      shared addr.block addr.offset addr.len other by mode block (omega (arith, offset, some))
+      (omega (arith, offset, more)) is.1
     where
       parts : (addr other : Addr) → other.block.0 * BLOCK_BYTES + other.offset ≡ addr.block.0 * BLOCK_BYTES + addr.offset
           → (other.block.0 ≡ addr.block.0) × (other.offset ≡ addr.offset)
@@ -121,8 +132,7 @@ module _ (g : Geometry) where
       let inside = other.within in let some = other.some in
       let blocks : other.block.0 ≡ block.0 = omega (arith, places, inside, some) in
       let offset : other.offset ≡ 0 = omega (arith, places, blocks) in
-      both _ _ (both _ _ (grind (arith, nat_tests)) (both _ _ (grind (arith, nat_tests)) (grind (arith, nat_tests))))
-      (exclusive by modes.Exclusive refl)
+      shared block 0 BLOCK_BYTES other by modes.Exclusive blocks (omega (arith, offset)) (omega (arith, some)) refl
   keeps_off_there (aim.Claim block) (aim.Claim other) is places =
       let blocks : other.0 ≡ block.0 = omega (arith, places) in grind (arith, nat_tests)
 

@@ -17,6 +17,7 @@ use Rattle.store_promise.specs.declared.events.Wish.{Wish}
 use Rattle.store_promise.specs.declared.events.Event.{Event}
 use Rattle.store_promise.specs.declared.events.Event.TheVariants as event
 use Rattle.store_promise.specs.declared.events.Step.{Step}
+use Rattle.store_promise.specs.declared.events.Step.TheVariants as step
 use Rattle.store_promise.specs.Progress.{Begun, Job, Progress, Idle, At, Stage, Called, Planning}
 use Rattle.store_promise.specs.Progress.{going_on, progressed}
 use Rattle.store_promise.specs.Schedule.{Schedule, Setting, Told, at_first, told_after, told_along, told_before}

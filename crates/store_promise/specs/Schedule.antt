@@ -1,6 +1,6 @@
 -- Which events apply, and what step each may make, told from the events and steps before it alone.
 use Rattle.std.specs.Prelude.{◌≡◌, ◌≢◌, ℕ, ◌+◌, ◌^◌, ◌<◌, ◌≤◌, Bool, true, false, if◌then◌else◌, nat_eq}
-use Rattle.std.specs.Prelude.{nat_le, List, [], ◌∷◌, map, take, Option, Some, None, Ok, Err, length, slice_get}
+use Rattle.std.specs.Prelude.{nat_le, List, [], ◌∷◌, take, Option, Some, None, Ok, Err, length, slice_get}
 use Rattle.std.specs.List.{zip, list_any}
 use Rattle.limits.specs.declared.TheConstants.{BLOCK_BYTES, CHANGED_BLOCKS, LOG_SLOTS}
 use Rattle.disk.specs.Crash.{Image}
@@ -13,8 +13,6 @@ use Rattle.layout.specs.declared.geometry.Geometry.{Geometry}
 use Rattle.model.specs.Calls.{has_rules}
 use Rattle.procs.specs.Asks.{Asks, Claims}
 use Rattle.inode.specs.Snap.{is_claimed, same_addr}
-use Rattle.txn.specs.Object.{ObjectBytes}
-use Rattle.txn.specs.Window.{object_at}
 use Rattle.txn.specs.declared.outcomes.BeginFault.TheVariants as fault
 use Rattle.wal_law.specs.declared.calls.IoCall.{IoCall}
 use Rattle.procs.specs.SoundCalls.{SoundCall}
@@ -34,7 +32,7 @@ use Rattle.store_promise.specs.LogTold.{may_log_told, may_install_told, settled_
 use Rattle.store_promise.specs.NextCall.{IsNextOfInstalling, next_log_call}
 use Rattle.store_promise.specs.Progress.{Begun, Progress, Idle, At, Stage, Called, Planning, Reading, Read}
 use Rattle.store_promise.specs.Progress.{Refused, Again, Waiting, progressed, has_taken, is_fetching}
-use Rattle.store_promise.specs.Progress.{Taken, Wished, addrs_of, is_loaded}
+use Rattle.store_promise.specs.Progress.{Taken, Wished, is_loaded}
 
 -- a schedule is any list of events
 abbrev pub Schedule : Type 0

@@ -1,5 +1,5 @@
 -- What transactions have taken along a run, and who waits for whom.
-use Rattle.std.specs.Prelude.{◌≡◌, ◌⊎◌, ℕ, true, false, List, [], ◌∷◌, ◌++◌, Option, All, Contains, IfSome}
+use Rattle.std.specs.Prelude.{◌≡◌, ◌⊎◌, ℕ, true, false, List, [], ◌∷◌, ◌++◌, All, Contains, IfSome}
 use Rattle.disk.specs.declared.block.BlockNo.{BlockNo}
 use Rattle.layout.specs.declared.geometry.Geometry.{Geometry}
 use Rattle.objects.specs.declared.mode.Mode.TheVariants as modes

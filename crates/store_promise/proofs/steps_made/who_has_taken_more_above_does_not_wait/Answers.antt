@@ -1,8 +1,7 @@
-use Rattle.std.proofs.Common.{◌≡◌, ◌≢◌, ◌∙◌, ◌⊎◌, inl, inr, ◌+◌, ◌<◌, ℕ, suc, Bool, true, List, Option, Some, slice_get}
+use Rattle.std.proofs.Common.{◌≡◌, ◌∙◌, ◌⊎◌, inl, inr, ◌+◌, ℕ, Bool, true, List, Option, Some, slice_get}
 use Rattle.std.proofs.Common.{ap, if◌then◌else◌, subst}
 use Rattle.objects.specs.declared.addr.Addr.{Addr}
 use Rattle.objects.specs.declared.mode.Mode.{Mode}
-use Rattle.model.specs.Calls.{is_answered_stable}
 use Rattle.store_promise.specs.declared.aims.Aim.{Aim}
 use Rattle.store_promise.specs.declared.aims.Aim.TheVariants as aim
 use Rattle.store_promise.specs.declared.events.Event.TheVariants as event
@@ -11,7 +10,7 @@ use Rattle.store_promise.specs.declared.events.Step.TheVariants as step
 use Rattle.store_promise.specs.declared.events.Wish.{Wish}
 use Rattle.store_promise.specs.declared.events.Wish.TheVariants as wish
 use Rattle.store_promise.specs.Aims.{is_above}
-use Rattle.store_promise.specs.Progress.{Again, At, Begun, Job, Planning, Progress, Stage, after_wanted, kept_off}
+use Rattle.store_promise.specs.Progress.{Again, At, Begun, Planning, Progress, Stage, after_wanted, kept_off}
 use Rattle.store_promise.specs.Progress.{progressed}
 use Rattle.store_promise.specs.Schedule.{IsStepOfWork, Schedule, told_before, progress_before}
 use Rattle.store_promise.proofs.StableAnswers.{one_more}
