@@ -95,7 +95,7 @@ begins o worker sound idle is with opened = record {
   at_work = subst (λ (w : State). IsCoreAtWork w o.store.core) (sym is) (record {
     with = subst (λ (w : State). GoesWith w o.store.core) is with;
     alone = starts_alone (handed_to o) o.store.core o.store.boot
-        (ctx_of o.asked.credential o.asked.moment o.store.boot) o.asked.call refl idle.fetches;
+        (ctx_of o.asked.credential o.asked.moment o.store.boot) o.asked.call refl idle.out idle.fetches;
     loads = tt;
   });
   so_far = subst (λ (w : State). IsSoFar o None o.store (progress_of w)) (sym is)
@@ -459,16 +459,16 @@ none_to_tell worker entry answer = λ i.
     record worker { work = record worker.work { entry = sym entry i; answer = sym answer i } }
 
 -- a transaction is out of a core with the same transactions, too
-still_out : {old new : CoreState} (tx : Option ℕ) → new.out ≡ old.out → IfSome tx (IsOut old)
+still_out : (old new : CoreState) (tx : Option ℕ) → new.out ≡ old.out → IfSome tx (IsOut old)
     → IfSome tx (IsOut new)
-still_out None out is = tt
-still_out (Some tx) out is = ap (λ (o : List ℕ). list_any (λ other. nat_eq other tx) o) out ∙ is
+still_out old new None out is = tt
+still_out old new (Some tx) out is = ap (λ (o : List ℕ). list_any (λ other. nat_eq other tx) o) out ∙ is
 
 -- and so such a core fits the worker
 pub still_fits : (state : State) (old new : CoreState) → IsCoreOf state old → new.out ≡ old.out
     → new.log.blocks ≡ old.log.blocks → new.inodes ≡ old.inodes → IsCoreOf state new
 still_fits state old new fits out blocks inodes = record {
-  out = still_out state.begun.tx out fits.out;
+  out = still_out old new state.begun.tx out fits.out;
   reads = subst (λ (n : ℕ). ReadsWithin n state) (sym blocks) fits.reads;
   lawful = subst (λ (n : ℕ). IsLawful n new.inodes) (sym blocks)
       (subst (λ (n : ℕ). IsLawful old.log.blocks n) (sym inodes) fits.lawful);

@@ -313,7 +313,7 @@ module _ (old new : Side) (addr : Addr) (job : Job) (tx : ℕ) (snap : Snap)
         io = io;
         io_is = ap (λ (b : Begun). b.io) got;
         fetched = core.2;
-        within = core.1.home.1;
+        within = core.1.inside.home.1;
         job = same_job;
         seen = seen;
         entry = entry;

@@ -1,6 +1,6 @@
 -- A call that one thread drives has its store alone.
 use Rattle.std.proofs.Common.{◌≡◌, ◌∙◌, refl, sym, ap, subst, Bool, true, false, Option, Some, None, is_ok}
-use Rattle.std.proofs.Common.{is_some}
+use Rattle.std.proofs.Common.{is_some, []}
 use Rattle.std.specs.Prelude.{IsSomeAnd}
 use Rattle.disk.specs.Device.{Device}
 use Rattle.nfs_types.specs.declared.call.Call.{Call}

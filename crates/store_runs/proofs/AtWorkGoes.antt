@@ -1,6 +1,6 @@
 -- A worker's step leaves the run going: with the entries that there were, or, where it took a place, with its
 -- own.
-use Rattle.std.proofs.Common.{◌≡◌, ◌∙◌, ◌⊎◌, inl, inr, refl, sym, ap, subst, true≢false, ℕ, Bool, true, false}
+use Rattle.std.proofs.Common.{◌≡◌, ◌∙◌, inl, inr, refl, sym, ap, subst, true≢false, ℕ, Bool, true, false}
 use Rattle.std.proofs.Common.{Option, Some}
 use Rattle.std.proofs.Common.{None, List, [], All}
 use Rattle.std.specs.Prelude.{IsSomeAnd}
@@ -37,7 +37,7 @@ use Rattle.store_promise.specs.declared.events.Step.TheVariants as step
 use Rattle.store_runs.proofs.AtWorkStays.{some_of}
 use Rattle.store_workers.proofs.WorkCases.{Cases, by_cases}
 use Rattle.store_runs.specs.AtWork.{HasTakenPlace, IsSeenIn, entry_by, fetches_in, fetches_of, has_committed}
-use Rattle.store_workers.specs.Seen.{Seen, seen_in}
+use Rattle.store_workers.specs.Seen.{Seen}
 use Rattle.store_workers.specs.Stages.{IsJobIn, IsWorkerAt, StandsAt}
 use Rattle.store_workers.specs.WorkerAnswers.{after_commit, begun_claimed, begun_wanted, committing_of}
 use Rattle.store_workers.specs.WorkerAnswers.{phase_claimed, phase_wanted, told_of, with_answer}

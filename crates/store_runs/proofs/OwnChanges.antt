@@ -1,5 +1,5 @@
 -- What a worker's commit writes lies in what its transaction has taken, and so all else stays.
-use Rattle.std.proofs.Common.{◌≡◌, ◌∙◌, sym, ap, subst, ◌⊎◌, inl, inr, ℕ, ◌+◌, ◌<◌, arith, refl}
+use Rattle.std.proofs.Common.{◌≡◌, ◌∙◌, sym, ap, inl, inr, ℕ, ◌+◌, ◌<◌, arith, refl}
 use Rattle.std.proofs.Common.{Bool, true, false, ◌&&◌, ◌||◌, nat_eq, nat_lt, List, [], ◌∷◌, map, length}
 use Rattle.std.proofs.Common.{Option, Some, None, All}
 use Rattle.std.specs.List.{list_any}

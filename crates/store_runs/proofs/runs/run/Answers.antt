@@ -1,10 +1,10 @@
-use Rattle.std.proofs.Common.{rules, refl, ◌∙◌, ap, sym, subst, ◌<◌, ◌++◌, ◌∷◌, [], length, length-append, arith}
+use Rattle.std.proofs.Common.{rules, ◌≡◌, refl, ◌∙◌, ap, sym, subst, ◌<◌, ◌++◌, ◌∷◌, [], length, length-append, arith}
 use Rattle.std.proofs.lemmas.List.{append_assoc}
 use Rattle.std.specs.Vec.Iter.{into_iter_items}
-use Rattle.store_promise.specs.Headline.{EndsWell, KeepsPromise}
+use Rattle.store_promise.specs.Headline.{KeepsPromise}
 use Rattle.store_promise.specs.OpenSince.{file_blocks}
 use Rattle.store_promise.specs.Schedule.{Setting}
-use Rattle.store_promise.specs.Transcript.{refusals, report_of, transcript_of}
+use Rattle.store_promise.specs.Transcript.{refusals, transcript_of}
 use Rattle.store_runs.specs.Going.{HasGone, begins, run_side}
 use Rattle.store_workers.specs.Worker.{Fits}
 use Rattle.store_runs.proofs.RunTaken.{goes_with}
