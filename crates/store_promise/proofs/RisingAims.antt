@@ -17,7 +17,7 @@ use Rattle.store_promise.specs.declared.aims.Aim.TheVariants as aim
 -- ---- no two have one rank
 
 -- the parts of a rank
-abbrev Within : ℕ → ℕ → Type 0
+abbrev pub Within : ℕ → ℕ → Type 0
 Within bytes kind = (bytes ≤ BLOCK_BYTES) × (kind < 3)
 
 parts : (p q b c k j : ℕ) → Within b k → Within c j
@@ -33,7 +33,7 @@ mode_low : (mode : Mode) → mode_number mode < 2
 mode_low modes.Shared = omega arith
 mode_low modes.Exclusive = omega arith
 
-within : (one : Aim) → Within (bytes_of one) (kind_of one)
+pub within : (one : Aim) → Within (bytes_of one) (kind_of one)
 within (aim.Object addr mode) =
     let inside = addr.within in let low = mode_low mode in (omega (arith, inside), omega (arith, low))
 within (aim.Claim block) = (omega arith, omega arith)
